@@ -1,0 +1,82 @@
+-- The way of an operation through the bridges, its words, and what it may cost.
+use Rattle.std.specs.Prelude.{ℕ, Bool, ◌+◌, ◌%◌, ◌^◌, zero, suc, List, [], ◌∷◌, length, Option, Some, None, ◌==◌, if◌then◌else◌}
+use Rattle.std.specs.List.{find, list_any}
+use Rattle.pci_command.specs.declared.command.Space.{Space}
+use Rattle.pci_command.specs.declared.command.Space.TheVariants.{Mem, Io, Cfg}
+use Rattle.pci_command.specs.declared.phases.Phase.{Phase}
+use Rattle.pci_command.specs.declared.request.Request.{Request}
+use Rattle.pci_command.specs.Command.{space_of}
+use Rattle.board_model.specs.declared.agents.Target.{Target as TargetAgent}
+use Rattle.board_model.specs.declared.bridge.Bridge.{Bridge}
+use Rattle.board_model.specs.declared.bridge.Lane.{Lane as BridgeLane}
+use Rattle.board_model.specs.declared.bridge.Place.{Place}
+use Rattle.board_model.specs.declared.bridge.Place.TheVariants.{Target, Header, Lane, Nobody}
+use Rattle.board_model.specs.declared.op.Op.{Op}
+use Rattle.board_model.specs.declared.board.Board.{Board}
+use Rattle.board_model.specs.Requests.{request_on}
+use Rattle.board_model.specs.Claims.{claim, range_holds}
+
+-- the bus above a bridge, from its secondary bus
+abbrev pub primary_in : Option Bridge → ℕ
+primary_in None = 0
+primary_in (Some bridge) = bridge.parent
+
+abbrev pub primary_of : Board → ℕ → ℕ
+primary_of board bus = primary_in (find (λ bridge. bridge.bus == bus) board.bridges)
+
+-- the bus on which what a lane carries arrives, and the one from which it comes
+abbrev pub end_of : Board → BridgeLane → ℕ
+end_of board lane = if lane.up then primary_of board lane.bus else lane.bus
+
+abbrev pub start_of : Board → BridgeLane → ℕ
+start_of board lane = if lane.up then lane.bus else primary_of board lane.bus
+
+-- the lanes from a bus on that an operation takes, at most so many, and the bus and the owner where they end
+pub record Route : Type 0 where
+  pub lanes : List BridgeLane
+  pub bus : ℕ
+  pub owner : Place
+
+abbrev pub route_by : (BridgeLane → Route) → ℕ → Place → Route
+route_by onwards on (Target target) = record { lanes = []; bus = on; owner = Target target }
+route_by onwards on (Header bus) = record { lanes = []; bus = on; owner = Header bus }
+route_by onwards on Nobody = record { lanes = []; bus = on; owner = Nobody }
+route_by onwards on (Lane lane) =
+    let rest = onwards lane in record { lanes = lane ∷ rest.lanes; bus = rest.bus; owner = rest.owner }
+
+abbrev pub route_within : ℕ → Board → Op → ℕ → Route
+route_within zero board op on = record { lanes = []; bus = on; owner = claim board on (request_on op on) }
+route_within (suc n) board op on =
+    route_by (λ lane. route_within n board op (end_of board lane)) on (claim board on (request_on op on))
+
+-- by following claims from the bus on: no way takes more lanes than the board has bridges
+abbrev pub route_of : Board → Op → ℕ → Route
+route_of board op on = route_within (length board.bridges) board op on
+
+-- the way of an operation from a bus on
+abbrev pub way : Board → Op → ℕ → List BridgeLane
+way board op on = (route_of board op on).lanes
+
+-- a dword: of which target, in which space, at which address (in configuration space: the offset of the register)
+pub record Dword : Type 0 where
+  pub target : ℕ
+  pub space : Space
+  pub address : ℕ
+
+-- the address of the dword that a request names: of a configuration request the offset of its register
+abbrev pub dword_address : Request → ℕ
+dword_address request = address_in (space_of request.command) request.address where
+  address_in : Space → ℕ → ℕ
+  address_in Mem address = address
+  address_in Io address = address
+  address_in Cfg address = address % 2 ^ 8
+
+-- the address lies in an abort range of the target
+abbrev pub aborts_at : TargetAgent → Request → Bool
+aborts_at target request = list_any (range_holds (space_of request.command) request.address) target.aborts
+
+-- one dword for each phase, four bytes apart
+abbrev pub dwords_from : ℕ → Space → ℕ → List Phase → List Dword
+dwords_from target space address [] = []
+dwords_from target space address (phase ∷ phases) =
+    record { target = target; space = space; address = address } ∷ dwords_from target space (address + 4) phases
