@@ -16,6 +16,7 @@ pub enum Why {
 }
 
 impl fmt::Display for Why {
+    ghost use Rattle.std.specs.Prelude.{Some};
     ghost use Rattle.history_model.specs.WhyText.{why_text};
 
     ghost output = { λ why. Some (why_text why) };
