@@ -46,16 +46,33 @@ configuration_address on bus device register =
     then 2 ^ 11 * device + 4 * register
     else 2 ^ 16 * bus + 2 ^ 11 * device + 4 * register + 1
 
+-- the command of an operation on every bus
+abbrev pub command_of : Op → Command
+command_of (Read command address) = plain_of command
+command_of (Write command address phases) = plain_of command
+command_of (CfgRead bus device register) = ConfigurationRead
+command_of (CfgWrite bus device register phase) = ConfigurationWrite
+command_of (Poll space address mask value tries) = read_in space
+
+-- its address as driven on bus `on`
+abbrev pub address_on : Op → ℕ → ℕ
+address_on (Read command address) on = address
+address_on (Write command address phases) on = address
+address_on (CfgRead bus device register) on = configuration_address on bus device register
+address_on (CfgWrite bus device register phase) on = configuration_address on bus device register
+address_on (Poll space address mask value tries) on = address
+
+-- its data phases
+abbrev pub phases_of : Op → List Phase
+phases_of (Read command address) = read_phases
+phases_of (Write command address phases) = phases
+phases_of (CfgRead bus device register) = read_phases
+phases_of (CfgWrite bus device register phase) = phase ∷ []
+phases_of (Poll space address mask value tries) = read_phases
+
 -- the request of an operation as driven on bus `on`
 abbrev pub request_on : Op → ℕ → Request
-request_on (Read command address) on = record { command = plain_of command; address = address; phases = read_phases }
-request_on (Write command address phases) on = record { command = plain_of command; address = address; phases = phases }
-request_on (CfgRead bus device register) on =
-    record { command = ConfigurationRead; address = configuration_address on bus device register; phases = read_phases }
-request_on (CfgWrite bus device register phase) on =
-    record { command = ConfigurationWrite; address = configuration_address on bus device register; phases = phase ∷ [] }
-request_on (Poll space address mask value tries) on =
-    record { command = read_in space; address = address; phases = read_phases }
+request_on op on = record { command = command_of op; address = address_on op on; phases = phases_of op }
 
 -- the same of an operation by its name, where it is there
 abbrev pub request_of : Board → OpId → ℕ → Option Request
