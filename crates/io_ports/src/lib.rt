@@ -1,0 +1,21 @@
+//! Bytes in and out: a source and a sink that say what they hold and took and count their faults,
+//! over memory for tests and over `std::io` for programs.
+#![tactic(auto)]
+
+mod counts;
+mod failed;
+mod memory_sink;
+mod memory_source;
+mod port;
+mod read_port;
+mod write_port;
+
+pub use failed::Failed;
+pub use memory_sink::MemorySink;
+pub use memory_source::MemorySource;
+pub use port::{Bytes, Sink, Source};
+pub use read_port::ReadPort;
+pub use write_port::WritePort;
+
+#[cfg(test)]
+mod tests;

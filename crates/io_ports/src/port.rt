@@ -1,0 +1,46 @@
+ghost use Rattle.std.specs.Prelude.{ℕ, ◌≤◌, List, Option, OnErr};
+ghost use Rattle.std.specs.Io.{ReadsAtMost, WritesAtMost};
+ghost use Rattle.std.specs.Io.KnownBytes.{ReadConsumes, WriteAppends};
+ghost use Rattle.io_ports.specs.Faults.{Rose};
+ghost use Rattle.io_ports.specs.Port.{TakesSome};
+
+use crate::Failed;
+use pci_command::List;
+
+/// A list of bytes.
+pub type Bytes = List<u8>;
+
+/// Where bytes come from.
+pub trait Source {
+    /// The bytes that it still gives, where it tells them.
+    ghost held: { Self → Option (List ℕ) };
+
+    /// How often it failed: a count of 64 bits that never falls.
+    ghost faults: { Self → ℕ };
+
+    /// Gives the next bytes at the front of the buffer, and their number. 0 for a buffer that is
+    /// not empty is the end. At `Err` no byte is given.
+    fn read(&mut self, buf: &mut [u8]) -> Result<usize, Failed>
+        ensures bound { ReadsAtMost result buf.new }
+        ensures bytes { ReadConsumes (held self.old) (held self.new) result buf.new }
+        ensures counted { faults self.old ≤ faults self.new }
+        ensures failed { OnErr result (Rose (faults self.old) (faults self.new)) };
+}
+
+/// Where bytes go.
+pub trait Sink {
+    /// The bytes that it took, where it tells them.
+    ghost taken: { Self → Option (List ℕ) };
+
+    /// How often it failed: a count of 64 bits that never falls.
+    ghost faults: { Self → ℕ };
+
+    /// Takes the first bytes of the piece, and gives their number: at least one of a piece that
+    /// is not empty. At `Err` no byte is taken.
+    fn write(&mut self, piece: &[u8]) -> Result<usize, Failed>
+        ensures bound { WritesAtMost result piece.now }
+        ensures bytes { WriteAppends (taken self.old) (taken self.new) result piece.now }
+        ensures some { TakesSome result piece.now }
+        ensures counted { faults self.old ≤ faults self.new }
+        ensures failed { OnErr result (Rose (faults self.old) (faults self.new)) };
+}
