@@ -1,6 +1,6 @@
 -- The operations of a board, and the request of each as driven on a bus: PCI Local Bus
 -- Specification 2.2, sections 3.1.1, 3.2.2 and 3.2.2.3.
-use Rattle.std.specs.Prelude.{ℕ, Bool, ◌+◌, ◌*◌, ◌^◌, List, [], ◌∷◌, Option, Some, None, ◌==◌, nat_lt, if◌then◌else◌, slice_get}
+use Rattle.std.specs.Prelude.{ℕ, Bool, false, ◌+◌, ◌*◌, ◌^◌, List, [], ◌∷◌, Option, Some, None, ◌==◌, nat_lt, if◌then◌else◌, slice_get}
 use Rattle.std.specs.Option.{option_map, option_and_then}
 use Rattle.pci_command.specs.declared.command.Command.{Command}
 use Rattle.pci_command.specs.declared.command.Command.TheVariants.{IoRead, MemRead, MemWrite, CfgRead as ConfigurationRead, CfgWrite as ConfigurationWrite}
@@ -9,8 +9,8 @@ use Rattle.pci_command.specs.declared.command.Space.TheVariants.{Mem, Io, Cfg}
 use Rattle.pci_command.specs.declared.phases.Phase.{Phase}
 use Rattle.pci_command.specs.declared.request.Request.{Request}
 use Rattle.pci_command.specs.declared.op_id.OpId.{OpId}
-use Rattle.pci_command.specs.Command.{plain_of}
-use Rattle.pci_command.specs.Same.{same_command}
+use Rattle.pci_command.specs.Command.{plain_of, is_read}
+use Rattle.pci_command.specs.Same.{same_command, same_request}
 use Rattle.board_model.specs.declared.op.Op.{Op}
 use Rattle.board_model.specs.declared.op.Op.TheVariants.{Read, Write, CfgRead, CfgWrite, Poll}
 use Rattle.board_model.specs.declared.board.Board.{Board}
@@ -81,3 +81,20 @@ request_of board o on = option_map (λ op. request_on op on) (op_of board o)
 -- a write in memory is posted; every other request is delayed
 abbrev pub is_posted : Request → Bool
 is_posted request = same_command request.command MemWrite
+
+abbrev pub reads_in : Option Op → Bool
+reads_in None = false
+reads_in (Some op) = is_read (command_of op)
+
+-- whether an operation reads
+abbrev pub reads : Board → OpId → Bool
+reads board o = reads_in (op_of board o)
+
+abbrev pub both_same : Option Request → Option Request → Bool
+both_same None other = false
+both_same (Some request) None = false
+both_same (Some request) (Some other) = same_request request other
+
+-- whether two operations have the same request on the bus
+abbrev pub same_requests : Board → ℕ → OpId → OpId → Bool
+same_requests board on o p = both_same (request_of board o on) (request_of board p on)

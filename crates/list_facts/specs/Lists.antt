@@ -20,3 +20,8 @@ greatest weight (x ∷ xs) = max (weight x) (greatest weight xs)
 abbrev pub Each : {X : Type 0} → (X → Type 0) → List X → Type 0
 Each P [] = Unit {0}
 Each P (x ∷ xs) = P x × Each P xs
+
+-- the elements that stand before the first that passes; all of them where none does
+abbrev pub before : {X : Type 0} → (X → Bool) → List X → List X
+before test [] = []
+before test (x ∷ xs) = if test x then [] else x ∷ before test xs
