@@ -16,8 +16,8 @@ io_bit Cfg = 0
 abbrev pub base_registers : Range → List ℕ
 base_registers range =
     if nat_lt range.base (2 ^ 32)
-    then (range.base + io_bit range.space) ∷ []
-    else (range.base % 2 ^ 32 + 4) ∷ (range.base / 2 ^ 32) ∷ []
+    then bit_or range.base (io_bit range.space) ∷ []
+    else bit_or (range.base % 2 ^ 32) 4 ∷ (range.base / 2 ^ 32) ∷ []
 
 abbrev pub all_base_registers : List Range → List ℕ
 all_base_registers [] = []
