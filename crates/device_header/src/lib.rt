@@ -12,7 +12,7 @@ pub fn opening(target: &Target, register: u8) -> u32
     ensures { result ≡ opening_of target.now register }
 {
     match register {
-        0 => u32::from(target.model) << 16 | u32::from(target.vendor),
+        0 => u32::from(target.model) * 0x1_0000 + u32::from(target.vendor),
         1 => 0x0000_0007,
         2 => 0xff00_0000,
         4..=9 => base_register(target.ranges.as_slice(), register - 4),
@@ -61,15 +61,23 @@ fn byte_bits(is_enabled: bool, bits: u32) -> u32
 fn base_register(ranges: &[Range], number: u8) -> u32
     ensures { result ≡ slice_index (all_base_registers ranges.now) number }
 {
-    let mut left = number;
-    for range in ranges {
-        let registers = if range.base <= 0xffff_ffff { 1 } else { 2 };
-        if left < registers {
-            return register_of(range, left);
+    match ranges.split_first() {
+        None => 0,
+        Some((range, rest)) => {
+            let own = register_count(range);
+            if number < own {
+                register_of(range, number)
+            } else {
+                base_register(rest, number - own)
+            }
         }
-        left -= registers;
     }
-    0
+}
+
+fn register_count(range: &Range) -> u8
+    ensures { result ≡ length (base_registers range.now) }
+{
+    if range.base < 0x1_0000_0000 { 1 } else { 2 }
 }
 
 fn register_of(range: &Range, number: u8) -> u32
