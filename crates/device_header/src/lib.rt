@@ -1,7 +1,7 @@
 //! The configuration registers of a target: PCI Local Bus Specification 2.2, chapter 6.
 #![tactic(auto)]
 
-ghost use Rattle.std.specs.Prelude.{◌≡◌, ◌<◌, ◌≤◌, ◌*◌, ◌^◌, length, slice_index, if◌then◌else◌};
+ghost use Rattle.std.specs.Prelude.{◌≡◌, ◌<◌, ◌≤◌, ◌+◌, ◌*◌, ◌^◌, length, slice_index, if◌then◌else◌};
 ghost use Rattle.device_header.specs.Registers.{opening_of, write_mask_of, byte_enabled, enabled_bits, merge_of, base_registers, all_base_registers, io_bit};
 
 use board_model::{Range, Target};
@@ -12,12 +12,18 @@ pub fn opening(target: &Target, register: u8) -> u32
     ensures { result ≡ opening_of target.now register }
 {
     match register {
-        0 => u32::from(target.model) * 0x1_0000 + u32::from(target.vendor),
+        0 => identification(target.vendor, target.model),
         1 => 0x0000_0007,
         2 => 0xff00_0000,
         4..=9 => base_register(target.ranges.as_slice(), register - 4),
         _ => 0,
     }
+}
+
+fn identification(vendor: u16, model: u16) -> u32
+    ensures { result ≡ 2 ^ 16 * model + vendor }
+{
+    u32::from(model) * 0x1_0000 + u32::from(vendor)
 }
 
 /// Which bits of a register a write changes.
