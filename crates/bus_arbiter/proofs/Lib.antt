@@ -1,0 +1,3 @@
+mod AheadLemmas
+mod CountLemmas
+mod RoundLemmas

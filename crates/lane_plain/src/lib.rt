@@ -1,0 +1,9 @@
+//! The ends of a bridge's lanes where all buses are worked on one thread: what is sent in a phase
+//! crosses at its end.
+#![tactic(auto)]
+
+mod plain_end;
+#[cfg(test)]
+mod tests;
+
+pub use plain_end::PlainEnd;
