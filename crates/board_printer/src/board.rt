@@ -46,7 +46,8 @@ fn print_first(text: &mut String, board: &Board) -> Result<(), AllocError>
 
 fn print_plans(text: &mut String, word: &str, plans: &[Planned]) -> Result<(), AllocError>
     ensures { OnOk result
-        (string_bytes text.new ≡ string_bytes text.old ++ text_of (map (planned_line word.now) plans.now)) }
+        (string_bytes text.new
+        ≡ string_bytes text.old ++ text_of (map (planned_line word.now) plans.now)) }
 {
     for planned in plans {
         print_planned(text, word, planned)?;
@@ -56,7 +57,8 @@ fn print_plans(text: &mut String, word: &str, plans: &[Planned]) -> Result<(), A
 
 fn print_planned(text: &mut String, word: &str, planned: &Planned) -> Result<(), AllocError>
     ensures { OnOk result
-        (string_bytes text.new ≡ string_bytes text.old ++ line_text (planned_line word.now planned.now)) }
+        (string_bytes text.new
+        ≡ string_bytes text.old ++ line_text (planned_line word.now planned.now)) }
 {
     let direction = direction_word(planned.up);
     writeln!(text, "{word} {} {direction} {}", planned.bus, planned.count)

@@ -44,7 +44,8 @@ fn print_options(text: &mut String, bridge: &Bridge) -> Result<(), AllocError>
 
 fn print_window(text: &mut String, word: &str, window: Option<Window>) -> Result<(), AllocError>
     ensures { OnOk result
-        (string_bytes text.new ≡ string_bytes text.old ++ spaced (window_words word.now window) []) }
+        (string_bytes text.new
+        ≡ string_bytes text.old ++ spaced (window_words word.now window) []) }
 {
     let Some(window) = window else {
         return Ok(());
@@ -68,7 +69,8 @@ fn print_depth(text: &mut String, word: &str, depth: u8) -> Result<(), AllocErro
 }
 
 fn print_mode(text: &mut String, mode: bool) -> Result<(), AllocError>
-    ensures { OnOk result (string_bytes text.new ≡ string_bytes text.old ++ spaced (mode_words mode) []) }
+    ensures { OnOk result
+        (string_bytes text.new ≡ string_bytes text.old ++ spaced (mode_words mode) []) }
 {
     if mode {
         text.push_str(" abort 1")

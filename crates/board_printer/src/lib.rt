@@ -11,3 +11,6 @@ mod targets;
 
 pub use board::{print_board, print_board_lines};
 pub use numbers::{Address, DataWord, HexHalf, HexWord};
+
+#[cfg(test)]
+mod tests;

@@ -13,7 +13,8 @@ use std::alloc::AllocError;
 /// The lines of the masters, in order.
 pub(crate) fn print_masters(text: &mut String, masters: &[Master]) -> Result<(), AllocError>
     ensures { OnOk result
-        (string_bytes text.new ≡ string_bytes text.old ++ text_of (flat_map master_lines masters.now)) }
+        (string_bytes text.new
+        ≡ string_bytes text.old ++ text_of (flat_map master_lines masters.now)) }
 {
     for master in masters {
         print_master(text, master)?;
@@ -30,7 +31,8 @@ fn print_master(text: &mut String, master: &Master) -> Result<(), AllocError>
 }
 
 fn print_ops(text: &mut String, ops: &[Op]) -> Result<(), AllocError>
-    ensures { OnOk result (string_bytes text.new ≡ string_bytes text.old ++ text_of (map op_line ops.now)) }
+    ensures { OnOk result
+        (string_bytes text.new ≡ string_bytes text.old ++ text_of (map op_line ops.now)) }
 {
     for op in ops {
         print_op(text, op)?;
@@ -39,7 +41,8 @@ fn print_ops(text: &mut String, ops: &[Op]) -> Result<(), AllocError>
 }
 
 fn print_op(text: &mut String, op: &Op) -> Result<(), AllocError>
-    ensures { OnOk result (string_bytes text.new ≡ string_bytes text.old ++ line_text (op_line op.now)) }
+    ensures { OnOk result
+        (string_bytes text.new ≡ string_bytes text.old ++ line_text (op_line op.now)) }
 {
     match op {
         Op::Read { command, address } => writeln!(
@@ -101,7 +104,8 @@ fn print_write(
     phases: &[Phase],
 ) -> Result<(), AllocError>
     ensures { OnOk result
-        (string_bytes text.new ≡ string_bytes text.old ++ line_text (write_line command address phases.now)) }
+        (string_bytes text.new
+        ≡ string_bytes text.old ++ line_text (write_line command address phases.now)) }
 {
     write!(text, "{} {}", command_word(command), Address(address))?;
     print_phases(text, phases)?;
@@ -119,7 +123,8 @@ fn print_phases(text: &mut String, phases: &[Phase]) -> Result<(), AllocError>
 }
 
 fn print_phase(text: &mut String, phase: &Phase) -> Result<(), AllocError>
-    ensures { OnOk result (string_bytes text.new ≡ string_bytes text.old ++ 32 ∷ phase_text phase.now) }
+    ensures { OnOk result
+        (string_bytes text.new ≡ string_bytes text.old ++ 32 ∷ phase_text phase.now) }
 {
     write!(text, " {}", DataWord(*phase))
 }

@@ -11,7 +11,8 @@ use std::alloc::AllocError;
 /// The lines of the targets, in order.
 pub(crate) fn print_targets(text: &mut String, targets: &[Target]) -> Result<(), AllocError>
     ensures { OnOk result
-        (string_bytes text.new ≡ string_bytes text.old ++ text_of (flat_map target_lines targets.now)) }
+        (string_bytes text.new
+        ≡ string_bytes text.old ++ text_of (flat_map target_lines targets.now)) }
 {
     for target in targets {
         print_target(text, target)?;
@@ -51,7 +52,8 @@ const VENDOR: u16 = 0x1234;
 const MODEL: u16 = 1;
 
 fn print_id(text: &mut String, target: &Target) -> Result<(), AllocError>
-    ensures { OnOk result (string_bytes text.new ≡ string_bytes text.old ++ text_of (id_lines target.now)) }
+    ensures { OnOk result
+        (string_bytes text.new ≡ string_bytes text.old ++ text_of (id_lines target.now)) }
 {
     if target.vendor == VENDOR && target.model == MODEL {
         return Ok(());
@@ -65,7 +67,8 @@ fn print_id(text: &mut String, target: &Target) -> Result<(), AllocError>
 }
 
 fn print_stalls(text: &mut String, stalls: u32) -> Result<(), AllocError>
-    ensures { OnOk result (string_bytes text.new ≡ string_bytes text.old ++ text_of (stall_lines stalls)) }
+    ensures { OnOk result
+        (string_bytes text.new ≡ string_bytes text.old ++ text_of (stall_lines stalls)) }
 {
     if stalls == 0 {
         return Ok(());
@@ -74,7 +77,8 @@ fn print_stalls(text: &mut String, stalls: u32) -> Result<(), AllocError>
 }
 
 fn print_burst(text: &mut String, burst: u8) -> Result<(), AllocError>
-    ensures { OnOk result (string_bytes text.new ≡ string_bytes text.old ++ text_of (burst_lines burst)) }
+    ensures { OnOk result
+        (string_bytes text.new ≡ string_bytes text.old ++ text_of (burst_lines burst)) }
 {
     if burst == 8 {
         return Ok(());
@@ -84,7 +88,8 @@ fn print_burst(text: &mut String, burst: u8) -> Result<(), AllocError>
 
 fn print_ranges(text: &mut String, word: &str, ranges: &[Range]) -> Result<(), AllocError>
     ensures { OnOk result
-        (string_bytes text.new ≡ string_bytes text.old ++ text_of (map (range_line word.now) ranges.now)) }
+        (string_bytes text.new
+        ≡ string_bytes text.old ++ text_of (map (range_line word.now) ranges.now)) }
 {
     for range in ranges {
         print_range(text, word, range)?;
@@ -94,7 +99,8 @@ fn print_ranges(text: &mut String, word: &str, ranges: &[Range]) -> Result<(), A
 
 fn print_range(text: &mut String, word: &str, range: &Range) -> Result<(), AllocError>
     ensures { OnOk result
-        (string_bytes text.new ≡ string_bytes text.old ++ line_text (range_line word.now range.now)) }
+        (string_bytes text.new
+        ≡ string_bytes text.old ++ line_text (range_line word.now range.now)) }
 {
     let space = space_word(range.space);
     writeln!(
