@@ -1,0 +1,7 @@
+pub mod Lines
+pub mod Numbers
+pub mod Spaces
+pub mod Bridges
+pub mod Targets
+pub mod Masters
+pub mod Boards
