@@ -1,0 +1,4 @@
+pub mod Names
+pub mod Requests
+pub mod Claims
+pub mod Ways

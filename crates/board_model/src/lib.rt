@@ -1,0 +1,15 @@
+//! A board: the tree of buses with its bridges, targets and masters, as its text names them, and
+//! who claims a request on a bus.
+#![tactic(auto)]
+
+mod agents;
+mod board;
+mod bridge;
+mod name;
+mod op;
+
+pub use agents::{Master, Opening, Range, Target};
+pub use board::{Board, Planned};
+pub use bridge::{Bridge, Lane, Place, Window};
+pub use name::Name;
+pub use op::Op;

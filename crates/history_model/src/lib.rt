@@ -1,0 +1,12 @@
+//! A history of a board: its events, and what a run is. `history_core` computes what is defined
+//! here.
+#![tactic(auto)]
+
+mod event;
+mod item;
+mod why;
+
+pub use board_model::{Lane, Place};
+pub use event::{By, Event, Mark, Stamped, Step};
+pub use item::{Answer, Carried, Cause, Slot};
+pub use why::Why;

@@ -1,0 +1,44 @@
+//! The ordering table of a bridge, after appendix E of the PCI Local Bus Specification 2.2: which
+//! transaction may pass which older one that goes the same way through the bridge.
+#![tactic(auto)]
+
+ghost use Rattle.std.specs.Prelude.{◌≡◌, ◌↔◌, IsTrue, IsNone, All, not, position};
+ghost use Rattle.order_table.specs.Order.{may_pass};
+
+use pci_command::Kind;
+
+/// Whether a transaction of the row may pass an older one of the column, where the table's Yes/No
+/// is read as Yes (PCI Local Bus Specification 2.2, appendix E).
+pub fn may_pass(row: Kind, column: Kind) -> bool
+    ensures { result ≡ may_pass row column }
+{
+    match row {
+        Kind::Pmw => column != Kind::Pmw,
+        Kind::Drr => column != Kind::Pmw,
+        Kind::Dwr => column != Kind::Pmw,
+        Kind::Drc => column != Kind::Pmw,
+        Kind::Dwc => true,
+    }
+}
+
+/// The place, from 0, of the first of the older transactions that the item may not pass.
+pub fn first_blocker(item: Kind, older: &[Kind]) -> Option<usize>
+    ensures place { result ≡ position (λ kind. not (may_pass item kind)) older.now }
+    ensures none { IsNone result ↔ All (λ kind. IsTrue (may_pass item kind)) older.now }
+{
+    older.iter().position(|kind| !may_pass(item, *kind))
+}
+
+#[cfg(test)]
+mod tests {
+    use super::*;
+
+    #[test]
+    fn posted_writes_block_all_but_write_completions(rt: HostRuntime) {
+        assert!(rt; !may_pass(Kind::Drc, Kind::Pmw));
+        assert!(rt; may_pass(Kind::Pmw, Kind::Drc));
+        let older = [Kind::Dwc, Kind::Pmw, Kind::Pmw];
+        assert_eq!(rt; first_blocker(Kind::Drr, &older), Some(1));
+        assert_eq!(rt; first_blocker(Kind::Dwc, &older), None);
+    }
+}
