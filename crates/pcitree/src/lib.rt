@@ -1,0 +1,8 @@
+//! The program as one call, from its words, a source and a sink to a status.
+#![tactic(auto)]
+
+mod reading;
+mod words;
+mod writing;
+
+pub use words::file_word;
