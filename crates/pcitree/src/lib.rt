@@ -2,7 +2,9 @@
 #![tactic(auto)]
 
 mod reading;
+mod status;
 mod words;
 mod writing;
 
+pub use status::{BoardFault, Status};
 pub use words::file_word;
