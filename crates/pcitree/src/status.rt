@@ -1,6 +1,7 @@
 ghost use Rattle.std.specs.Prelude.{◌≡◌};
 
 use history_model::Why;
+use std::alloc::AllocError;
 use std::fmt;
 
 /// A fault of a board, with its number in its family: of the lines (L), of the grammar (P), of the
@@ -104,5 +105,16 @@ impl fmt::Display for Status {
                 write!(f, "pcitree: incomplete, at most {left} events left")
             }
         }
+    }
+}
+
+impl From<AllocError> for Status {
+    ghost use Rattle.std.specs.Prelude.{◌≡◌};
+    ghost use Rattle.pcitree.specs.declared.status.Status.TheVariants.{NoMemory};
+
+    ghost from_gives = { λ _ status. status ≡ NoMemory };
+
+    fn from(_refused: AllocError) -> Status {
+        Status::NoMemory
     }
 }
