@@ -63,3 +63,9 @@ abbrev pub IsBeforeWriting : Status → Type 0
 IsBeforeWriting Done = ⊥
 IsBeforeWriting WriteFault = ⊥
 IsBeforeWriting _ = Unit {0}
+
+-- the statuses with which an input that is served is answered, where no port fails
+abbrev pub IsAnswered : Status → Type 0
+IsAnswered Done = Unit {0}
+IsAnswered NoMemory = Unit {0}
+IsAnswered _ = ⊥

@@ -22,7 +22,6 @@ StopsReading held before now (BadBoard line fault) = (line ≡ 0) × (fault ≡ 
 StopsReading held before now _ = ⊥
 
 module _ (S K : Type 0) (held : S → Option (List ℕ)) (read_faults : S → ℕ) (taken : K → Option (List ℕ)) (write_faults : K → ℕ) where
-
   -- the serving of an input stops with this status
   abbrev pub StopsServing : S → S → K → K → Status → Type 0
   StopsServing s t k l WriteFault = Rose (write_faults k) (write_faults l) × StopsInTrace (held s) (held t) (taken k) (taken l)

@@ -39,10 +39,7 @@ fn empty_board() -> &'static [u8]
     b"pciboard 1\n"
 }
 
-#[tactic(
-    auto,
-    unfolding(crate::specs::Answers::empty_board, crate::specs::Answers::empty_trace)
-)]
+#[tactic(auto, unfolding(crate::specs::Answers::empty_board, crate::specs::Answers::empty_trace))]
 fn empty_trace() -> &'static [u8]
     ensures { result.now ≡ empty_trace }
 {

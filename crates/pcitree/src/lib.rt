@@ -11,3 +11,6 @@ mod writing;
 pub use program::pcitree;
 pub use status::{BoardFault, Status};
 pub use words::file_word;
+
+#[cfg(test)]
+mod tests;

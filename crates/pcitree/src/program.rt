@@ -1,7 +1,8 @@
-ghost use Rattle.std.specs.Prelude.{◌≡◌, ◌↔◌, ℕ, map, string_bytes, IsSome, OnOk, IfOk, IfErr};
+ghost use Rattle.std.specs.Prelude.{◌≡◌, ◌↔◌, ℕ, map, string_bytes, ◌⊎◌, IsSome, IsSomeAnd, OnOk, IfOk, IfErr};
 ghost use Rattle.io_ports.specs.Faults.{Rose};
 ghost use Rattle.pcitree.specs.Words.{form_of, misfit};
-ghost use Rattle.pcitree.specs.Ends.{MayCome, IsUsage, IsBadBoard, IsBeforeWriting, HeldNoBoard, ReadsInput, AnswersInput, Finishes, StopsInTrace};
+ghost use Rattle.pcitree.specs.Answers.{IsServed};
+ghost use Rattle.pcitree.specs.Ends.{MayCome, IsUsage, IsBadBoard, IsBeforeWriting, IsAnswered, HeldNoBoard, ReadsInput, AnswersInput, Finishes, StopsInTrace};
 ghost use Rattle.pcitree.specs.Stops.{StopsReading, StopsServing, StopsRunning};
 
 use crate::answering::{answer, not_served};
@@ -35,8 +36,10 @@ pub fn pcitree<S: Source, K: Sink>(
     ensures read_fault { result ≡ Status.ReadFault → Rose (S.faults source.old) (S.faults source.new) }
     ensures write_fault { result ≡ Status.WriteFault → Rose (K.faults sink.old) (K.faults sink.new) }
 
-    // A board that is refused was none of those that are served, and one that is answered was.
+    // A board is refused exactly where it is none of those that are served.
     ensures bad_board { IsBadBoard result → HeldNoBoard (S.held source.old) }
+    ensures unserved { IsSomeAnd (S.held source.old) (λ input. ¬ IsServed input) → IsBeforeWriting result }
+    ensures served { IsSome (form_of (map string_bytes words.now)) → IsSomeAnd (S.held source.old) IsServed → IsAnswered result ⊎ Rose (S.faults source.old) (S.faults source.new) ⊎ Rose (K.faults sink.old) (K.faults sink.new) }
 
     // What the sink has.
     ensures unwritten { IsBeforeWriting result → sink.new ≡ sink.old }

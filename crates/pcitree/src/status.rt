@@ -96,8 +96,14 @@ impl fmt::Display for Status {
             Status::ReadFault => write!(f, "pcitree: read failed"),
             Status::WriteFault => write!(f, "pcitree: write failed"),
             Status::TooLong => write!(f, "pcitree: input too long"),
-            Status::BadBoard { line, fault } => write!(f, "pcitree: board line {line} fault {fault}"),
-            Status::BadTrace { line, code } => write!(f, "pcitree: trace line {line} fault X{code}"),
+            Status::BadBoard { line, fault } => write!(
+                f,
+                "pcitree: board line {line} fault {fault}"
+            ),
+            Status::BadTrace { line, code } => write!(
+                f,
+                "pcitree: trace line {line} fault X{code}"
+            ),
             Status::NotRun { event, why } => {
                 write!(f, "pcitree: event {event} is not allowed: {why}")
             }

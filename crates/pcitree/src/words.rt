@@ -84,7 +84,10 @@ fn is_of(parts: &[Part], words: &[String]) -> bool
 pub(crate) fn form_of(words: &[String]) -> Option<Form>
     ensures { result ≡ form_of (map string_bytes words.now) }
 {
-    FORMS.iter().copied().find(|form| is_of(form.parts(), words))
+    FORMS
+        .iter()
+        .copied()
+        .find(|form| is_of(form.parts(), words))
 }
 
 /// The place, from 0, of the first word that fits no form, or the number of words where one is
@@ -92,7 +95,10 @@ pub(crate) fn form_of(words: &[String]) -> Option<Form>
 pub(crate) fn misfit(words: &[String]) -> u32
     ensures { result ≡ misfit (map string_bytes words.now) }
 {
-    FORMS.iter().fold(0, |longest: u32, form| longest.max(fitting(form.parts(), words)))
+    FORMS.iter().fold(
+        0,
+        |longest: u32, form| longest.max(fitting(form.parts(), words)),
+    )
 }
 
 /// The place, from 0, of the word that names the file to be read. None exactly where the words are

@@ -6,7 +6,7 @@ abbrev pub invariant-turns : goal.invariant-turns
 invariant-turns g l = record {
   read : Consumes (g.S.Source.held l.initial.source) (g.S.Source.held l.source) l.bytes.items;
   counted : g.S.Source.faults l.initial.source ≤ g.S.Source.faults l.source;
-  room : 0 < vec_len l.buffer
+  room : 0 < vec_len l.buffer;
 }
 
 abbrev pub decreases-turns : goal.decreases-turns

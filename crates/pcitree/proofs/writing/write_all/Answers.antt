@@ -7,5 +7,5 @@ pub pieces-preserved : goal.pieces-preserved
 pieces-preserved g c = record {
   within = c.in_ok-written.ensures.piece.within;
   written = Appends-take _ _ _ _ _ _ c.pieces.invariant.written c.in_ok-written.ensures.piece.written;
-  counted = omega (arith, c.pieces.invariant.counted, c.in_ok-written.ensures.counted)
+  counted = omega (arith, c.pieces.invariant.counted, c.in_ok-written.ensures.counted);
 }

@@ -6,7 +6,7 @@ abbrev pub invariant-pieces : goal.invariant-pieces
 invariant-pieces g l = record {
   within : l.written ≤ length l.text;
   written : Appends (g.K.Sink.taken l.initial.sink) (g.K.Sink.taken l.sink) (take l.written l.text);
-  counted : g.K.Sink.faults l.initial.sink ≤ g.K.Sink.faults l.sink
+  counted : g.K.Sink.faults l.initial.sink ≤ g.K.Sink.faults l.sink;
 }
 
 abbrev pub decreases-pieces : goal.decreases-pieces
