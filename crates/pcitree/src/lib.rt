@@ -1,0 +1,16 @@
+//! The program as one call, from its words, a source and a sink to a status.
+#![tactic(auto)]
+
+mod answering;
+mod program;
+mod reading;
+mod status;
+mod words;
+mod writing;
+
+pub use program::pcitree;
+pub use status::{BoardFault, Status};
+pub use words::file_word;
+
+#[cfg(test)]
+mod tests;

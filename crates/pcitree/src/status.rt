@@ -1,0 +1,126 @@
+ghost use Rattle.std.specs.Prelude.{◌≡◌};
+
+use history_model::Why;
+use std::alloc::AllocError;
+use std::fmt;
+
+/// A fault of a board, with its number in its family: of the lines (L), of the grammar (P), of the
+/// headers (H) and of the tree (V).
+#[derive(Clone, Copy, Debug, PartialEq, Eq)]
+pub enum BoardFault {
+    L(u8),
+    P(u8),
+    H(u8),
+    V(u8),
+    /// V9: this bound on the number of events is too high.
+    Bound(u64),
+}
+
+/// How a call of the program ends.
+#[derive(Clone, Copy, Debug, PartialEq, Eq)]
+pub enum Status {
+    /// The text is whole in the sink.
+    Done,
+    /// There was no memory.
+    NoMemory,
+    /// The words are of no form: the place, from 0, of the first that fits no form, or the number
+    /// of words where one is missing.
+    Usage { word: u32 },
+    /// The source failed.
+    ReadFault,
+    /// The sink failed: it has a front of the text.
+    WriteFault,
+    /// The source held too many bytes.
+    TooLong,
+    /// The board has a fault, at this line from 1 on, or 0 for the whole of it.
+    BadBoard { line: u32, fault: BoardFault },
+    /// The text of the trace has a fault (X and the code), at this line from 1 on.
+    BadTrace { line: u32, code: u8 },
+    /// This event, from 1 on, is not allowed after those before it.
+    NotRun { event: u32, why: Why },
+    /// The run has not ended: at most so many events are left.
+    Incomplete { left: u64 },
+}
+
+impl Status {
+    ghost use Rattle.std.specs.Prelude.{◌≡◌};
+    ghost use Rattle.pcitree.specs.StatusText.{number_of};
+
+    /// The number that the process ends with: 0 to 9.
+    pub fn number(&self) -> u8
+        ensures { result ≡ number_of self.now }
+    {
+        match self {
+            Status::Done => 0,
+            Status::NoMemory => 1,
+            Status::Usage { .. } => 2,
+            Status::ReadFault => 3,
+            Status::WriteFault => 4,
+            Status::TooLong => 5,
+            Status::BadBoard { .. } => 6,
+            Status::BadTrace { .. } => 7,
+            Status::NotRun { .. } => 8,
+            Status::Incomplete { .. } => 9,
+        }
+    }
+}
+
+impl fmt::Display for BoardFault {
+    ghost use Rattle.std.specs.Prelude.{Some};
+    ghost use Rattle.pcitree.specs.StatusText.{fault_text};
+
+    ghost output = { λ fault. Some (fault_text fault) };
+
+    fn fmt<W: fmt::Write>(&self, f: &mut fmt::Formatter<W>) -> fmt::Result {
+        match self {
+            BoardFault::L(code) => write!(f, "L{code}"),
+            BoardFault::P(code) => write!(f, "P{code}"),
+            BoardFault::H(code) => write!(f, "H{code}"),
+            BoardFault::V(code) => write!(f, "V{code}"),
+            BoardFault::Bound(bound) => write!(f, "V9 bound {bound}"),
+        }
+    }
+}
+
+impl fmt::Display for Status {
+    ghost use Rattle.std.specs.Prelude.{Some};
+    ghost use Rattle.pcitree.specs.StatusText.{status_text};
+
+    ghost output = { λ status. Some (status_text status) };
+
+    fn fmt<W: fmt::Write>(&self, f: &mut fmt::Formatter<W>) -> fmt::Result {
+        match self {
+            Status::Done => Ok(()),
+            Status::NoMemory => write!(f, "pcitree: no memory"),
+            Status::Usage { word } => write!(f, "pcitree: usage, word {word}"),
+            Status::ReadFault => write!(f, "pcitree: read failed"),
+            Status::WriteFault => write!(f, "pcitree: write failed"),
+            Status::TooLong => write!(f, "pcitree: input too long"),
+            Status::BadBoard { line, fault } => write!(
+                f,
+                "pcitree: board line {line} fault {fault}"
+            ),
+            Status::BadTrace { line, code } => write!(
+                f,
+                "pcitree: trace line {line} fault X{code}"
+            ),
+            Status::NotRun { event, why } => {
+                write!(f, "pcitree: event {event} is not allowed: {why}")
+            }
+            Status::Incomplete { left } => {
+                write!(f, "pcitree: incomplete, at most {left} events left")
+            }
+        }
+    }
+}
+
+impl From<AllocError> for Status {
+    ghost use Rattle.std.specs.Prelude.{◌≡◌};
+    ghost use Rattle.pcitree.specs.declared.status.Status.TheVariants.{NoMemory};
+
+    ghost from_gives = { λ _ status. status ≡ NoMemory };
+
+    fn from(_refused: AllocError) -> Status {
+        Status::NoMemory
+    }
+}
