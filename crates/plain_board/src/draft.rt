@@ -1,23 +1,7 @@
+use crate::Unread;
 use board_model::{Board, Master, Name, Op, Range, Target};
-use pci_command::{Command, List, NoMemory, Phase, Phases, Space};
+use pci_command::{Command, List, Phase, Phases, Space};
 use std::alloc::Global;
-use thiserror::Error;
-
-/// Why bytes were not read.
-#[derive(Clone, Copy, Debug, PartialEq, Eq, Error)]
-pub enum Unread {
-    #[error("no memory")]
-    NoMemory,
-    /// The bytes are not the canonical text of a plain board.
-    #[error("not the canonical text of a plain board")]
-    NotPlain,
-}
-
-impl From<NoMemory> for Unread {
-    fn from(_refused: NoMemory) -> Unread {
-        Unread::NoMemory
-    }
-}
 
 /// The parts of a board that were met so far.
 #[derive(Drop)]
@@ -30,7 +14,7 @@ struct Draft {
 
 /// The board that this text may be of. It is only a guess: who calls it prints the board again and
 /// compares.
-pub fn guess(alloc: Global, bytes: &[u8]) -> Result<Board, Unread> {
+pub(crate) fn guess(alloc: Global, bytes: &[u8]) -> Result<Board, Unread> {
     let mut draft = Draft {
         target: None,
         ranges: Vec::new(alloc),

@@ -4,6 +4,9 @@
 
 mod draft;
 mod plain;
+mod read;
+mod unread;
 
-pub use draft::{Unread, guess};
 pub use plain::is_plain;
+pub use read::read_plain;
+pub use unread::Unread;
