@@ -1,0 +1,10 @@
+pub mod OneBus
+pub mod ThreeBridges
+pub mod Bursts
+pub mod Flags
+pub mod Credits
+pub mod Unclaimed
+pub mod Discards
+pub mod Registers
+pub mod Wide
+pub mod Stealing

@@ -1,0 +1,68 @@
+-- Reads of configuration registers.
+use Rattle.std.specs.Prelude.{ℕ, true, false, List, [], ◌∷◌, Some, None, codes}
+use Rattle.pci_command.specs.declared.command.Command.TheVariants.{IoRead, IoWrite, MemRead, MemWrite, MemReadMultiple, MemReadLine, MemWriteInvalidate}
+use Rattle.pci_command.specs.declared.command.Space.TheVariants.{Mem, Io}
+use Rattle.pci_command.specs.declared.op_id.OpId.{OpId}
+use Rattle.pci_command.specs.declared.op_id.Outcome.TheVariants.{Value, Written, Aborted}
+use Rattle.board_model.specs.declared.bridge.Place.TheVariants.{Target, Header, Lane, Nobody}
+use Rattle.board_model.specs.declared.op.Op.TheVariants.{Read as ReadOp, Write as WriteOp, CfgRead as ReadRegister, Poll as PollOp}
+use Rattle.board_model.specs.declared.board.Board.{Board}
+use Rattle.history_model.specs.declared.event.By.TheVariants.{Master, Lane as ByLane}
+use Rattle.history_model.specs.declared.event.Mark.TheVariants.{Plain, Discard, Drop}
+use Rattle.history_model.specs.declared.event.Step.TheVariants.{Land, Part, Read, Accept, Latch, Take, Stall, MasterAbort, TargetAbort}
+use Rattle.history_model.specs.declared.event.Event.{Event}
+use Rattle.history_model.specs.declared.event.Event.TheVariants.{Act, Arrive}
+
+-- an operation by master, index and try
+abbrev op : ℕ → ℕ → ℕ → OpId
+op master index attempt = record { master = master; index = index; attempt = attempt }
+
+-- of a device behind two bridges, of two bridges, and of none
+abbrev pub registers_board : Board
+registers_board =
+    record {
+      bridges =
+          record { bus = 1; parent = 0; device = 1; last = 2; mem = None; pref = None; io = None; posted = 4; delayed = 4; mode = false } ∷
+          record { bus = 2; parent = 1; device = 1; last = 2; mem = None; pref = None; io = None; posted = 4; delayed = 4; mode = false } ∷ [];
+      targets =
+          record {
+            name = codes "nic";
+            bus = 2;
+            device = 1;
+            vendor = 0x1234;
+            model = 0x1;
+            stalls = 0;
+            burst = 8;
+            ranges = [];
+            aborts = [];
+            openings = [];
+          } ∷ [];
+      masters =
+          record {
+            name = codes "cpu";
+            bus = 0;
+            ops = ReadRegister 2 1 0 ∷ ReadRegister 1 1 6 ∷ ReadRegister 0 1 6 ∷ ReadRegister 5 0 0 ∷ [];
+          } ∷ [];
+      discards = [];
+      drops = [];
+    }
+
+abbrev pub registers_events : List Event
+registers_events =
+    Act 0 Master (op 0 0 0) Latch (Lane (record { bus = 1; up = false })) ∷
+    Arrive (record { bus = 1; up = false }) Plain ∷
+    Act 1 (ByLane (record { bus = 1; up = false })) (op 0 0 0) Latch (Lane (record { bus = 2; up = false })) ∷
+    Arrive (record { bus = 2; up = false }) Plain ∷
+    Act 2 (ByLane (record { bus = 2; up = false })) (op 0 0 0) (Read 0x11234) (Target 0) ∷
+    Arrive (record { bus = 2; up = true }) Plain ∷
+    Act 1 (ByLane (record { bus = 1; up = false })) (op 0 0 0) (Take (Value 0x11234)) (Lane (record { bus = 2; up = false })) ∷
+    Arrive (record { bus = 1; up = true }) Plain ∷
+    Act 0 Master (op 0 0 0) (Take (Value 0x11234)) (Lane (record { bus = 1; up = false })) ∷
+    Act 0 Master (op 0 1 0) Latch (Lane (record { bus = 1; up = false })) ∷
+    Arrive (record { bus = 1; up = false }) Plain ∷
+    Act 1 (ByLane (record { bus = 1; up = false })) (op 0 1 0) (Read 0x20201) (Header 2) ∷
+    Arrive (record { bus = 1; up = true }) Plain ∷
+    Act 0 Master (op 0 1 0) (Take (Value 0x20201)) (Lane (record { bus = 1; up = false })) ∷
+    Act 0 Master (op 0 2 0) (Read 0x20100) (Header 1) ∷
+    Act 0 Master (op 0 3 0) MasterAbort Nobody ∷
+    []

@@ -1,0 +1,104 @@
+//! Worked traces, computed to be runs by the definitions alone, and beside them events that are none.
+#![tactic(auto)]
+
+ghost use Rattle.history_model.specs.Runs.{Run, Complete, history_of};
+ghost use Rattle.worked_runs.specs.OneBus.{one_word_board, one_word_events, answers_board, answers_events};
+ghost use Rattle.worked_runs.specs.ThreeBridges.{three_bridges_board, three_bridges_events};
+ghost use Rattle.worked_runs.specs.Bursts.{burst_board, burst_events, parted_board, parted_events, between_board, between_events};
+ghost use Rattle.worked_runs.specs.Flags.{flag_board, flag_events};
+ghost use Rattle.worked_runs.specs.Credits.{credits_board, credits_events};
+ghost use Rattle.worked_runs.specs.Unclaimed.{unclaimed_board, unclaimed_events, aborted_board, aborted_events};
+ghost use Rattle.worked_runs.specs.Discards.{discarded_board, discarded_events, landed_twice_board, landed_twice_events, dropped_board, dropped_events};
+ghost use Rattle.worked_runs.specs.Registers.{registers_board, registers_events};
+ghost use Rattle.worked_runs.specs.Wide.{wide_board, wide_events};
+ghost use Rattle.worked_runs.specs.Stealing.{stealing_board, stealing_events, held_back_board, held_back_events};
+
+/// A write, and a read of what it wrote.
+pub fn one_word()
+    ensures run { Run one_word_board (history_of one_word_events) }
+    ensures complete { Complete one_word_board (history_of one_word_events) }
+{}
+
+/// A stall, a target abort, and a write of two bytes of a dword.
+pub fn answers()
+    ensures run { Run answers_board (history_of answers_events) }
+    ensures complete { Complete answers_board (history_of answers_events) }
+{}
+
+/// A read from below two bridges to below a third.
+pub fn three_bridges()
+    ensures run { Run three_bridges_board (history_of three_bridges_events) }
+    ensures complete { Complete three_bridges_board (history_of three_bridges_events) }
+{}
+
+/// Eight data phases through two bridges.
+pub fn burst()
+    ensures run { Run burst_board (history_of burst_events) }
+    ensures complete { Complete burst_board (history_of burst_events) }
+{}
+
+/// The same to a target that takes three at a time.
+pub fn parted()
+    ensures run { Run parted_board (history_of parted_events) }
+    ensures complete { Complete parted_board (history_of parted_events) }
+{}
+
+/// A read between the parts of a write.
+pub fn between()
+    ensures run { Run between_board (history_of between_events) }
+    ensures complete { Complete between_board (history_of between_events) }
+{}
+
+/// Data and flag on two buses, the consumer on a third.
+pub fn flag()
+    ensures run { Run flag_board (history_of flag_events) }
+    ensures complete { Complete flag_board (history_of flag_events) }
+{}
+
+/// Three writers to a bridge that holds one posted write.
+pub fn credits()
+    ensures run { Run credits_board (history_of credits_events) }
+    ensures complete { Complete credits_board (history_of credits_events) }
+{}
+
+/// A read and a write that nobody claims behind a bridge.
+pub fn unclaimed()
+    ensures run { Run unclaimed_board (history_of unclaimed_events) }
+    ensures complete { Complete unclaimed_board (history_of unclaimed_events) }
+{}
+
+/// The same behind a bridge in the other master abort mode.
+pub fn aborted()
+    ensures run { Run aborted_board (history_of aborted_events) }
+    ensures complete { Complete aborted_board (history_of aborted_events) }
+{}
+
+/// The completion of a read.
+pub fn discarded()
+    ensures run { Run discarded_board (history_of discarded_events) }
+    ensures complete { Complete discarded_board (history_of discarded_events) }
+{}
+
+/// The completion of a delayed write, which lands twice.
+pub fn landed_twice()
+    ensures run { Run landed_twice_board (history_of landed_twice_events) }
+    ensures complete { Complete landed_twice_board (history_of landed_twice_events) }
+{}
+
+/// A delayed request.
+pub fn dropped()
+    ensures run { Run dropped_board (history_of dropped_events) }
+    ensures complete { Complete dropped_board (history_of dropped_events) }
+{}
+
+/// Of a device behind two bridges, of two bridges, and of none.
+pub fn registers()
+    ensures run { Run registers_board (history_of registers_events) }
+    ensures complete { Complete registers_board (history_of registers_events) }
+{}
+
+/// A write and a read above 2^32, through a prefetchable window.
+pub fn wide()
+    ensures run { Run wide_board (history_of wide_events) }
+    ensures complete { Complete wide_board (history_of wide_events) }
+{}
