@@ -8,3 +8,4 @@ pub mod Discards
 pub mod Registers
 pub mod Wide
 pub mod Stealing
+pub mod Wrong

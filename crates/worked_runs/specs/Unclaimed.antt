@@ -1,15 +1,14 @@
 -- Nobody claims.
 use Rattle.std.specs.Prelude.{ℕ, true, false, List, [], ◌∷◌, Some, None, codes}
-use Rattle.pci_command.specs.declared.command.Command.TheVariants.{IoRead, IoWrite, MemRead, MemWrite, MemReadMultiple, MemReadLine, MemWriteInvalidate}
-use Rattle.pci_command.specs.declared.command.Space.TheVariants.{Mem, Io}
+use Rattle.pci_command.specs.declared.command.Command.TheVariants.{MemRead, MemWrite}
 use Rattle.pci_command.specs.declared.op_id.OpId.{OpId}
-use Rattle.pci_command.specs.declared.op_id.Outcome.TheVariants.{Value, Written, Aborted}
-use Rattle.board_model.specs.declared.bridge.Place.TheVariants.{Target, Header, Lane, Nobody}
-use Rattle.board_model.specs.declared.op.Op.TheVariants.{Read as ReadOp, Write as WriteOp, CfgRead as ReadRegister, Poll as PollOp}
+use Rattle.pci_command.specs.declared.op_id.Outcome.TheVariants.{Value, Aborted}
+use Rattle.board_model.specs.declared.bridge.Place.TheVariants.{Lane, Nobody}
+use Rattle.board_model.specs.declared.op.Op.TheVariants.{Read as ReadOp, Write as WriteOp}
 use Rattle.board_model.specs.declared.board.Board.{Board}
 use Rattle.history_model.specs.declared.event.By.TheVariants.{Master, Lane as ByLane}
-use Rattle.history_model.specs.declared.event.Mark.TheVariants.{Plain, Discard, Drop}
-use Rattle.history_model.specs.declared.event.Step.TheVariants.{Land, Part, Read, Accept, Latch, Take, Stall, MasterAbort, TargetAbort}
+use Rattle.history_model.specs.declared.event.Mark.TheVariants.{Plain}
+use Rattle.history_model.specs.declared.event.Step.TheVariants.{Accept, Latch, Take, MasterAbort}
 use Rattle.history_model.specs.declared.event.Event.{Event}
 use Rattle.history_model.specs.declared.event.Event.TheVariants.{Act, Arrive}
 

@@ -1,7 +1,9 @@
 //! Worked traces, computed to be runs by the definitions alone, and beside them events that are none.
 #![tactic(auto)]
 
+ghost use Rattle.std.specs.Prelude.{[], ◌∷◌, ◌++◌, take, reverse};
 ghost use Rattle.history_model.specs.Runs.{Run, Complete, history_of};
+ghost use Rattle.worked_runs.specs.Wrong.{wrong_value, early_completion, second_accept, all_at_once, plain_arrival, marked_arrival};
 ghost use Rattle.worked_runs.specs.OneBus.{one_word_board, one_word_events, answers_board, answers_events};
 ghost use Rattle.worked_runs.specs.ThreeBridges.{three_bridges_board, three_bridges_events};
 ghost use Rattle.worked_runs.specs.Bursts.{burst_board, burst_events, parted_board, parted_events, between_board, between_events};
@@ -101,4 +103,41 @@ pub fn registers()
 pub fn wide()
     ensures run { Run wide_board (history_of wide_events) }
     ensures complete { Complete wide_board (history_of wide_events) }
+{}
+
+/// The completion that a bridge holds for one local master is not given to another with the same
+/// request, and of two equal requests on one lane the younger waits.
+pub fn completions_are_not_stolen()
+    ensures before { Run stealing_board (history_of (take 15 stealing_events)) }
+    ensures not_come { ¬ Run stealing_board (history_of stealing_events) }
+    ensures behind_it { Run stealing_board (history_of (take 16 held_back_events)) }
+    ensures held_back { ¬ Run stealing_board (history_of held_back_events) }
+{}
+
+/// A read gives what was written, and no operation comes before its turn.
+pub fn wrong_reads()
+    ensures value { ¬ Run one_word_board (history_of (take 1 one_word_events ++ wrong_value ∷ [])) }
+    ensures turn { ¬ Run one_word_board (history_of (reverse one_word_events)) }
+{}
+
+/// A completion of a read does not pass a posted write that stands before it.
+pub fn completion_waits_for_posted_write()
+    ensures { ¬ Run flag_board (history_of (take 11 flag_events ++ early_completion ∷ [])) }
+{}
+
+/// A bridge that owes as many posted writes as it holds accepts no other.
+pub fn no_credit()
+    ensures { ¬ Run credits_board (history_of (take 1 credits_events ++ second_accept ∷ [])) }
+{}
+
+/// A target that takes one data phase at a time does not take two as all that is left.
+pub fn whole_burst()
+    ensures { ¬ Run between_board (history_of (take 2 between_events ++ all_at_once ∷ [])) }
+{}
+
+/// A mark of the board can neither be left off nor put on, and nothing arrives that is not in flight.
+pub fn wrong_arrivals()
+    ensures left_off { ¬ Run discarded_board (history_of (take 7 discarded_events ++ plain_arrival ∷ [])) }
+    ensures put_on { ¬ Run discarded_board (history_of (take 15 discarded_events ++ marked_arrival ∷ [])) }
+    ensures nothing { ¬ Run one_word_board (history_of (plain_arrival ∷ [])) }
 {}
