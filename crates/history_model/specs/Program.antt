@@ -1,8 +1,5 @@
 -- The programs of the masters: each presents its operations in order, and repeats one until it ends.
-use Rattle.std.specs.Prelude.{ℕ, Bool, true, false, ◌+◌, List, [], ◌∷◌, Option, Some, None, is_some, ◌==◌, if◌then◌else◌, bit_and}
-use Rattle.pci_command.specs.declared.command.Command.{Command}
-use Rattle.pci_command.specs.declared.command.Space.{Space}
-use Rattle.pci_command.specs.declared.phases.Phase.{Phase}
+use Rattle.std.specs.Prelude.{ℕ, Bool, false, ◌+◌, List, [], ◌∷◌, Option, Some, None, is_some, ◌==◌, if◌then◌else◌, bit_and}
 use Rattle.pci_command.specs.declared.op_id.OpId.{OpId}
 use Rattle.pci_command.specs.declared.op_id.Outcome.{Outcome}
 use Rattle.pci_command.specs.declared.op_id.Outcome.TheVariants.{Value, Written, Aborted, Nobody}

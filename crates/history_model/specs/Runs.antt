@@ -1,23 +1,20 @@
 -- Runs: each event is allowed after those before it. Histories are newest first; a trace prints them
 -- oldest first.
-use Rattle.std.specs.Prelude.{◌≡◌, ℕ, Bool, true, false, ◌+◌, ◌<◌, List, [], ◌∷◌, ◌++◌, length, reverse, Option, Some, None, ◌&&◌, ◌==◌, if◌then◌else◌}
-use Rattle.std.specs.List.{list_any}
-use Rattle.list_facts.specs.Lists.{Each}
+use Rattle.std.specs.Prelude.{◌≡◌, ℕ, Bool, true, false, ◌+◌, ◌<◌, List, [], ◌∷◌, length, reverse, Option, Some, None, ◌&&◌, ◌==◌, if◌then◌else◌}
+use Rattle.std.specs.List.{list_any, AllByRecursion}
 use Rattle.board_model.specs.declared.board.Board.{Board}
 use Rattle.board_model.specs.declared.board.Planned.{Planned}
 use Rattle.board_model.specs.declared.bridge.Bridge.{Bridge}
 use Rattle.board_model.specs.declared.bridge.Lane.{Lane as BridgeLane}
-use Rattle.history_model.specs.declared.event.By.{By}
 use Rattle.history_model.specs.declared.event.Mark.{Mark}
 use Rattle.history_model.specs.declared.event.Mark.TheVariants.{Plain, Discard, Drop}
 use Rattle.history_model.specs.declared.event.Event.{Event}
 use Rattle.history_model.specs.declared.event.Event.TheVariants.{Act, Arrive}
 use Rattle.history_model.specs.declared.item.Carried.{Carried}
 use Rattle.history_model.specs.declared.item.Carried.TheVariants.{Post, Ask, Done, Room, Gone}
-use Rattle.history_model.specs.declared.item.Answer.{Answer}
-use Rattle.history_model.specs.declared.item.Answer.TheVariants.{Gives, Retry}
+use Rattle.history_model.specs.declared.item.Answer.TheVariants.{Gives}
 use Rattle.history_model.specs.Lanes.{LaneState}
-use Rattle.history_model.specs.World.{World, same_lane, world_of}
+use Rattle.history_model.specs.World.{same_lane, world_of}
 use Rattle.history_model.specs.Program.{turn_of}
 use Rattle.history_model.specs.Answers.{wants, answer}
 
@@ -60,7 +57,7 @@ IsIdle state = (state.flight ≡ []) × (state.standing ≡ [])
 -- the programs of all masters ended, and both lanes of every bridge are idle
 pub record Complete (board : Board) (h : List Event) : Type 0 where
   pub ended : (master : ℕ) → master < length board.masters → turn_of board h master ≡ None
-  pub idle : Each (λ (bridge : Bridge). IsIdle (world_of board h (record { bus = bridge.bus; up = false }))
+  pub idle : AllByRecursion (λ (bridge : Bridge). IsIdle (world_of board h (record { bus = bridge.bus; up = false }))
       × IsIdle (world_of board h (record { bus = bridge.bus; up = true }))) board.bridges
 
 -- a trace is read from its first event on: as a history it stands the other way round

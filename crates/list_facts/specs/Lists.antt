@@ -16,11 +16,6 @@ abbrev pub greatest : {X : Type 0} → (X → ℕ) → List X → ℕ
 greatest weight [] = 0
 greatest weight (x ∷ xs) = max (weight x) (greatest weight xs)
 
--- P holds of each element
-abbrev pub Each : {X : Type 0} → (X → Type 0) → List X → Type 0
-Each P [] = Unit {0}
-Each P (x ∷ xs) = P x × Each P xs
-
 -- the elements that stand before the first that passes; all of them where none does
 abbrev pub before : {X : Type 0} → (X → Bool) → List X → List X
 before test [] = []
