@@ -5,3 +5,4 @@ pub mod Program
 pub mod Words
 pub mod Answers
 pub mod Runs
+pub mod Local
