@@ -6,3 +6,5 @@ pub mod Words
 pub mod Answers
 pub mod Runs
 pub mod Local
+pub mod Knowledge
+pub mod Left
