@@ -52,45 +52,52 @@ LocalRun board bus came (e ∷ h) = (bus_of board e ≡ bus) × AllowedLocally b
 
 -- Matched runs.
 
--- the own slot that a completion is taken for, and that completion, both of the operation that takes it
-abbrev pub TakesItsOwn : Board → List Event → ℕ → By → OpId → BridgeLane → Type 0
-TakesItsOwn board h on by o lane =
-    (slot : Slot) × (completion : Carried)
-    × (find (is_own board on by o) (world_of board h lane).held ≡ Some slot)
-    × (find (is_done_for slot.number) (world_of board h (lane_back lane)).standing ≡ Some completion)
-    × (slot.op ≡ o) × IsDoneOf o completion where
-      IsDoneOf : OpId → Carried → Type 0
-      IsDoneOf o (Post op) = ⊥
-      IsDoneOf o (Ask op slot) = ⊥
-      IsDoneOf o (Done op slot outcome) = op ≡ o
-      IsDoneOf o Room = ⊥
-      IsDoneOf o (Gone slot) = ⊥
+-- a completion of the operation
+abbrev pub is_done_of : OpId → Carried → Bool
+is_done_of o (Post op) = false
+is_done_of o (Ask op slot) = false
+is_done_of o (Done op slot outcome) = same_op op o
+is_done_of o Room = false
+is_done_of o (Gone slot) = false
 
-abbrev pub TakesAt : Board → List Event → ℕ → By → OpId → Place → Type 0
-TakesAt board h on by o (Target target) = Unit {0}
-TakesAt board h on by o (Header bus) = Unit {0}
-TakesAt board h on by o (Lane lane) = TakesItsOwn board h on by o lane
-TakesAt board h on by o Nobody = Unit {0}
+abbrev pub completes : OpId → Option Carried → Bool
+completes o None = false
+completes o (Some item) = is_done_of o item
 
-abbrev pub IsMatchedStep : Board → List Event → ℕ → By → OpId → Step → Place → Type 0
-IsMatchedStep board h on by o Land place = Unit {0}
-IsMatchedStep board h on by o (Part phases) place = Unit {0}
-IsMatchedStep board h on by o (Read value) place = Unit {0}
-IsMatchedStep board h on by o Accept place = Unit {0}
-IsMatchedStep board h on by o Latch place = Unit {0}
-IsMatchedStep board h on by o (Take outcome) place = TakesAt board h on by o place
-IsMatchedStep board h on by o Stall place = Unit {0}
-IsMatchedStep board h on by o MasterAbort place = Unit {0}
-IsMatchedStep board h on by o TargetAbort place = Unit {0}
+abbrev pub slot_completes : List Carried → OpId → Option Slot → Bool
+slot_completes coming o None = false
+slot_completes coming o (Some slot) = same_op slot.op o && completes o (find (is_done_for slot.number) coming)
 
-abbrev pub IsMatched : Board → List Event → Event → Type 0
-IsMatched board h (Act on by o step place) = IsMatchedStep board h on by o step place
-IsMatched board h (Arrive lane mark) = Unit {0}
+-- the own slot at the lane, and the completion that stands for it, are both of the operation itself
+abbrev pub takes_its_own : Board → World → ℕ → By → OpId → BridgeLane → Bool
+takes_its_own board world on by o lane =
+    slot_completes (world (lane_back lane)).standing o (find (is_own board on by o) (world lane).held)
+
+abbrev pub takes_at : Board → World → ℕ → By → OpId → Place → Bool
+takes_at board world on by o (Target target) = true
+takes_at board world on by o (Header bus) = true
+takes_at board world on by o (Lane lane) = takes_its_own board world on by o lane
+takes_at board world on by o Nobody = true
+
+abbrev pub is_matched_step : Board → World → ℕ → By → OpId → Step → Place → Bool
+is_matched_step board world on by o Land place = true
+is_matched_step board world on by o (Part phases) place = true
+is_matched_step board world on by o (Read value) place = true
+is_matched_step board world on by o Accept place = true
+is_matched_step board world on by o Latch place = true
+is_matched_step board world on by o (Take outcome) place = takes_at board world on by o place
+is_matched_step board world on by o Stall place = true
+is_matched_step board world on by o MasterAbort place = true
+is_matched_step board world on by o TargetAbort place = true
+
+abbrev pub is_matched : Board → List Event → Event → Bool
+is_matched board h (Act on by o step place) = is_matched_step board (world_of board h) on by o step place
+is_matched board h (Arrive lane mark) = true
 
 -- each completion is taken by the operation that it was made for
 abbrev pub Matched : Board → List Event → Type 0
 Matched board [] = Unit {0}
-Matched board (e ∷ h) = IsMatched board h e × Matched board h
+Matched board (e ∷ h) = (is_matched board h e ≡ true) × Matched board h
 
 -- Lawful peers.
 
