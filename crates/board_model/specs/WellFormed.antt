@@ -179,8 +179,8 @@ operations_in masters = total (λ (master : Master). total tries_of master.ops) 
 abbrev pub is_well_formed : Board → Bool
 is_well_formed board =
     nat_le (length board.bridges) 31 && list_all is_well_formed_bridge board.bridges && are_numbered_apart board.bridges
-    && list_all is_well_formed_target board.targets && list_all is_well_formed_master board.masters
+    && list_all is_well_formed_target board.targets && list_all is_well_formed_master board.masters && are_few board
     && are_targets_named_apart board.masters board.targets && are_masters_named_apart board.masters
-    && are_few board && nat_le (operations_in board.masters) 65536
+    && nat_le (operations_in board.masters) 65536
     && nat_le (length board.discards) 1024 && list_all is_well_formed_plan board.discards
     && nat_le (length board.drops) 1024 && list_all is_well_formed_plan board.drops
