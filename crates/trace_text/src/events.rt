@@ -6,7 +6,7 @@ ghost use Rattle.board_printer.specs.Lines.{spaced, line_text};
 ghost use Rattle.trace_text.specs.Words.{master_name, target_name, names_poll, op_word, place_words};
 ghost use Rattle.trace_text.specs.Events.{step_word, result_words, mark_words, act_line, arrival_line, event_line};
 
-use crate::{ByWord, LaneWord, OutcomeWord};
+use crate::words::{ByWord, LaneWord, OutcomeWord};
 use board_model::{Board, Bridge, Lane, Op, Place};
 use board_printer::HexWord;
 use history_model::{By, Event, Mark, Step};
@@ -14,7 +14,7 @@ use pci_command::OpId;
 use std::alloc::AllocError;
 
 /// The line of the event, behind a text.
-pub fn print_event(text: &mut String, board: &Board, event: &Event) -> Result<(), AllocError>
+pub(crate) fn print_event(text: &mut String, board: &Board, event: &Event) -> Result<(), AllocError>
     ensures { OnOk result
         (string_bytes text.new ≡ string_bytes text.old ++ line_text (event_line board.now event.now)) }
 {
@@ -60,7 +60,8 @@ fn print_arrival(text: &mut String, board: &Board, lane: Lane, mark: Mark) -> Re
     writeln!(text)
 }
 
-/// The operation as `NAME.INDEX`, for a poll `NAME.INDEX.TRY`, behind a text.
+/// The operation as `NAME.INDEX`, for a poll `NAME.INDEX.TRY`, behind a text. The name of a master
+/// that the board does not have is empty.
 pub fn print_operation(text: &mut String, board: &Board, op: &OpId) -> Result<(), AllocError>
     ensures { OnOk result
         (string_bytes text.new ≡ string_bytes text.old ++ op_word board.now op.now) }

@@ -6,10 +6,9 @@ mod lines;
 mod trace;
 mod words;
 
-pub use events::{print_event, print_operation};
+pub use events::print_operation;
 pub use lines::has_line;
 pub use trace::print_trace;
-pub use words::{ByWord, LaneWord, OutcomeWord};
 
 #[cfg(test)]
 mod tests;

@@ -3,14 +3,15 @@ ghost use Rattle.board_printer.specs.Lines.{text_of};
 ghost use Rattle.trace_text.specs.Events.{HasLine, event_line};
 ghost use Rattle.trace_text.specs.Traces.{trace_of};
 
-use crate::print_event;
+use crate::events::print_event;
 use board_model::Board;
 use board_printer::print_board_lines;
 use history_model::Event;
 use pci_command::{List, NoMemory};
 use std::alloc::{AllocError, Global};
 
-/// The text of the trace: the canonical text of its board and its events from the oldest on.
+/// The text of the trace: the canonical text of its board and its events from the oldest on. Each
+/// event has a line over the board, as `has_line` tells, and there are fewer than 2^32.
 pub fn print_trace(alloc: Global, board: &Board, events: &[Event]) -> Result<List<u8>, NoMemory>
     requires lines { All (HasLine board.now) events.now }
     requires few { length events.now < 2 ^ 32 }

@@ -6,15 +6,15 @@ use std::fmt;
 
 /// A lane in a line: the secondary bus of its bridge, and `u` for up or `d` for down.
 #[derive(Clone, Copy, Debug, PartialEq, Eq)]
-pub struct LaneWord(pub Lane);
+pub(crate) struct LaneWord(pub(crate) Lane);
 
 /// An initiator in a line: `m` for the operation's own master, otherwise the lane.
 #[derive(Clone, Copy, Debug, PartialEq, Eq)]
-pub struct ByWord(pub By);
+pub(crate) struct ByWord(pub(crate) By);
 
 /// How an operation ended, in a line: its value in eight hexadecimal digits, `ok` or `abort`.
 #[derive(Clone, Copy, Debug, PartialEq, Eq)]
-pub struct OutcomeWord(pub Outcome);
+pub(crate) struct OutcomeWord(pub(crate) Outcome);
 
 impl fmt::Display for LaneWord {
     ghost use Rattle.std.specs.Prelude.{Some};
