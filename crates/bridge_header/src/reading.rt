@@ -1,0 +1,138 @@
+ghost use Rattle.std.specs.Prelude.{◌≡◌, ◌+◌, ◌*◌, ◌^◌, ◌<◌, ◌==◌, IsTrue, Ok, slice_index, if◌then◌else◌, ℕ};
+ghost use Rattle.board_model.specs.declared.bridge.Bridge.{Bridge};
+ghost use Rattle.bridge_header.specs.HeaderBytes.{header_bytes, bits, register_2, register_4};
+ghost use Rattle.bridge_header.specs.Windows.{reading_of, windows_of, windows_in, is_type_1, has_served_bits, has_bit, memory_window, prefetchable_window, io_window, window_between, has_whole_windows, has_ordered_buses};
+
+use crate::{BridgeControl, CommandBits, HeaderFault, Windows, encode};
+use bitflags::Flags;
+use board_model::{Bridge, Window};
+
+/// What the 64 bytes of a header say, or their first fault. What is in no window register, bus
+/// number, header type, command bit or bridge control bit that is looked at is ignored.
+pub fn decode(bytes: &[u8; 64]) -> Result<Windows, HeaderFault>
+    ensures { result ≡ reading_of bytes.now }
+{
+    if bytes[0x0e] & 0x7f != 1 {
+        return Err(HeaderFault::H1);
+    }
+    if !has_served_bits(bytes) {
+        return Err(HeaderFault::H2);
+    }
+    let windows = windows_of(bytes);
+    if windows.has_ordered_buses() {
+        Ok(windows)
+    } else {
+        Err(HeaderFault::H3)
+    }
+}
+
+fn has_served_bits(bytes: &[u8; 64]) -> bool
+    ensures { result ≡ has_served_bits bytes.now }
+{
+    let command = CommandBits::from_bits_retain(register_2(bytes, 0x04));
+    let control = BridgeControl::from_bits_retain(register_2(bytes, 0x3e));
+    command.contains(CommandBits::IO_SPACE)
+        && command.contains(CommandBits::MEMORY_SPACE)
+        && command.contains(CommandBits::BUS_MASTER)
+        && !(control.contains(BridgeControl::ISA_ENABLE)
+            || control.contains(BridgeControl::VGA_ENABLE)
+            || control.contains(BridgeControl::SECONDARY_BUS_RESET))
+}
+
+fn windows_of(bytes: &[u8; 64]) -> Windows
+    ensures { result ≡ windows_of bytes.now }
+{
+    let control = BridgeControl::from_bits_retain(register_2(bytes, 0x3e));
+    Windows {
+        primary: bytes[0x18],
+        secondary: bytes[0x19],
+        subordinate: bytes[0x1a],
+        mem: memory_window(bytes),
+        pref: prefetchable_window(bytes),
+        io: io_window(bytes),
+        mode: control.contains(BridgeControl::MASTER_ABORT_MODE),
+    }
+}
+
+fn memory_window(bytes: &[u8; 64]) -> Option<Window>
+    ensures { result ≡ memory_window bytes.now }
+{
+    let base = u64::from(register_2(bytes, 0x20) >> 4);
+    let limit = u64::from(register_2(bytes, 0x22) >> 4);
+    window_between(base * 0x10_0000, limit * 0x10_0000 + 0xf_ffff)
+}
+
+fn prefetchable_window(bytes: &[u8; 64]) -> Option<Window>
+    ensures { result ≡ prefetchable_window bytes.now }
+{
+    let is_wide = bytes[0x24] & 0xf == 1;
+    let base_upper = if is_wide { register_4(bytes, 0x28) } else { 0 };
+    let limit_upper = if is_wide { register_4(bytes, 0x2c) } else { 0 };
+    let base = u64::from(register_2(bytes, 0x24) >> 4);
+    let limit = u64::from(register_2(bytes, 0x26) >> 4);
+    window_between(
+        u64::from(base_upper) * 0x1_0000_0000 + base * 0x10_0000,
+        u64::from(limit_upper) * 0x1_0000_0000 + limit * 0x10_0000 + 0xf_ffff,
+    )
+}
+
+fn io_window(bytes: &[u8; 64]) -> Option<Window>
+    ensures { result ≡ io_window bytes.now }
+{
+    let is_wide = bytes[0x1c] & 0xf == 1;
+    let base_upper = if is_wide { register_2(bytes, 0x30) } else { 0 };
+    let limit_upper = if is_wide { register_2(bytes, 0x32) } else { 0 };
+    let base = u64::from(bytes[0x1c] >> 4);
+    let limit = u64::from(bytes[0x1d] >> 4);
+    window_between(
+        u64::from(base_upper) * 0x1_0000 + base * 0x1000,
+        u64::from(limit_upper) * 0x1_0000 + limit * 0x1000 + 0xfff,
+    )
+}
+
+fn window_between(base: u64, limit: u64) -> Option<Window>
+    ensures { result ≡ window_between base limit }
+{
+    if base <= limit { Some(Window { base, limit }) } else { None }
+}
+
+fn register_2(bytes: &[u8; 64], offset: usize) -> u16
+    requires { offset + 1 < 64 }
+    ensures { result ≡ register_2 bytes.now offset }
+{
+    u16::from(bytes[offset]) + u16::from(bytes[offset + 1]) * 0x100
+}
+
+fn register_4(bytes: &[u8; 64], offset: usize) -> u32
+    requires { offset + 3 < 64 }
+    ensures { result ≡ register_4 bytes.now offset }
+{
+    let low = u32::from(register_2(bytes, offset));
+    let high = u32::from(register_2(bytes, offset + 2));
+    low + high * 0x1_0000
+}
+
+/// What the header of a bridge says: the bridge's own buses, windows and master abort mode.
+pub fn read_back(bridge: &Bridge) -> Windows
+    requires whole_windows { IsTrue (has_whole_windows (windows_in bridge.now)) }
+    requires ordered_buses { IsTrue (has_ordered_buses (windows_in bridge.now)) }
+    ensures { result ≡ windows_in bridge.now }
+{
+    encoding_is_read_back();
+    match decode(&encode(bridge)) {
+        Ok(windows) => windows,
+        Err(_) => unreachable!(),
+    }
+}
+
+/// The law of the round trip: the header of a bridge says the bridge's own buses, windows and
+/// master abort mode, where its registers can hold them; and where its buses are in order too, it
+/// is not refused.
+pub fn encoding_is_read_back()
+    ensures windows { (bridge : Bridge) → IsTrue (has_whole_windows (windows_in bridge))
+        → windows_of (header_bytes bridge) ≡ windows_in bridge }
+    ensures reading { (bridge : Bridge) → IsTrue (has_whole_windows (windows_in bridge))
+        → IsTrue (has_ordered_buses (windows_in bridge))
+        → reading_of (header_bytes bridge) ≡ Ok (windows_in bridge) }
+{
+}
