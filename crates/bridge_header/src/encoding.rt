@@ -1,4 +1,4 @@
-ghost use Rattle.std.specs.Prelude.{◌≡◌, ◌+◌, ◌*◌, ◌/◌, ◌%◌, ◌^◌, ◌<◌, slice_set};
+ghost use Rattle.std.specs.Prelude.{◌≡◌, ◌+◌, ◌*◌, ◌/◌, ◌%◌, ◌^◌, ◌<◌, slice_set, if◌then◌else◌};
 ghost use Rattle.bridge_header.specs.HeaderBytes.{header_bytes, bits, io_base, io_limit, io_base_upper, io_limit_upper, memory_base, memory_limit, is_wide, wide_bit, prefetchable_base, prefetchable_limit, prefetchable_base_upper, prefetchable_limit_upper, control_of};
 
 use crate::{BridgeControl, CommandBits};
@@ -37,7 +37,7 @@ pub fn encode(bridge: &Bridge) -> [u8; 64]
 fn put_2(bytes: &mut [u8; 64], offset: usize, register: u16)
     requires { offset + 1 < 64 }
     ensures { bytes.new
-        ≡ slice_set (slice_set bytes.old offset (register % 2 ^ 8)) (offset + 1) (register / 2 ^ 8) }
+        ≡ slice_set (slice_set bytes.old offset (register % 2 ^ 8)) (offset + 1) (register / 2 ^ 8 % 2 ^ 8) }
 {
     bytes[offset] = (register & 0xff) as u8;
     bytes[offset + 1] = (register >> 8) as u8;
@@ -47,7 +47,8 @@ fn put_4(bytes: &mut [u8; 64], offset: usize, register: u32)
     requires { offset + 3 < 64 }
     ensures { bytes.new
         ≡ slice_set (slice_set (slice_set (slice_set bytes.old offset (register % 2 ^ 8))
-        (offset + 1) (register / 2 ^ 8 % 2 ^ 8)) (offset + 2) (register / 2 ^ 16 % 2 ^ 8)) (offset + 3) (register / 2 ^ 24) }
+        (offset + 1) (register / 2 ^ 8 % 2 ^ 8)) (offset + 2) (register / 2 ^ 16 % 2 ^ 8))
+        (offset + 3) (register / 2 ^ 16 / 2 ^ 8 % 2 ^ 8) }
 {
     put_2(bytes, offset, (register & 0xffff) as u16);
     put_2(bytes, offset + 2, (register >> 16) as u16);

@@ -1,7 +1,7 @@
 ghost use Rattle.std.specs.Prelude.{◌≡◌, ◌+◌, ◌*◌, ◌^◌, ◌<◌, ◌==◌, IsTrue, Ok, slice_index, if◌then◌else◌, ℕ};
 ghost use Rattle.board_model.specs.declared.bridge.Bridge.{Bridge};
 ghost use Rattle.bridge_header.specs.HeaderBytes.{header_bytes, bits, register_2, register_4};
-ghost use Rattle.bridge_header.specs.Windows.{reading_of, windows_of, windows_in, is_type_1, has_served_bits, has_bit, memory_window, prefetchable_window, io_window, window_between, has_whole_windows, has_ordered_buses};
+ghost use Rattle.bridge_header.specs.Windows.{reading_of, windows_of, windows_in, is_type_1, has_served_bits, has_bit, memory_window, prefetchable_window, prefetchable_upper, io_window, io_upper, window_between, has_whole_windows, has_ordered_buses};
 
 use crate::{BridgeControl, CommandBits, HeaderFault, Windows, encode};
 use bitflags::Flags;
@@ -12,7 +12,7 @@ use board_model::{Bridge, Window};
 pub fn decode(bytes: &[u8; 64]) -> Result<Windows, HeaderFault>
     ensures { result ≡ reading_of bytes.now }
 {
-    if bytes[0x0e] & 0x7f != 1 {
+    if !is_type_1(bytes) {
         return Err(HeaderFault::H1);
     }
     if !has_served_bits(bytes) {
@@ -26,6 +26,13 @@ pub fn decode(bytes: &[u8; 64]) -> Result<Windows, HeaderFault>
     }
 }
 
+fn is_type_1(bytes: &[u8; 64]) -> bool
+    ensures { result ≡ is_type_1 bytes.now }
+{
+    bytes[0x0e] & 0x7f == 1
+}
+
+#[tactic(auto, using(crate::proofs::BitLemmas::contained_bits))]
 fn has_served_bits(bytes: &[u8; 64]) -> bool
     ensures { result ≡ has_served_bits bytes.now }
 {
@@ -39,6 +46,7 @@ fn has_served_bits(bytes: &[u8; 64]) -> bool
             || control.contains(BridgeControl::SECONDARY_BUS_RESET))
 }
 
+#[tactic(auto, using(crate::proofs::BitLemmas::contained_bits))]
 fn windows_of(bytes: &[u8; 64]) -> Windows
     ensures { result ≡ windows_of bytes.now }
 {
@@ -65,29 +73,45 @@ fn memory_window(bytes: &[u8; 64]) -> Option<Window>
 fn prefetchable_window(bytes: &[u8; 64]) -> Option<Window>
     ensures { result ≡ prefetchable_window bytes.now }
 {
-    let is_wide = bytes[0x24] & 0xf == 1;
-    let base_upper = if is_wide { register_4(bytes, 0x28) } else { 0 };
-    let limit_upper = if is_wide { register_4(bytes, 0x2c) } else { 0 };
+    let base_upper = u64::from(prefetchable_upper(bytes, 0x28));
+    let limit_upper = u64::from(prefetchable_upper(bytes, 0x2c));
     let base = u64::from(register_2(bytes, 0x24) >> 4);
     let limit = u64::from(register_2(bytes, 0x26) >> 4);
     window_between(
-        u64::from(base_upper) * 0x1_0000_0000 + base * 0x10_0000,
-        u64::from(limit_upper) * 0x1_0000_0000 + limit * 0x10_0000 + 0xf_ffff,
+        base_upper * 0x1_0000_0000 + base * 0x10_0000,
+        limit_upper * 0x1_0000_0000 + limit * 0x10_0000 + 0xf_ffff,
     )
+}
+
+/// The upper half of a prefetchable base or limit.
+fn prefetchable_upper(bytes: &[u8; 64], offset: usize) -> u32
+    requires { offset + 3 < 64 }
+    ensures { result ≡ prefetchable_upper bytes.now offset }
+{
+    let is_wide = bytes[0x24] & 0xf == 1;
+    if is_wide { register_4(bytes, offset) } else { 0 }
 }
 
 fn io_window(bytes: &[u8; 64]) -> Option<Window>
     ensures { result ≡ io_window bytes.now }
 {
-    let is_wide = bytes[0x1c] & 0xf == 1;
-    let base_upper = if is_wide { register_2(bytes, 0x30) } else { 0 };
-    let limit_upper = if is_wide { register_2(bytes, 0x32) } else { 0 };
+    let base_upper = u64::from(io_upper(bytes, 0x30));
+    let limit_upper = u64::from(io_upper(bytes, 0x32));
     let base = u64::from(bytes[0x1c] >> 4);
     let limit = u64::from(bytes[0x1d] >> 4);
     window_between(
-        u64::from(base_upper) * 0x1_0000 + base * 0x1000,
-        u64::from(limit_upper) * 0x1_0000 + limit * 0x1000 + 0xfff,
+        base_upper * 0x1_0000 + base * 0x1000,
+        limit_upper * 0x1_0000 + limit * 0x1000 + 0xfff,
     )
+}
+
+/// The upper half of an I/O base or limit.
+fn io_upper(bytes: &[u8; 64], offset: usize) -> u16
+    requires { offset + 1 < 64 }
+    ensures { result ≡ io_upper bytes.now offset }
+{
+    let is_wide = bytes[0x1c] & 0xf == 1;
+    if is_wide { register_2(bytes, offset) } else { 0 }
 }
 
 fn window_between(base: u64, limit: u64) -> Option<Window>

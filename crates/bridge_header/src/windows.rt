@@ -48,22 +48,23 @@ impl Windows {
     pub fn has_whole_windows(&self) -> bool
         ensures { result ≡ has_whole_windows self.now }
     {
-        let mem = is_whole(self.mem, 0x10_0000, u64::from(u32::MAX));
-        let pref = is_whole(self.pref, 0x10_0000, u64::MAX);
-        let io = is_whole(self.io, 0x1000, u64::from(u32::MAX));
+        let mem = is_whole(self.mem, 0x10_0000, 0x1_0000_0000);
+        let pref = is_whole(self.pref, 0x10_0000, 0x1_0000_0000_0000_0000);
+        let io = is_whole(self.io, 0x1000, 0x1_0000_0000);
         mem && pref && io
     }
 }
 
-/// Whether a window is closed, or of whole units and ends at `last` or below.
-fn is_whole(window: Option<Window>, unit: u64, last: u64) -> bool
+/// Whether a window is closed, or of whole units and ends below `bound`.
+fn is_whole(window: Option<Window>, unit: u64, bound: u128) -> bool
     requires { 0 < unit }
-    ensures { result ≡ is_whole unit (last + 1) window }
+    ensures { result ≡ is_whole unit bound window }
 {
     match window {
         None => true,
         Some(Window { base, limit }) => {
-            base <= limit && base % unit == 0 && limit % unit == unit - 1 && limit <= last
+            let end = u128::from(limit) + 1;
+            base <= limit && base % unit == 0 && end % u128::from(unit) == 0 && end <= bound
         }
     }
 }
