@@ -1,11 +1,11 @@
 -- What is written into the registers of a header is read out of them again.
-use Rattle.std.proofs.Common.{◌≡◌, ◌≤◌, ◌<◌, ◌==◌, ◌||◌, ℕ, Bool, true, false, ◌+◌, ◌*◌, ◌/◌, ◌%◌, ◌^◌, IsTrue, Option, Some, None, if◌then◌else◌, nat_le, refl, lit<, arith}
+use Rattle.std.proofs.Common.{◌≡◌, ◌≤◌, ◌<◌, ◌==◌, ◌||◌, ℕ, Bool, true, false, ◌+◌, ◌*◌, ◌%◌, ◌^◌, IsTrue, Option, Some, None, if◌then◌else◌, refl, lit<, arith}
 use Rattle.std.proofs.lemmas.Bool.{and_parts}
 use Rattle.std.proofs.lemmas.Bool.Decides.{nat_tests}
 use Rattle.board_model.specs.declared.bridge.Bridge.{Bridge}
 use Rattle.board_model.specs.declared.bridge.Window.{Window}
 use Rattle.bridge_header.specs.declared.windows.Windows.{Windows}
-use Rattle.bridge_header.specs.HeaderBytes.{bits, bytes_2, bytes_4, register_2, register_4, header_bytes, control_of, is_wide, wide_bit, io_base, io_limit, io_base_upper, io_limit_upper, memory_base, memory_limit, prefetchable_base, prefetchable_limit, prefetchable_base_upper, prefetchable_limit_upper}
+use Rattle.bridge_header.specs.HeaderBytes.{bits, bytes_2, bytes_4, register_2, register_4, header_bytes, control_of, is_wide, io_base, io_limit, io_base_upper, io_limit_upper, memory_base, memory_limit, prefetchable_base, prefetchable_limit, prefetchable_base_upper, prefetchable_limit_upper}
 use Rattle.bridge_header.specs.Windows.{window_between, is_whole, has_whole_windows, has_bit, windows_of, windows_in}
 
 -- ---- numbers in registers
@@ -38,12 +38,12 @@ record IsWholeBetween (unit bound : ℕ) (window : Window) : Type 0 where
   below : window.limit < bound
 
 whole_facts : (unit bound : ℕ) (window : Window) → IsTrue (is_whole unit bound (Some window)) → IsWholeBetween unit bound window
-whole_facts unit bound window h = record
-  { is_open = grind (arith, nat_tests)
-  ; base_whole = grind (arith, nat_tests)
-  ; limit_whole = grind (arith, nat_tests)
-  ; below = grind (arith, nat_tests)
-  }
+whole_facts unit bound window h = record {
+  is_open = grind (arith, nat_tests);
+  base_whole = grind (arith, nat_tests);
+  limit_whole = grind (arith, nat_tests);
+  below = grind (arith, nat_tests);
+}
 
 between : (base limit : ℕ) (window : Window) → base ≡ window.base → limit ≡ window.limit → window.base ≤ window.limit → window_between base limit ≡ Some window
 between base limit window p q h = rw (p, q) (grind (arith, nat_tests))

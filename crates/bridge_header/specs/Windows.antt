@@ -12,8 +12,7 @@ use Rattle.bridge_header.specs.HeaderBytes.{bits, register_2, register_4}
 abbrev pub window_between : ℕ → ℕ → Option Window
 window_between base limit = if nat_le base limit then Some (record { base = base; limit = limit }) else None
 
--- the lowest and the highest address of so many bytes, by the number of these bytes' block
--- memory: bits 31 to 20 of base and limit, from 1 MiB to the last byte of 1 MiB
+-- memory: bits 31 to 20 of base and limit in the upper 12 bits of the registers; a limit ends in fffff
 abbrev pub memory_window : List ℕ → Option Window
 memory_window bytes =
     window_between (2 ^ 20 * bits 4 12 (register_2 bytes 0x20)) (2 ^ 20 * bits 4 12 (register_2 bytes 0x22) + 0xfffff)
@@ -32,7 +31,7 @@ prefetchable_window bytes =
 abbrev pub io_upper : List ℕ → ℕ → ℕ
 io_upper bytes offset = if bits 0 4 (slice_index bytes 0x1c) == 1 then register_2 bytes offset else 0
 
--- I/O: bits 15 to 12 of base and limit below the upper halves, from 4 KiB to the last byte of 4 KiB
+-- I/O: bits 15 to 12 of base and limit in the upper nibbles, below the upper halves; a limit ends in fff
 abbrev pub io_window : List ℕ → Option Window
 io_window bytes =
     window_between (2 ^ 16 * io_upper bytes 0x30 + 2 ^ 12 * bits 4 4 (slice_index bytes 0x1c))
@@ -44,27 +43,31 @@ has_bit bit register = bits bit 1 register == 1
 
 -- what a header says: bus numbers, windows, and by bit 5 of Bridge Control the master abort mode
 abbrev pub windows_of : List ℕ → Windows
-windows_of bytes = record
-  { primary = slice_index bytes 0x18
-  ; secondary = slice_index bytes 0x19
-  ; subordinate = slice_index bytes 0x1a
-  ; mem = memory_window bytes
-  ; pref = prefetchable_window bytes
-  ; io = io_window bytes
-  ; mode = has_bit 5 (register_2 bytes 0x3e)
-  }
+windows_of bytes = record {
+  primary = slice_index bytes 0x18;
+  secondary = slice_index bytes 0x19;
+  subordinate = slice_index bytes 0x1a;
+  mem = memory_window bytes;
+  pref = prefetchable_window bytes;
+  io = io_window bytes;
+  mode = has_bit 5 (register_2 bytes 0x3e);
+}
 
--- header type 1, whatever bit 7 says of several functions
+-- the header type is 1, whatever bit 7 says of several functions
 abbrev pub is_type_1 : List ℕ → Bool
 is_type_1 bytes = bits 0 7 (slice_index bytes 0x0e) == 1
 
--- I/O space, memory space and bus master are enabled; ISA enable, VGA enable and secondary reset are not
-abbrev pub has_served_bits : List ℕ → Bool
-has_served_bits bytes =
+-- in the command register I/O space, memory space and bus master are enabled
+abbrev pub is_enabled : List ℕ → Bool
+is_enabled bytes =
     let command = register_2 bytes 0x04 in
-    let control = register_2 bytes 0x3e in
     has_bit 0 command && has_bit 1 command && has_bit 2 command
-    && not (has_bit 2 control || has_bit 3 control || has_bit 6 control)
+
+-- in Bridge Control ISA enable, VGA enable or secondary bus reset is set
+abbrev pub has_refused_control : List ℕ → Bool
+has_refused_control bytes =
+    let control = register_2 bytes 0x3e in
+    has_bit 2 control || has_bit 3 control || has_bit 6 control
 
 -- the buses behind the bridge are numbered above its primary bus
 abbrev pub has_ordered_buses : Windows → Bool
@@ -74,21 +77,21 @@ has_ordered_buses windows = nat_lt windows.primary windows.secondary && nat_le w
 abbrev pub reading_of : List ℕ → Result Windows HeaderFault
 reading_of bytes =
     if not (is_type_1 bytes) then Err H1
-    else if not (has_served_bits bytes) then Err H2
+    else if not (is_enabled bytes) || has_refused_control bytes then Err H2
     else if not (has_ordered_buses (windows_of bytes)) then Err H3
     else Ok (windows_of bytes)
 
 -- what the header of a bridge has to say
 abbrev pub windows_in : Bridge → Windows
-windows_in bridge = record
-  { primary = bridge.parent
-  ; secondary = bridge.bus
-  ; subordinate = bridge.last
-  ; mem = bridge.mem
-  ; pref = bridge.pref
-  ; io = bridge.io
-  ; mode = bridge.mode
-  }
+windows_in bridge = record {
+  primary = bridge.parent;
+  secondary = bridge.bus;
+  subordinate = bridge.last;
+  mem = bridge.mem;
+  pref = bridge.pref;
+  io = bridge.io;
+  mode = bridge.mode;
+}
 
 -- a closed window, or one of whole units that ends below `bound`
 abbrev pub is_whole : ℕ → ℕ → Option Window → Bool

@@ -1,9 +1,14 @@
-ghost use Rattle.std.specs.Prelude.{◌≡◌, ◌+◌, ◌*◌, ◌/◌, ◌%◌, ◌^◌, ◌<◌, slice_set, if◌then◌else◌};
+ghost use Rattle.std.specs.Prelude.{◌≡◌, ◌+◌, ◌/◌, ◌%◌, ◌^◌, ◌<◌, slice_set, if◌then◌else◌};
 ghost use Rattle.bridge_header.specs.HeaderBytes.{header_bytes, bits, io_base, io_limit, io_base_upper, io_limit_upper, memory_base, memory_limit, is_wide, wide_bit, prefetchable_base, prefetchable_limit, prefetchable_base_upper, prefetchable_limit_upper, control_of};
 
-use crate::{BridgeControl, CommandBits};
+use crate::control::{BridgeControl, CommandBits};
 use bitflags::Flags;
 use board_model::{Bridge, Window};
+
+/// What every bridge names as its vendor and device.
+const VENDOR: u16 = 0x1234;
+
+const MODEL: u16 = 0x0100;
 
 /// The 64 bytes of the header of a bridge: its buses, windows and master abort mode, with I/O
 /// space, memory space and bus master enabled. A window shows in the bits that its registers have.
@@ -11,8 +16,8 @@ pub fn encode(bridge: &Bridge) -> [u8; 64]
     ensures { result ≡ header_bytes bridge.now }
 {
     let mut bytes = [0; 64];
-    put_2(&mut bytes, 0x00, 0x1234);
-    put_2(&mut bytes, 0x02, 0x0100);
+    put_2(&mut bytes, 0x00, VENDOR);
+    put_2(&mut bytes, 0x02, MODEL);
     put_2(&mut bytes, 0x04, command());
     bytes[0x0a] = 0x04;
     bytes[0x0b] = 0x06;
@@ -131,13 +136,19 @@ fn wide_bit(window: Window) -> u16
 fn prefetchable_base(window: Option<Window>) -> u16
     ensures { result ≡ prefetchable_base window }
 {
-    window.map_or(0xfff0, |window| 16 * megabyte(window.base) + wide_bit(window))
+    window.map_or(
+        0xfff0,
+        |window| 16 * megabyte(window.base) + wide_bit(window),
+    )
 }
 
 fn prefetchable_limit(window: Option<Window>) -> u16
     ensures { result ≡ prefetchable_limit window }
 {
-    window.map_or(0x0000, |window| 16 * megabyte(window.limit) + wide_bit(window))
+    window.map_or(
+        0x0000,
+        |window| 16 * megabyte(window.limit) + wide_bit(window),
+    )
 }
 
 fn prefetchable_base_upper(window: Option<Window>) -> u32
@@ -155,5 +166,9 @@ fn prefetchable_limit_upper(window: Option<Window>) -> u32
 fn upper(window: Window, address: u64) -> u32
     ensures { result ≡ (if is_wide window then bits 32 32 address else 0) }
 {
-    if window.limit >= 0x1_0000_0000 { (address >> 32) as u32 } else { 0 }
+    if window.limit >= 0x1_0000_0000 {
+        (address >> 32) as u32
+    } else {
+        0
+    }
 }

@@ -6,10 +6,14 @@ mod control;
 mod encoding;
 mod fault;
 mod reading;
+mod round_trip;
 mod windows;
 
-pub use control::{BridgeControl, CommandBits};
 pub use encoding::encode;
 pub use fault::HeaderFault;
-pub use reading::{decode, read_back};
+pub use reading::decode;
+pub use round_trip::{encoding_is_read_back, read_back};
 pub use windows::Windows;
+
+#[cfg(test)]
+mod tests;

@@ -1,21 +1,24 @@
-ghost use Rattle.std.specs.Prelude.{◌≡◌, ◌+◌, ◌*◌, ◌^◌, ◌<◌, ◌==◌, IsTrue, Ok, slice_index, if◌then◌else◌, ℕ};
-ghost use Rattle.board_model.specs.declared.bridge.Bridge.{Bridge};
-ghost use Rattle.bridge_header.specs.HeaderBytes.{header_bytes, bits, register_2, register_4};
-ghost use Rattle.bridge_header.specs.Windows.{reading_of, windows_of, windows_in, is_type_1, has_served_bits, has_bit, memory_window, prefetchable_window, prefetchable_upper, io_window, io_upper, window_between, has_whole_windows, has_ordered_buses};
+ghost use Rattle.std.specs.Prelude.{◌≡◌, ◌+◌, ◌^◌, ◌<◌, IsTrue, IfOk};
+ghost use Rattle.bridge_header.specs.HeaderBytes.{register_2, register_4};
+ghost use Rattle.bridge_header.specs.Windows.{reading_of, windows_of, is_type_1, is_enabled, has_refused_control, memory_window, prefetchable_window, prefetchable_upper, io_window, io_upper, window_between, is_whole, has_whole_windows, has_ordered_buses};
 
-use crate::{BridgeControl, CommandBits, HeaderFault, Windows, encode};
+use crate::control::{BridgeControl, CommandBits};
+use crate::{HeaderFault, Windows};
 use bitflags::Flags;
-use board_model::{Bridge, Window};
+use board_model::Window;
 
-/// What the 64 bytes of a header say, or their first fault. What is in no window register, bus
-/// number, header type, command bit or bridge control bit that is looked at is ignored.
+/// What the 64 bytes of a header say, or its first fault. Identification, class and all else that
+/// is no bus number, no window register and no bit of the faults or of the master abort mode is
+/// ignored.
 pub fn decode(bytes: &[u8; 64]) -> Result<Windows, HeaderFault>
-    ensures { result ≡ reading_of bytes.now }
+    ensures reading { result ≡ reading_of bytes.now }
+    ensures ordered_buses { IfOk result (λ windows. IsTrue (has_ordered_buses windows)) }
+    ensures whole_windows { IfOk result (λ windows. IsTrue (has_whole_windows windows)) }
 {
     if !is_type_1(bytes) {
         return Err(HeaderFault::H1);
     }
-    if !has_served_bits(bytes) {
+    if !is_enabled(bytes) || has_refused_control(bytes) {
         return Err(HeaderFault::H2);
     }
     let windows = windows_of(bytes);
@@ -33,22 +36,29 @@ fn is_type_1(bytes: &[u8; 64]) -> bool
 }
 
 #[tactic(auto, using(crate::proofs::BitLemmas::contained_bits))]
-fn has_served_bits(bytes: &[u8; 64]) -> bool
-    ensures { result ≡ has_served_bits bytes.now }
+fn is_enabled(bytes: &[u8; 64]) -> bool
+    ensures { result ≡ is_enabled bytes.now }
 {
     let command = CommandBits::from_bits_retain(register_2(bytes, 0x04));
-    let control = BridgeControl::from_bits_retain(register_2(bytes, 0x3e));
     command.contains(CommandBits::IO_SPACE)
         && command.contains(CommandBits::MEMORY_SPACE)
         && command.contains(CommandBits::BUS_MASTER)
-        && !(control.contains(BridgeControl::ISA_ENABLE)
-            || control.contains(BridgeControl::VGA_ENABLE)
-            || control.contains(BridgeControl::SECONDARY_BUS_RESET))
+}
+
+#[tactic(auto, using(crate::proofs::BitLemmas::contained_bits))]
+fn has_refused_control(bytes: &[u8; 64]) -> bool
+    ensures { result ≡ has_refused_control bytes.now }
+{
+    let control = BridgeControl::from_bits_retain(register_2(bytes, 0x3e));
+    control.contains(BridgeControl::ISA_ENABLE)
+        || control.contains(BridgeControl::VGA_ENABLE)
+        || control.contains(BridgeControl::SECONDARY_BUS_RESET)
 }
 
 #[tactic(auto, using(crate::proofs::BitLemmas::contained_bits))]
 fn windows_of(bytes: &[u8; 64]) -> Windows
-    ensures { result ≡ windows_of bytes.now }
+    ensures value { result ≡ windows_of bytes.now }
+    ensures whole { IsTrue (has_whole_windows result) }
 {
     let control = BridgeControl::from_bits_retain(register_2(bytes, 0x3e));
     Windows {
@@ -63,7 +73,8 @@ fn windows_of(bytes: &[u8; 64]) -> Windows
 }
 
 fn memory_window(bytes: &[u8; 64]) -> Option<Window>
-    ensures { result ≡ memory_window bytes.now }
+    ensures value { result ≡ memory_window bytes.now }
+    ensures whole { IsTrue (is_whole (2 ^ 20) (2 ^ 32) result) }
 {
     let base = u64::from(register_2(bytes, 0x20) >> 4);
     let limit = u64::from(register_2(bytes, 0x22) >> 4);
@@ -71,7 +82,8 @@ fn memory_window(bytes: &[u8; 64]) -> Option<Window>
 }
 
 fn prefetchable_window(bytes: &[u8; 64]) -> Option<Window>
-    ensures { result ≡ prefetchable_window bytes.now }
+    ensures value { result ≡ prefetchable_window bytes.now }
+    ensures whole { IsTrue (is_whole (2 ^ 20) (2 ^ 64) result) }
 {
     let base_upper = u64::from(prefetchable_upper(bytes, 0x28));
     let limit_upper = u64::from(prefetchable_upper(bytes, 0x2c));
@@ -89,11 +101,16 @@ fn prefetchable_upper(bytes: &[u8; 64], offset: usize) -> u32
     ensures { result ≡ prefetchable_upper bytes.now offset }
 {
     let is_wide = bytes[0x24] & 0xf == 1;
-    if is_wide { register_4(bytes, offset) } else { 0 }
+    if is_wide {
+        register_4(bytes, offset)
+    } else {
+        0
+    }
 }
 
 fn io_window(bytes: &[u8; 64]) -> Option<Window>
-    ensures { result ≡ io_window bytes.now }
+    ensures value { result ≡ io_window bytes.now }
+    ensures whole { IsTrue (is_whole (2 ^ 12) (2 ^ 32) result) }
 {
     let base_upper = u64::from(io_upper(bytes, 0x30));
     let limit_upper = u64::from(io_upper(bytes, 0x32));
@@ -111,13 +128,21 @@ fn io_upper(bytes: &[u8; 64], offset: usize) -> u16
     ensures { result ≡ io_upper bytes.now offset }
 {
     let is_wide = bytes[0x1c] & 0xf == 1;
-    if is_wide { register_2(bytes, offset) } else { 0 }
+    if is_wide {
+        register_2(bytes, offset)
+    } else {
+        0
+    }
 }
 
 fn window_between(base: u64, limit: u64) -> Option<Window>
     ensures { result ≡ window_between base limit }
 {
-    if base <= limit { Some(Window { base, limit }) } else { None }
+    if base <= limit {
+        Some(Window { base, limit })
+    } else {
+        None
+    }
 }
 
 fn register_2(bytes: &[u8; 64], offset: usize) -> u16
@@ -134,29 +159,4 @@ fn register_4(bytes: &[u8; 64], offset: usize) -> u32
     let low = u32::from(register_2(bytes, offset));
     let high = u32::from(register_2(bytes, offset + 2));
     low + high * 0x1_0000
-}
-
-/// What the header of a bridge says: the bridge's own buses, windows and master abort mode.
-pub fn read_back(bridge: &Bridge) -> Windows
-    requires whole_windows { IsTrue (has_whole_windows (windows_in bridge.now)) }
-    requires ordered_buses { IsTrue (has_ordered_buses (windows_in bridge.now)) }
-    ensures { result ≡ windows_in bridge.now }
-{
-    encoding_is_read_back();
-    match decode(&encode(bridge)) {
-        Ok(windows) => windows,
-        Err(_) => unreachable!(),
-    }
-}
-
-/// The law of the round trip: the header of a bridge says the bridge's own buses, windows and
-/// master abort mode, where its registers can hold them; and where its buses are in order too, it
-/// is not refused.
-pub fn encoding_is_read_back()
-    ensures windows { (bridge : Bridge) → IsTrue (has_whole_windows (windows_in bridge))
-        → windows_of (header_bytes bridge) ≡ windows_in bridge }
-    ensures reading { (bridge : Bridge) → IsTrue (has_whole_windows (windows_in bridge))
-        → IsTrue (has_ordered_buses (windows_in bridge))
-        → reading_of (header_bytes bridge) ≡ Ok (windows_in bridge) }
-{
 }

@@ -1,4 +1,4 @@
-ghost use Rattle.std.specs.Prelude.{◌≡◌, ◌+◌, ◌^◌, ◌<◌, IsTrue, nat_lt, nat_le, ◌&&◌};
+ghost use Rattle.std.specs.Prelude.{◌≡◌, ◌<◌};
 ghost use Rattle.bridge_header.specs.Windows.{windows_in, is_whole, has_whole_windows, has_ordered_buses};
 
 use board_model::{Bridge, Window};

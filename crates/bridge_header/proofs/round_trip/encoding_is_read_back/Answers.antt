@@ -1,5 +1,5 @@
 use Rattle.bridge_header.proofs.RegisterLemmas.{windows_back, refused_back}
-use Rattle.bridge_header.proofs.reading.encoding_is_read_back.Goals as goal
+use Rattle.bridge_header.proofs.round_trip.encoding_is_read_back.Goals as goal
 
 pub returns-clause-windows : goal.returns-clause-windows
 returns-clause-windows c = windows_back
