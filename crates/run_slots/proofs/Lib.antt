@@ -10,3 +10,4 @@ pub mod EffectLemmas
 pub mod KeptLemmas
 pub mod SlotsRunLemmas
 pub mod OneItemLemmas
+pub mod CreditsLemmas
