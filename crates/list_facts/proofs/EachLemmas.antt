@@ -47,3 +47,8 @@ Each-within {X} (x ∷ xs) =
     let P : X → Type 0 = λ y. (weight : X → ℕ) → weight y ≤ total weight xs in
     let Q : X → Type 0 = λ y. (weight : X → ℕ) → weight y ≤ total weight (x ∷ xs) in
     (λ weight. omega arith, Each-weaker P Q (λ y within weight. omega (arith, within weight)) xs (Each-within xs))
+
+-- two facts of each are one fact of each
+pub Each-both : {X : Type 0} (P Q : X → Type 0) (xs : List X) → AllByRecursion P xs → AllByRecursion Q xs → AllByRecursion (λ x. P x × Q x) xs
+Each-both P Q [] first second = tt
+Each-both P Q (x ∷ xs) first second = ((first.0, second.0), Each-both P Q xs first.1 second.1)

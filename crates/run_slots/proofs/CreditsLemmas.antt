@@ -1,31 +1,26 @@
 -- The credits after each move, and in every run.
-use Rattle.std.proofs.Common.{◌≡◌, ◌≢◌, ℕ, zero, suc, ◌+◌, ◌-◌, ◌<◌, ◌≤◌, Bool, true, false, cond, eqb, ◌||◌, List, [], ◌∷◌, ◌++◌, length, Option, Some, None, refl, sym, ap, subst, ◌∙◌, arith}
-use Rattle.std.specs.List.{find, list_any, AllByRecursion}
-use Rattle.std.proofs.lemmas.Bool.{eqb-true, eqb-false}
-use Rattle.std.proofs.lemmas.Bool.Decides.{nat_tests}
-use Rattle.list_facts.specs.Lists.{less, total}
+use Rattle.std.proofs.Common.{◌≡◌, ℕ, ◌+◌, Bool, true, false, List, [], ◌∷◌, Option, Some, None, refl, ap, arith}
+use Rattle.std.specs.List.{find}
+use Rattle.list_facts.specs.Lists.{total}
 use Rattle.list_facts.proofs.TotalLemmas.{found, total-less, total-append, total-push}
 use Rattle.list_facts.proofs.FindLemmas.{find_passes}
-use Rattle.list_facts.proofs.EachLemmas.{Each-push, Each-append, Each-less, Each-weaker, Each-weaker_zero, Each-find}
 use Rattle.pci_command.specs.declared.op_id.OpId.{OpId}
 use Rattle.pci_command.specs.declared.op_id.Outcome.{Outcome}
 use Rattle.history_model.specs.declared.event.By.{By}
 use Rattle.history_model.specs.declared.event.Mark.{Mark}
-use Rattle.history_model.specs.declared.event.Mark.TheVariants.{Plain, Discard, Drop}
 use Rattle.history_model.specs.declared.item.Carried.{Carried}
 use Rattle.history_model.specs.declared.item.Carried.TheVariants.{Post, Ask, Done, Room, Gone}
-use Rattle.history_model.specs.declared.item.Slot.{Slot}
 use Rattle.board_model.specs.declared.bridge.Lane.{Lane as BridgeLane}
 use Rattle.board_model.specs.declared.board.Board.{Board}
 use Rattle.history_model.specs.declared.event.Event.{Event}
 use Rattle.history_model.specs.World.{both, world_of}
 use Rattle.history_model.specs.Runs.{Run}
-use Rattle.history_model.specs.Lanes.{LaneState, Both, lowest_free, is_of, is_done_for, reply_to, post_enters, ask_enters, item_ends, slot_taken, Effect, Stands, Credits as CreditsBack, Frees, Drops, effect_of, takes_effect, came_off, arrives_first, arrives}
+use Rattle.history_model.specs.Lanes.{Both, lowest_free, is_of, is_done_for, reply_to, post_enters, ask_enters, item_ends, slot_taken, Effect, Stands, Credits as CreditsBack, Frees, Drops, effect_of, takes_effect, came_off, arrives_first}
 use Rattle.run_slots.specs.Credits.{post_count, room_count, Credits}
 use Rattle.run_slots.specs.Standing.{CanStand}
 use Rattle.run_slots.proofs.BridgeLemmas.{flip}
 use Rattle.run_slots.proofs.EffectLemmas.{IsRoom, IsLastOf, IsAskOf, Fits, effect_fits}
-use Rattle.run_slots.proofs.KeptLemmas.{Pair, Kept, runs_keep}
+use Rattle.run_slots.proofs.KeptLemmas.{Kept, runs_keep}
 
 -- a credit goes back for a posted write, and nothing that is posted goes back
 reply-room_count : (outcome : Outcome) (item : Option Carried) → total room_count (reply_to outcome item) ≡ found post_count item
@@ -82,22 +77,25 @@ ask-counts number Room fits = absurd fits
 ask-counts number (Gone slot) fits = absurd fits
 
 Credits-post_enters : (o : OpId) (x : Both) → Credits x × Credits (flip x) → Credits (post_enters o x) × Credits (flip (post_enters o x))
-Credits-post_enters o x old =
-    (record { owed = omega (arith, old.0.owed, total-push post_count x.here.flight (Post o)) },
-      record { owed = omega (arith, old.1.owed, total-push room_count x.here.flight (Post o)) })
+Credits-post_enters o x old = (
+  record { owed = omega (arith, old.0.owed, total-push post_count x.here.flight (Post o)) },
+  record { owed = omega (arith, old.1.owed, total-push room_count x.here.flight (Post o)) },
+)
 
 Credits-ask_enters : (by : By) (o : OpId) (x : Both) → Credits x × Credits (flip x) → Credits (ask_enters by o x) × Credits (flip (ask_enters by o x))
 Credits-ask_enters by o x old =
-    let ask : Carried = Ask o (lowest_free x.here.held) in
-    (record { owed = omega (arith, old.0.owed, total-push post_count x.here.flight ask) },
-      record { owed = omega (arith, old.1.owed, total-push room_count x.here.flight ask) })
+    let ask : Carried = Ask o (lowest_free x.here.held) in (
+      record { owed = omega (arith, old.0.owed, total-push post_count x.here.flight ask) },
+      record { owed = omega (arith, old.1.owed, total-push room_count x.here.flight ask) },
+    )
 
 Credits-item_ends : (o : OpId) (outcome : Outcome) (x : Both) → Credits x × Credits (flip x) → Credits (item_ends o outcome x) × Credits (flip (item_ends o outcome x))
 Credits-item_ends o outcome x old =
     let item : Option Carried = find (is_of o) x.here.standing in
-    let reply : List Carried = reply_to outcome item in
-    (record { owed = omega (arith, old.0.owed, total-less post_count (is_of o) x.here.standing, total-append room_count x.back.flight reply, reply-room_count outcome item) },
-      record { owed = omega (arith, old.1.owed, total-append post_count x.back.flight reply, reply-post_count outcome item) })
+    let reply : List Carried = reply_to outcome item in (
+      record { owed = omega (arith, old.0.owed, total-less post_count (is_of o) x.here.standing, total-append room_count x.back.flight reply, reply-room_count outcome item) },
+      record { owed = omega (arith, old.1.owed, total-append post_count x.back.flight reply, reply-post_count outcome item) },
+    )
 
 Credits-slot_taken : (number : ℕ) (x : Both) → Credits x × Credits (flip x) → Credits (slot_taken number x) × Credits (flip (slot_taken number x))
 Credits-slot_taken number x old =

@@ -11,3 +11,7 @@ pub mod KeptLemmas
 pub mod SlotsRunLemmas
 pub mod OneItemLemmas
 pub mod CreditsLemmas
+pub mod PrefixLemmas
+pub mod StandingLemmas
+pub mod QuietLemmas
+pub mod DepthsLemmas
