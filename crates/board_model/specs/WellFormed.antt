@@ -130,7 +130,7 @@ is_well_formed_master master = nat_le (length master.ops) 1024 && list_all is_we
 -- The board as a whole.
 
 abbrev pub is_well_formed_plan : Planned → Bool
-is_well_formed_plan planned = nat_le 1 planned.bus && is_within 1 1000000 planned.count
+is_well_formed_plan planned = is_within 1 1000000 planned.count
 
 -- no two bridges have one secondary bus
 abbrev pub has_bus : ℕ → Bridge → Bool

@@ -131,5 +131,7 @@ pub(super) fn are_plans_well_formed(plans: &[Planned]) -> bool
 fn all_plans_well_formed(plans: &[Planned]) -> bool
     ensures { result ≡ list_all is_well_formed_plan plans.now }
 {
-    plans.iter().all(|planned| planned.bus >= 1 && 1 <= planned.count && planned.count <= 1_000_000)
+    plans
+        .iter()
+        .all(|planned| 1 <= planned.count && planned.count <= 1_000_000)
 }
