@@ -6,9 +6,16 @@ use pci_command::{OpId, Outcome};
 #[derive(Clone, Copy, Debug, PartialEq, Eq, PartialOrd, Ord, Hash)]
 pub enum Item {
     /// A posted memory write.
-    Post { op: OpId, stamp: u32 },
+    Post {
+        op: OpId,
+        stamp: u32,
+    },
     /// A delayed request, with the slot that its completion frees.
-    Ask { op: OpId, slot: u8, stamp: u32 },
+    Ask {
+        op: OpId,
+        slot: u8,
+        stamp: u32,
+    },
     /// A delayed completion.
     Done {
         op: OpId,
@@ -17,9 +24,14 @@ pub enum Item {
         stamp: u32,
     },
     /// A credit: there is room for one more posted memory write.
-    Room { stamp: u32 },
+    Room {
+        stamp: u32,
+    },
     /// The delayed request of this slot was dropped.
-    Gone { slot: u8, stamp: u32 },
+    Gone {
+        slot: u8,
+        stamp: u32,
+    },
 }
 
 impl Default for Item {

@@ -53,17 +53,19 @@ pub trait LaneEnd: Sized {
     /// the items were got in the order of their sending.
     fn settle(a: &mut Self, b: &mut Self)
         requires paired { paired a.old b.old }
-        requires fits {
-            GotInOrder (had b.old) (got b.old) (sent a.old) (kept a.old) →
+        requires fits { GotInOrder (had b.old) (got b.old) (sent a.old) (kept a.old) →
             GotInOrder (had a.old) (got a.old) (sent b.old) (kept b.old) →
             (left_count (had b.old) (got b.old) (sent a.old) ≤ 32)
-            × (left_count (had a.old) (got a.old) (sent b.old) ≤ 32)
-        }
+            × (left_count (had a.old) (got a.old) (sent b.old) ≤ 32) }
         ensures to_b { Crosses (had b.old) (got b.old) (sent a.old) (kept a.old) (had b.new) }
         ensures to_a { Crosses (had a.old) (got a.old) (sent b.old) (kept b.old) (had a.new) }
         ensures a { IsEmptied (sent a.new) (got a.new) (kept a.new) }
         ensures b { IsEmptied (sent b.new) (got b.new) (kept b.new) }
         ensures paired { paired a.new b.new };
 
+    // only what was sent can be kept
     ghost kept_were_sent: { (end : Self) → kept end ≤ length (sent end) };
+
+    // the ends of one bridge are so either way round
+    ghost paired_both_ways: { (a b : Self) → paired a b → paired b a };
 }

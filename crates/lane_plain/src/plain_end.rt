@@ -65,6 +65,14 @@ impl PlainEnd {
     }
 }
 
+impl Default for PlainEnd {
+    ghost is_default = { λ end. end ≡ record { had = []; got = []; sent = [] } };
+
+    fn default() -> PlainEnd {
+        PlainEnd::new()
+    }
+}
+
 impl LaneEnd for PlainEnd {
     ghost use Rattle.std.specs.Prelude.{length, ⊤};
     ghost use Rattle.std.proofs.Common.{rules};
@@ -80,6 +88,8 @@ impl LaneEnd for PlainEnd {
     ghost paired = { λ _ _. ⊤ };
 
     ghost kept_were_sent = { Prim.search rules };
+
+    ghost paired_both_ways = { λ _ _ paired. paired };
 
     fn room(&self) -> u32 {
         32 - self.sent.len() as u32

@@ -31,3 +31,20 @@ fn items_cross_at_settle_alone(rt: HostRuntime) {
     let received = received_round_settle(&mut near, &mut far, item);
     assert_eq!(rt; received, (None, Some(item)));
 }
+
+#[test]
+fn items_left_in_hand_come_before_new_ones(rt: HostRuntime) {
+    let mut near = PlainEnd::default();
+    let mut far = PlainEnd::default();
+    near.send(Item::Room { stamp: 1 });
+    near.send(Item::Room { stamp: 2 });
+    assert_eq!(rt; (near.room(), far.room()), (30, 32));
+    LaneEnd::settle(&mut near, &mut far);
+    assert_eq!(rt; far.receive(), Some(Item::Room { stamp: 1 }));
+    near.send(Item::Room { stamp: 3 });
+    LaneEnd::settle(&mut near, &mut far);
+    assert_eq!(rt; near.room(), 32);
+    assert_eq!(rt; far.receive(), Some(Item::Room { stamp: 2 }));
+    assert_eq!(rt; far.receive(), Some(Item::Room { stamp: 3 }));
+    assert_eq!(rt; far.receive(), None);
+}

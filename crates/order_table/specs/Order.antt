@@ -18,9 +18,8 @@ columns pmw drr dwr drc dwc Drc = drc
 columns pmw drr dwr drc dwc Dwc = dwc
 
 -- may a transaction of the row pass an older one of the column, both going the same way through
--- one bridge?
+-- one bridge? The columns are PMW, DRR, DWR, DRC and DWC, from left to right
 abbrev pub table : Kind → Kind → Entry
---                  PMW      DRR      DWR      DRC      DWC
 table Pmw = columns No Yes Yes Yes Yes
 table Drr = columns No YesOrNo YesOrNo YesOrNo YesOrNo
 table Dwr = columns No YesOrNo YesOrNo YesOrNo YesOrNo

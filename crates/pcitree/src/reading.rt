@@ -34,9 +34,12 @@ pub(crate) fn read_all<S: Source>(
     limit: usize,
 ) -> Result<Vec<u8>, ReadError>
     requires { limit < 2 ^ 32 }
-    ensures whole { IfOk result (λ bytes. ReadsWhole (S.held source.old) (S.held source.new) limit bytes.items) }
-    ensures too_long { result ≡ Err ReadError.TooLong → IfSome (S.held source.old) (λ held. limit < length held) }
-    ensures failed { result ≡ Err ReadError.Failed → Rose (S.faults source.old) (S.faults source.new) }
+    ensures whole { IfOk result (λ bytes.
+        ReadsWhole (S.held source.old) (S.held source.new) limit bytes.items) }
+    ensures too_long { result ≡ Err ReadError.TooLong
+        → IfSome (S.held source.old) (λ held. limit < length held) }
+    ensures failed { result ≡ Err ReadError.Failed
+        → Rose (S.faults source.old) (S.faults source.new) }
     ensures counted { S.faults source.old ≤ S.faults source.new }
 {
     let mut buffer = zeros(alloc)?;
@@ -58,9 +61,11 @@ fn read_piece<S: Source>(
 ) -> Result<usize, ReadError>
     requires { 0 < vec_len buffer.old }
     ensures room { vec_len buffer.new ≡ vec_len buffer.old }
-    ensures piece { IfOk result (λ count. ReadsPiece (S.held source.old) (S.held source.new) bytes.old.items bytes.new.items count) }
+    ensures piece { IfOk result (λ count.
+        ReadsPiece (S.held source.old) (S.held source.new) bytes.old.items bytes.new.items count) }
     ensures short { result ≢ Err ReadError.TooLong }
-    ensures failed { result ≡ Err ReadError.Failed → Rose (S.faults source.old) (S.faults source.new) }
+    ensures failed { result ≡ Err ReadError.Failed
+        → Rose (S.faults source.old) (S.faults source.new) }
     ensures counted { S.faults source.old ≤ S.faults source.new }
 {
     let Ok(count) = source.read(buffer.as_mut_slice()) else {

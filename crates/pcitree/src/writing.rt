@@ -25,7 +25,8 @@ pub(crate) fn write_all<K: Sink>(sink: &mut K, text: &[u8]) -> Result<(), Failed
 /// One write of the next piece of the text.
 fn write_piece<K: Sink>(sink: &mut K, text: &[u8], at: usize) -> Result<usize, Failed>
     requires { at < length text.now }
-    ensures piece { IfOk result (λ count. WritesPiece (K.taken sink.old) (K.taken sink.new) text.now at count) }
+    ensures piece { IfOk result (λ count.
+        WritesPiece (K.taken sink.old) (K.taken sink.new) text.now at count) }
     ensures nothing { OnErr result (Keeps (K.taken sink.old) (K.taken sink.new)) }
     ensures failed { OnErr result (Rose (K.faults sink.old) (K.faults sink.new)) }
     ensures counted { K.faults sink.old ≤ K.faults sink.new }

@@ -1,0 +1,17 @@
+pub mod BridgeLemmas
+pub mod AnswerLemmas
+pub mod HeldLemmas
+pub mod LowestFreeLemmas
+pub mod SlotsEnterLemmas
+pub mod SlotsEndLemmas
+pub mod SlotsTakenLemmas
+pub mod SlotsArriveLemmas
+pub mod EffectLemmas
+pub mod KeptLemmas
+pub mod SlotsRunLemmas
+pub mod OneItemLemmas
+pub mod CreditsLemmas
+pub mod PrefixLemmas
+pub mod StandingLemmas
+pub mod QuietLemmas
+pub mod DepthsLemmas

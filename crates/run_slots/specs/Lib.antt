@@ -1,0 +1,5 @@
+pub mod Slots
+pub mod Standing
+pub mod Credits
+pub mod Quiet
+pub mod Depths

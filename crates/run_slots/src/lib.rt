@@ -1,0 +1,60 @@
+//! What holds of slots, credits and depths after every run of every board. Each law is the contract
+//! of a function that does nothing.
+#![tactic(auto)]
+
+ghost use Rattle.std.specs.Prelude.{◌≡◌, ◌++◌, List, Bool, false, Some, None};
+ghost use Rattle.std.specs.List.{AllByRecursion, list_any};
+ghost use Rattle.board_model.specs.declared.board.Board.{Board};
+ghost use Rattle.board_model.specs.declared.bridge.Bridge.{Bridge};
+ghost use Rattle.board_model.specs.declared.bridge.Lane.{Lane as BridgeLane};
+ghost use Rattle.history_model.specs.declared.event.Event.{Event};
+ghost use Rattle.history_model.specs.Lanes.{empty_lane};
+ghost use Rattle.history_model.specs.World.{lane_back, both, world_of};
+ghost use Rattle.history_model.specs.Answers.{bridge_to};
+ghost use Rattle.history_model.specs.Runs.{Run};
+ghost use Rattle.run_slots.specs.Slots.{Slots, HasOneItem, GoneHeld};
+ghost use Rattle.run_slots.specs.Standing.{CanStand};
+ghost use Rattle.run_slots.specs.Credits.{Credits};
+ghost use Rattle.run_slots.specs.Quiet.{enters_at};
+ghost use Rattle.run_slots.specs.Depths.{Within, DifferentNumbers, DepthsToEight};
+
+/// The slots at the near face of each lane and their items: each held slot has its item in exactly
+/// one of five places, each item has its slot held for the operation that it names, and no number
+/// is held twice.
+pub fn slots()
+    ensures counted { (board : Board) (h : List Event) (lane : BridgeLane) → Run board h → Slots (both (world_of board h) lane) }
+    ensures one_item { (board : Board) (h : List Event) (lane : BridgeLane) → Run board h → AllByRecursion (HasOneItem (both (world_of board h) lane)) (world_of board h lane).held }
+    ensures dropped { (board : Board) (h : List Event) (lane : BridgeLane) → Run board h → AllByRecursion (GoneHeld (world_of board h lane).held) (world_of board h (lane_back lane)).flight }
+{}
+
+/// The credits of each lane: it owes the posted writes in flight and standing, and those whose
+/// credit is in flight on the lane back.
+pub fn credits()
+    ensures { (board : Board) (h : List Event) (lane : BridgeLane) → Run board h → Credits (both (world_of board h) lane) }
+{}
+
+/// The depths of a bridge bound what is on each of its lanes. A bridge is found by its number, which
+/// no other has; and where no depth is above eight, at most eight posted writes are owed, eight slots
+/// held, 32 items in flight and 24 standing on any lane.
+pub fn depths()
+    ensures of_bridge { (board : Board) (h : List Event) (lane : BridgeLane) (bridge : Bridge) → bridge_to board lane.bus ≡ Some bridge → Run board h → Within bridge.posted bridge.delayed (world_of board h lane) }
+    ensures of_each { (board : Board) (h : List Event) → DifferentNumbers board → Run board h → AllByRecursion (λ (bridge : Bridge). (up : Bool) → Within bridge.posted bridge.delayed (world_of board h (record { bus = bridge.bus; up = up }))) board.bridges }
+    ensures to_eight { (board : Board) (h : List Event) (lane : BridgeLane) → DepthsToEight board → Run board h → Within 8 8 (world_of board h lane) }
+{}
+
+/// What stands before in a run is a run: of a history, newest event first, each end of the list.
+pub fn prefixes()
+    ensures { (board : Board) (later : List Event) (h : List Event) → Run board (later ++ h) → Run board h }
+{}
+
+/// Only posted writes, delayed requests and completions stand on a lane.
+pub fn standing()
+    ensures { (board : Board) (h : List Event) (lane : BridgeLane) → Run board h → AllByRecursion CanStand (world_of board h lane).standing }
+{}
+
+/// Nothing is on the lanes of a bridge where no posted write was accepted and no delayed request
+/// latched, and nothing is on a lane of no bridge.
+pub fn quiet_bridges()
+    ensures entered { (board : Board) (h : List Event) (lane : BridgeLane) → list_any (enters_at lane.bus) h ≡ false → world_of board h lane ≡ empty_lane }
+    ensures no_bridge { (board : Board) (h : List Event) (lane : BridgeLane) → bridge_to board lane.bus ≡ None → Run board h → world_of board h lane ≡ empty_lane }
+{}
