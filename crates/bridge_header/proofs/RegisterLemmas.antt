@@ -4,9 +4,10 @@ use Rattle.std.proofs.lemmas.Bool.{and_parts}
 use Rattle.std.proofs.lemmas.Bool.Decides.{nat_tests}
 use Rattle.board_model.specs.declared.bridge.Bridge.{Bridge}
 use Rattle.board_model.specs.declared.bridge.Window.{Window}
+use Rattle.board_model.specs.WellFormed.{is_window}
 use Rattle.bridge_header.specs.declared.windows.Windows.{Windows}
 use Rattle.bridge_header.specs.HeaderBytes.{bits, bytes_2, bytes_4, register_2, register_4, header_bytes, control_of, is_wide, io_base, io_limit, io_base_upper, io_limit_upper, memory_base, memory_limit, prefetchable_base, prefetchable_limit, prefetchable_base_upper, prefetchable_limit_upper}
-use Rattle.bridge_header.specs.Windows.{window_between, is_whole, has_whole_windows, has_bit, windows_of, windows_in}
+use Rattle.bridge_header.specs.Windows.{window_between, has_whole_windows, has_bit, windows_of, windows_in}
 
 -- ---- numbers in registers
 two_bytes : (n : ℕ) → n < 2 ^ 16 → register_2 (bytes_2 n) 0 ≡ n
@@ -37,7 +38,7 @@ record IsWholeBetween (unit bound : ℕ) (window : Window) : Type 0 where
   limit_whole : (window.limit + 1) % unit ≡ 0
   below : window.limit < bound
 
-whole_facts : (unit bound : ℕ) (window : Window) → IsTrue (is_whole unit bound (Some window)) → IsWholeBetween unit bound window
+whole_facts : (unit bound : ℕ) (window : Window) → IsTrue (is_window unit bound (Some window)) → IsWholeBetween unit bound window
 whole_facts unit bound window h = record {
   is_open = grind (arith, nat_tests);
   base_whole = grind (arith, nat_tests);
@@ -60,7 +61,7 @@ abbrev memory_read : ℕ → ℕ → Option Window
 memory_read base limit =
     window_between (2 ^ 20 * bits 4 12 (register_2 (bytes_2 base) 0)) (2 ^ 20 * bits 4 12 (register_2 (bytes_2 limit) 0) + 0xfffff)
 
-memory_back : (window : Option Window) → IsTrue (is_whole (2 ^ 20) (2 ^ 32) window) → memory_read (memory_base window) (memory_limit window) ≡ window
+memory_back : (window : Option Window) → IsTrue (is_window (2 ^ 20) (2 ^ 32) window) → memory_read (memory_base window) (memory_limit window) ≡ window
 memory_back None h = refl
 memory_back (Some window) h =
     let whole = whole_facts (2 ^ 20) (2 ^ 32) window h in
@@ -105,7 +106,7 @@ on_bool : {P : Type 0} (b : Bool) → (b ≡ true → P) → (b ≡ false → P)
 on_bool true t f = t refl
 on_bool false t f = f refl
 
-prefetchable_back : (window : Option Window) → IsTrue (is_whole (2 ^ 20) (2 ^ 64) window) → prefetchable_read (prefetchable_base window) (prefetchable_limit window) (prefetchable_base_upper window) (prefetchable_limit_upper window) ≡ window
+prefetchable_back : (window : Option Window) → IsTrue (is_window (2 ^ 20) (2 ^ 64) window) → prefetchable_read (prefetchable_base window) (prefetchable_limit window) (prefetchable_base_upper window) (prefetchable_limit_upper window) ≡ window
 prefetchable_back None h = refl
 prefetchable_back (Some window) h =
     let whole = whole_facts (2 ^ 20) (2 ^ 64) window h in
@@ -131,7 +132,7 @@ io_read base limit base_upper limit_upper =
     window_between (2 ^ 16 * upper base_upper + 2 ^ 12 * bits 4 4 base)
     (2 ^ 16 * upper limit_upper + 2 ^ 12 * bits 4 4 limit + 0xfff)
 
-io_back : (window : Option Window) → IsTrue (is_whole (2 ^ 12) (2 ^ 32) window) → io_read (io_base window) (io_limit window) (io_base_upper window) (io_limit_upper window) ≡ window
+io_back : (window : Option Window) → IsTrue (is_window (2 ^ 12) (2 ^ 32) window) → io_read (io_base window) (io_limit window) (io_base_upper window) (io_limit_upper window) ≡ window
 io_back None h = refl
 io_back (Some window) h =
     let whole = whole_facts (2 ^ 12) (2 ^ 32) window h in

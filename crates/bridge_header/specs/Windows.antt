@@ -3,6 +3,7 @@
 use Rattle.std.specs.Prelude.{ℕ, Bool, true, ◌+◌, ◌*◌, ◌%◌, ◌^◌, List, Option, Some, None, Result, Ok, Err, not, ◌&&◌, ◌||◌, ◌==◌, nat_lt, nat_le, if◌then◌else◌, slice_index}
 use Rattle.board_model.specs.declared.bridge.Bridge.{Bridge}
 use Rattle.board_model.specs.declared.bridge.Window.{Window}
+use Rattle.board_model.specs.WellFormed.{is_window}
 use Rattle.bridge_header.specs.declared.windows.Windows.{Windows}
 use Rattle.bridge_header.specs.declared.fault.HeaderFault.{HeaderFault}
 use Rattle.bridge_header.specs.declared.fault.HeaderFault.TheVariants.{H1, H2, H3}
@@ -93,15 +94,8 @@ windows_in bridge = record {
   mode = bridge.mode;
 }
 
--- a closed window, or one of whole units that ends below `bound`
-abbrev pub is_whole : ℕ → ℕ → Option Window → Bool
-is_whole unit bound None = true
-is_whole unit bound (Some window) =
-    nat_le window.base window.limit && window.base % unit == 0 && (window.limit + 1) % unit == 0
-    && nat_lt window.limit bound
-
 -- windows that registers can hold: memory in units of 1 MiB, I/O of 4 KiB; below 2^64 where prefetchable, else below 2^32
 abbrev pub has_whole_windows : Windows → Bool
 has_whole_windows windows =
-    is_whole (2 ^ 20) (2 ^ 32) windows.mem && is_whole (2 ^ 20) (2 ^ 64) windows.pref
-    && is_whole (2 ^ 12) (2 ^ 32) windows.io
+    is_window (2 ^ 20) (2 ^ 32) windows.mem && is_window (2 ^ 20) (2 ^ 64) windows.pref
+    && is_window (2 ^ 12) (2 ^ 32) windows.io

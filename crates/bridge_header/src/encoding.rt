@@ -5,9 +5,10 @@ use crate::control::{BridgeControl, CommandBits};
 use bitflags::Flags;
 use board_model::{Bridge, Window};
 
-/// What every bridge names as its vendor and device.
+/// The vendor that every bridge names.
 const VENDOR: u16 = 0x1234;
 
+/// The device that every bridge names.
 const MODEL: u16 = 0x0100;
 
 /// The 64 bytes of the header of a bridge: its buses, windows and master abort mode, with I/O
@@ -19,6 +20,7 @@ pub fn encode(bridge: &Bridge) -> [u8; 64]
     put_2(&mut bytes, 0x00, VENDOR);
     put_2(&mut bytes, 0x02, MODEL);
     put_2(&mut bytes, 0x04, command());
+    // The class of a PCI-to-PCI bridge, and header type 1.
     bytes[0x0a] = 0x04;
     bytes[0x0b] = 0x06;
     bytes[0x0e] = 0x01;

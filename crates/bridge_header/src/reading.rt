@@ -1,6 +1,7 @@
 ghost use Rattle.std.specs.Prelude.{◌≡◌, ◌+◌, ◌^◌, ◌<◌, IsTrue, IfOk};
+ghost use Rattle.board_model.specs.WellFormed.{is_window};
 ghost use Rattle.bridge_header.specs.HeaderBytes.{register_2, register_4};
-ghost use Rattle.bridge_header.specs.Windows.{reading_of, windows_of, is_type_1, is_enabled, has_refused_control, memory_window, prefetchable_window, prefetchable_upper, io_window, io_upper, window_between, is_whole, has_whole_windows, has_ordered_buses};
+ghost use Rattle.bridge_header.specs.Windows.{reading_of, windows_of, is_type_1, is_enabled, has_refused_control, memory_window, prefetchable_window, prefetchable_upper, io_window, io_upper, window_between, has_whole_windows, has_ordered_buses};
 
 use crate::control::{BridgeControl, CommandBits};
 use crate::{HeaderFault, Windows};
@@ -74,7 +75,7 @@ fn windows_of(bytes: &[u8; 64]) -> Windows
 
 fn memory_window(bytes: &[u8; 64]) -> Option<Window>
     ensures value { result ≡ memory_window bytes.now }
-    ensures whole { IsTrue (is_whole (2 ^ 20) (2 ^ 32) result) }
+    ensures whole { IsTrue (is_window (2 ^ 20) (2 ^ 32) result) }
 {
     let base = u64::from(register_2(bytes, 0x20) >> 4);
     let limit = u64::from(register_2(bytes, 0x22) >> 4);
@@ -83,7 +84,7 @@ fn memory_window(bytes: &[u8; 64]) -> Option<Window>
 
 fn prefetchable_window(bytes: &[u8; 64]) -> Option<Window>
     ensures value { result ≡ prefetchable_window bytes.now }
-    ensures whole { IsTrue (is_whole (2 ^ 20) (2 ^ 64) result) }
+    ensures whole { IsTrue (is_window (2 ^ 20) (2 ^ 64) result) }
 {
     let base_upper = u64::from(prefetchable_upper(bytes, 0x28));
     let limit_upper = u64::from(prefetchable_upper(bytes, 0x2c));
@@ -110,7 +111,7 @@ fn prefetchable_upper(bytes: &[u8; 64], offset: usize) -> u32
 
 fn io_window(bytes: &[u8; 64]) -> Option<Window>
     ensures value { result ≡ io_window bytes.now }
-    ensures whole { IsTrue (is_whole (2 ^ 12) (2 ^ 32) result) }
+    ensures whole { IsTrue (is_window (2 ^ 12) (2 ^ 32) result) }
 {
     let base_upper = u64::from(io_upper(bytes, 0x30));
     let limit_upper = u64::from(io_upper(bytes, 0x32));

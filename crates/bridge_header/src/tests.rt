@@ -56,12 +56,20 @@ fn expect_bytes(rt: &impl Abort, header: &[u8; 64], offset: usize, text: &str) -
 #[test]
 fn a_header_says_the_bridge(rt: HostRuntime) -> Result<(), Fail> {
     let bridge = worked_bridge();
+    let windows = Windows {
+        primary: 0,
+        secondary: 1,
+        subordinate: 2,
+        mem: window(0x8000_0000, 0x801f_ffff),
+        pref: None,
+        io: None,
+        mode: false,
+    };
     let header = encode(&bridge);
     expect_bytes(&rt, &header, 0, WORKED)?;
-    assert_eq!(rt; decode(&header), Ok(Windows::of(&bridge)));
-    assert!(rt; Windows::of(&bridge).has_whole_windows());
-    assert!(rt; Windows::of(&bridge).has_ordered_buses());
-    assert_eq!(rt; read_back(&bridge), Windows::of(&bridge));
+    assert_eq!(rt; decode(&header), Ok(windows));
+    assert!(rt; windows.has_ordered_buses());
+    assert_eq!(rt; read_back(&bridge), windows);
     let aborting = Bridge {
         mode: true,
         ..bridge
