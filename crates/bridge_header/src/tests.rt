@@ -1,3 +1,7 @@
+ghost use Rattle.std.specs.Prelude.{IsTrue};
+ghost use Rattle.board_model.specs.WellFormed.{is_well_formed_bridge};
+ghost use Rattle.board_model.specs.Valid.{is_numbered};
+
 use super::*;
 use board_model::{Bridge, Window};
 use std::process::Abort;
@@ -10,13 +14,19 @@ const WORKED: &str = "34 12 00 01 07 00 00 00 00 00 04 06 00 00 01 00 \
     00 80 10 80 f0 ff 00 00 00 00 00 00 00 00 00 00 \
     00 00 00 00 00 00 00 00 00 00 00 00 00 00 00 00";
 
-fn worked_bridge() -> Bridge {
+fn worked_bridge() -> Bridge
+    ensures well_formed { IsTrue (is_well_formed_bridge result) }
+    ensures numbered { IsTrue (is_numbered result) }
+{
     Bridge {
         bus: 1,
         parent: 0,
         device: 1,
         last: 2,
-        mem: window(0x8000_0000, 0x801f_ffff),
+        mem: Some(Window {
+            base: 0x8000_0000,
+            limit: 0x801f_ffff,
+        }),
         pref: None,
         io: None,
         posted: 4,
