@@ -1,0 +1,4 @@
+pub mod StepLemmas
+pub mod WayLemmas
+pub mod EndLemmas
+pub mod ValidLemmas
