@@ -2,3 +2,4 @@ pub mod StepLemmas
 pub mod WayLemmas
 pub mod EndLemmas
 pub mod ValidLemmas
+pub mod TurnLemmas
