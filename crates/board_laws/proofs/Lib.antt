@@ -1,0 +1,5 @@
+pub mod StepLemmas
+pub mod WayLemmas
+pub mod EndLemmas
+pub mod ValidLemmas
+pub mod TurnLemmas

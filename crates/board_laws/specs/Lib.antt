@@ -1,0 +1,3 @@
+pub mod Trees
+pub mod WayEnds
+pub mod Turns
