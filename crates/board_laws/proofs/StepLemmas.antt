@@ -1,6 +1,6 @@
 -- One claim by a lane: a lane up leaves a bridge whose windows do not hold the address, a lane down enters one
 -- whose windows do.
-use Rattle.std.proofs.Common.{◌≡◌, ℕ, Bool, true, false, cond, eqb, not, ◌&&◌, ◌||◌, ◌==◌, nat_le, List, [], ◌∷◌, Option, Some, None, refl, ap, subst, ◌∙◌, ◌⊎◌, inl, inr, ⊎_elim, arith, eq-eqb, eqb-true}
+use Rattle.std.proofs.Common.{◌≡◌, ℕ, Bool, true, false, cond, eqb, not, ◌&&◌, ◌||◌, ◌==◌, List, [], ◌∷◌, Option, Some, None, refl, ap, subst, ◌∙◌, ◌⊎◌, inl, inr, ⊎_elim, arith, eq-eqb, eqb-true}
 use Rattle.std.specs.List.{find, list_any, position_from}
 use Rattle.std.proofs.lemmas.Bool.{and_parts, or_right}
 use Rattle.std.proofs.lemmas.Bool.Decides.{nat_tests}
@@ -17,6 +17,7 @@ use Rattle.board_model.specs.declared.board.Board.{Board}
 use Rattle.board_model.specs.Requests.{command_of, address_on, request_on}
 use Rattle.board_model.specs.Claims.{range_holds, bridge_holds, decodes_down, claim_upwards, claim_by_bridge, claim_by_address, claim_by_header, claim_by_device, claim_by_bus, is_type_0, device_in, bus_in, claim_in_configuration, claim_in_space, claim}
 use Rattle.board_model.specs.WellFormed.{has_bus, are_numbered_apart}
+use Rattle.board_laws.specs.Claimants.{leads_to}
 
 -- nothing at the address goes up through the bridge
 abbrev pub stays_by : Space → ℕ → Option Bridge → Bool
@@ -78,10 +79,6 @@ by_header board address on (Some bridge) lane claims = cc
 by_device : (board : Board) (address on device : ℕ) (target : Option ℕ) (lane : BridgeLane) → claim_by_device board on device target ≡ Lane lane → Goes board Cfg address on lane
 by_device board address on device None lane claims = by_header board address on (find (λ (bridge : Bridge). bridge.parent == on && bridge.device == device) board.bridges) lane claims
 by_device board address on device (Some target) lane claims = cc
-
--- behind which bridge the bus lies
-abbrev leads_to : ℕ → ℕ → Bridge → Bool
-leads_to on bus bridge = bridge.parent == on && nat_le bridge.bus bus && nat_le bus bridge.last
 
 by_bus : (board : Board) (address on bus : ℕ) (found : Option Bridge) (lane : BridgeLane) → find (leads_to on bus) board.bridges ≡ found → claim_by_bus found ≡ Lane lane → Goes board Cfg address on lane
 by_bus board address on bus None lane is claims = cc

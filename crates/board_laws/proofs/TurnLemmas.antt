@@ -1,12 +1,12 @@
 -- A claim on the bus where a lane ends never turns back.
-use Rattle.std.proofs.Common.{◌≡◌, ℕ, true, false, not, ◌≢◌, ap, ⊎_elim}
+use Rattle.std.proofs.Common.{◌≡◌, ℕ, true, false, not, ◌≢◌, ap, ◌∙◌, ⊎_elim}
 use Rattle.board_model.specs.declared.bridge.Lane.{Lane as BridgeLane}
 use Rattle.board_model.specs.declared.bridge.Place.TheVariants.{Lane}
 use Rattle.board_model.specs.declared.op.Op.{Op}
 use Rattle.board_model.specs.declared.board.Board.{Board}
 use Rattle.board_model.specs.Requests.{request_on}
 use Rattle.board_model.specs.Claims.{claim}
-use Rattle.board_model.specs.Ways.{end_of}
+use Rattle.board_model.specs.Ways.{primary_in, end_of, start_of}
 use Rattle.board_model.specs.WellFormed.{are_numbered_apart}
 use Rattle.board_laws.specs.Turns.{turned}
 use Rattle.board_laws.proofs.StepLemmas.{stays, Up, Down, steps}
@@ -35,3 +35,11 @@ no_turn board op on lane apart first second =
     (λ (again : Down board op at (turned lane)). let back : not lane.up ≡ false = ap (λ l. l.up) again.is in cc)
     next)
     (steps board op on lane apart first)
+
+-- a lane claims on the bus where it starts
+pub starts_here : (board : Board) (op : Op) (on : ℕ) (lane : BridgeLane) → are_numbered_apart board.bridges ≡ true → claim board on (request_on op on) ≡ Lane lane → start_of board lane ≡ on
+starts_here board op on lane apart claims =
+    ⊎_elim {C = start_of board lane ≡ on}
+    (λ (up : Up board op on lane). ap (start_of board) up.is)
+    (λ (down : Down board op on lane). ap (start_of board) down.is ∙ ap primary_in down.is_child ∙ down.parent)
+    (steps board op on lane apart claims)

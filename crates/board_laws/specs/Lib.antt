@@ -1,3 +1,4 @@
 pub mod Trees
 pub mod WayEnds
 pub mod Turns
+pub mod Claimants

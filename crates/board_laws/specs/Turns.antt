@@ -7,7 +7,11 @@ use Rattle.board_model.specs.declared.op.Op.{Op}
 use Rattle.board_model.specs.declared.board.Board.{Board}
 use Rattle.board_model.specs.Requests.{request_on}
 use Rattle.board_model.specs.Claims.{claim}
-use Rattle.board_model.specs.Ways.{end_of}
+use Rattle.board_model.specs.Ways.{end_of, start_of}
+
+-- a lane that claims an operation on the bus starts there
+abbrev pub StartsThere : Board → Op → ℕ → BridgeLane → Type 0
+StartsThere board op on lane = claim board on (request_on op on) ≡ Lane lane → start_of board lane ≡ on
 
 -- the lane of the same bridge in the other direction
 abbrev pub turned : BridgeLane → BridgeLane

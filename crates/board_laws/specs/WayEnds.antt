@@ -45,11 +45,11 @@ pub record WayEnds (board : Board) (op : Op) (on : ℕ) : Type 0 where
 abbrev pub last_bus : Board → ℕ
 last_bus board = greatest (λ (bridge : Bridge). bridge.bus) board.bridges
 
--- how far a lane stands from where ways end: less on each bus further up, and then on each further down
+-- a number for each lane that falls along every way: on each lane further up, and then on each further down
 abbrev pub rank : Board → BridgeLane → ℕ
 rank board lane = if lane.up then last_bus board + lane.bus else last_bus board - lane.bus
 
--- the operation goes on from the end of the lane, on which it was claimed from the bus, by the other lane
-pub record GoesOn (board : Board) (op : Op) (on : ℕ) (lane onwards : BridgeLane) : Type 0 where
+-- the first lane claims the operation on the bus, and the next one claims it where that lane ends
+pub record GoesOn (board : Board) (op : Op) (on : ℕ) (lane next : BridgeLane) : Type 0 where
   pub first : claim board on (request_on op on) ≡ Lane lane
-  pub second : claim board (end_of board lane) (request_on op (end_of board lane)) ≡ Lane onwards
+  pub second : claim board (end_of board lane) (request_on op (end_of board lane)) ≡ Lane next
