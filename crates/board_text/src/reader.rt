@@ -2,28 +2,6 @@ ghost use Rattle.std.specs.Prelude.{◌≡◌, ◌+◌, ◌<◌, ◌≤◌, ◌^
 ghost use Rattle.std.specs.List.{position_or_len, list_all};
 ghost use Rattle.board_text.specs.Lines.{is_newline, is_allowed, lines_of, line_fault};
 
-use pci_command::NoMemory;
-use thiserror::Error;
-
-/// Why a text was not read as lines.
-#[derive(Clone, Copy, Debug, PartialEq, Eq, Error)]
-pub enum TextFault {
-    /// A line is longer than 256 bytes (code 3), or has a byte other than the tab and 20 to 7e
-    /// (code 1). Lines are numbered from 1.
-    #[error("line {line}: fault {code} of the text")]
-    Fault { line: u32, code: u8 },
-    #[error("no memory")]
-    NoMemory,
-}
-
-impl From<NoMemory> for TextFault {
-    fn from(_refused: NoMemory) -> TextFault
-        ensures { result ≡ TextFault.NoMemory }
-    {
-        TextFault::NoMemory
-    }
-}
-
 /// The line that begins at `at`, without its newline, and the place behind its newline, at which
 /// the next line begins. A last line without a newline has that place as if it had one. There is
 /// no line exactly from the end of the text on.

@@ -2,7 +2,7 @@ use Rattle.std.proofs.Common.{◌≡◌, drop}
 use Rattle.std.specs.List.{position_or_len}
 use Rattle.board_text.specs.Lines.{is_newline}
 use Rattle.board_text.proofs.CutLemmas.{next_step}
-use Rattle.board_text.proofs.lines.next_line.Goals as goal
+use Rattle.board_text.proofs.reader.next_line.Goals as goal
 
 pub returns-clause-line : goal.returns-clause-line
 returns-clause-line c =
