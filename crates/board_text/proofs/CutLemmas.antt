@@ -1,5 +1,5 @@
 -- A text that is cut: its first line and its first token, and what is left behind them.
-use Rattle.std.proofs.Common.{◌≡◌, ℕ, ◌+◌, ◌<◌, ◌≤◌, Bool, true, false, cond, ltb, List, [], ◌∷◌, ◌++◌, append_assoc, length, take, drop, Option, Some, None, arith, rules, ◌-◌, inl, inr, refl, sym, ap, ◌∙◌}
+use Rattle.std.proofs.Common.{◌≡◌, ℕ, ◌+◌, ◌<◌, ◌≤◌, Bool, cond, ltb, List, [], ◌∷◌, ◌++◌, append_assoc, length, take, drop, Option, Some, None, arith, inl, inr, refl}
 use Rattle.std.proofs.lemmas.Bool.{cases_lt}
 use Rattle.std.proofs.lemmas.List.{take_all, drop_all, length-take-le, length-drop, drop-drop}
 use Rattle.std.proofs.lemmas.List.Sums.{prefix_len-le-length, fails_before_first}
@@ -31,10 +31,10 @@ pub line_step : (xs : List ℕ) → 0 < length xs → lines_of xs ≡ take (posi
 line_step xs some =
     elim (cases_lt (position_or_len is_newline xs) (length xs)) [
       | inl inside ↦
-        let more = length-slice_split is_newline (drop (position_or_len is_newline xs + 1) xs) in
-        rw (slice_split_first is_newline xs 0 inside) (onto_line (take (position_or_len is_newline xs) xs) (slice_split is_newline (drop (position_or_len is_newline xs + 1) xs)) (omega (arith, more)))
+          let more = length-slice_split is_newline (drop (position_or_len is_newline xs + 1) xs) in
+          rw (slice_split_first is_newline xs 0 inside) (onto_line (take (position_or_len is_newline xs) xs) (slice_split is_newline (drop (position_or_len is_newline xs + 1) xs)) (omega (arith, more)))
       | inr all ↦
-        rw (cut_none is_newline xs all, take_all _ xs all, drop_all (position_or_len is_newline xs + 1) xs (omega arith)) (one_line xs some)
+          rw (cut_none is_newline xs all, take_all _ xs all, drop_all (position_or_len is_newline xs + 1) xs (omega arith)) (one_line xs some)
     ]
 
 -- the first token, and the tokens behind the separator that follows it
@@ -42,11 +42,11 @@ pub token_step : (from : ℕ) (xs : List ℕ) → placed from (slice_split is_se
 token_step from xs =
     elim (cases_lt (position_or_len is_separator xs) (length xs)) [
       | inl inside ↦
-        rw (slice_split_first is_separator xs 0 inside, length-take-le (position_or_len is_separator xs) xs (omega arith)) refl
+          rw (slice_split_first is_separator xs 0 inside, length-take-le (position_or_len is_separator xs) xs (omega arith)) refl
       | inr all ↦
-        let within : position_or_len is_separator xs ≤ length xs = prefix_len-le-length _ xs in
-        let same : position_or_len is_separator xs ≡ length xs = omega arith in
-        rw (cut_none is_separator xs all, drop_all (position_or_len is_separator xs + 1) xs (omega arith), same) refl
+          let within : position_or_len is_separator xs ≤ length xs = prefix_len-le-length _ xs in
+          let same : position_or_len is_separator xs ≡ length xs = omega arith in
+          rw (cut_none is_separator xs all, drop_all (position_or_len is_separator xs + 1) xs (omega arith), same) refl
     ]
 
 -- the same of what is left of a text from a place on
@@ -62,7 +62,7 @@ next_token from at n text is =
     let behind : at + n + 1 ≡ at + (n + 1) = omega arith in
     rw (place, behind, ← drop-drop (n + 1) at text, is) (token_step (from + at) (drop at text))
 
-with_some : (from n : ℕ) (more : List Token) → 0 < n → with_token from n more ≡ record { start = from; end = from + n } ∷ more
+pub with_some : (from n : ℕ) (more : List Token) → 0 < n → with_token from n more ≡ record { start = from; end = from + n } ∷ more
 with_some from n more some = grind arith
 
 -- the tokens so far and those that are left are the same tokens, one further

@@ -2,8 +2,6 @@
 use Rattle.std.specs.Prelude.{ℕ, Bool, ◌+◌, List, [], ◌∷◌, length, Option, Some, None, nat_lt, nat_le, ◌==◌, ◌&&◌, ◌||◌, if◌then◌else◌}
 use Rattle.std.specs.List.{list_all, slice_split}
 
-
-
 abbrev pub is_newline : ℕ → Bool
 is_newline byte = byte == 10
 

@@ -1,6 +1,6 @@
 -- The tokens of a line, as places in the text.
-use Rattle.std.specs.Prelude.{ℕ, Bool, ◌+◌, List, [], ◌∷◌, length, ◌==◌, ◌||◌, if◌then◌else◌}
-use Rattle.std.specs.List.{slice_split, before_first}
+use Rattle.std.specs.Prelude.{ℕ, Bool, ◌+◌, ◌<◌, ◌≤◌, List, [], ◌∷◌, length, nat_lt, ◌==◌, ◌||◌, if◌then◌else◌}
+use Rattle.std.specs.List.{slice_split, before_first, filter}
 use Rattle.board_text.specs.declared.tokens.Token.{Token}
 
 -- a space or a tab
@@ -27,3 +27,11 @@ placed from (piece ∷ pieces) = with_token from (length piece) (placed (from + 
 -- the tokens of a line that begins at this place: what stands between separators, before a comment
 abbrev pub tokens_of : ℕ → List ℕ → List Token
 tokens_of from line = placed from (slice_split is_separator (uncommented line))
+
+-- the words of a line, each in its bytes: what its tokens stand for
+abbrev pub words_of : List ℕ → List (List ℕ)
+words_of line = filter (λ piece. nat_lt 0 (length piece)) (slice_split is_separator (uncommented line))
+
+-- a token has a byte or more, and lies between these places
+abbrev pub IsWithin : ℕ → ℕ → Token → Type 0
+IsWithin low high token = (low ≤ token.start) × (token.start < token.end) × (token.end ≤ high)

@@ -29,7 +29,11 @@ pub fn check_line(line: &[u8]) -> Result<(), u8>
     if line.len() > 256 {
         return Err(3);
     }
-    if has_only_allowed(line) { Ok(()) } else { Err(1) }
+    if has_only_allowed(line) {
+        Ok(())
+    } else {
+        Err(1)
+    }
 }
 
 fn length_of_line(text: &[u8]) -> usize

@@ -1,4 +1,4 @@
-use Rattle.std.proofs.Common.{rules, arith, ◌≡◌, ◌<◌, ◌≤◌, ◌^◌, ℕ, ◌+◌, ◌*◌, length}
+use Rattle.std.proofs.Common.{arith}
 use Rattle.board_text.proofs.DigitLemmas.{decimal_fits}
 use Rattle.board_text.proofs.numbers.decimal.Goals as goal
 

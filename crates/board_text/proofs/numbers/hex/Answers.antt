@@ -1,4 +1,4 @@
-use Rattle.std.proofs.Common.{rules, arith, ◌≡◌, ◌<◌, ◌≤◌, ◌^◌, ℕ, ◌+◌, ◌*◌, length}
+use Rattle.std.proofs.Common.{arith}
 use Rattle.board_text.proofs.DigitLemmas.{hex_fits}
 use Rattle.board_text.proofs.numbers.hex.Goals as goal
 

@@ -1,6 +1,4 @@
-use Rattle.std.proofs.Common.{arith, refl, ◌≡◌, ◌≤◌, ℕ, ◌+◌, ◌*◌, get_or}
-use Rattle.std.specs.Char.{digit_value}
-use Rattle.std.specs.Str.Parse.{digits_value}
+use Rattle.std.proofs.Common.{arith, refl}
 use Rattle.board_text.proofs.DigitLemmas.{digits_step, digits_within}
 use Rattle.board_text.proofs.numbers.value_of.Goals as goal
 

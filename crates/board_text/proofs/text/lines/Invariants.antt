@@ -9,7 +9,7 @@ invariant-loop-line l = record {
   within : l.at ≤ length l.bytes + 1;
   counted : l.number ≤ l.at + 1;
   lines : l.found.items ++ token_lines l.number l.at (lines_of (drop l.at l.bytes)) ≡ token_lines 1 0 (lines_of l.bytes);
-  fault : first_fault l.number (lines_of (drop l.at l.bytes)) ≡ first_fault 1 (lines_of l.bytes)
+  fault : first_fault l.number (lines_of (drop l.at l.bytes)) ≡ first_fault 1 (lines_of l.bytes);
 }
 
 abbrev pub decreases-loop-line : goal.decreases-loop-line

@@ -1,4 +1,4 @@
-use Rattle.std.proofs.Common.{rules, arith, ◌≡◌, ◌+◌, ◌<◌, ◌≤◌, ◌++◌, drop}
+use Rattle.std.proofs.Common.{arith, ◌≡◌, drop}
 use Rattle.std.specs.List.{position_or_len}
 use Rattle.board_text.specs.Tokens.{is_separator}
 use Rattle.board_text.proofs.CutLemmas.{token_found, none_found}
@@ -12,8 +12,8 @@ loop-at-preserved c =
       within = omega arith;
       tokens = elim c.if-at-end.branch [
         | then-at-end+in_ok-push w ↦
-          rw (w.tokens-is, w.in_ok-push.ensures.items) (token_found _ _ c.args.start c.loop-at.at c.length_of_token.result c.args.text.now (let test = w.if-at-end.true in omega arith) size c.loop-at.invariant.tokens)
+            rw (w.tokens-is, w.in_ok-push.ensures.items) (token_found _ _ c.args.start c.loop-at.at c.length_of_token.result c.args.text.now (let test = w.if-at-end.true in omega arith) size c.loop-at.invariant.tokens)
         | else-at-end w ↦
-          rw w.tokens-is (none_found _ _ c.args.start c.loop-at.at c.length_of_token.result c.args.text.now (let test = w.if-at-end.false in omega arith) size c.loop-at.invariant.tokens)
-      ]
+            rw w.tokens-is (none_found _ _ c.args.start c.loop-at.at c.length_of_token.result c.args.text.now (let test = w.if-at-end.false in omega arith) size c.loop-at.invariant.tokens)
+      ];
     }

@@ -7,7 +7,7 @@ use Rattle.board_text.proofs.tokens.tokens_between.Given as goal
 abbrev pub invariant-loop-at : goal.invariant-loop-at
 invariant-loop-at l = record {
   within : l.at ≤ length l.text + 1;
-  tokens : l.tokens.items ++ placed (l.start + l.at) (slice_split is_separator (drop l.at l.text)) ≡ placed l.start (slice_split is_separator l.text)
+  tokens : l.tokens.items ++ placed (l.start + l.at) (slice_split is_separator (drop l.at l.text)) ≡ placed l.start (slice_split is_separator l.text);
 }
 
 abbrev pub decreases-loop-at : goal.decreases-loop-at
