@@ -1,0 +1,33 @@
+-- A text is lines, and what a line may be.
+use Rattle.std.specs.Prelude.{ℕ, Bool, ◌+◌, List, [], ◌∷◌, length, Option, Some, None, nat_lt, nat_le, ◌==◌, ◌&&◌, ◌||◌, if◌then◌else◌}
+use Rattle.std.specs.List.{list_all, slice_split}
+
+abbrev pub is_newline : ℕ → Bool
+is_newline byte = byte == 10
+
+-- without a last piece that is empty: no line begins behind the last newline
+abbrev pub without_empty_end : List (List ℕ) → List (List ℕ)
+without_empty_end [] = []
+without_empty_end (piece ∷ []) = if length piece == 0 then [] else piece ∷ []
+without_empty_end (piece ∷ next ∷ pieces) = piece ∷ without_empty_end (next ∷ pieces)
+
+-- the lines of a text, each without its newline, which the last may lack
+abbrev pub lines_of : List ℕ → List (List ℕ)
+lines_of text = without_empty_end (slice_split is_newline text)
+
+-- the bytes that a line may have: the tab and the printing characters of ASCII
+abbrev pub is_allowed : ℕ → Bool
+is_allowed byte = byte == 9 || (nat_le 32 byte && nat_le byte 126)
+
+-- fault 3 of a line longer than 256 bytes, else fault 1 of one with a byte that no line may have
+abbrev pub line_fault : List ℕ → Option ℕ
+line_fault line = if nat_lt 256 (length line) then Some 3 else if list_all is_allowed line then None else Some 1
+
+-- the first fault of the lines, and the number of its line, where the first line has this number
+abbrev pub fault_or : ℕ → Option ℕ → Option (ℕ × ℕ) → Option (ℕ × ℕ)
+fault_or number None later = later
+fault_or number (Some code) later = Some (number, code)
+
+abbrev pub first_fault : ℕ → List (List ℕ) → Option (ℕ × ℕ)
+first_fault number [] = None
+first_fault number (line ∷ lines) = fault_or number (line_fault line) (first_fault (number + 1) lines)

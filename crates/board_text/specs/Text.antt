@@ -1,0 +1,24 @@
+-- What a text is read as: its lines that have tokens, or its first fault.
+use Rattle.std.specs.Prelude.{◌≡◌, ℕ, ◌+◌, List, [], ◌∷◌, length, Some, ◌==◌, if◌then◌else◌}
+use Rattle.board_text.specs.declared.text.Line.{Line}
+use Rattle.board_text.specs.declared.text.TextFault.{TextFault}
+use Rattle.board_text.specs.declared.text.TextFault.TheVariants.{Fault, NoMemory}
+use Rattle.board_text.specs.declared.tokens.Token.{Token}
+use Rattle.board_text.specs.Lines.{first_fault}
+use Rattle.board_text.specs.Tokens.{tokens_of}
+
+-- a line before those that follow, unless it has no token
+abbrev pub with_line : ℕ → List Token → List Line → List Line
+with_line count found more = if length found == 0 then more else record { number = count; tokens = found } ∷ more
+
+-- the lines that have tokens, where the first line has this number and begins at this place: each
+-- counts, and a newline stands behind it
+abbrev pub token_lines : ℕ → ℕ → List (List ℕ) → List Line
+token_lines count from [] = []
+token_lines count from (line ∷ lines) =
+    with_line count (tokens_of from line) (token_lines (count + 1) (from + length line + 1) lines)
+
+-- a refusal is the first fault of the lines, or is for want of memory
+abbrev pub IsFirstFault : List (List ℕ) → TextFault → Type 0
+IsFirstFault lines (Fault line code) = first_fault 1 lines ≡ Some (line, code)
+IsFirstFault lines NoMemory = Unit {0}

@@ -1,0 +1,37 @@
+-- The tokens of a line, as places in the text.
+use Rattle.std.specs.Prelude.{ℕ, Bool, ◌+◌, ◌<◌, ◌≤◌, List, [], ◌∷◌, length, nat_lt, ◌==◌, ◌||◌, if◌then◌else◌}
+use Rattle.std.specs.List.{slice_split, before_first, filter}
+use Rattle.board_text.specs.declared.tokens.Token.{Token}
+
+-- a space or a tab
+abbrev pub is_separator : ℕ → Bool
+is_separator byte = byte == 32 || byte == 9
+
+-- `#`, which with all behind it is a comment
+abbrev pub is_comment : ℕ → Bool
+is_comment byte = byte == 35
+
+abbrev pub uncommented : List ℕ → List ℕ
+uncommented line = before_first is_comment line
+
+-- a token of this many bytes before those that follow, unless it is empty
+abbrev pub with_token : ℕ → ℕ → List Token → List Token
+with_token from size more = if size == 0 then more else record { start = from; end = from + size } ∷ more
+
+-- the pieces that are not empty, where the first begins at this place and one byte stands between
+-- each two
+abbrev pub placed : ℕ → List (List ℕ) → List Token
+placed from [] = []
+placed from (piece ∷ pieces) = with_token from (length piece) (placed (from + length piece + 1) pieces)
+
+-- the tokens of a line that begins at this place: what stands between separators, before a comment
+abbrev pub tokens_of : ℕ → List ℕ → List Token
+tokens_of from line = placed from (slice_split is_separator (uncommented line))
+
+-- the words of a line, each in its bytes: what its tokens stand for
+abbrev pub words_of : List ℕ → List (List ℕ)
+words_of line = filter (λ piece. nat_lt 0 (length piece)) (slice_split is_separator (uncommented line))
+
+-- a token has a byte or more, and lies between these places
+abbrev pub IsWithin : ℕ → ℕ → Token → Type 0
+IsWithin low high token = (low ≤ token.start) × (token.start < token.end) × (token.end ≤ high)

@@ -1,0 +1,15 @@
+//! The text of a board as lines, the lines as tokens, and a token as a number.
+#![tactic(auto)]
+
+mod numbers;
+mod reader;
+mod text;
+mod tokens;
+
+pub use numbers::{NumberFault, decimal, hex};
+pub use reader::{check_line, next_line};
+pub use text::{Line, TextFault, lines};
+pub use tokens::{Token, tokens_of};
+
+#[cfg(test)]
+mod tests;

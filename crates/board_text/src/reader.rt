@@ -1,0 +1,53 @@
+ghost use Rattle.std.specs.Prelude.{◌≡◌, ◌+◌, ◌<◌, ◌≤◌, ◌^◌, ◌↔◌, ◌∷◌, length, drop, slice_range, Some, None, IfSome, IsNone, MatchResult};
+ghost use Rattle.std.specs.List.{position_or_len, list_all};
+ghost use Rattle.board_text.specs.Lines.{is_newline, is_allowed, lines_of, line_fault};
+
+/// The line that begins at `at`, without its newline, and the place behind its newline, at which
+/// the next line begins. A last line without a newline has that place as if it had one. There is
+/// no line exactly from the end of the text on.
+pub fn next_line(bytes: &[u8], at: usize) -> Option<(&[u8], usize)>
+    ensures end { IsNone result ↔ (length bytes.now ≤ at) }
+    ensures line { IfSome result (λ found. lines_of (drop at bytes.now) ≡ found.0.now ∷ lines_of (drop found.1 bytes.now)) }
+    ensures place { IfSome result (λ found. found.0.now ≡ slice_range bytes.now at (at + length found.0.now)) }
+    ensures next { IfSome result (λ found. found.1 ≡ at + length found.0.now + 1) }
+    ensures within { IfSome result (λ found. at + length found.0.now ≤ length bytes.now) }
+{
+    if at >= bytes.len() {
+        return None;
+    }
+    let (_before, rest) = bytes.split_at(at);
+    let size = length_of_line(rest);
+    let (line, _behind) = rest.split_at(size);
+    Some((line, at + size + 1))
+}
+
+/// Fault 3 of a line longer than 256 bytes, and else fault 1 of one with a byte other than the tab
+/// and 20 to 7e. The line is given without its newline.
+pub fn check_line(line: &[u8]) -> Result<(), u8>
+    ensures { MatchResult result (λ _. line_fault line.now ≡ None) (λ code. line_fault line.now ≡ Some code) }
+{
+    if line.len() > 256 {
+        return Err(3);
+    }
+    if has_only_allowed(line) {
+        Ok(())
+    } else {
+        Err(1)
+    }
+}
+
+fn length_of_line(text: &[u8]) -> usize
+    ensures value { result ≡ position_or_len is_newline text.now }
+    ensures within { result ≤ length text.now }
+{
+    text.iter()
+        .position(|byte| *byte == b'\n')
+        .unwrap_or(text.len())
+}
+
+fn has_only_allowed(line: &[u8]) -> bool
+    ensures { result ≡ list_all is_allowed line.now }
+{
+    line.iter()
+        .all(|byte| *byte == b'\t' || (b' '..=b'~').contains(byte))
+}
