@@ -15,3 +15,8 @@ pub mod PrefixLemmas
 pub mod StandingLemmas
 pub mod QuietLemmas
 pub mod DepthsLemmas
+pub mod RequestLemmas
+pub mod PartLemmas
+pub mod ClaimLemmas
+pub mod LatchedLemmas
+pub mod NumberLemmas

@@ -2,14 +2,18 @@
 //! of a function that does nothing.
 #![tactic(auto)]
 
-ghost use Rattle.std.specs.Prelude.{◌≡◌, ◌++◌, List, Bool, false, Some, None};
+ghost use Rattle.std.specs.Prelude.{◌≡◌, ◌++◌, ℕ, List, Bool, false, Some, None};
 ghost use Rattle.std.specs.List.{AllByRecursion, list_any};
+ghost use Rattle.pci_command.specs.declared.request.Request.{Request};
+ghost use Rattle.pci_command.specs.declared.op_id.OpId.{OpId};
 ghost use Rattle.board_model.specs.declared.board.Board.{Board};
 ghost use Rattle.board_model.specs.declared.bridge.Bridge.{Bridge};
 ghost use Rattle.board_model.specs.declared.bridge.Lane.{Lane as BridgeLane};
+ghost use Rattle.board_model.specs.Requests.{request_of, is_posted};
 ghost use Rattle.history_model.specs.declared.event.Event.{Event};
 ghost use Rattle.history_model.specs.Lanes.{empty_lane};
 ghost use Rattle.history_model.specs.World.{lane_back, both, world_of};
+ghost use Rattle.history_model.specs.Words.{through};
 ghost use Rattle.history_model.specs.Answers.{bridge_to};
 ghost use Rattle.history_model.specs.Runs.{Run};
 ghost use Rattle.run_slots.specs.Slots.{Slots, HasOneItem, GoneHeld};
@@ -17,6 +21,8 @@ ghost use Rattle.run_slots.specs.Standing.{CanStand};
 ghost use Rattle.run_slots.specs.Credits.{Credits};
 ghost use Rattle.run_slots.specs.Quiet.{enters_at};
 ghost use Rattle.run_slots.specs.Depths.{Within, DifferentNumbers, DepthsToEight};
+ghost use Rattle.run_slots.specs.Phases.{DelayedAreSingle};
+ghost use Rattle.run_slots.specs.Latched.{Latched};
 
 /// The slots at the near face of each lane and their items: each held slot has its item in exactly
 /// one of five places, each item has its slot held for the operation that it names, and no number
@@ -57,4 +63,15 @@ pub fn standing()
 pub fn quiet_bridges()
     ensures entered { (board : Board) (h : List Event) (lane : BridgeLane) → list_any (enters_at lane.bus) h ≡ false → world_of board h lane ≡ empty_lane }
     ensures no_bridge { (board : Board) (h : List Event) (lane : BridgeLane) → bridge_to board lane.bus ≡ None → Run board h → world_of board h lane ≡ empty_lane }
+{}
+
+/// Each held slot is held for a delayed request that its lane claims on the bus where it begins, and
+/// was latched by the master of the operation on that bus, or by a lane that ends there.
+pub fn latched()
+    ensures { (board : Board) (h : List Event) (lane : BridgeLane) → DifferentNumbers board → DelayedAreSingle board → Run board h → AllByRecursion (Latched board lane) (world_of board h lane).held }
+{}
+
+/// No delayed request goes through in parts.
+pub fn delayed_are_whole()
+    ensures { (board : Board) (h : List Event) (o : OpId) (on : ℕ) (request : Request) → DelayedAreSingle board → Run board h → request_of board o on ≡ Some request → is_posted request ≡ false → through h o ≡ 0 }
 {}
