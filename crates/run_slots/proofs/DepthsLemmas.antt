@@ -101,7 +101,7 @@ InDepth-kept : (board : Board) → Kept board (InDepth board)
 InDepth-kept board =
     record {
       empty = λ lane bridge is. record { owed = omega arith; held = omega arith; numbers = tt };
-      accepts = λ lane o bridge x is below old. post-keeps board lane o bridge x is below old;
+      accepts = λ h on by o lane _ _ at old. post-keeps board lane o at.bridge (both (world_of board h) lane) at.is_bridge at.gives.1 old;
       latches = λ h on by o lane _ _ at old. latch-keeps board lane by o at.bridge (both (world_of board h) lane) at.is_bridge at.gives.2 old;
       takes = λ lane number op slot outcome x _ old. (λ bridge is. within-less bridge x.here number (old.0 bridge is), λ bridge is. let w = old.1 bridge is in record { owed = w.owed; held = w.held; numbers = w.numbers });
       ends = λ lane o outcome x old. (λ bridge is. let w = old.0 bridge is in record { owed = w.owed; held = w.held; numbers = w.numbers }, λ bridge is. let w = old.1 bridge is in record { owed = w.owed; held = w.held; numbers = w.numbers });

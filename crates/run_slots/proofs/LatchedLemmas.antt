@@ -87,7 +87,7 @@ AllLatched-kept : (board : Board) → DelayedAreSingle board → Kept board (All
 AllLatched-kept board single =
     record {
       empty = λ lane. tt;
-      accepts = λ lane o bridge x _ _ old. old;
+      accepts = λ h on by o lane _ _ _ old. old;
       latches = latch-keeps board single;
       takes = λ lane number op slot outcome x _ old. (Each-less (Somewhere board lane) (has_number number) x.here.held old.0, old.1);
       ends = λ lane o outcome x old. old;

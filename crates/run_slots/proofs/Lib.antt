@@ -20,3 +20,11 @@ pub mod PartLemmas
 pub mod ClaimLemmas
 pub mod LatchedLemmas
 pub mod NumberLemmas
+pub mod KindLemmas
+pub mod EqualLemmas
+pub mod OwnersMoveLemmas
+pub mod OwnersLatchLemmas
+pub mod OwnersFreeLemmas
+pub mod OwnersEndLemmas
+pub mod OwnersRunLemmas
+pub mod MatchedLemmas

@@ -18,7 +18,7 @@ use Rattle.run_slots.specs.Slots.{hit, slot_weight, ask_weight, done_weight, gon
 use Rattle.run_slots.proofs.HeldLemmas.{hit-same, found_by_number}
 
 -- a number that no two slots share finds each slot
-Each-found_itself : (held : List Slot) → ((number : ℕ) → total (slot_weight (hit number)) held ≤ 1) → AllByRecursion (λ slot. find (has_number slot.number) held ≡ Some slot) held
+pub Each-found_itself : (held : List Slot) → ((number : ℕ) → total (slot_weight (hit number)) held ≤ 1) → AllByRecursion (λ slot. find (has_number slot.number) held ≡ Some slot) held
 Each-found_itself [] once = tt
 Each-found_itself (slot ∷ held) once =
     let once_later : (number : ℕ) → total (slot_weight (hit number)) held ≤ 1 = λ number. omega (arith, once number) in

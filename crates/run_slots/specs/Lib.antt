@@ -5,3 +5,5 @@ pub mod Quiet
 pub mod Depths
 pub mod Phases
 pub mod Latched
+pub mod Kinds
+pub mod Owners
