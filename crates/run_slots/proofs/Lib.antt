@@ -28,3 +28,4 @@ pub mod OwnersFreeLemmas
 pub mod OwnersEndLemmas
 pub mod OwnersRunLemmas
 pub mod MatchedLemmas
+pub mod LawfulLemmas

@@ -7,3 +7,4 @@ pub mod Phases
 pub mod Latched
 pub mod Kinds
 pub mod Owners
+pub mod Lawful

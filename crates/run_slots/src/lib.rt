@@ -27,6 +27,7 @@ ghost use Rattle.run_slots.specs.Standing.{CanStand};
 ghost use Rattle.run_slots.specs.Credits.{Credits};
 ghost use Rattle.run_slots.specs.Quiet.{enters_at};
 ghost use Rattle.run_slots.specs.Depths.{Within, DifferentNumbers, DepthsToEight};
+ghost use Rattle.run_slots.specs.Lawful.{IsLawful};
 ghost use Rattle.run_slots.specs.Phases.{DelayedAreSingle};
 ghost use Rattle.run_slots.specs.Latched.{Latched};
 ghost use Rattle.run_slots.specs.Kinds.{RightKind};
@@ -100,4 +101,10 @@ pub fn owners()
 /// Each completion is taken by the operation that it was made for.
 pub fn matched()
     ensures { (board : Board) (h : List Event) (on : ℕ) (by : By) (o : OpId) (outcome : Outcome) (lane : BridgeLane) → DifferentNumbers board → DelayedAreSingle board → Run board (Act on by o (Take outcome) (Lane lane) ∷ h) → TakesItsOwn board h on by o outcome lane }
+{}
+
+/// A bridge can receive what is in flight to it: there is room, each completion finds its slot held
+/// for its operation, and each credit a posted write that is owed.
+pub fn lawful()
+    ensures { (board : Board) (h : List Event) (lane : BridgeLane) (bridge : Bridge) → bridge_to board lane.bus ≡ Some bridge → Run board h → AllByRecursion (IsLawful bridge (both (world_of board h) lane)) (world_of board h lane).flight }
 {}
