@@ -2,3 +2,5 @@ pub mod Names
 pub mod Requests
 pub mod Claims
 pub mod Ways
+pub mod WellFormed
+pub mod Valid

@@ -3,7 +3,8 @@ ghost use Rattle.board_printer.specs.Spaces.{space_word, poll_word, command_word
 
 use pci_command::{Command, Space};
 
-pub(crate) fn space_word(space: Space) -> &'static str
+/// The word for a space.
+pub fn space_word(space: Space) -> &'static str
     ensures { result.now ≡ space_word space }
 {
     match space {
@@ -23,7 +24,8 @@ pub(crate) fn poll_word(space: Space) -> &'static str
     }
 }
 
-pub(crate) fn command_word(command: Command) -> &'static str
+/// The word with which an operation of this command begins.
+pub fn command_word(command: Command) -> &'static str
     ensures { result.now ≡ command_word command }
 {
     match command {

@@ -1,1 +1,2 @@
 pub mod HeaderBytes
+pub mod Windows

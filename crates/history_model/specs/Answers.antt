@@ -89,10 +89,14 @@ abbrev pub is_turn : OpId → Option OpId → Bool
 is_turn o None = false
 is_turn o (Some turn) = same_op turn o
 
+-- whether the initiator presents the operation on the bus, with this on the lanes and after this history
+abbrev pub wants_in : Board → World → List Event → ℕ → By → OpId → Bool
+wants_in board world h on Master o = is_on on (slice_get board.masters o.master) && is_turn o (turn_of board h o.master)
+wants_in board world h on (ByLane lane) o = end_of board lane == on && presents board on o (world lane).standing
+
 -- whether the initiator presents the operation on the bus now
 abbrev pub wants : Board → List Event → ℕ → By → OpId → Bool
-wants board h on Master o = is_on on (slice_get board.masters o.master) && is_turn o (turn_of board h o.master)
-wants board h on (ByLane lane) o = end_of board lane == on && presents board on o (world_of board h lane).standing
+wants board h on by o = wants_in board (world_of board h) h on by o
 
 -- how many stall tokens of the target are used
 abbrev pub stalls_at : ℕ → Place → ℕ
@@ -174,18 +178,21 @@ abbrev pub bridge_to : Board → ℕ → Option Bridge
 bridge_to board bus = find (λ bridge. bridge.bus == bus) board.bridges
 
 -- the answer of who claims what is left of the request
-abbrev pub answer_by : Board → List Event → ℕ → By → OpId → Request → Place → Answer
-answer_by board h on by o request (Target place) = target_answer board h place request (slice_get board.targets place)
-answer_by board h on by o request (Header bus) = header_answer bus request (bridge_to board bus)
-answer_by board h on by o request (Lane lane) =
-    lane_answer board (world_of board h) on by o request lane (bridge_to board lane.bus)
-answer_by board h on by o request Nobody = Gives MasterAbort Nobody
+abbrev pub answer_by : Board → World → List Event → ℕ → By → OpId → Request → Place → Answer
+answer_by board world h on by o request (Target place) = target_answer board h place request (slice_get board.targets place)
+answer_by board world h on by o request (Header bus) = header_answer bus request (bridge_to board bus)
+answer_by board world h on by o request (Lane lane) = lane_answer board world on by o request lane (bridge_to board lane.bus)
+answer_by board world h on by o request Nobody = Gives MasterAbort Nobody
 
-abbrev pub answer_to : Board → List Event → ℕ → By → OpId → Option Request → Answer
-answer_to board h on by o None = Gives MasterAbort Nobody
-answer_to board h on by o (Some request) =
-    let rest = without (through h o) request in answer_by board h on by o rest (claim board on rest)
+abbrev pub answer_to : Board → World → List Event → ℕ → By → OpId → Option Request → Answer
+answer_to board world h on by o None = Gives MasterAbort Nobody
+answer_to board world h on by o (Some request) =
+    let rest = without (through h o) request in answer_by board world h on by o rest (claim board on rest)
 
--- what the operation is answered, presented on the bus by the initiator after the history
+-- what the operation is answered, presented on the bus by the initiator, with this on the lanes and after this history
+abbrev pub answer_in : Board → World → List Event → ℕ → By → OpId → Answer
+answer_in board world h on by o = answer_to board world h on by o (request_of board o on)
+
+-- what the operation is answered, presented on the bus by the initiator now
 abbrev pub answer : Board → List Event → ℕ → By → OpId → Answer
-answer board h on by o = answer_to board h on by o (request_of board o on)
+answer board h on by o = answer_in board (world_of board h) h on by o

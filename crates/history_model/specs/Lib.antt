@@ -5,3 +5,6 @@ pub mod Program
 pub mod Words
 pub mod Answers
 pub mod Runs
+pub mod Local
+pub mod Knowledge
+pub mod Left

@@ -14,7 +14,7 @@ use Rattle.history_model.specs.declared.item.Carried.{Carried}
 use Rattle.history_model.specs.declared.item.Carried.TheVariants.{Post, Ask, Done, Room, Gone}
 use Rattle.history_model.specs.declared.item.Answer.TheVariants.{Gives}
 use Rattle.history_model.specs.Lanes.{LaneState}
-use Rattle.history_model.specs.World.{same_lane, world_of}
+use Rattle.history_model.specs.World.{World, same_lane, world_of}
 use Rattle.history_model.specs.Program.{turn_of}
 use Rattle.history_model.specs.Answers.{wants, answer}
 
@@ -31,13 +31,16 @@ mark_of board lane state (Done op slot outcome) =
 mark_of board lane state Room = Plain
 mark_of board lane state (Gone slot) = Plain
 
-abbrev pub next_in : Board → BridgeLane → LaneState → List Carried → Option Mark
-next_in board lane state [] = None
-next_in board lane state (item ∷ rest) = Some (mark_of board lane state item)
+abbrev pub mark_of_first : Board → BridgeLane → LaneState → List Carried → Option Mark
+mark_of_first board lane state [] = None
+mark_of_first board lane state (item ∷ rest) = Some (mark_of board lane state item)
 
 -- the mark of the next arrival on the lane; none where nothing is in flight
+abbrev pub next_mark_in : Board → World → BridgeLane → Option Mark
+next_mark_in board world lane = mark_of_first board lane (world lane) (world lane).flight
+
 abbrev pub next_mark : Board → List Event → BridgeLane → Option Mark
-next_mark board h lane = let state = world_of board h lane in next_in board lane state state.flight
+next_mark board h lane = next_mark_in board (world_of board h) lane
 
 -- an act is allowed where its initiator presents the operation and this is its answer; an arrival where
 -- something is in flight, with the mark that the board gives it

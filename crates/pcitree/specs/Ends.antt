@@ -1,13 +1,10 @@
 -- How a call of the program ends, seen at its words, its source and its sink.
-use Rattle.std.specs.Prelude.{ℕ, ◌<◌, ◌≡◌, List, Option, None, IfSome, IsSome}
+use Rattle.std.specs.Prelude.{ℕ, ◌≡◌, List, Option}
 use Rattle.std.specs.Io.KnownBytes.{Consumes, IsAtEnd, Appends}
-use Rattle.io_ports.specs.Faults.{Rose}
-use Rattle.pcitree.specs.Answers.{Answers, IsServed}
-use Rattle.pcitree.specs.Words.{form_of, misfit}
+use Rattle.pcitree.specs.Answers.{Answers}
 use Rattle.pcitree.specs.Writing.{WritesFront}
 use Rattle.pcitree.specs.declared.status.Status.{Status}
 use Rattle.pcitree.specs.declared.status.Status.TheVariants.{Done, NoMemory, Usage, ReadFault, WriteFault, TooLong, BadBoard, BadTrace, NotRun, Incomplete}
-use Rattle.pcitree.specs.declared.status.BoardFault.{BoardFault}
 use Rattle.pcitree.specs.declared.status.BoardFault.TheVariants.{P}
 
 -- the source gave this input to its end: all that it held, where it tells it
@@ -33,10 +30,6 @@ pub record StopsInTrace (held left before after : Option (List ℕ)) : Type 0 wh
   pub answers : AnswersInput held left trace
   pub front : WritesFront before after trace
 
--- the bytes that the source held, where it tells them, are no input that is served
-abbrev pub HeldNoBoard : Option (List ℕ) → Type 0
-HeldNoBoard held = IfSome held (λ input. ¬ IsServed input)
-
 -- the statuses that come
 abbrev pub MayCome : Status → Type 0
 MayCome Done = Unit {0}
@@ -54,18 +47,8 @@ abbrev pub IsUsage : Status → Type 0
 IsUsage (Usage _) = Unit {0}
 IsUsage _ = ⊥
 
-abbrev pub IsBadBoard : Status → Type 0
-IsBadBoard (BadBoard _ _) = Unit {0}
-IsBadBoard _ = ⊥
-
 -- the statuses with which nothing was written
 abbrev pub IsBeforeWriting : Status → Type 0
 IsBeforeWriting Done = ⊥
 IsBeforeWriting WriteFault = ⊥
 IsBeforeWriting _ = Unit {0}
-
--- the statuses with which an input that is served is answered, where no port fails
-abbrev pub IsAnswered : Status → Type 0
-IsAnswered Done = Unit {0}
-IsAnswered NoMemory = Unit {0}
-IsAnswered _ = ⊥

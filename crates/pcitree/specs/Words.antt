@@ -1,5 +1,5 @@
 -- The words that the program is called with, without its own name.
-use Rattle.std.specs.Prelude.{ℕ, zero, ◌+◌, ◌==◌, ◌&&◌, ◌≡◌, not, max, Bool, true, false, List, [], ◌∷◌, length, Option, codes, nat_eq, if◌then◌else◌, find, fold, position, option_and_then, map, string_bytes}
+use Rattle.std.specs.Prelude.{ℕ, ◌+◌, ◌==◌, ◌&&◌, not, max, Bool, true, false, List, [], ◌∷◌, Option, codes, nat_eq, if◌then◌else◌, find, fold, position, option_and_then}
 use Rattle.std.specs.Cmp.Lexicographic.{pointwise}
 use Rattle.pcitree.specs.declared.words.Part.{Part}
 use Rattle.pcitree.specs.declared.words.Part.TheVariants.{Run, Steady, File}

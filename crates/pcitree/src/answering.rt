@@ -1,19 +1,41 @@
-ghost use Rattle.std.specs.Prelude.{◌≡◌, ◌↔◌, IsTrue, IfOk, IfErr};
-ghost use Rattle.pcitree.specs.Answers.{empty_board, empty_trace, Answers};
+ghost use Rattle.std.specs.Prelude.{◌≡◌, ◌<◌, ◌^◌, IfOk, IfErr, IsTrue, All, length};
+ghost use Rattle.trace_text.specs.Events.{HasLine};
+ghost use Rattle.plain_board.specs.Plain.{is_plain};
+ghost use Rattle.pcitree.specs.Answers.{Answers, IsAnsweredBy, Runs};
 ghost use Rattle.pcitree.specs.Stops.{Refuses};
 
 use crate::status::{BoardFault, Status};
+use board_model::Board;
+use history_model::Event;
+use pci_command::{List, NoMemory};
+use plain_board::{Unread, read_plain};
+use plain_run::run_plain;
 use std::alloc::Global;
+use trace_text::print_trace;
 
 /// The trace text that answers an input.
 pub(crate) fn answer(alloc: Global, input: &[u8]) -> Result<Vec<u8>, Status>
     ensures ok { IfOk result (λ trace. Answers input.now trace.items) }
-    ensures err { IfErr result (Refuses input.now) }
+    ensures err { IfErr result Refuses }
 {
-    if !is_empty_board(input) {
-        return Err(not_served());
+    let board = match read_plain(alloc, input) {
+        Ok(board) => board,
+        Err(Unread::NoMemory) => return Err(Status::NoMemory),
+        Err(Unread::NotPlain) => return Err(not_served()),
+    };
+    match trace_of(alloc, &board) {
+        Ok(trace) => Ok(trace.into_vec()),
+        Err(NoMemory) => Err(Status::NoMemory),
     }
-    Ok(empty_trace().to_vec(alloc)?)
+}
+
+/// The trace text of the run of a plain board.
+fn trace_of(alloc: Global, board: &Board) -> Result<List<u8>, NoMemory>
+    requires { IsTrue (is_plain board.now) }
+    ensures { IfOk result (λ trace. IsAnsweredBy board.now trace) }
+{
+    let events = run_plain(alloc, board)?;
+    print_trace(alloc, board, events.as_slice())
 }
 
 /// The answer to an input that is not served.
@@ -24,24 +46,4 @@ pub(crate) fn not_served() -> Status
         line: 0,
         fault: BoardFault::P(15),
     }
-}
-
-fn is_empty_board(input: &[u8]) -> bool
-    ensures { IsTrue result ↔ (input.now ≡ empty_board) }
-{
-    input == empty_board()
-}
-
-#[tactic(auto, unfolding(crate::specs::Answers::empty_board))]
-fn empty_board() -> &'static [u8]
-    ensures { result.now ≡ empty_board }
-{
-    b"pciboard 1\n"
-}
-
-#[tactic(auto, unfolding(crate::specs::Answers::empty_board, crate::specs::Answers::empty_trace))]
-fn empty_trace() -> &'static [u8]
-    ensures { result.now ≡ empty_trace }
-{
-    b"pcitrace 1\npciboard 1\nevents\nend 0\n"
 }

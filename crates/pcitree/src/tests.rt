@@ -9,6 +9,29 @@ const BOARD: &str = "pciboard 1\n";
 
 const TRACE: &str = "pcitrace 1\npciboard 1\nevents\nend 0\n";
 
+const ONE_WORD: &str = "\
+pciboard 1
+target ram on 0 dev 1
+range mem 00100000 00001000
+master cpu on 0
+mw 00100040 0000002a
+mr 00100040
+";
+
+const ONE_WORD_TRACE: &str = "\
+pcitrace 1
+pciboard 1
+target ram on 0 dev 1
+range mem 00100000 00001000
+master cpu on 0
+mw 00100040 0000002a
+mr 00100040
+events
+0 land m cpu.0 ram
+0 read m cpu.1 ram 0000002a
+end 2
+";
+
 const NOT_SERVED: Status = Status::BadBoard {
     line: 0,
     fault: BoardFault::P(15),
@@ -30,7 +53,7 @@ fn source(alloc: Global, text: &str, failing: u32) -> Result<MemorySource, Fail>
 
 fn sink(alloc: Global, failing: u32) -> Result<MemorySink, Fail> {
     let failing = List::from_vec(vec![in alloc; failing]?);
-    Ok(MemorySink::new(alloc, 8, failing, 64)?)
+    Ok(MemorySink::new(alloc, 8, failing, 256)?)
 }
 
 #[test]
@@ -39,6 +62,7 @@ fn a_board_is_answered_and_faults_are_told(rt: HostRuntime) -> Result<(), Fail> 
     let words = split(alloc, "run --steady f")?;
     for (input, failing_read, failing_write, status, taken) in [
         (BOARD, 0, 0, Status::Done, TRACE),
+        (ONE_WORD, 0, 0, Status::Done, ONE_WORD_TRACE),
         (BOARD, 0, 2, Status::WriteFault, "pcitrace"),
         (BOARD, 1, 0, Status::ReadFault, ""),
         (BOARD, 3, 1, Status::ReadFault, ""),

@@ -109,6 +109,7 @@ pub record HasForm (board : Board) (master : Master) : Type 0 where
   pub few : AtMostOne board.targets
   pub targets : list_all is_plain_target board.targets ≡ true
   pub master_bus : master.bus ≡ 0
+  pub short : length master.ops ≤ 1024
   pub ops : list_all is_plain_op master.ops ≡ true
 
 pub plain_form : (board : Board) (master : Master) (others : List Master) → is_plain board ≡ true → board.masters ≡ master ∷ others → HasForm board master
@@ -139,6 +140,7 @@ plain_form board master others plain first =
       few = at_most_one (length board.targets) p3.1;
       targets = p4.1;
       master_bus = program.0;
+      short = program.1;
       ops = program.2;
     } where
       at_most_one : (n : ℕ) → nat_le n 1 ≡ true → n ≤ 1

@@ -31,6 +31,7 @@ use Rattle.history_model.specs.declared.event.Step.TheVariants.{Land, Part, Read
 use Rattle.history_model.specs.declared.event.Event.{Event}
 use Rattle.history_model.specs.declared.event.Event.TheVariants.{Act}
 use Rattle.history_model.specs.declared.item.Answer.TheVariants.{Gives}
+use Rattle.history_model.specs.World.{world_of}
 use Rattle.history_model.specs.Program.{master_outcome, present, turn_of}
 use Rattle.history_model.specs.Words.{through, phases_parted, without, value_of, merged, mask_in, opens_as, brings, brought, landed, landings_in, landings_at, Landing}
 use Rattle.history_model.specs.Answers.{wants, answer, answer_by, answer_to, target_step, stalls_used}
@@ -109,13 +110,13 @@ first_tame target targets plain = tame_target target (both_of (is_plain_target t
 pub answer-claimed : (targets : List TargetAgent) (master : MasterAgent) (h : List Event) (done : List Op) (op : Op) →
     list_all is_plain_target targets ≡ true → is_plain_op op ≡ true → claimed (address_of op) targets ≡ true →
     IsBehind targets master h done →
-    answer_by (board_of targets master) h 0 Master (name_of (length done)) (request_on op 0) (Target 0)
+    answer_by (board_of targets master) (world_of (board_of targets master) h) h 0 Master (name_of (length done)) (request_on op 0) (Target 0)
     ≡ Gives (step_of done op (address_of op)) (Target 0)
 answer-claimed [] master h done op tame plain mine before = cc
 answer-claimed (target ∷ targets) master h done (ReadOp command address) tame plain mine before =
     let is_read_command : command ≡ MemRead = is_memory_read command (both_of (same_command command MemRead) (address % 4 == 0) plain).0 in
     let P : Command → Type 0 = λ c.
-    answer_by (board_of (target ∷ targets) master) h 0 Master (name_of (length done)) (request_on (ReadOp c address) 0) (Target 0)
+    answer_by (board_of (target ∷ targets) master) (world_of (board_of (target ∷ targets) master) h) h 0 Master (name_of (length done)) (request_on (ReadOp c address) 0) (Target 0)
     ≡ Gives (Read (held_after address 0 done)) (Target 0) in
     let stepped = step_at (board_of (target ∷ targets) master) h 0 (request_on (ReadOp MemRead address) 0) target (first_tame target targets tame) in
     let value = before.values address mine in
@@ -124,7 +125,7 @@ answer-claimed (target ∷ targets) master h done (Write command address phases)
     let halves = both_of (same_command command MemWrite && address % 4 == 0) (is_full_word phases) plain in
     let is_write : command ≡ MemWrite = is_memory_write command (both_of (same_command command MemWrite) (address % 4 == 0) halves.0).0 in
     let P : Command → Type 0 = λ c.
-    answer_by (board_of (target ∷ targets) master) h 0 Master (name_of (length done)) (request_on (Write c address phases) 0) (Target 0)
+    answer_by (board_of (target ∷ targets) master) (world_of (board_of (target ∷ targets) master) h) h 0 Master (name_of (length done)) (request_on (Write c address phases) 0) (Target 0)
     ≡ Gives Land (Target 0) in
     let stepped = step_at (board_of (target ∷ targets) master) h 0 (request_on (Write MemWrite address phases) 0) target (first_tame target targets tame) in
     subst P (sym is_write) (ap (λ s. Gives s (Target 0)) (stepped ∙ whole_word phases halves.1)) where
@@ -138,13 +139,13 @@ answer-claimed (target ∷ targets) master h done (Poll space address mask wante
 
 -- what is left of an operation of which no part went through is its request
 pub answer-whole : (board : Board) (h : List Event) (name : OpId) (op : Op) → op_of board name ≡ Some op → through h name ≡ 0 →
-    answer board h 0 Master name ≡ answer_by board h 0 Master name (request_on op 0) (claim board 0 (request_on op 0))
+    answer board h 0 Master name ≡ answer_by board (world_of board h) h 0 Master name (request_on op 0) (claim board 0 (request_on op 0))
 answer-whole board h name op there whole =
     let request = request_on op 0 in
     let asked : request_of board name 0 ≡ Some request = rw there refl in
     let rest : without (through h name) request ≡ request = rw whole (without-nothing request) in
-    let P : Option Request → Type 0 = λ q. answer_to board h 0 Master name q ≡ answer_by board h 0 Master name request (claim board 0 request) in
-    let Q : Request → Type 0 = λ q. answer_by board h 0 Master name q (claim board 0 q) ≡ answer_by board h 0 Master name request (claim board 0 request) in
+    let P : Option Request → Type 0 = λ q. answer_to board (world_of board h) h 0 Master name q ≡ answer_by board (world_of board h) h 0 Master name request (claim board 0 request) in
+    let Q : Request → Type 0 = λ q. answer_by board (world_of board h) h 0 Master name q (claim board 0 q) ≡ answer_by board (world_of board h) h 0 Master name request (claim board 0 request) in
     subst P (sym asked) (subst Q (sym rest) refl)
 
 -- the master on bus 0 presents its turn

@@ -1,7 +1,9 @@
 -- The run of a plain board to the end of its program, and how many events it has.
-use Rattle.std.proofs.Common.{◌≡◌, ℕ, Bool, true, false, ◌+◌, ◌*◌, ◌%◌, ◌≤◌, suc, List, [], ◌∷◌, ◌++◌, length, reverse, refl, sym, ◌∙◌, ap, subst, arith, append_assoc, Some, None, Result, IfOk, ◌&&◌, ◌==◌, if◌then◌else◌, slice_get}
-use Rattle.std.specs.List.{list_all}
+use Rattle.std.proofs.Common.{◌≡◌, ℕ, Bool, true, false, ◌+◌, ◌*◌, ◌%◌, ◌≤◌, suc, List, [], ◌∷◌, ◌++◌, length, reverse, refl, sym, ◌∙◌, ap, subst, arith, append_assoc, Some, None, Result, IfOk, All, ◌&&◌, ◌==◌, nat_lt, if◌then◌else◌, slice_get}
+use Rattle.std.specs.List.{list_all, AllByRecursion}
+use Rattle.std.proofs.lemmas.List.Elements.{All-from_recursion}
 use Rattle.std.proofs.lemmas.List.{reverse-append, append-nil}
+use Rattle.std.proofs.lemmas.Bool.Decides.{nat_tests}
 use Rattle.std.proofs.lemmas.Option.{slice_get_past}
 use Rattle.std.proofs.lemmas.Result.{IfOk-weaker}
 use Rattle.list_facts.specs.Lists.{total}
@@ -16,7 +18,8 @@ use Rattle.board_model.specs.declared.bridge.Place.TheVariants.{Target, Nobody}
 use Rattle.board_model.specs.declared.op.Op.{Op}
 use Rattle.board_model.specs.declared.op.Op.TheVariants.{Read as ReadOp, Write, CfgRead, CfgWrite, Poll}
 use Rattle.board_model.specs.declared.board.Board.{Board}
-use Rattle.board_model.specs.Requests.{request_on}
+use Rattle.pci_command.specs.declared.op_id.OpId.{OpId}
+use Rattle.board_model.specs.Requests.{op_of, request_on}
 use Rattle.board_model.specs.Ways.{cost_of, bound_of, pieces_by}
 use Rattle.history_model.specs.declared.event.By.TheVariants.{Master}
 use Rattle.history_model.specs.declared.event.Step.TheVariants.{MasterAbort}
@@ -25,10 +28,11 @@ use Rattle.history_model.specs.declared.event.Event.TheVariants.{Act}
 use Rattle.history_model.specs.Program.{present, turn_of}
 use Rattle.history_model.specs.Words.{value_of}
 use Rattle.history_model.specs.Runs.{Run, Complete, history_of}
+use Rattle.trace_text.specs.Events.{has_line, HasLine}
 use Rattle.plain_board.specs.Plain.{is_full_word, is_plain_op, is_plain_target, is_plain}
 use Rattle.plain_run.specs.OneBus.{claimed, address_of, step_of, event_of, events_from}
 use Rattle.plain_run.proofs.PlainLemmas.{both_of, board_of, claim_at, is_memory_read, is_memory_write, AtMostOne, plain_form}
-use Rattle.plain_run.proofs.RunLemmas.{name_of, word_at, IsBehind, first_tame, behind-claimed, behind-unclaimed}
+use Rattle.plain_run.proofs.RunLemmas.{name_of, word_at, slice_get-seam, op_of-plain, IsBehind, first_tame, behind-claimed, behind-unclaimed}
 
 -- before the first event nothing is done
 pub behind-start : (targets : List TargetAgent) (master : MasterAgent) → list_all is_plain_target targets ≡ true → IsBehind targets master [] []
@@ -92,6 +96,8 @@ pub record IsWhole (board : Board) (events : List Event) : Type 0 where
   pub run : Run board (history_of events)
   pub complete : Complete board (history_of events)
   pub bound : length events ≤ bound_of board
+  pub lines : All (HasLine board) events
+  pub few : length events ≤ 1024
 
 -- a full word takes a target one step, and nobody one
 pub pieces-claimed : (targets : List TargetAgent) (master : MasterAgent) (command : Command) (address : ℕ) (phases : List Phase) (b : Bool) →
@@ -131,10 +137,46 @@ total-plain targets master (op ∷ ops) few tame plain =
     let halves = both_of (is_plain_op op) (list_all is_plain_op ops) plain in
     rw (cost-plain targets master op few tame halves.0, total-plain targets master ops few tame halves.1) (omega arith)
 
+has_first : (n : ℕ) → nat_lt 0 (suc n) ≡ true
+has_first n = grind (arith, nat_tests)
+
+-- each event of the run has a line in a trace
+pub has_line-event : (targets : List TargetAgent) (master : MasterAgent) (done : List Op) (name : OpId) (op : Op) →
+    op_of (board_of targets master) name ≡ Some op → is_plain_op op ≡ true →
+    has_line (board_of targets master) (event_of targets done name op) ≡ true
+has_line-event targets master done name op there plain =
+    let P : Bool → Type 0 = λ b. claimed (address_of op) targets ≡ b →
+    has_line (board_of targets master)
+    (if b then Act 0 Master name (step_of done op (address_of op)) (Target 0) else Act 0 Master name MasterAbort Nobody) ≡ true in
+    (elim (claimed (address_of op) targets) as P [
+      | true ↦ λ mine. at_target targets op plain there mine
+      | false ↦ λ other. rw there refl
+    ]) refl where
+      at_target : (targets : List TargetAgent) (op : Op) → is_plain_op op ≡ true → op_of (board_of targets master) name ≡ Some op →
+          claimed (address_of op) targets ≡ true →
+          has_line (board_of targets master) (Act 0 Master name (step_of done op (address_of op)) (Target 0)) ≡ true
+      at_target [] op plain there mine = cc
+      at_target (target ∷ targets) (ReadOp command address) plain there mine = rw (there, has_first (length targets)) refl
+      at_target (target ∷ targets) (Write command address phases) plain there mine = rw (there, has_first (length targets)) refl
+      at_target (target ∷ targets) (CfgRead bus device register) plain there mine = cc
+      at_target (target ∷ targets) (CfgWrite bus device register phase) plain there mine = cc
+      at_target (target ∷ targets) (Poll space address mask wanted tries) plain there mine = cc
+
+pub lines-events : (targets : List TargetAgent) (master : MasterAgent) (done ops : List Op) → list_all is_plain_op ops ≡ true →
+    master.ops ≡ done ++ ops → AllByRecursion (HasLine (board_of targets master)) (events_from targets done ops)
+lines-events targets master done [] plain program = tt
+lines-events targets master done (op ∷ ops) plain program =
+    let halves = both_of (is_plain_op op) (list_all is_plain_op ops) plain in
+    let found : slice_get master.ops (length done) ≡ Some op = rw program (slice_get-seam done op ops) in
+    let there = op_of-plain targets master (length done) op halves.0 found in (
+      has_line-event targets master done (name_of (length done)) op there halves.0,
+      lines-events targets master (done ++ op ∷ []) ops halves.1 (program ∙ sym (append_assoc done (op ∷ []) ops)),
+    )
+
 -- a run of a board of that form
 pub form-run : (targets : List TargetAgent) (master : MasterAgent) → AtMostOne targets → list_all is_plain_target targets ≡ true →
-    master.bus ≡ 0 → list_all is_plain_op master.ops ≡ true → IsWhole (board_of targets master) (events_from targets [] master.ops)
-form-run targets master few tame bus plain =
+    master.bus ≡ 0 → length master.ops ≤ 1024 → list_all is_plain_op master.ops ≡ true → IsWhole (board_of targets master) (events_from targets [] master.ops)
+form-run targets master few tame bus short plain =
     let board = board_of targets master in
     let events = events_from targets [] master.ops in
     let done = behind-all targets master [] [] master.ops few tame bus plain refl (behind-start targets master tame) in
@@ -148,6 +190,8 @@ form-run targets master few tame bus plain =
       run = behind.run;
       complete = record { ended = λ m within. let first : 0 ≡ m = omega arith in subst Q first no_turn_left; idle = tt };
       bound = omega (arith, length-events_from targets [] master.ops, paid);
+      lines = All-from_recursion (HasLine board) events (lines-events targets master [] master.ops plain refl);
+      few = omega (arith, length-events_from targets [] master.ops);
     }
 
 pub whole-run : (board : Board) (master : MasterAgent) (others : List MasterAgent) → is_plain board ≡ true → board.masters ≡ master ∷ others →
@@ -155,7 +199,7 @@ pub whole-run : (board : Board) (master : MasterAgent) (others : List MasterAgen
 whole-run board master others plain first =
     let shape = plain_form board master others plain first in
     let P : Board → Type 0 = λ b. IsWhole b (events_from board.targets [] master.ops) in
-    subst P (sym shape.form) (form-run board.targets master shape.few shape.targets shape.master_bus shape.ops)
+    subst P (sym shape.form) (form-run board.targets master shape.few shape.targets shape.master_bus shape.short shape.ops)
 
 -- the same of what a call answers
 pub whole-result : {E : Type 0} (board : Board) (masters : List MasterAgent) (master : MasterAgent) (targets : List TargetAgent) (ops : List Op) (r : Result (List Event) E) →

@@ -1,7 +1,8 @@
 //! The run of a plain board: its one master's operations in order, each answered at once.
 #![tactic(auto)]
 
-ghost use Rattle.std.specs.Prelude.{◌≡◌, ◌<◌, ◌≤◌, [], length, IfOk, IsTrue};
+ghost use Rattle.std.specs.Prelude.{◌≡◌, ◌<◌, ◌≤◌, [], length, IfOk, IsTrue, All};
+ghost use Rattle.trace_text.specs.Events.{HasLine};
 ghost use Rattle.std.specs.List.{list_any};
 ghost use Rattle.board_model.specs.Claims.{range_holds};
 ghost use Rattle.plain_board.specs.Plain.{is_plain};
@@ -21,6 +22,8 @@ pub fn run_plain(alloc: Global, board: &Board) -> Result<List<Event>, NoMemory>
     ensures run { IfOk result (λ events. Run board.now (history_of events)) }
     ensures complete { IfOk result (λ events. Complete board.now (history_of events)) }
     ensures bound { IfOk result (λ events. length events ≤ bound_of board.now) }
+    ensures lines { IfOk result (λ events. All (HasLine board.now) events) }
+    ensures few { IfOk result (λ events. length events ≤ 1024) }
 {
     match board.masters.as_slice().first() {
         None => Ok(List::from_vec(Vec::new(alloc))),

@@ -129,7 +129,7 @@ lane_gives board h on by o request step at lane (Some bridge) is_bridge is_reque
 
 place_gives : (board : Board) (h : List Event) (on : ℕ) (by : By) (o : OpId) (request : Request) (step : Step) (lane : BridgeLane) (place : Place)
     → request_of board o on ≡ Some request → claim board on (without (through h o) request) ≡ place
-    → answer_by board h on by o (without (through h o) request) place ≡ Gives step (Lane lane)
+    → answer_by board (world_of board h) h on by o (without (through h o) request) place ≡ Gives step (Lane lane)
     → AtLane board h on by o step lane
 place_gives board h on by o request step lane (Target target) is_request claims gives =
     let P : Option TargetAgent → Type 0 = λ found. target_answer board h target (without (through h o) request) found ≡ Gives step (Lane lane) → AtLane board h on by o step lane in
@@ -142,7 +142,7 @@ place_gives board h on by o request step lane (Lane at) is_request claims gives 
 place_gives board h on by o request step lane Nobody is_request claims gives = cc
 
 request_gives : (board : Board) (h : List Event) (on : ℕ) (by : By) (o : OpId) (step : Step) (lane : BridgeLane) (some : Option Request)
-    → request_of board o on ≡ some → answer_to board h on by o some ≡ Gives step (Lane lane) → AtLane board h on by o step lane
+    → request_of board o on ≡ some → answer_to board (world_of board h) h on by o some ≡ Gives step (Lane lane) → AtLane board h on by o step lane
 request_gives board h on by o step lane None is_request gives = cc
 request_gives board h on by o step lane (Some request) is_request gives =
     place_gives board h on by o request step lane (claim board on (without (through h o) request)) is_request refl gives

@@ -9,3 +9,4 @@ pub mod Registers
 pub mod Wide
 pub mod Stealing
 pub mod Wrong
+pub mod Relay

@@ -1,8 +1,13 @@
 //! Worked traces, computed to be runs by the definitions alone, and beside them events that are none.
 #![tactic(auto)]
 
-ghost use Rattle.std.specs.Prelude.{[], ◌∷◌, ◌++◌, take, reverse};
+ghost use Rattle.std.specs.Prelude.{◌≡◌, ℕ, IsTrue, [], ◌∷◌, ◌++◌, map, take, reverse};
+ghost use Rattle.board_model.specs.Ways.{bound_of};
 ghost use Rattle.history_model.specs.Runs.{Run, Complete, history_of};
+ghost use Rattle.history_model.specs.Local.{Matched};
+ghost use Rattle.history_model.specs.Knowledge.{Told, saw};
+ghost use Rattle.history_model.specs.Left.{left_of};
+ghost use Rattle.worked_runs.specs.Relay.{relay_board, relay_events, first_write, last_read};
 ghost use Rattle.worked_runs.specs.Wrong.{wrong_value, early_completion, second_accept, all_at_once, plain_arrival, marked_arrival};
 ghost use Rattle.worked_runs.specs.OneBus.{one_word_board, one_word_events, answers_board, answers_events};
 ghost use Rattle.worked_runs.specs.ThreeBridges.{three_bridges_board, three_bridges_events};
@@ -140,4 +145,43 @@ pub fn wrong_arrivals()
     ensures left_off { ¬ Run discarded_board (history_of (take 7 discarded_events ++ plain_arrival ∷ [])) }
     ensures put_on { ¬ Run discarded_board (history_of (take 15 discarded_events ++ marked_arrival ∷ [])) }
     ensures nothing { ¬ Run one_word_board (history_of (plain_arrival ∷ [])) }
+{}
+
+/// A write reaches a third master by two flags.
+pub fn relay()
+    ensures run { Run relay_board (history_of relay_events) }
+    ensures complete { Complete relay_board (history_of relay_events) }
+    ensures told { Told relay_board (history_of relay_events) first_write last_read }
+    ensures seen { IsTrue (saw relay_board (history_of relay_events) last_read first_write) }
+{}
+
+/// The bounds of worked boards.
+pub fn bounds()
+    ensures three_bridges { bound_of three_bridges_board ≡ 13 }
+    ensures flag { bound_of flag_board ≡ 95 }
+    ensures parted { bound_of parted_board ≡ 9 }
+    ensures between { bound_of between_board ≡ 5 }
+    ensures wide { bound_of wide_board ≡ 9 }
+{}
+
+/// What is left of the read over three bridges falls by one with each event, from the bound to nothing.
+pub fn left_falls()
+    ensures { map (λ (n : ℕ). left_of three_bridges_board (history_of (take n three_bridges_events)))
+        (0 ∷ 1 ∷ 2 ∷ 3 ∷ 4 ∷ 5 ∷ 6 ∷ 7 ∷ 8 ∷ 9 ∷ 10 ∷ 11 ∷ 12 ∷ 13 ∷ [])
+        ≡ 13 ∷ 12 ∷ 11 ∷ 10 ∷ 9 ∷ 8 ∷ 7 ∷ 6 ∷ 5 ∷ 4 ∷ 3 ∷ 2 ∷ 1 ∷ 0 ∷ [] }
+{}
+
+/// The same of a write in three pieces, of a discarded completion and of a dropped request.
+pub fn left_by_place()
+    ensures parted { map (λ (n : ℕ). left_of parted_board (history_of (take n parted_events)))
+        (0 ∷ 1 ∷ 2 ∷ 3 ∷ 4 ∷ 5 ∷ 6 ∷ 7 ∷ 8 ∷ 9 ∷ []) ≡ 9 ∷ 8 ∷ 7 ∷ 6 ∷ 5 ∷ 4 ∷ 3 ∷ 2 ∷ 1 ∷ 0 ∷ [] }
+    ensures discarded { map (λ (n : ℕ). left_of discarded_board (history_of (take n discarded_events)))
+        (0 ∷ 7 ∷ 8 ∷ 17 ∷ []) ≡ 17 ∷ 10 ∷ 9 ∷ 0 ∷ [] }
+    ensures dropped { map (λ (n : ℕ). left_of dropped_board (history_of (take n dropped_events)))
+        (0 ∷ 1 ∷ 2 ∷ 3 ∷ 8 ∷ []) ≡ 8 ∷ 7 ∷ 6 ∷ 5 ∷ 0 ∷ [] }
+{}
+
+/// Each completion of the producer and the consumer is taken by its own operation.
+pub fn matched()
+    ensures { Matched flag_board (history_of flag_events) }
 {}

@@ -1,7 +1,8 @@
-use Rattle.std.proofs.Common.{◌≤◌, length, IfOk}
+use Rattle.std.proofs.Common.{◌≤◌, length, IfOk, All}
 use Rattle.std.proofs.lemmas.Result.{IfOk-weaker}
 use Rattle.board_model.specs.Ways.{bound_of}
 use Rattle.history_model.specs.Runs.{Run, Complete, history_of}
+use Rattle.trace_text.specs.Events.{HasLine}
 use Rattle.plain_run.proofs.WholeLemmas.{IsWhole, whole-result}
 use Rattle.plain_run.proofs.run_plain.Goals as goal
 
@@ -21,3 +22,11 @@ returns-in-Some-clause-complete c =
 pub returns-in-Some-clause-bound : goal.returns-in-Some-clause-bound
 returns-in-Some-clause-bound c =
     IfOk-weaker c.run_program.result (λ events. IsWhole c.args.board.now events) (λ events. length events ≤ bound_of c.args.board.now) (λ events w. w.bound) (whole c)
+
+pub returns-in-Some-clause-lines : goal.returns-in-Some-clause-lines
+returns-in-Some-clause-lines c =
+    IfOk-weaker c.run_program.result (λ events. IsWhole c.args.board.now events) (λ events. All (HasLine c.args.board.now) events) (λ events w. w.lines) (whole c)
+
+pub returns-in-Some-clause-few : goal.returns-in-Some-clause-few
+returns-in-Some-clause-few c =
+    IfOk-weaker c.run_program.result (λ events. IsWhole c.args.board.now events) (λ events. length events ≤ 1024) (λ events w. w.few) (whole c)

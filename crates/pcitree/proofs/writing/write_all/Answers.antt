@@ -1,4 +1,4 @@
-use Rattle.std.proofs.Common.{◌≤◌, arith}
+use Rattle.std.proofs.Common.{arith}
 use Rattle.pcitree.proofs.AppendLemmas.{Appends-take}
 use Rattle.pcitree.proofs.writing.write_all.Goals as goal
 

@@ -1,0 +1,186 @@
+-- Which boards can be written: the ranges of all numbers, and what holds of a board before its tree is looked at.
+use Rattle.std.specs.Prelude.{ℕ, Bool, true, false, ◌+◌, ◌*◌, ◌%◌, ◌^◌, List, [], ◌∷◌, length, Option, Some, None, count_by, not, ◌&&◌, ◌==◌, nat_lt, nat_le, if◌then◌else◌}
+use Rattle.std.specs.List.{list_all, list_any}
+use Rattle.std.specs.Str.{bytes_eq}
+use Rattle.list_facts.specs.Lists.{total}
+use Rattle.pci_command.specs.declared.command.Command.{Command}
+use Rattle.pci_command.specs.declared.command.Command.TheVariants.{IoRead, IoWrite, MemRead, MemWrite, CfgRead as ConfigurationRead, CfgWrite as ConfigurationWrite, MemReadMultiple, MemReadLine, MemWriteInvalidate}
+use Rattle.pci_command.specs.declared.command.Space.{Space}
+use Rattle.pci_command.specs.declared.command.Space.TheVariants.{Mem, Io, Cfg}
+use Rattle.pci_command.specs.declared.phases.Phase.{Phase}
+use Rattle.board_model.specs.declared.agents.Range.{Range}
+use Rattle.board_model.specs.declared.agents.Opening.{Opening}
+use Rattle.board_model.specs.declared.agents.Target.{Target}
+use Rattle.board_model.specs.declared.agents.Master.{Master}
+use Rattle.board_model.specs.declared.bridge.Window.{Window}
+use Rattle.board_model.specs.declared.bridge.Bridge.{Bridge}
+use Rattle.board_model.specs.declared.op.Op.{Op}
+use Rattle.board_model.specs.declared.op.Op.TheVariants.{Read, Write, CfgRead, CfgWrite, Poll}
+use Rattle.board_model.specs.declared.board.Board.{Board}
+use Rattle.board_model.specs.declared.board.Planned.{Planned}
+use Rattle.board_model.specs.Requests.{tries_of}
+
+abbrev pub is_within : ℕ → ℕ → ℕ → Bool
+is_within least most n = nat_le least n && nat_le n most
+
+-- Windows and bridges.
+
+-- from base to limit in whole units, and below the end of the space
+abbrev pub is_window : ℕ → ℕ → Option Window → Bool
+is_window unit end None = true
+is_window unit end (Some window) =
+    nat_le window.base window.limit && window.base % unit == 0 && (window.limit + 1) % unit == 0 && nat_lt window.limit end
+
+-- memory windows in units of 1 MiB, the prefetchable one with 64-bit addresses; I/O windows in units of 4 KiB
+abbrev pub is_well_formed_bridge : Bridge → Bool
+is_well_formed_bridge bridge =
+    nat_le 1 bridge.bus && nat_le bridge.device 31
+    && is_within 1 8 bridge.posted && is_within 1 8 bridge.delayed
+    && is_window (2 ^ 20) (2 ^ 32) bridge.mem && is_window (2 ^ 20) (2 ^ 64) bridge.pref && is_window (2 ^ 12) (2 ^ 32) bridge.io
+
+-- Targets.
+
+-- in whole units, not empty, and within the space
+abbrev pub is_block : ℕ → ℕ → Range → Bool
+is_block unit end range =
+    range.base % unit == 0 && range.size % unit == 0 && nat_lt 0 range.size && nat_le (range.base + range.size) end
+
+-- memory in units of 64 bytes, I/O in units of 4
+abbrev pub is_range_in : Space → Range → Bool
+is_range_in Mem range = is_block 64 (2 ^ 64) range
+is_range_in Io range = is_block 4 (2 ^ 32) range
+is_range_in Cfg range = false
+
+abbrev pub is_well_formed_range : Range → Bool
+is_well_formed_range range = is_range_in range.space range
+
+-- a multiple of 4, in memory or I/O space
+abbrev pub is_dword_in : Space → ℕ → Bool
+is_dword_in Mem address = address % 4 == 0
+is_dword_in Io address = address % 4 == 0 && nat_lt address (2 ^ 32)
+is_dword_in Cfg address = false
+
+abbrev pub is_well_formed_opening : Opening → Bool
+is_well_formed_opening opening = is_dword_in opening.space opening.address
+
+-- a range with a base from 2^32 on takes two base address registers
+abbrev pub registers_of : Range → ℕ
+registers_of range = if nat_lt range.base (2 ^ 32) then 1 else 2
+
+abbrev pub is_well_formed_target : Target → Bool
+is_well_formed_target target =
+    nat_le target.device 31 && nat_le target.stalls 1000000 && is_within 1 8 target.burst
+    && list_all is_well_formed_range target.ranges && nat_le (total registers_of target.ranges) 6
+    && list_all is_well_formed_range target.aborts && nat_le (length target.aborts) 6
+    && list_all is_well_formed_opening target.openings && nat_le (length target.openings) 256
+
+-- Masters.
+
+-- the space of the commands that `mr`, `mrl`, `mrm` and `ior` stand for, and of those of `mw`, `mwi` and `iow`
+abbrev pub read_space : Command → Option Space
+read_space IoRead = Some Io
+read_space IoWrite = None
+read_space MemRead = Some Mem
+read_space MemWrite = None
+read_space ConfigurationRead = None
+read_space ConfigurationWrite = None
+read_space MemReadMultiple = Some Mem
+read_space MemReadLine = Some Mem
+read_space MemWriteInvalidate = None
+
+abbrev pub write_space : Command → Option Space
+write_space IoRead = None
+write_space IoWrite = Some Io
+write_space MemRead = None
+write_space MemWrite = Some Mem
+write_space ConfigurationRead = None
+write_space ConfigurationWrite = None
+write_space MemReadMultiple = None
+write_space MemReadLine = None
+write_space MemWriteInvalidate = Some Mem
+
+abbrev pub is_well_formed_phase : Phase → Bool
+is_well_formed_phase phase = nat_le phase.enables 15
+
+abbrev pub is_well_formed_read : ℕ → Option Space → Bool
+is_well_formed_read address None = false
+is_well_formed_read address (Some space) = is_dword_in space address
+
+-- one to eight dwords in one aligned block of 64 bytes of memory; one in I/O space
+abbrev pub is_burst_in : Space → ℕ → ℕ → Bool
+is_burst_in Mem address phases = is_within 1 8 phases && nat_le (address % 64 + 4 * phases) 64
+is_burst_in Io address phases = phases == 1
+is_burst_in Cfg address phases = false
+
+abbrev pub is_well_formed_write : ℕ → List Phase → Option Space → Bool
+is_well_formed_write address phases None = false
+is_well_formed_write address phases (Some space) =
+    is_dword_in space address && is_burst_in space address (length phases) && list_all is_well_formed_phase phases
+
+abbrev pub is_well_formed_op : Op → Bool
+is_well_formed_op (Read command address) = is_well_formed_read address (read_space command)
+is_well_formed_op (Write command address phases) = is_well_formed_write address phases (write_space command)
+is_well_formed_op (CfgRead bus device register) = nat_le device 31 && nat_le register 63
+is_well_formed_op (CfgWrite bus device register phase) = nat_le device 31 && nat_le register 63 && is_well_formed_phase phase
+is_well_formed_op (Poll space address mask value tries) = is_dword_in space address && is_within 1 65536 tries
+
+abbrev pub is_well_formed_master : Master → Bool
+is_well_formed_master master = nat_le (length master.ops) 1024 && list_all is_well_formed_op master.ops
+
+-- The board as a whole.
+
+abbrev pub is_well_formed_plan : Planned → Bool
+is_well_formed_plan planned = is_within 1 1000000 planned.count
+
+-- no two bridges have one secondary bus
+abbrev pub has_bus : ℕ → Bridge → Bool
+has_bus bus bridge = bridge.bus == bus
+
+abbrev pub are_numbered_apart : List Bridge → Bool
+are_numbered_apart [] = true
+are_numbered_apart (bridge ∷ bridges) = not (list_any (has_bus bridge.bus) bridges) && are_numbered_apart bridges
+
+-- no two agents have one name
+abbrev pub is_target_named : List ℕ → Target → Bool
+is_target_named name target = bytes_eq target.name name
+
+abbrev pub is_master_named : List ℕ → Master → Bool
+is_master_named name master = bytes_eq master.name name
+
+abbrev pub are_masters_named_apart : List Master → Bool
+are_masters_named_apart [] = true
+are_masters_named_apart (master ∷ masters) = not (list_any (is_master_named master.name) masters) && are_masters_named_apart masters
+
+abbrev pub are_targets_named_apart : List Master → List Target → Bool
+are_targets_named_apart masters [] = true
+are_targets_named_apart masters (target ∷ targets) =
+    not (list_any (is_target_named target.name) targets) && not (list_any (is_master_named target.name) masters)
+    && are_targets_named_apart masters targets
+
+-- at most eight bridges below a bus, and at most eight agents on it
+abbrev pub children_on : Board → ℕ → ℕ
+children_on board bus = count_by (λ (bridge : Bridge). bridge.parent == bus) board.bridges
+
+abbrev pub agents_on : Board → ℕ → ℕ
+agents_on board bus =
+    count_by (λ (target : Target). target.bus == bus) board.targets + count_by (λ (master : Master). master.bus == bus) board.masters
+
+abbrev pub are_few : Board → Bool
+are_few board =
+    list_all (λ (bridge : Bridge). nat_le (children_on board bridge.parent) 8) board.bridges
+    && list_all (λ (target : Target). nat_le (agents_on board target.bus) 8) board.targets
+    && list_all (λ (master : Master). nat_le (agents_on board master.bus) 8) board.masters
+
+-- operations in all, each poll counted by its tries
+abbrev pub operations_in : List Master → ℕ
+operations_in masters = total (λ (master : Master). total tries_of master.ops) masters
+
+-- a board that a text can be of
+abbrev pub is_well_formed : Board → Bool
+is_well_formed board =
+    nat_le (length board.bridges) 31 && list_all is_well_formed_bridge board.bridges && are_numbered_apart board.bridges
+    && list_all is_well_formed_target board.targets && list_all is_well_formed_master board.masters && are_few board
+    && are_targets_named_apart board.masters board.targets && are_masters_named_apart board.masters
+    && nat_le (operations_in board.masters) 65536
+    && nat_le (length board.discards) 1024 && list_all is_well_formed_plan board.discards
+    && nat_le (length board.drops) 1024 && list_all is_well_formed_plan board.drops

@@ -1,0 +1,10 @@
+//! The plain program that computes what a run is: who presents, what is answered, which event is
+//! allowed. It replays the events before, and takes no memory.
+#![tactic(auto)]
+
+mod turns;
+mod words;
+
+pub use history_model::{
+    Answer, By, Carried, Cause, Event, Lane, Mark, Place, Slot, Stamped, Step, Why,
+};
