@@ -106,8 +106,8 @@ own_takes board h on by o lane request bridge own step place is_request delayed 
     let coming : List Carried = (world (lane_back lane)).standing in
     let posted : Answer = posted_answer (world lane).owed bridge.posted lane in
     let other : Option Slot → Answer = λ found. delayed_answer (is_read request.command) bridge.delayed lane (world lane).held coming found in
-    let first : answer board h on by o ≡ answer_by board h on by o rest (Lane lane) = ap (answer_to board h on by o) is_request ∙ ap (answer_by board h on by o rest) claims_rest in
-    let second : answer_by board h on by o rest (Lane lane) ≡ other (Some own) =
+    let first : answer board h on by o ≡ answer_by board world h on by o rest (Lane lane) = ap (answer_to board world h on by o) is_request ∙ ap (answer_by board world h on by o rest) claims_rest in
+    let second : answer_by board world h on by o rest (Lane lane) ≡ other (Some own) =
     ap (lane_answer board world on by o rest lane) is_bridge ∙ ap (λ (b : Bool). cond b posted (other (find (is_own board on by o) (world lane).held))) delayed ∙ ap other is_own_slot in
     completion_takes (is_read request.command) lane (before (is_done_for own.number) coming) (find (is_done_for own.number) coming) step place (sym (first ∙ second) ∙ gives)
 

@@ -95,7 +95,7 @@ target_part board h target request agent phases is =
       ]) e
     ]) is
 
-place_part : (board : Board) (h : List Event) (on : ℕ) (by : By) (o : OpId) (rest : Request) (owner : Place) (phases : ℕ) (place : Place) → answer_by board h on by o rest owner ≡ Gives (Part phases) place → phases < length rest.phases
+place_part : (board : Board) (h : List Event) (on : ℕ) (by : By) (o : OpId) (rest : Request) (owner : Place) (phases : ℕ) (place : Place) → answer_by board (world_of board h) h on by o rest owner ≡ Gives (Part phases) place → phases < length rest.phases
 place_part board h on by o rest (Target target) phases place gives =
     let P : Option TargetAgent → Type 0 = λ found. target_answer board h target rest found ≡ Gives (Part phases) place → phases < length rest.phases in
     (elim (slice_get board.targets target) as P [
@@ -116,7 +116,7 @@ record PartLeft (board : Board) (h : List Event) (on : ℕ) (o : OpId) (phases :
 
 answered_part : (board : Board) (h : List Event) (on : ℕ) (by : By) (o : OpId) (phases : ℕ) (place : Place) → answer board h on by o ≡ Gives (Part phases) place → PartLeft board h on o phases
 answered_part board h on by o phases place gives =
-    let P : Option Request → Type 0 = λ found. request_of board o on ≡ found → answer_to board h on by o found ≡ Gives (Part phases) place → PartLeft board h on o phases in
+    let P : Option Request → Type 0 = λ found. request_of board o on ≡ found → answer_to board (world_of board h) h on by o found ≡ Gives (Part phases) place → PartLeft board h on o phases in
     (elim (request_of board o on) as P [
       | None ↦ λ _ e. cc
       | Some request ↦ λ is e.
