@@ -29,3 +29,4 @@ pub mod OwnersEndLemmas
 pub mod OwnersRunLemmas
 pub mod MatchedLemmas
 pub mod LawfulLemmas
+pub mod WellFormedLemmas

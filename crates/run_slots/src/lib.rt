@@ -2,7 +2,7 @@
 //! of a function that does nothing.
 #![tactic(auto)]
 
-ghost use Rattle.std.specs.Prelude.{◌≡◌, ◌++◌, ◌∷◌, ℕ, List, Bool, false, Some, None};
+ghost use Rattle.std.specs.Prelude.{◌≡◌, ◌++◌, ◌∷◌, ℕ, List, Bool, true, false, Some, None};
 ghost use Rattle.std.specs.List.{AllByRecursion, list_any};
 ghost use Rattle.pci_command.specs.declared.request.Request.{Request};
 ghost use Rattle.pci_command.specs.declared.op_id.OpId.{OpId};
@@ -12,6 +12,7 @@ ghost use Rattle.board_model.specs.declared.bridge.Bridge.{Bridge};
 ghost use Rattle.board_model.specs.declared.bridge.Lane.{Lane as BridgeLane};
 ghost use Rattle.board_model.specs.declared.bridge.Place.TheVariants.{Lane};
 ghost use Rattle.board_model.specs.Requests.{request_of, is_posted};
+ghost use Rattle.board_model.specs.WellFormed.{is_well_formed};
 ghost use Rattle.history_model.specs.declared.event.By.{By};
 ghost use Rattle.history_model.specs.declared.event.Step.TheVariants.{Take};
 ghost use Rattle.history_model.specs.declared.event.Event.{Event};
@@ -107,4 +108,12 @@ pub fn matched()
 /// for its operation, and each credit a posted write that is owed.
 pub fn lawful()
     ensures { (board : Board) (h : List Event) (lane : BridgeLane) (bridge : Bridge) → bridge_to board lane.bus ≡ Some bridge → Run board h → AllByRecursion (IsLawful bridge (both (world_of board h) lane)) (world_of board h lane).flight }
+{}
+
+/// A well-formed board is one of those that the laws speak of: its bridges have different numbers,
+/// no depth is above eight, and each operation that is not posted has at most one data phase.
+pub fn well_formed_boards()
+    ensures numbers { (board : Board) → is_well_formed board ≡ true → DifferentNumbers board }
+    ensures depths { (board : Board) → is_well_formed board ≡ true → DepthsToEight board }
+    ensures single { (board : Board) → is_well_formed board ≡ true → DelayedAreSingle board }
 {}
