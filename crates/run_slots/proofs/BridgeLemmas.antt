@@ -85,12 +85,22 @@ put_other world lane x l apart apart_back =
     let back_back : same_lane (lane_back l) (lane_back lane) ≡ false = same_lane_flip l (lane_back lane) ∙ ap (same_lane l) twice ∙ apart in
     rw (apart, apart_back, back, back_back)
 
--- a fact of a pair of lanes, at each lane, is kept where a move of one bridge keeps it there both ways
-pub moved_keeps : (P : BridgeLane → Both → Type 0) (move : Both → Both) (lane : BridgeLane) (world : World)
-    → ((l : BridgeLane) → P l (both world l))
+same_direction_symm : (a b : Bool) → same_direction a b ≡ same_direction b a
+same_direction_symm true true = refl
+same_direction_symm true false = refl
+same_direction_symm false true = refl
+same_direction_symm false false = refl
+
+pub same_lane_symm : (a b : BridgeLane) → same_lane a b ≡ same_lane b a
+same_lane_symm a b = let d = same_direction_symm a.up b.up in grind (arith, nat_tests)
+
+-- a fact of a pair of lanes, at each lane, holds after a move of one bridge where the move gives it there both
+-- ways, and it held at every lane but that one
+pub moved_gives : (P : BridgeLane → Both → Type 0) (move : Both → Both) (lane : BridgeLane) (world : World)
+    → ((l : BridgeLane) → same_lane l lane ≡ false → P l (both world l))
     → P lane (move (both world lane)) → P (lane_back lane) (flip (move (both world lane)))
     → (l : BridgeLane) → P l (both (moved move lane world) l)
-moved_keeps P move lane world old here back l =
+moved_gives P move lane world old here back l =
     let x : Both = move (both world lane) in
     let Goal : BridgeLane → Type 0 = λ l. P l (both (put world lane x) l) in
     let at_lane : Goal lane = rw (put_here world lane x) here in
@@ -101,6 +111,13 @@ moved_keeps P move lane world old here back l =
       | true ↦ λ same. subst Goal (sym (same_lane_true l lane same)) at_lane
       | false ↦ λ apart. (elim (same_lane l (lane_back lane)) as R [
         | true ↦ λ same _. subst Goal (sym (same_lane_true l (lane_back lane) same)) at_back
-        | false ↦ λ apart_back apart. rw (put_other world lane x l apart apart_back) (old l)
+        | false ↦ λ apart_back apart. rw (put_other world lane x l apart apart_back) (old l apart)
       ]) refl apart
     ]) refl
+
+-- it is kept where it held at each lane
+pub moved_keeps : (P : BridgeLane → Both → Type 0) (move : Both → Both) (lane : BridgeLane) (world : World)
+    → ((l : BridgeLane) → P l (both world l))
+    → P lane (move (both world lane)) → P (lane_back lane) (flip (move (both world lane)))
+    → (l : BridgeLane) → P l (both (moved move lane world) l)
+moved_keeps P move lane world old here back = moved_gives P move lane world (λ l _. old l) here back

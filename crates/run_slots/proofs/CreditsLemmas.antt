@@ -131,7 +131,7 @@ Credits-kept : (board : Board) → Kept board (λ lane x. Credits x)
 Credits-kept board =
     record {
       empty = λ lane. record { owed = refl };
-      accepts = λ lane o bridge x _ _ old. Credits-post_enters o x old;
+      accepts = λ h on by o lane _ _ _ old. Credits-post_enters o (both (world_of board h) lane) old;
       latches = λ h on by o lane _ _ _ old. Credits-ask_enters by o (both (world_of board h) lane) old;
       takes = λ lane number op slot outcome x stands old. Credits-slot_taken number x old;
       ends = λ lane o outcome x old. Credits-item_ends o outcome x old;

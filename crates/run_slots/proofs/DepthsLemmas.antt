@@ -1,9 +1,8 @@
 -- Depths bound what is owed, held, in flight and standing, in every run.
-use Rattle.std.proofs.Common.{◌≡◌, ℕ, ◌+◌, ◌<◌, ◌≤◌, Bool, true, false, eqb, List, [], ◌∷◌, length, Option, Some, None, refl, sym, ap, subst, arith}
-use Rattle.std.specs.List.{find, AllByRecursion}
-use Rattle.std.proofs.lemmas.Bool.Decides.{nat_tests}
+use Rattle.std.proofs.Common.{◌≡◌, ℕ, ◌+◌, ◌<◌, ◌≤◌, Bool, List, [], ◌∷◌, length, Option, Some, None, refl, sym, ap, subst, arith}
+use Rattle.std.specs.List.{AllByRecursion}
 use Rattle.list_facts.specs.Lists.{less, total}
-use Rattle.list_facts.proofs.EachLemmas.{Each-push, Each-less, Each-weaker, Each-find, Each-both}
+use Rattle.list_facts.proofs.EachLemmas.{Each-push, Each-less, Each-weaker, Each-find}
 use Rattle.pci_command.specs.declared.op_id.OpId.{OpId}
 use Rattle.history_model.specs.declared.event.By.{By}
 use Rattle.history_model.specs.declared.event.Mark.{Mark}
@@ -11,8 +10,6 @@ use Rattle.history_model.specs.declared.item.Carried.{Carried}
 use Rattle.history_model.specs.declared.item.Carried.TheVariants.{Post, Ask, Done, Room, Gone}
 use Rattle.history_model.specs.declared.item.Slot.{Slot}
 use Rattle.std.proofs.Common.{◌==◌, length-append}
-use Rattle.std.specs.List.{IsDistinct}
-use Rattle.std.proofs.lemmas.Map.Keys.{IsDistinct-head, IsDistinct-tail}
 use Rattle.list_facts.proofs.TotalLemmas.{total-alike}
 use Rattle.list_facts.proofs.FindLemmas.{length-less}
 use Rattle.board_model.specs.declared.bridge.Bridge.{Bridge}
@@ -26,7 +23,8 @@ use Rattle.history_model.specs.Lanes.{LaneState, Both, empty_lane, has_number, l
 use Rattle.run_slots.specs.Slots.{slot_weight, ask_weight, done_weight, gone_weight, Slots}
 use Rattle.run_slots.specs.Credits.{post_count, room_count, Credits}
 use Rattle.run_slots.specs.Standing.{CanStand}
-use Rattle.run_slots.specs.Depths.{Within, same_number, DifferentNumbers, DepthsToEight}
+use Rattle.run_slots.specs.Depths.{Within, DifferentNumbers, DepthsToEight}
+use Rattle.run_slots.proofs.NumberLemmas.{bridge_found}
 use Rattle.run_slots.proofs.BridgeLemmas.{flip, both_back}
 use Rattle.run_slots.proofs.LowestFreeLemmas.{lowest_free-le}
 use Rattle.run_slots.proofs.KeptLemmas.{Pair, Kept, runs_keep}
@@ -103,7 +101,7 @@ InDepth-kept : (board : Board) → Kept board (InDepth board)
 InDepth-kept board =
     record {
       empty = λ lane bridge is. record { owed = omega arith; held = omega arith; numbers = tt };
-      accepts = λ lane o bridge x is below old. post-keeps board lane o bridge x is below old;
+      accepts = λ h on by o lane _ _ at old. post-keeps board lane o at.bridge (both (world_of board h) lane) at.is_bridge at.gives.1 old;
       latches = λ h on by o lane _ _ at old. latch-keeps board lane by o at.bridge (both (world_of board h) lane) at.is_bridge at.gives.2 old;
       takes = λ lane number op slot outcome x _ old. (λ bridge is. within-less bridge x.here number (old.0 bridge is), λ bridge is. let w = old.1 bridge is in record { owed = w.owed; held = w.held; numbers = w.numbers });
       ends = λ lane o outcome x old. (λ bridge is. let w = old.0 bridge is in record { owed = w.owed; held = w.held; numbers = w.numbers }, λ bridge is. let w = old.1 bridge is in record { owed = w.owed; held = w.held; numbers = w.numbers });
@@ -155,19 +153,6 @@ Within-run board h lane bridge is run =
     within_of bridge x (Slots-run board h lane run) (subst Slots turned (Slots-run board h (lane_back lane) run))
     (Credits-run board h lane run) (subst Credits turned (Credits-run board h (lane_back lane) run)) (CanStand-run board h lane run)
     (InDepth-run board h lane run bridge is) (InDepth-run board h (lane_back lane) run bridge is)
-
--- a bridge is found by its number where no other has it
-bridge_found : (bridges : List Bridge) → IsDistinct same_number bridges → AllByRecursion (λ (b : Bridge). find (λ (bridge : Bridge). bridge.bus == b.bus) bridges ≡ Some b) bridges
-bridge_found [] distinct = tt
-bridge_found (b ∷ bridges) distinct =
-    let F : Bridge → Type 0 = λ c. same_number b c ≡ false in
-    let P : Bridge → Type 0 = λ c. find (λ (bridge : Bridge). bridge.bus == c.bus) bridges ≡ Some c in
-    let Q : Bridge → Type 0 = λ c. find (λ (bridge : Bridge). bridge.bus == c.bus) (b ∷ bridges) ≡ Some c in
-    let later : AllByRecursion P bridges = bridge_found bridges (IsDistinct-tail same_number b bridges distinct) in
-    let apart : AllByRecursion F bridges = IsDistinct-head same_number b bridges distinct in
-    let self : eqb b.bus b.bus ≡ true = grind (arith, nat_tests) in
-    let behind : (c : Bridge) → F c × P c → Q c = λ c both. let fails : eqb b.bus c.bus ≡ false = both.0 in rw fails both.1 in
-    (rw self refl, Each-weaker (λ (c : Bridge). F c × P c) Q behind bridges (Each-both F P bridges apart later))
 
 pub Within-each : (board : Board) (h : List Event) → DifferentNumbers board → Run board h
     → AllByRecursion (λ (bridge : Bridge). (up : Bool) → Within bridge.posted bridge.delayed (world_of board h (record { bus = bridge.bus; up = up }))) board.bridges

@@ -1,9 +1,8 @@
 -- A fact of the pairs of lanes that each move keeps holds in every run.
-use Rattle.std.proofs.Common.{◌≡◌, ℕ, ◌<◌, true, List, [], ◌∷◌, Option, Some, None, sym, subst}
+use Rattle.std.proofs.Common.{◌≡◌, ℕ, true, List, [], ◌∷◌, Option, Some, None, sym, subst}
 use Rattle.std.specs.List.{find}
 use Rattle.pci_command.specs.declared.op_id.OpId.{OpId}
 use Rattle.pci_command.specs.declared.op_id.Outcome.{Outcome}
-use Rattle.board_model.specs.declared.bridge.Bridge.{Bridge}
 use Rattle.board_model.specs.declared.bridge.Lane.{Lane as BridgeLane}
 use Rattle.board_model.specs.declared.bridge.Place.{Place}
 use Rattle.board_model.specs.declared.bridge.Place.TheVariants.{Target, Header, Lane, Nobody}
@@ -20,7 +19,7 @@ use Rattle.history_model.specs.declared.item.Slot.{Slot}
 use Rattle.history_model.specs.declared.item.Answer.TheVariants.{Gives}
 use Rattle.history_model.specs.Lanes.{Both, empty_lane, is_done_for, post_enters, ask_enters, item_ends, slot_taken, arrives}
 use Rattle.history_model.specs.World.{World, lane_back, both, slot_found, enters, at_place, lane_outcome, leaves, at_initiator, world_of}
-use Rattle.history_model.specs.Answers.{wants, answer, bridge_to}
+use Rattle.history_model.specs.Answers.{wants, answer}
 use Rattle.history_model.specs.Runs.{Allowed, Run}
 use Rattle.run_slots.proofs.BridgeLemmas.{flip, both_back, moved_keeps}
 use Rattle.run_slots.proofs.AnswerLemmas.{AtLane, answered_at}
@@ -32,8 +31,9 @@ Pair P lane x = P lane x × P (lane_back lane) (flip x)
 -- each of the five moves of a run keeps the fact
 pub record Kept (board : Board) (P : BridgeLane → Both → Type 0) : Type 0 where
   pub empty : (lane : BridgeLane) → P lane (record { here = empty_lane; back = empty_lane })
-  pub accepts : (lane : BridgeLane) (o : OpId) (bridge : Bridge) (x : Both)
-      → bridge_to board lane.bus ≡ Some bridge → x.here.owed < bridge.posted → Pair P lane x → Pair P lane (post_enters o x)
+  pub accepts : (h : List Event) (on : ℕ) (by : By) (o : OpId) (lane : BridgeLane)
+      → Run board h → wants board h on by o ≡ true → AtLane board h on by o Accept lane
+      → Pair P lane (both (world_of board h) lane) → Pair P lane (post_enters o (both (world_of board h) lane))
   pub latches : (h : List Event) (on : ℕ) (by : By) (o : OpId) (lane : BridgeLane)
       → Run board h → wants board h on by o ≡ true → AtLane board h on by o Latch lane
       → Pair P lane (both (world_of board h) lane) → Pair P lane (ask_enters by o (both (world_of board h) lane))
@@ -53,7 +53,7 @@ module _ (board : Board) (P : BridgeLane → Both → Type 0) (kept : Kept board
   enters_keeps h on by o Land lane run wanted at old = absurd at.gives
   enters_keeps h on by o (Part phases) lane run wanted at old = absurd at.gives
   enters_keeps h on by o (Read value) lane run wanted at old = absurd at.gives
-  enters_keeps h on by o Accept lane run wanted at old = kept.accepts lane o at.bridge (both (world_of board h) lane) at.is_bridge at.gives.1 old
+  enters_keeps h on by o Accept lane run wanted at old = kept.accepts h on by o lane run wanted at old
   enters_keeps h on by o Latch lane run wanted at old = kept.latches h on by o lane run wanted at old
   enters_keeps h on by o (Take outcome) lane run wanted at old =
       let x : Both = both (world_of board h) lane in

@@ -18,7 +18,7 @@ use Rattle.run_slots.specs.Slots.{hit, slot_weight, ask_weight, done_weight, gon
 use Rattle.run_slots.proofs.HeldLemmas.{hit-same, found_by_number}
 
 -- a number that no two slots share finds each slot
-Each-found_itself : (held : List Slot) → ((number : ℕ) → total (slot_weight (hit number)) held ≤ 1) → AllByRecursion (λ slot. find (has_number slot.number) held ≡ Some slot) held
+pub Each-found_itself : (held : List Slot) → ((number : ℕ) → total (slot_weight (hit number)) held ≤ 1) → AllByRecursion (λ slot. find (has_number slot.number) held ≡ Some slot) held
 Each-found_itself [] once = tt
 Each-found_itself (slot ∷ held) once =
     let once_later : (number : ℕ) → total (slot_weight (hit number)) held ≤ 1 = λ number. omega (arith, once number) in
@@ -120,7 +120,7 @@ HasOneItem-each x slots =
     Each-weaker P (HasOneItem x) (λ slot is. item_of x slot slots is) x.here.held (Each-found_itself x.here.held slots.once)
 
 -- a number that weighs is held
-some_held : (number : ℕ) (held : List Slot) → 1 ≤ total (slot_weight (hit number)) held → is_some (find (has_number number) held) ≡ true
+pub some_held : (number : ℕ) (held : List Slot) → 1 ≤ total (slot_weight (hit number)) held → is_some (find (has_number number) held) ≡ true
 some_held number held some =
     let by = found_by_number number held some (hit number) in
     let P : Option Slot → Type 0 = λ own. found (slot_weight (hit number)) own ≡ hit number number → is_some own ≡ true in

@@ -16,7 +16,7 @@ Slots-kept : (board : Board) → Kept board (λ lane x. Slots x)
 Slots-kept board =
     record {
       empty = λ lane. record { one_place = λ weight. refl; once = λ number. omega arith; asks_flying = tt; asks_standing = tt; dones_flying = tt; dones_standing = tt };
-      accepts = λ lane o bridge x _ _ old. (Slots-post_enters o x old.0, Slots-post_enters_back o x old.1);
+      accepts = λ h on by o lane _ _ _ old. let x = both (world_of board h) lane in (Slots-post_enters o x old.0, Slots-post_enters_back o x old.1);
       latches = λ h on by o lane _ _ _ old. let x = both (world_of board h) lane in (Slots-ask_enters by o x old.0, Slots-ask_enters_back by o x old.1);
       takes = λ lane number op slot outcome x stands old. (Slots-slot_taken number op slot outcome x stands old.0, Slots-slot_taken_back number x old.1);
       ends = λ lane o outcome x old. (Slots-item_ends o outcome x old.0, Slots-item_ends_back o outcome x old.1);

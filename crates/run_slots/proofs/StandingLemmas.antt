@@ -31,7 +31,7 @@ AllStand-kept : (board : Board) → Kept board AllStand
 AllStand-kept board =
     record {
       empty = λ lane. tt;
-      accepts = λ lane o bridge x _ _ old. old;
+      accepts = λ h on by o lane _ _ _ old. old;
       latches = λ h on by o lane _ _ _ old. old;
       takes = λ lane number op slot outcome x _ old. (old.0, Each-less CanStand (is_done_for number) x.back.standing old.1);
       ends = λ lane o outcome x old. (Each-less CanStand (is_of o) x.here.standing old.0, old.1);

@@ -3,3 +3,8 @@ pub mod Standing
 pub mod Credits
 pub mod Quiet
 pub mod Depths
+pub mod Phases
+pub mod Latched
+pub mod Kinds
+pub mod Owners
+pub mod Lawful
