@@ -1,5 +1,5 @@
 -- What holds of each element of a list, by recursion on the list.
-use Rattle.std.proofs.Common.{◌≡◌, ℕ, ◌≤◌, Bool, true, false, cond, List, [], ◌∷◌, ◌++◌, Some, is_some, refl, subst, arith}
+use Rattle.std.proofs.Common.{◌≡◌, ℕ, ◌≤◌, Bool, true, false, cond, List, [], ◌∷◌, ◌++◌, Some, subst, arith}
 use Rattle.std.specs.List.{find, AllByRecursion}
 use Rattle.list_facts.specs.Lists.{less, total}
 
@@ -52,13 +52,3 @@ Each-within {X} (x ∷ xs) =
 pub Each-both : {X : Type 0} (P Q : X → Type 0) (xs : List X) → AllByRecursion P xs → AllByRecursion Q xs → AllByRecursion (λ x. P x × Q x) xs
 Each-both P Q [] first second = tt
 Each-both P Q (x ∷ xs) first second = ((first.0, second.0), Each-both P Q xs first.1 second.1)
-
--- where one of them passes, one is found
-pub Each-found : {X : Type 0} (test : X → Bool) (xs : List X) → AllByRecursion (λ x. test x ≡ true → is_some (find test xs) ≡ true) xs
-Each-found test [] = tt
-Each-found {X} test (x ∷ xs) =
-    let P : X → Type 0 = λ y. test y ≡ true → is_some (find test xs) ≡ true in
-    let Q : X → Type 0 = λ y. test y ≡ true → is_some (find test (x ∷ xs)) ≡ true in
-    let R : Bool → Type 0 = λ b. is_some (find test xs) ≡ true → is_some (cond b (Some x) (find test xs)) ≡ true in
-    let behind : (y : X) → P y → Q y = λ y found passes. (elim (test x) as R [ true ↦ λ _. refl | false ↦ λ e. e ]) (found passes) in
-    (λ passes. rw passes refl, Each-weaker P Q behind xs (Each-found test xs))

@@ -30,3 +30,5 @@ pub mod OwnersRunLemmas
 pub mod MatchedLemmas
 pub mod LawfulLemmas
 pub mod WellFormedLemmas
+pub mod FoundLemmas
+pub mod MatchedRunLemmas

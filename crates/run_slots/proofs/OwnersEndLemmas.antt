@@ -2,7 +2,6 @@
 use Rattle.std.proofs.Common.{◌≡◌, ℕ, Bool, true, false, ◌&&◌, ◌==◌, eqb, Option, Some, None, refl, ap, subst, arith}
 use Rattle.std.specs.List.{find}
 use Rattle.std.proofs.lemmas.Bool.Decides.{nat_tests}
-use Rattle.list_facts.proofs.FindLemmas.{find-less_kept}
 use Rattle.list_facts.proofs.EachLemmas.{Each-weaker, Each-both}
 use Rattle.pci_command.specs.declared.op_id.OpId.{OpId}
 use Rattle.pci_command.specs.declared.op_id.Outcome.{Outcome}
@@ -24,6 +23,7 @@ use Rattle.run_slots.proofs.BridgeLemmas.{same_lane_self, moved_keeps}
 use Rattle.run_slots.proofs.RequestLemmas.{same_op_self}
 use Rattle.run_slots.proofs.OwnersMoveLemmas.{LaneOwners, owners_of}
 use Rattle.run_slots.proofs.OwnersFreeLemmas.{is_for, NoneFor}
+use Rattle.run_slots.proofs.FoundLemmas.{find-less_kept}
 
 -- delayed requests but those of one operation stay first on the lane where its item ends, and all on any other
 abbrev KeepsBut : BridgeLane → OpId → BridgeLane → LaneState → LaneState → Type 0

@@ -6,7 +6,7 @@ use Rattle.std.proofs.lemmas.Bool.Decides.{nat_tests}
 use Rattle.list_facts.specs.Lists.{less, total, before}
 use Rattle.list_facts.proofs.TotalLemmas.{found, total-less}
 use Rattle.list_facts.proofs.FindLemmas.{find_passes}
-use Rattle.list_facts.proofs.EachLemmas.{Each-weaker, Each-both, Each-find, Each-found, Each-within}
+use Rattle.list_facts.proofs.EachLemmas.{Each-weaker, Each-both, Each-find, Each-within}
 use Rattle.pci_command.specs.declared.request.Request.{Request}
 use Rattle.pci_command.specs.declared.op_id.OpId.{OpId}
 use Rattle.pci_command.specs.declared.op_id.Outcome.{Outcome}
@@ -53,6 +53,7 @@ use Rattle.run_slots.proofs.OneItemLemmas.{Each-found_itself}
 use Rattle.run_slots.proofs.PartLemmas.{delayed-not_parted}
 use Rattle.run_slots.proofs.LatchedLemmas.{wants-at, Latched-run}
 use Rattle.run_slots.proofs.QuietLemmas.{Quiet-empty, run_no_bridge}
+use Rattle.run_slots.proofs.FoundLemmas.{Each-found}
 
 -- the slot is held for this initiator and this operation
 abbrev pub is_for : By → OpId → Slot → Bool

@@ -3,7 +3,7 @@ use Rattle.std.proofs.Common.{◌≡◌, ℕ, ◌+◌, ◌≤◌, Bool, true, fa
 use Rattle.std.specs.List.{find, list_any, list_all, AllByRecursion}
 use Rattle.list_facts.specs.Lists.{total, before}
 use Rattle.list_facts.proofs.TotalLemmas.{found, total-push}
-use Rattle.list_facts.proofs.FindLemmas.{find_passes, find_first}
+use Rattle.list_facts.proofs.FindLemmas.{find_passes}
 use Rattle.list_facts.proofs.EachLemmas.{Each-find}
 use Rattle.pci_command.specs.declared.request.Request.{Request}
 use Rattle.pci_command.specs.declared.op_id.OpId.{OpId}
@@ -25,6 +25,7 @@ use Rattle.run_slots.specs.Owners.{is_equal_ask, StandsFirst, Waits, own_count}
 use Rattle.run_slots.specs.Kinds.{NamesOp, RightKind}
 use Rattle.run_slots.proofs.RequestLemmas.{same_op_true, request_is_of}
 use Rattle.run_slots.proofs.EqualLemmas.{same_requests-self, is_own-parts, is_own-alike}
+use Rattle.run_slots.proofs.FoundLemmas.{find_first}
 
 both_parts : (a b : Bool) → (a && b) ≡ true → (a ≡ true) × (b ≡ true)
 both_parts true true e = (refl, refl)

@@ -3,7 +3,7 @@ use Rattle.std.proofs.Common.{◌≡◌, ℕ, ◌≤◌, Bool, List, [], ◌∷�
 use Rattle.std.specs.List.{find, AllByRecursion}
 use Rattle.list_facts.specs.Lists.{less, total}
 use Rattle.list_facts.proofs.TotalLemmas.{total-less}
-use Rattle.list_facts.proofs.FindLemmas.{find-append_found, find-less_kept}
+use Rattle.list_facts.proofs.FindLemmas.{find-append_found}
 use Rattle.list_facts.proofs.EachLemmas.{Each-less, Each-weaker}
 use Rattle.pci_command.specs.declared.op_id.OpId.{OpId}
 use Rattle.board_model.specs.declared.bridge.Lane.{Lane as BridgeLane}
@@ -18,6 +18,7 @@ use Rattle.history_model.specs.Lanes.{LaneState, Both, has_number, is_done_for}
 use Rattle.history_model.specs.World.{World, lane_back, both, moved}
 use Rattle.run_slots.specs.Owners.{is_equal_ask, Waits, own_count, Owners}
 use Rattle.run_slots.proofs.BridgeLemmas.{moved_keeps}
+use Rattle.run_slots.proofs.FoundLemmas.{find-less_kept}
 
 -- a delayed request that is the first by some test stays the first
 abbrev pub KeepsAsks : LaneState → LaneState → Type 0

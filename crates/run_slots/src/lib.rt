@@ -23,6 +23,7 @@ ghost use Rattle.history_model.specs.Program.{turn_of};
 ghost use Rattle.history_model.specs.Words.{through};
 ghost use Rattle.history_model.specs.Answers.{bridge_to};
 ghost use Rattle.history_model.specs.Runs.{Run};
+ghost use Rattle.history_model.specs.Local.{Matched};
 ghost use Rattle.run_slots.specs.Slots.{Slots, HasOneItem, GoneHeld};
 ghost use Rattle.run_slots.specs.Standing.{CanStand};
 ghost use Rattle.run_slots.specs.Credits.{Credits};
@@ -101,7 +102,8 @@ pub fn owners()
 
 /// Each completion is taken by the operation that it was made for.
 pub fn matched()
-    ensures { (board : Board) (h : List Event) (on : ℕ) (by : By) (o : OpId) (outcome : Outcome) (lane : BridgeLane) → DifferentNumbers board → DelayedAreSingle board → Run board (Act on by o (Take outcome) (Lane lane) ∷ h) → TakesItsOwn board h on by o outcome lane }
+    ensures taken { (board : Board) (h : List Event) (on : ℕ) (by : By) (o : OpId) (outcome : Outcome) (lane : BridgeLane) → DifferentNumbers board → DelayedAreSingle board → Run board (Act on by o (Take outcome) (Lane lane) ∷ h) → TakesItsOwn board h on by o outcome lane }
+    ensures every_run { (board : Board) (h : List Event) → DifferentNumbers board → DelayedAreSingle board → Run board h → Matched board h }
 {}
 
 /// A bridge can receive what is in flight to it: there is room, each completion finds its slot held
