@@ -6,10 +6,10 @@ use Rattle.std.proofs.lemmas.List.Elements.{All-nil, All-cons}
 use Rattle.std.proofs.lemmas.List.Splits.{length-slice_split}
 use Rattle.std.specs.List.{slice_split, onto_first, slice_range, filter, position_or_len, All}
 use Rattle.board_text.specs.declared.tokens.Token.{Token}
-use Rattle.board_text.specs.Tokens.{is_separator, is_comment, uncommented, with_token, placed, tokens_of, words_of, IsWithin}
+use Rattle.board_text.specs.Tokens.{is_separator, is_comment, uncommented, with_token, placed, tokens_of, words_of, slice_at, IsWithin}
 use Rattle.board_text.specs.declared.text.Line.{Line}
 use Rattle.board_text.specs.Lines.{is_newline, without_empty_end, lines_of}
-use Rattle.board_text.specs.Text.{with_line, token_lines, with_words, word_lines}
+use Rattle.board_text.specs.Text.{with_line, token_lines, with_words, word_lines, slices_of}
 use Rattle.board_text.proofs.CutLemmas.{with_some}
 
 -- the pieces stand in the text, one byte between each two
@@ -73,14 +73,14 @@ tile_line line =
     subst (λ (whole : List ℕ). Tile pieces whole) (take-append-drop size line) (tile_longer pieces (take size line) (drop size line) (tile_split is_separator (take size line)))
 
 -- the slices of the line at its tokens are its words
-pub texts_are_words : (from : ℕ) (line : List ℕ) → map (λ token. slice_range line (token.start - from) (token.end - from)) (tokens_of from line) ≡ words_of line
+pub texts_are_words : (from : ℕ) (line : List ℕ) → map (slice_at from line) (tokens_of from line) ≡ words_of line
 texts_are_words from line =
     let begin : from + 0 ≡ from = omega arith in
     let text : (at size : ℕ) → slice_range line (from + at - from) (from + at + size - from) ≡ take size (drop at line) = λ at size.
     let place : from + at - from ≡ at = omega arith in
     let long : from + at + size - from - (from + at - from) ≡ size = omega arith in
     rw (long, place) refl in
-    let texts = texts_of_placed (λ token. slice_range line (token.start - from) (token.end - from)) (slice_split is_separator (uncommented line)) line from 0 text (tile_line line) in
+    let texts = texts_of_placed (slice_at from line) (slice_split is_separator (uncommented line)) line from 0 text (tile_line line) in
     rw begin at texts
 
 within_placed : (pieces : List (List ℕ)) (whole : List ℕ) (from at : ℕ) → Tile pieces (drop at whole) → All (IsWithin from (from + length whole)) (placed (from + at) pieces)
@@ -157,5 +157,5 @@ words_of_lines (line ∷ lines) bytes count at tile =
     one_line_more f count (tokens_of at line) (token_lines (count + 1) (at + length line + 1) lines) ∙ rw (words, others) refl
 
 -- the slices of a text at the tokens of its lines are their words
-pub lines_have_words : (bytes : List ℕ) → map (λ line. (line.number, map (λ token. slice_range bytes token.start token.end) line.tokens)) (token_lines 1 0 (lines_of bytes)) ≡ word_lines 1 (lines_of bytes)
+pub lines_have_words : (bytes : List ℕ) → map (slices_of bytes) (token_lines 1 0 (lines_of bytes)) ≡ word_lines 1 (lines_of bytes)
 lines_have_words bytes = words_of_lines (lines_of bytes) bytes 1 0 (tile_ends (slice_split is_newline bytes) bytes (tile_split is_newline bytes))
