@@ -1,12 +1,15 @@
 -- The pieces of a line that is cut are slices of it, so that its tokens stand for its words.
-use Rattle.std.proofs.Common.{◌≡◌, ℕ, suc, ◌+◌, ◌-◌, ◌<◌, ◌≤◌, Bool, true, false, cond, nat_lt, List, [], ◌∷◌, ◌++◌, map, length, take, drop, arith, refl, sym, ap, subst, ◌∙◌, inl, inr, Result, Ok, Err, IfOk}
+use Rattle.std.proofs.Common.{◌≡◌, ℕ, suc, ◌+◌, ◌-◌, ◌<◌, ◌≤◌, Bool, true, false, cond, nat_lt, List, [], ◌∷◌, ◌++◌, map, length, take, drop, arith, refl, sym, ap, subst, ◌∙◌, inl, inr, Result, Ok, Err, IfOk, ◌==◌}
 use Rattle.std.proofs.lemmas.Bool.{cases_lt}
 use Rattle.std.proofs.lemmas.List.{drop-drop, length-drop, take-append-le, take-append-drop, drop-append-le, length-append}
 use Rattle.std.proofs.lemmas.List.Elements.{All-nil, All-cons}
 use Rattle.std.proofs.lemmas.List.Splits.{length-slice_split}
 use Rattle.std.specs.List.{slice_split, onto_first, slice_range, filter, position_or_len, All}
 use Rattle.board_text.specs.declared.tokens.Token.{Token}
-use Rattle.board_text.specs.Tokens.{is_separator, is_comment, uncommented, with_token, placed, tokens_of, words_of, IsWithin}
+use Rattle.board_text.specs.Tokens.{is_separator, is_comment, uncommented, with_token, placed, tokens_of, words_of, slice_at, IsWithin}
+use Rattle.board_text.specs.declared.text.Line.{Line}
+use Rattle.board_text.specs.Lines.{is_newline, without_empty_end, lines_of}
+use Rattle.board_text.specs.Text.{with_line, token_lines, with_words, word_lines, slices_of}
 use Rattle.board_text.proofs.CutLemmas.{with_some}
 
 -- the pieces stand in the text, one byte between each two
@@ -55,17 +58,13 @@ one_more f from (x ∷ piece) more words this others =
     let token : with_token from (length (x ∷ piece)) more ≡ record { start = from; end = from + length (x ∷ piece) } ∷ more = with_some from (length (x ∷ piece)) more (omega arith) in
     rw (token, this, others) (grind arith)
 
-texts_of_placed : (pieces : List (List ℕ)) (whole : List ℕ) (from at : ℕ) → Tile pieces (drop at whole) → map (λ token. slice_range whole (token.start - from) (token.end - from)) (placed (from + at) pieces) ≡ filter (λ piece. nat_lt 0 (length piece)) pieces
-texts_of_placed [] whole from at tile = refl
-texts_of_placed (piece ∷ pieces) whole from at tile =
-    let f : Token → List ℕ = λ token. slice_range whole (token.start - from) (token.end - from) in
-    let begin : from + at - from ≡ at = omega arith in
-    let size : from + at + length piece - from - (from + at - from) ≡ length piece = omega arith in
-    let this : take (from + at + length piece - from - (from + at - from)) (drop (from + at - from) whole) ≡ piece = rw (size, begin) tile.0 in
+texts_of_placed : (f : Token → List ℕ) (pieces : List (List ℕ)) (whole : List ℕ) (from at : ℕ) → ((begin size : ℕ) → f (record { start = from + begin; end = from + begin + size }) ≡ take size (drop begin whole)) → Tile pieces (drop at whole) → map f (placed (from + at) pieces) ≡ filter (λ piece. nat_lt 0 (length piece)) pieces
+texts_of_placed f [] whole from at text tile = refl
+texts_of_placed f (piece ∷ pieces) whole from at text tile =
     let behind : from + at + length piece + 1 ≡ from + (at + (length piece + 1)) = omega arith in
     let rest : Tile pieces (drop (at + (length piece + 1)) whole) = rw (← drop-drop (length piece + 1) at whole) tile.2 in
-    let others : map f (placed (from + at + length piece + 1) pieces) ≡ filter (λ piece. nat_lt 0 (length piece)) pieces = rw behind (texts_of_placed pieces whole from (at + (length piece + 1)) rest) in
-    one_more f (from + at) piece _ _ this others
+    let others : map f (placed (from + at + length piece + 1) pieces) ≡ filter (λ piece. nat_lt 0 (length piece)) pieces = rw behind (texts_of_placed f pieces whole from (at + (length piece + 1)) text rest) in
+    one_more f (from + at) piece _ _ (text at (length piece) ∙ tile.0) others
 
 tile_line : (line : List ℕ) → Tile (slice_split is_separator (uncommented line)) line
 tile_line line =
@@ -74,10 +73,14 @@ tile_line line =
     subst (λ (whole : List ℕ). Tile pieces whole) (take-append-drop size line) (tile_longer pieces (take size line) (drop size line) (tile_split is_separator (take size line)))
 
 -- the slices of the line at its tokens are its words
-pub texts_are_words : (from : ℕ) (line : List ℕ) → map (λ token. slice_range line (token.start - from) (token.end - from)) (tokens_of from line) ≡ words_of line
+pub texts_are_words : (from : ℕ) (line : List ℕ) → map (slice_at from line) (tokens_of from line) ≡ words_of line
 texts_are_words from line =
     let begin : from + 0 ≡ from = omega arith in
-    let texts = texts_of_placed (slice_split is_separator (uncommented line)) line from 0 (tile_line line) in
+    let text : (at size : ℕ) → slice_range line (from + at - from) (from + at + size - from) ≡ take size (drop at line) = λ at size.
+    let place : from + at - from ≡ at = omega arith in
+    let long : from + at + size - from - (from + at - from) ≡ size = omega arith in
+    rw (long, place) refl in
+    let texts = texts_of_placed (slice_at from line) (slice_split is_separator (uncommented line)) line from 0 text (tile_line line) in
     rw begin at texts
 
 within_placed : (pieces : List (List ℕ)) (whole : List ℕ) (from at : ℕ) → Tile pieces (drop at whole) → All (IsWithin from (from + length whole)) (placed (from + at) pieces)
@@ -110,3 +113,49 @@ if_read P (Ok tokens) from line text same is holds =
     let these : tokens ≡ tokens_of from line = rw same at is in
     subst P (sym these) holds
 if_read P (Err fault) from line text same is holds = tt
+
+tile_ends : (pieces : List (List ℕ)) (xs : List ℕ) → Tile pieces xs → Tile (without_empty_end pieces) xs
+tile_ends [] xs tile = tt
+tile_ends (piece ∷ []) xs tile =
+    let Q : Bool → Type 0 = λ b. Tile (cond b [] (piece ∷ [])) xs in
+    elim (length piece == 0) as Q [ true ↦ tt | false ↦ tile ]
+tile_ends (piece ∷ next ∷ pieces) xs tile = (tile.0, tile.1, tile_ends (next ∷ pieces) (drop (length piece + 1) xs) tile.2)
+
+tile_within : (line xs : List ℕ) → take (length line) xs ≡ line → Tile (slice_split is_separator (uncommented line)) xs
+tile_within line xs this =
+    let whole : line ++ drop (length line) xs ≡ xs = subst (λ (l : List ℕ). l ++ drop (length line) xs ≡ xs) this (take-append-drop (length line) xs) in
+    subst (λ (l : List ℕ). Tile (slice_split is_separator (uncommented line)) l) whole (tile_longer _ line (drop (length line) xs) (tile_line line))
+
+texts_within : (bytes line : List ℕ) (at : ℕ) → take (length line) (drop at bytes) ≡ line → map (λ token. slice_range bytes token.start token.end) (tokens_of at line) ≡ words_of line
+texts_within bytes line at this =
+    let text : (begin size : ℕ) → slice_range bytes (0 + begin) (0 + begin + size) ≡ take size (drop begin bytes) = λ begin size.
+    let place : 0 + begin ≡ begin = omega arith in
+    let long : 0 + begin + size - (0 + begin) ≡ size = omega arith in
+    rw (long, place) refl in
+    let texts = texts_of_placed (λ token. slice_range bytes token.start token.end) (slice_split is_separator (uncommented line)) bytes 0 at text (tile_within line (drop at bytes) this) in
+    let place : 0 + at ≡ at = omega arith in
+    rw place at texts
+
+not_none : {X : Type 0} (n : ℕ) (none some : X) → cond (suc n == 0) none some ≡ some
+not_none n none some = grind arith
+
+one_line_more : (f : Token → List ℕ) (count : ℕ) (found : List Token) (more : List Line) → map (λ line. (line.number, map f line.tokens)) (with_line count found more) ≡ with_words count (map f found) (map (λ line. (line.number, map f line.tokens)) more)
+one_line_more f count [] more = refl
+one_line_more f count (token ∷ found) more =
+    let g : Line → ℕ × List (List ℕ) = λ line. (line.number, map f line.tokens) in
+    let here : with_line count (token ∷ found) more ≡ record { number = count; tokens = token ∷ found } ∷ more = not_none (length found) _ _ in
+    ap (map g) here ∙ sym (not_none (length (map f found)) _ _)
+
+words_of_lines : (lines : List (List ℕ)) (bytes : List ℕ) (count at : ℕ) → Tile lines (drop at bytes) → map (λ line. (line.number, map (λ token. slice_range bytes token.start token.end) line.tokens)) (token_lines count at lines) ≡ word_lines count lines
+words_of_lines [] bytes count at tile = refl
+words_of_lines (line ∷ lines) bytes count at tile =
+    let f : Token → List ℕ = λ token. slice_range bytes token.start token.end in
+    let behind : at + length line + 1 ≡ at + (length line + 1) = omega arith in
+    let rest : Tile lines (drop (at + length line + 1) bytes) = rw (behind, ← drop-drop (length line + 1) at bytes) tile.2 in
+    let words : map f (tokens_of at line) ≡ words_of line = texts_within bytes line at tile.0 in
+    let others = words_of_lines lines bytes (count + 1) (at + length line + 1) rest in
+    one_line_more f count (tokens_of at line) (token_lines (count + 1) (at + length line + 1) lines) ∙ rw (words, others) refl
+
+-- the slices of a text at the tokens of its lines are their words
+pub lines_have_words : (bytes : List ℕ) → map (slices_of bytes) (token_lines 1 0 (lines_of bytes)) ≡ word_lines 1 (lines_of bytes)
+lines_have_words bytes = words_of_lines (lines_of bytes) bytes 1 0 (tile_ends (slice_split is_newline bytes) bytes (tile_split is_newline bytes))

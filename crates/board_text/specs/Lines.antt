@@ -23,11 +23,12 @@ is_allowed byte = byte == 9 || (nat_le 32 byte && nat_le byte 126)
 abbrev pub line_fault : List ℕ → Option ℕ
 line_fault line = if nat_lt 256 (length line) then Some 3 else if list_all is_allowed line then None else Some 1
 
--- the first fault of the lines, and the number of its line, where the first line has this number
+-- the fault of the line of this number, if it has one, and else that of a later line
 abbrev pub fault_or : ℕ → Option ℕ → Option (ℕ × ℕ) → Option (ℕ × ℕ)
 fault_or number None later = later
 fault_or number (Some code) later = Some (number, code)
 
+-- the first line with a fault, by its number, and its fault, where the first line has this number
 abbrev pub first_fault : ℕ → List (List ℕ) → Option (ℕ × ℕ)
 first_fault number [] = None
 first_fault number (line ∷ lines) = fault_or number (line_fault line) (first_fault (number + 1) lines)

@@ -1,6 +1,6 @@
 -- The tokens of a line, as places in the text.
-use Rattle.std.specs.Prelude.{ℕ, Bool, ◌+◌, ◌<◌, ◌≤◌, List, [], ◌∷◌, length, nat_lt, ◌==◌, ◌||◌, if◌then◌else◌}
-use Rattle.std.specs.List.{slice_split, before_first, filter}
+use Rattle.std.specs.Prelude.{ℕ, Bool, ◌+◌, ◌-◌, ◌<◌, ◌≤◌, List, [], ◌∷◌, length, nat_lt, ◌==◌, ◌||◌, if◌then◌else◌}
+use Rattle.std.specs.List.{slice_split, slice_range, before_first, filter}
 use Rattle.board_text.specs.declared.tokens.Token.{Token}
 
 -- a space or a tab
@@ -31,6 +31,10 @@ tokens_of from line = placed from (slice_split is_separator (uncommented line))
 -- the words of a line, each in its bytes: what its tokens stand for
 abbrev pub words_of : List ℕ → List (List ℕ)
 words_of line = filter (λ piece. nat_lt 0 (length piece)) (slice_split is_separator (uncommented line))
+
+-- the slice at a token of a line that begins at this place
+abbrev pub slice_at : ℕ → List ℕ → Token → List ℕ
+slice_at from line token = slice_range line (token.start - from) (token.end - from)
 
 -- a token has a byte or more, and lies between these places
 abbrev pub IsWithin : ℕ → ℕ → Token → Type 0
