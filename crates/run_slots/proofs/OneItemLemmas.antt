@@ -13,8 +13,9 @@ use Rattle.history_model.specs.declared.item.Carried.TheVariants.{Post, Ask, Don
 use Rattle.history_model.specs.declared.item.Slot.{Slot}
 use Rattle.std.proofs.Common.{◌⊎◌, inl, inr, is_some}
 use Rattle.list_facts.proofs.TotalLemmas.{found-le}
+use Rattle.history_model.specs.Local.{is_ask_of}
 use Rattle.history_model.specs.Lanes.{Both, has_number, is_done_for}
-use Rattle.run_slots.specs.Slots.{hit, slot_weight, ask_weight, done_weight, gone_weight, places, IsHeldFor, AskNamed, DoneNamed, Slots, is_ask_for, is_gone_for, ItemOf, ask_flies, ask_stands, done_flies, done_stands, gone_flies, HasOneItem, GoneHeld}
+use Rattle.run_slots.specs.Slots.{hit, slot_weight, ask_weight, done_weight, gone_weight, places, IsHeldFor, AskNamed, DoneNamed, Slots, is_gone_for, ItemOf, ask_flies, ask_stands, done_flies, done_stands, gone_flies, HasOneItem, GoneHeld}
 use Rattle.run_slots.proofs.HeldLemmas.{hit-same, found_by_number}
 
 -- a number that no two slots share finds each slot
@@ -36,11 +37,11 @@ Each-found_itself (slot ∷ held) once =
     (rw self refl, Each-weaker P Q behind held (Each-found_itself held once_later))
 
 -- where items weigh by a number, the first with that number is found
-ask_found : (number : ℕ) (items : List Carried) → 1 ≤ total (ask_weight (hit number)) items → (op : OpId) × (find (is_ask_for number) items ≡ Some (Ask op number))
+ask_found : (number : ℕ) (items : List Carried) → 1 ≤ total (ask_weight (hit number)) items → (op : OpId) × (find (is_ask_of number) items ≡ Some (Ask op number))
 ask_found number [] some = absurd (omega arith)
 ask_found number (Post op ∷ items) some = ask_found number items (omega arith)
 ask_found number (Ask op slot ∷ items) some =
-    let P : Bool → Type 0 = λ b. eqb slot number ≡ b → 1 ≤ cond b 1 0 + total (ask_weight (hit number)) items → (p : OpId) × (cond b (Some (Ask op slot)) (find (is_ask_for number) items) ≡ Some (Ask p number)) in
+    let P : Bool → Type 0 = λ b. eqb slot number ≡ b → 1 ≤ cond b 1 0 + total (ask_weight (hit number)) items → (p : OpId) × (cond b (Some (Ask op slot)) (find (is_ask_of number) items) ≡ Some (Ask p number)) in
     (elim (eqb slot number) as P [
       | true ↦ λ same _. (op, ap (λ n. Some (Ask op n)) (eqb-true slot number same))
       | false ↦ λ _ later. ask_found number items (omega arith)
@@ -80,10 +81,10 @@ same_for : (held : List Slot) (slot : Slot) (op : OpId) → find (has_number slo
 same_for held slot op is for_op = let same : for_op.slot ≡ slot = cc in let ops = ap (λ s. s.op) same in cc
 
 ask_of : (held : List Slot) (slot : Slot) (items : List Carried) → find (has_number slot.number) held ≡ Some slot → AllByRecursion (AskNamed held) items
-    → 1 ≤ total (ask_weight (hit slot.number)) items → find (is_ask_for slot.number) items ≡ Some (Ask slot.op slot.number)
+    → 1 ≤ total (ask_weight (hit slot.number)) items → find (is_ask_of slot.number) items ≡ Some (Ask slot.op slot.number)
 ask_of held slot items is named some =
     let at = ask_found slot.number items some in
-    let same = same_for held slot at.0 is (Each-find (AskNamed held) (is_ask_for slot.number) items (Ask at.0 slot.number) named at.1) in
+    let same = same_for held slot at.0 is (Each-find (AskNamed held) (is_ask_of slot.number) items (Ask at.0 slot.number) named at.1) in
     at.1 ∙ ap (λ op. Some (Ask op slot.number)) same
 
 done_of : (held : List Slot) (slot : Slot) (items : List Carried) → find (has_number slot.number) held ≡ Some slot → AllByRecursion (DoneNamed held) items

@@ -7,4 +7,3 @@ pub mod Phases
 pub mod Latched
 pub mod Kinds
 pub mod Owners
-pub mod Lawful

@@ -9,6 +9,7 @@ use Rattle.history_model.specs.declared.item.Carried.{Carried}
 use Rattle.history_model.specs.declared.item.Carried.TheVariants.{Post, Ask, Done, Room, Gone}
 use Rattle.history_model.specs.declared.item.Slot.{Slot}
 use Rattle.history_model.specs.Lanes.{Both, has_number, is_done_for}
+use Rattle.history_model.specs.Local.{is_ask_of}
 
 -- the weight that counts one number
 abbrev pub hit : ℕ → ℕ → ℕ
@@ -83,14 +84,6 @@ pub record Slots (x : Both) : Type 0 where
   pub dones_flying : AllByRecursion (DoneNamed x.here.held) x.back.flight
   pub dones_standing : AllByRecursion (DoneNamed x.here.held) x.back.standing
 
--- the delayed request of a slot
-abbrev pub is_ask_for : ℕ → Carried → Bool
-is_ask_for number (Post op) = false
-is_ask_for number (Ask op slot) = slot == number
-is_ask_for number (Done op slot outcome) = false
-is_ask_for number Room = false
-is_ask_for number (Gone slot) = false
-
 -- the word that the request of a slot was dropped
 abbrev pub is_gone_for : ℕ → Carried → Bool
 is_gone_for number (Post op) = false
@@ -102,8 +95,8 @@ is_gone_for number (Gone slot) = slot == number
 -- the item of a held slot in one of the five places
 pub data ItemOf (slot : Slot) (x : Both) : Type 0 where
   -- its delayed request is in flight on the lane, or stands at the far face
-  ask_flies : find (is_ask_for slot.number) x.here.flight ≡ Some (Ask slot.op slot.number) → ItemOf slot x
-  ask_stands : find (is_ask_for slot.number) x.here.standing ≡ Some (Ask slot.op slot.number) → ItemOf slot x
+  ask_flies : find (is_ask_of slot.number) x.here.flight ≡ Some (Ask slot.op slot.number) → ItemOf slot x
+  ask_stands : find (is_ask_of slot.number) x.here.standing ≡ Some (Ask slot.op slot.number) → ItemOf slot x
   -- its completion is in flight on the lane back, or stands at the near face
   done_flies : (outcome : Outcome) → find (is_done_for slot.number) x.back.flight ≡ Some (Done slot.op slot.number outcome) → ItemOf slot x
   done_stands : (outcome : Outcome) → find (is_done_for slot.number) x.back.standing ≡ Some (Done slot.op slot.number outcome) → ItemOf slot x

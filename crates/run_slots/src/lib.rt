@@ -17,19 +17,19 @@ ghost use Rattle.history_model.specs.declared.event.By.{By};
 ghost use Rattle.history_model.specs.declared.event.Step.TheVariants.{Take};
 ghost use Rattle.history_model.specs.declared.event.Event.{Event};
 ghost use Rattle.history_model.specs.declared.event.Event.TheVariants.{Act};
+ghost use Rattle.history_model.specs.declared.item.Carried.{Carried};
 ghost use Rattle.history_model.specs.Lanes.{empty_lane};
 ghost use Rattle.history_model.specs.World.{lane_back, both, world_of};
 ghost use Rattle.history_model.specs.Program.{turn_of};
 ghost use Rattle.history_model.specs.Words.{through};
 ghost use Rattle.history_model.specs.Answers.{bridge_to};
 ghost use Rattle.history_model.specs.Runs.{Run};
-ghost use Rattle.history_model.specs.Local.{Matched};
+ghost use Rattle.history_model.specs.Local.{Matched, is_lawful_on};
 ghost use Rattle.run_slots.specs.Slots.{Slots, HasOneItem, GoneHeld};
 ghost use Rattle.run_slots.specs.Standing.{CanStand};
 ghost use Rattle.run_slots.specs.Credits.{Credits};
 ghost use Rattle.run_slots.specs.Quiet.{enters_at};
 ghost use Rattle.run_slots.specs.Depths.{Within, DifferentNumbers, DepthsToEight};
-ghost use Rattle.run_slots.specs.Lawful.{IsLawful};
 ghost use Rattle.run_slots.specs.Phases.{DelayedAreSingle};
 ghost use Rattle.run_slots.specs.Latched.{Latched};
 ghost use Rattle.run_slots.specs.Kinds.{RightKind};
@@ -106,10 +106,10 @@ pub fn matched()
     ensures every_run { (board : Board) (h : List Event) → DifferentNumbers board → DelayedAreSingle board → Run board h → Matched board h }
 {}
 
-/// A bridge can receive what is in flight to it: there is room, each completion finds its slot held
+/// What is in flight to a bridge is lawful there: there is room, each completion finds its slot held
 /// for its operation, and each credit a posted write that is owed.
 pub fn lawful()
-    ensures { (board : Board) (h : List Event) (lane : BridgeLane) (bridge : Bridge) → bridge_to board lane.bus ≡ Some bridge → Run board h → AllByRecursion (IsLawful bridge (both (world_of board h) lane)) (world_of board h lane).flight }
+    ensures { (board : Board) (h : List Event) (lane : BridgeLane) → Run board h → AllByRecursion (λ (item : Carried). is_lawful_on board (world_of board h) lane item ≡ true) (world_of board h lane).flight }
 {}
 
 /// A well-formed board is one of those that the laws speak of: its bridges have different numbers,
