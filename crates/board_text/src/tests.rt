@@ -1,3 +1,5 @@
+ghost use Rattle.std.specs.Prelude.{◌<◌, ◌^◌, length};
+
 use super::*;
 use std::alloc::Global;
 use std::test::Fail;
@@ -15,7 +17,9 @@ fn numbers_of_both_kinds(rt: HostRuntime) {
 }
 
 // The number, start and end of each token.
-fn places(alloc: Global, text: &[u8]) -> Result<Vec<(u32, u32, u32)>, TextFault> {
+fn places(alloc: Global, text: &[u8]) -> Result<Vec<(u32, u32, u32)>, TextFault>
+    requires { length text.now < 2 ^ 31 }
+{
     let mut places = Vec::new(alloc);
     for line in lines(alloc, text)?.as_slice() {
         for token in line.tokens.as_slice() {
