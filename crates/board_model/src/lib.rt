@@ -5,7 +5,6 @@
 mod agents;
 mod board;
 mod bridge;
-mod forms;
 mod name;
 mod op;
 mod requests;
@@ -13,10 +12,9 @@ mod requests;
 pub use agents::{Master, Opening, Range, Target};
 pub use board::{Board, Planned};
 pub use bridge::{Bridge, Lane, Place, Window};
-pub use forms::well_formed;
 pub use name::Name;
 pub use op::Op;
-pub use requests::request_of;
+pub use requests::{op_of, request_of, request_on, tries_of};
 
 #[cfg(test)]
 mod tests;

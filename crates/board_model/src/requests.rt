@@ -14,8 +14,9 @@ pub fn request_of(board: &Board, op: OpId, bus: u8) -> Option<Request>
     Some(request_on(found, bus))
 }
 
-/// The operation with that name, if it is there.
-fn op_of(board: &Board, op: OpId) -> Option<&Op>
+/// The operation that a name names. There is none exactly where its master, its index or its try is
+/// not there.
+pub fn op_of(board: &Board, op: OpId) -> Option<&Op>
     ensures { option_map (λ found. found.now) result ≡ op_of board.now op }
 {
     let master = board.masters.as_slice().get(op.master as usize)?;
@@ -27,7 +28,8 @@ fn op_of(board: &Board, op: OpId) -> Option<&Op>
     }
 }
 
-fn tries_of(op: &Op) -> u32
+/// How often an operation may be tried: a poll its tries, any other once.
+pub fn tries_of(op: &Op) -> u32
     ensures { result ≡ tries_of op.now }
 {
     match op {
@@ -36,7 +38,8 @@ fn tries_of(op: &Op) -> u32
     }
 }
 
-fn request_on(op: &Op, bus: u8) -> Request
+/// The request of an operation as driven on the bus.
+pub fn request_on(op: &Op, bus: u8) -> Request
     ensures { result ≡ request_on op.now bus }
 {
     Request {

@@ -1,4 +1,4 @@
-use crate::{Board, Master, Name, Op, request_of, well_formed};
+use crate::{Board, Master, Name, Op, request_of};
 use pci_command::{Command, List, OpId};
 use std::alloc::Global;
 use std::test::Fail;
@@ -30,7 +30,6 @@ fn a_board_and_its_requests(rt: HostRuntime) -> Result<(), Fail> {
     assert!(rt; Name::new(b"9lives").is_none());
     assert!(rt; Name::new(b"seventeen-letters").is_none());
     let board = board(rt.alloc(), b"cpu_0-a")?;
-    assert!(rt; well_formed(&board));
     let op = OpId::default();
     for (bus, address) in [(1, 0x1808), (0, 0x1_1809), (2, 0x1_1809)] {
         let request = request_of(&board, op, bus).ok_or("not there")?;

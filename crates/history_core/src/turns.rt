@@ -1,11 +1,10 @@
 ghost use Rattle.std.specs.Prelude.{◌≡◌, ◌<◌, ◌≤◌, ◌^◌, IsTrue, IsSome, true, Some};
-ghost use Rattle.std.specs.Option.{option_map};
 ghost use Rattle.board_model.specs.WellFormed.{is_well_formed};
 ghost use Rattle.board_model.specs.Requests.{op_of};
 ghost use Rattle.history_model.specs.Program.{turn_of, turn_after, ended, ending_of, ended_by, master_outcome, follows, follows_op, next_op, next_try, present, meets};
 ghost use Rattle.history_model.specs.Runs.{history_of};
 
-use board_model::{Board, Op, request_of};
+use board_model::{Board, Op, op_of};
 use history_model::{By, Event, Step};
 use pci_command::{OpId, Outcome};
 
@@ -89,7 +88,7 @@ fn follows(board: &Board, op: OpId, outcome: Outcome) -> Option<OpId>
     requires { IsTrue (is_well_formed board.now) }
     ensures { result ≡ follows board.now (record { op = op; outcome = outcome }) }
 {
-    match op_at(board, op)? {
+    match op_of(board, op)? {
         Op::Poll { mask, value, .. } if !meets(*mask, *value, outcome) => next_try(board, op),
         _ => next_op(board, op),
     }
@@ -127,20 +126,6 @@ fn next_try(board: &Board, op: OpId) -> Option<OpId>
 fn present(board: &Board, op: OpId) -> Option<OpId>
     ensures { result ≡ present board.now op }
 {
-    op_at(board, op)?;
+    op_of(board, op)?;
     Some(op)
-}
-
-/// What the name of an operation names, if it is there.
-pub(crate) fn op_at(board: &Board, op: OpId) -> Option<&Op>
-    ensures { option_map (λ found. found.now) result ≡ op_of board.now op }
-{
-    request_of(board, op, 0)?;
-    board
-        .masters
-        .as_slice()
-        .get(op.master as usize)?
-        .ops
-        .as_slice()
-        .get(op.index as usize)
 }

@@ -22,7 +22,7 @@ use Rattle.history_model.specs.World.{World, lane_back, world_of}
 use Rattle.history_model.specs.Program.{turn_of}
 use Rattle.history_model.specs.Words.{through}
 use Rattle.history_model.specs.Answers.{stalls_used}
-use Rattle.history_model.specs.Local.{is_ask_of}
+use Rattle.history_model.specs.Local.{is_ask_of, is_gone_of}
 
 -- Posted writes and credits on a lane.
 
@@ -76,13 +76,6 @@ reach_of world o (lane ∷ lanes) =
     if list_any (is_slot_of o) (world lane).held
     then (let rest = reach_of world o lanes in record { lanes = rest.lanes + 1; last = Some (lane_or rest.last lane) })
     else record { lanes = 0; last = None }
-
-abbrev pub is_gone_of : ℕ → Carried → Bool
-is_gone_of number (Post op) = false
-is_gone_of number (Ask op slot) = false
-is_gone_of number (Done op slot outcome) = false
-is_gone_of number Room = false
-is_gone_of number (Gone slot) = slot == number
 
 -- by the place of the item of the furthest slot, with `long` the length of the way and `far` the number of the lane
 abbrev pub slot_left : ℕ → ℕ → LaneState → LaneState → Option Slot → ℕ

@@ -115,6 +115,13 @@ is_ask_of number (Done op slot outcome) = false
 is_ask_of number Room = false
 is_ask_of number (Gone slot) = false
 
+abbrev pub is_gone_of : ℕ → Carried → Bool
+is_gone_of number (Post op) = false
+is_gone_of number (Ask op slot) = false
+is_gone_of number (Done op slot outcome) = false
+is_gone_of number Room = false
+is_gone_of number (Gone slot) = slot == number
+
 abbrev pub is_held_for : ℕ → OpId → Slot → Bool
 is_held_for number o slot = has_number number slot && same_op slot.op o
 

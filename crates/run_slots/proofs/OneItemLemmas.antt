@@ -13,9 +13,9 @@ use Rattle.history_model.specs.declared.item.Carried.TheVariants.{Post, Ask, Don
 use Rattle.history_model.specs.declared.item.Slot.{Slot}
 use Rattle.std.proofs.Common.{◌⊎◌, inl, inr, is_some}
 use Rattle.list_facts.proofs.TotalLemmas.{found-le}
-use Rattle.history_model.specs.Local.{is_ask_of}
+use Rattle.history_model.specs.Local.{is_ask_of, is_gone_of}
 use Rattle.history_model.specs.Lanes.{Both, has_number, is_done_for}
-use Rattle.run_slots.specs.Slots.{hit, slot_weight, ask_weight, done_weight, gone_weight, places, IsHeldFor, AskNamed, DoneNamed, Slots, is_gone_for, ItemOf, ask_flies, ask_stands, done_flies, done_stands, gone_flies, HasOneItem, GoneHeld}
+use Rattle.run_slots.specs.Slots.{hit, slot_weight, ask_weight, done_weight, gone_weight, places, IsHeldFor, AskNamed, DoneNamed, Slots, ItemOf, ask_flies, ask_stands, done_flies, done_stands, gone_flies, HasOneItem, GoneHeld}
 use Rattle.run_slots.proofs.HeldLemmas.{hit-same, found_by_number}
 
 -- a number that no two slots share finds each slot
@@ -63,14 +63,14 @@ done_found number (Done op slot outcome ∷ items) some =
 done_found number (Room ∷ items) some = done_found number items (omega arith)
 done_found number (Gone slot ∷ items) some = done_found number items (omega arith)
 
-gone_found : (number : ℕ) (items : List Carried) → 1 ≤ total (gone_weight (hit number)) items → find (is_gone_for number) items ≡ Some (Gone number)
+gone_found : (number : ℕ) (items : List Carried) → 1 ≤ total (gone_weight (hit number)) items → find (is_gone_of number) items ≡ Some (Gone number)
 gone_found number [] some = absurd (omega arith)
 gone_found number (Post op ∷ items) some = gone_found number items (omega arith)
 gone_found number (Ask op slot ∷ items) some = gone_found number items (omega arith)
 gone_found number (Done op slot outcome ∷ items) some = gone_found number items (omega arith)
 gone_found number (Room ∷ items) some = gone_found number items (omega arith)
 gone_found number (Gone slot ∷ items) some =
-    let P : Bool → Type 0 = λ b. eqb slot number ≡ b → 1 ≤ cond b 1 0 + total (gone_weight (hit number)) items → cond b (Some (Gone slot)) (find (is_gone_for number) items) ≡ Some (Gone number) in
+    let P : Bool → Type 0 = λ b. eqb slot number ≡ b → 1 ≤ cond b 1 0 + total (gone_weight (hit number)) items → cond b (Some (Gone slot)) (find (is_gone_of number) items) ≡ Some (Gone number) in
     (elim (eqb slot number) as P [
       | true ↦ λ same _. ap (λ n. Some (Gone n)) (eqb-true slot number same)
       | false ↦ λ _ later. gone_found number items (omega arith)

@@ -9,7 +9,7 @@ use Rattle.history_model.specs.declared.item.Carried.{Carried}
 use Rattle.history_model.specs.declared.item.Carried.TheVariants.{Post, Ask, Done, Room, Gone}
 use Rattle.history_model.specs.declared.item.Slot.{Slot}
 use Rattle.history_model.specs.Lanes.{Both, has_number, is_done_for}
-use Rattle.history_model.specs.Local.{is_ask_of}
+use Rattle.history_model.specs.Local.{is_ask_of, is_gone_of}
 
 -- the weight that counts one number
 abbrev pub hit : ℕ → ℕ → ℕ
@@ -84,14 +84,6 @@ pub record Slots (x : Both) : Type 0 where
   pub dones_flying : AllByRecursion (DoneNamed x.here.held) x.back.flight
   pub dones_standing : AllByRecursion (DoneNamed x.here.held) x.back.standing
 
--- the word that the request of a slot was dropped
-abbrev pub is_gone_for : ℕ → Carried → Bool
-is_gone_for number (Post op) = false
-is_gone_for number (Ask op slot) = false
-is_gone_for number (Done op slot outcome) = false
-is_gone_for number Room = false
-is_gone_for number (Gone slot) = slot == number
-
 -- the item of a held slot in one of the five places
 pub data ItemOf (slot : Slot) (x : Both) : Type 0 where
   -- its delayed request is in flight on the lane, or stands at the far face
@@ -101,7 +93,7 @@ pub data ItemOf (slot : Slot) (x : Both) : Type 0 where
   done_flies : (outcome : Outcome) → find (is_done_for slot.number) x.back.flight ≡ Some (Done slot.op slot.number outcome) → ItemOf slot x
   done_stands : (outcome : Outcome) → find (is_done_for slot.number) x.back.standing ≡ Some (Done slot.op slot.number outcome) → ItemOf slot x
   -- the word that it was dropped is in flight on the lane back
-  gone_flies : find (is_gone_for slot.number) x.back.flight ≡ Some (Gone slot.number) → ItemOf slot x
+  gone_flies : find (is_gone_of slot.number) x.back.flight ≡ Some (Gone slot.number) → ItemOf slot x
 
 -- a held slot has one item, of its operation, and there is no second one anywhere
 pub record HasOneItem (x : Both) (slot : Slot) : Type 0 where

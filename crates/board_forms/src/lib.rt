@@ -1,12 +1,15 @@
-ghost use Rattle.std.specs.Prelude.{◌≡◌};
-ghost use Rattle.board_model.specs.WellFormed.{is_well_formed};
+//! Which boards can be written: the ranges of all numbers and the limits on how many there are of each.
+#![tactic(auto)]
 
 mod agents;
 mod bridges;
 mod limits;
 mod ops;
 
-use crate::Board;
+ghost use Rattle.std.specs.Prelude.{◌≡◌};
+ghost use Rattle.board_model.specs.WellFormed.{is_well_formed};
+
+use board_model::Board;
 
 /// Whether a text can be of the board: every number is in its range, every address is a multiple
 /// of its unit, no two bridges have one secondary bus, no two agents one name, and the limits on

@@ -3,10 +3,10 @@ ghost use Rattle.std.specs.List.{list_all, list_any};
 ghost use Rattle.list_facts.specs.Lists.{total};
 ghost use Rattle.board_model.specs.WellFormed.{is_within, is_block, is_range_in, is_well_formed_range, is_dword_in, is_well_formed_opening, registers_of, is_well_formed_target, is_target_named, is_master_named, are_masters_named_apart, are_targets_named_apart};
 
-use crate::{Master, Opening, Range, Target};
+use board_model::{Master, Opening, Range, Target};
 use pci_command::Space;
 
-pub(super) fn are_targets_well_formed(targets: &[Target]) -> bool
+pub(crate) fn are_targets_well_formed(targets: &[Target]) -> bool
     ensures { result ≡ list_all is_well_formed_target targets.now }
 {
     targets.iter().all(|target| is_target_well_formed(target))
@@ -81,7 +81,7 @@ fn are_openings_well_formed(openings: &[Opening]) -> bool
 }
 
 /// Whether the address is that of a dword of memory or I/O space.
-pub(super) fn is_dword_in(space: Space, address: u64) -> bool
+pub(crate) fn is_dword_in(space: Space, address: u64) -> bool
     ensures { result ≡ is_dword_in space address }
 {
     match space {
@@ -91,7 +91,7 @@ pub(super) fn is_dword_in(space: Space, address: u64) -> bool
     }
 }
 
-pub(super) fn are_targets_named_apart(masters: &[Master], targets: &[Target]) -> bool
+pub(crate) fn are_targets_named_apart(masters: &[Master], targets: &[Target]) -> bool
     ensures { result ≡ are_targets_named_apart masters.now targets.now }
 {
     match targets.split_first() {
@@ -105,7 +105,7 @@ pub(super) fn are_targets_named_apart(masters: &[Master], targets: &[Target]) ->
     }
 }
 
-pub(super) fn are_masters_named_apart(masters: &[Master]) -> bool
+pub(crate) fn are_masters_named_apart(masters: &[Master]) -> bool
     ensures { result ≡ are_masters_named_apart masters.now }
 {
     match masters.split_first() {

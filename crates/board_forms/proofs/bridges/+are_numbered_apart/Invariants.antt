@@ -1,5 +1,5 @@
 use Rattle.std.proofs.Common.{length}
-use Rattle.board_model.proofs.forms.bridges.+are_numbered_apart.Given as goal
+use Rattle.board_forms.proofs.bridges.+are_numbered_apart.Given as goal
 
 abbrev pub decreases-are_numbered_apart : goal.decreases-are_numbered_apart
 decreases-are_numbered_apart l = length l.bridges.now

@@ -1,6 +1,6 @@
 use Rattle.std.proofs.Common.{◌≡◌, ◌+◌, drop}
 use Rattle.board_model.specs.WellFormed.{operations_in}
-use Rattle.board_model.proofs.forms.limits.operations_fit.Given as goal
+use Rattle.board_forms.proofs.limits.operations_fit.Given as goal
 
 -- the same of all programs
 abbrev pub invariant-loop-master : goal.invariant-loop-master

@@ -2,9 +2,9 @@ ghost use Rattle.std.specs.Prelude.{◌≡◌, ◌<◌};
 ghost use Rattle.std.specs.List.{list_all, list_any};
 ghost use Rattle.board_model.specs.WellFormed.{is_within, is_window, is_well_formed_bridge, has_bus, are_numbered_apart};
 
-use crate::{Bridge, Window};
+use board_model::{Bridge, Window};
 
-pub(super) fn are_well_formed(bridges: &[Bridge]) -> bool
+pub(crate) fn are_well_formed(bridges: &[Bridge]) -> bool
     ensures { result ≡ list_all is_well_formed_bridge bridges.now }
 {
     bridges.iter().all(|bridge| is_well_formed(bridge))
@@ -42,7 +42,7 @@ fn is_window(unit: u128, end: u128, window: Option<Window>) -> bool
     }
 }
 
-pub(super) fn are_numbered_apart(bridges: &[Bridge]) -> bool
+pub(crate) fn are_numbered_apart(bridges: &[Bridge]) -> bool
     ensures { result ≡ are_numbered_apart bridges.now }
 {
     match bridges.split_first() {

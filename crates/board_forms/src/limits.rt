@@ -4,9 +4,9 @@ ghost use Rattle.list_facts.specs.Lists.{total};
 ghost use Rattle.board_model.specs.Requests.{tries_of};
 ghost use Rattle.board_model.specs.WellFormed.{is_within, is_well_formed_plan, children_on, agents_on, are_few, operations_in};
 
-use crate::{Board, Master, Op, Planned};
+use board_model::{Board, Master, Op, Planned, tries_of};
 
-pub(super) fn are_few(board: &Board) -> bool
+pub(crate) fn are_few(board: &Board) -> bool
     ensures { result ≡ are_few board.now }
 {
     few_children(board) && few_agents_by_targets(board) && few_agents_by_masters(board)
@@ -84,7 +84,7 @@ fn masters_on(board: &Board, bus: u8) -> usize
 }
 
 /// Whether there are at most 65,536 operations in all, each poll counted by its tries.
-pub(super) fn operations_fit(masters: &[Master]) -> bool
+pub(crate) fn operations_fit(masters: &[Master]) -> bool
     ensures { result ≡ nat_le (operations_in masters.now) 65536 }
 {
     let mut left = 65_536;
@@ -112,17 +112,7 @@ fn operations_left(ops: &[Op], most: u32) -> Option<u32>
     Some(left)
 }
 
-/// How often an operation may be tried.
-fn tries_of(op: &Op) -> u32
-    ensures { result ≡ tries_of op.now }
-{
-    match op {
-        Op::Poll { tries, .. } => *tries,
-        _ => 1,
-    }
-}
-
-pub(super) fn are_plans_well_formed(plans: &[Planned]) -> bool
+pub(crate) fn are_plans_well_formed(plans: &[Planned]) -> bool
     ensures { result ≡ (nat_le (length plans.now) 1024 && list_all is_well_formed_plan plans.now) }
 {
     plans.len() <= 1024 && all_plans_well_formed(plans)

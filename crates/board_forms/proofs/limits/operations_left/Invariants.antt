@@ -1,7 +1,7 @@
 use Rattle.std.proofs.Common.{◌≡◌, ◌+◌, drop}
 use Rattle.list_facts.specs.Lists.{total}
 use Rattle.board_model.specs.Requests.{tries_of}
-use Rattle.board_model.proofs.forms.limits.operations_left.Given as goal
+use Rattle.board_forms.proofs.limits.operations_left.Given as goal
 
 -- what is left, and the tries of all, are what there may be, and the tries of the operations to come
 abbrev pub invariant-loop-op : goal.invariant-loop-op

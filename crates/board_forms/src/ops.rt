@@ -2,11 +2,11 @@ ghost use Rattle.std.specs.Prelude.{◌≡◌, length};
 ghost use Rattle.std.specs.List.{list_all};
 ghost use Rattle.board_model.specs.WellFormed.{is_within, read_space, write_space, is_well_formed_phase, is_well_formed_read, is_burst_in, is_well_formed_write, is_well_formed_op, is_well_formed_master};
 
-use super::agents::is_dword_in;
-use crate::{Master, Op};
+use crate::agents::is_dword_in;
+use board_model::{Master, Op};
 use pci_command::{Command, Phase, Space};
 
-pub(super) fn are_masters_well_formed(masters: &[Master]) -> bool
+pub(crate) fn are_masters_well_formed(masters: &[Master]) -> bool
     ensures { result ≡ list_all is_well_formed_master masters.now }
 {
     masters.iter().all(|master| is_master_well_formed(master))
