@@ -1,0 +1,76 @@
+-- A line behind `events`: an event, the end, or its first fault, by the number of the fault.
+use Rattle.std.specs.Prelude.{ℕ, Bool, false, List, [], ◌∷◌, length, Option, Some, None, is_some, Result, Ok, Err, not, nat_lt, nat_le, ◌==◌, ◌&&◌, ◌||◌, codes, if◌then◌else◌, slice_get}
+use Rattle.std.specs.List.{list_all, slice_split, filter}
+use Rattle.std.specs.Option.{option_and_then}
+use Rattle.std.specs.Str.{bytes_eq}
+use Rattle.board_model.specs.declared.board.Board.{Board}
+use Rattle.history_model.specs.declared.event.Event.{Event}
+use Rattle.trace_lines.specs.declared.kind.Kind.{Kind}
+use Rattle.trace_lines.specs.declared.line.TraceLine.{TraceLine}
+use Rattle.trace_lines.specs.declared.line.TraceLine.TheVariants.{Happens, Ends}
+use Rattle.trace_lines.specs.declared.line.LineFault.{LineFault}
+use Rattle.trace_lines.specs.declared.line.LineFault.TheVariants.{Unreadable, NoKind, Misshapen, Unknown}
+use Rattle.trace_lines.specs.Words.{number_of}
+use Rattle.trace_lines.specs.Events.{kind_of, has_words_for, event_in}
+
+abbrev pub is_space : ℕ → Bool
+is_space byte = byte == 32
+
+-- what stands between single spaces
+abbrev pub pieces_of : List ℕ → List (List ℕ)
+pieces_of line = slice_split is_space line
+
+-- a run of bytes that are no space
+abbrev pub has_bytes : List ℕ → Bool
+has_bytes piece = nat_lt 0 (length piece)
+
+abbrev pub words_of : List ℕ → List (List ℕ)
+words_of line = filter has_bytes (pieces_of line)
+
+-- a byte from 20 to 7e
+abbrev pub is_printing : ℕ → Bool
+is_printing byte = nat_le 32 byte && nat_le byte 126
+
+abbrev pub is_unreadable : List ℕ → Bool
+is_unreadable line = nat_lt 256 (length line) || not (list_all is_printing line)
+
+-- it begins with `end` and a space
+abbrev pub begins_end : List (List ℕ) → Bool
+begins_end [] = false
+begins_end (piece ∷ []) = false
+begins_end (piece ∷ next ∷ pieces) = bytes_eq piece (codes "end")
+
+-- single spaces alone
+abbrev pub is_regular : List (List ℕ) → Bool
+is_regular pieces = list_all has_bytes pieces
+
+abbrev pub ends_with : Option ℕ → Result TraceLine LineFault
+ends_with None = Err Unknown
+ends_with (Some count) = Ok (Ends count)
+
+abbrev pub end_line : List (List ℕ) → Result TraceLine LineFault
+end_line pieces =
+    if is_regular pieces && length pieces == 2 then ends_with (option_and_then number_of (slice_get pieces 1)) else Err Misshapen
+
+abbrev pub happens : Option Event → Result TraceLine LineFault
+happens None = Err Unknown
+happens (Some event) = Ok (Happens event)
+
+abbrev pub event_line_by : Board → List (List ℕ) → Option Kind → Result TraceLine LineFault
+event_line_by board pieces None = Err NoKind
+event_line_by board pieces (Some kind) =
+    if is_regular pieces && has_words_for kind pieces then happens (event_in board kind pieces) else Err Misshapen
+
+-- the second word tells the kind
+abbrev pub line_of : Board → List ℕ → Result TraceLine LineFault
+line_of board line =
+    if is_unreadable line then Err Unreadable
+    else if begins_end (pieces_of line) then end_line (pieces_of line)
+    else event_line_by board (pieces_of line) (option_and_then kind_of (slice_get (words_of line) 1))
+
+-- the number by which the fault is told
+abbrev pub code_of : LineFault → ℕ
+code_of Unreadable = 3
+code_of NoKind = 4
+code_of Misshapen = 5
+code_of Unknown = 6

@@ -1,0 +1,150 @@
+ghost use Rattle.std.specs.Prelude.{◌≡◌, is_some, Some, None, slice_get};
+ghost use Rattle.std.specs.Option.{option_map, option_and_then};
+ghost use Rattle.board_model.specs.Ways.{end_of};
+ghost use Rattle.trace_lines.specs.Words.{value_of, bus_in, lane_in, by_in, target_in, op_in, outcome_in, phases_in};
+ghost use Rattle.trace_lines.specs.Events.{mark_of, mark_at_end, has_words_for, word_as, at_target, reader_in, at_reader, at_lane, done_by, act_in, arrival_in, event_in};
+ghost use Rattle.trace_lines.specs.Lines.{pieces_of};
+
+use crate::kind::Kind;
+use crate::line::{count, piece};
+use crate::operation::op_in;
+use crate::words::{
+    begins_header, bus_in, by_in, header_in, lane_in, outcome_in, phases_in, target_in, value_of,
+};
+use board_model::{Board, Lane, Place};
+use history_model::{Event, Mark, Step};
+
+/// Whether the line has as many words as its kind, and an arrival no fourth one but a mark.
+pub(crate) fn has_words_for(kind: Kind, line: &[u8]) -> bool
+    ensures { result ≡ has_words_for kind (pieces_of line.now) }
+{
+    let words = count(line);
+    match kind {
+        Kind::Land | Kind::Accept | Kind::Latch | Kind::Stall | Kind::Abort => words == 5,
+        Kind::Part | Kind::Read | Kind::Take => words == 6,
+        Kind::Nobody => words == 4,
+        Kind::Arrive => 3 <= words && words <= 4 && mark_at_end(line).is_some(),
+    }
+}
+
+/// The mark of an arrival: no word, or one.
+fn mark_at_end(line: &[u8]) -> Option<Mark>
+    ensures { result ≡ mark_at_end (slice_get (pieces_of line.now) 3) }
+{
+    match piece(line, 3) {
+        None => Some(Mark::Plain),
+        Some(b"discard") => Some(Mark::Discard),
+        Some(b"drop") => Some(Mark::Drop),
+        Some(_) => None,
+    }
+}
+
+/// The event of a line of this kind.
+pub(crate) fn event_in(board: &Board, kind: Kind, line: &[u8]) -> Option<Event>
+    ensures { result ≡ event_in board.now kind (pieces_of line.now) }
+{
+    match kind {
+        Kind::Arrive => arrival_in(board, line),
+        _ => act_in(board, kind, line),
+    }
+}
+
+fn act_in(board: &Board, kind: Kind, line: &[u8]) -> Option<Event>
+    ensures { result ≡ act_in board.now kind (pieces_of line.now) }
+{
+    let bus = bus_in(board, piece(line, 0)?)?;
+    let by = by_in(board, piece(line, 2)?)?;
+    let op = op_in(board, piece(line, 3)?)?;
+    let (step, place) = done_by(board, kind, line)?;
+    Some(Event::Act {
+        bus,
+        by,
+        op,
+        step,
+        place,
+    })
+}
+
+fn arrival_in(board: &Board, line: &[u8]) -> Option<Event>
+    ensures { result ≡ arrival_in board.now (pieces_of line.now) }
+{
+    let bus = bus_in(board, piece(line, 0)?)?;
+    let lane = lane_in(board, piece(line, 2)?)?;
+    let mark = mark_at_end(line)?;
+    if end_of(board, lane) == bus {
+        Some(Event::Arrive { lane, mark })
+    } else {
+        None
+    }
+}
+
+/// The bus on which what the lane carries arrives.
+fn end_of(board: &Board, lane: Lane) -> u8
+    ensures { result ≡ end_of board.now lane }
+{
+    if lane.up {
+        primary_of(board, lane.bus)
+    } else {
+        lane.bus
+    }
+}
+
+fn primary_of(board: &Board, bus: u8) -> u8
+    ensures { result ≡ Rattle.board_model.specs.Ways.primary_of board.now bus }
+{
+    let bridges = board.bridges.as_slice();
+    match bridges.iter().find(|bridge| bridge.bus == bus) {
+        Some(bridge) => bridge.parent,
+        None => 0,
+    }
+}
+
+/// What an act did, and who claimed it.
+fn done_by(board: &Board, kind: Kind, line: &[u8]) -> Option<(Step, Place)>
+    ensures { result ≡ done_by board.now kind (pieces_of line.now) }
+{
+    match kind {
+        Kind::Land => at_target(board, line, Step::Land),
+        Kind::Part => at_target(board, line, Step::Part(phases_in(piece(line, 5)?)?)),
+        Kind::Read => at_reader(board, line, Step::Read(value_of(piece(line, 5)?)?)),
+        Kind::Accept => at_lane(board, line, Step::Accept),
+        Kind::Latch => at_lane(board, line, Step::Latch),
+        Kind::Take => at_lane(board, line, Step::Take(outcome_in(piece(line, 5)?)?)),
+        Kind::Stall => at_target(board, line, Step::Stall),
+        Kind::Nobody => Some((Step::MasterAbort, Place::Nobody)),
+        Kind::Abort => at_target(board, line, Step::TargetAbort),
+        Kind::Arrive => None,
+    }
+}
+
+fn at_target(board: &Board, line: &[u8], step: Step) -> Option<(Step, Place)>
+    ensures { result ≡ at_target board.now (pieces_of line.now) step }
+{
+    let target = target_in(board, piece(line, 4)?)?;
+    Some((step, Place::Target(target)))
+}
+
+fn at_reader(board: &Board, line: &[u8], step: Step) -> Option<(Step, Place)>
+    ensures { result ≡ at_reader board.now (pieces_of line.now) step }
+{
+    let place = reader_in(board, piece(line, 4)?)?;
+    Some((step, place))
+}
+
+/// Who gave a dword: the header of a bridge, or a target.
+fn reader_in(board: &Board, word: &[u8]) -> Option<Place>
+    ensures { result ≡ reader_in board.now word.now }
+{
+    if begins_header(word) {
+        header_in(board, word).map(Place::Header)
+    } else {
+        target_in(board, word).map(Place::Target)
+    }
+}
+
+fn at_lane(board: &Board, line: &[u8], step: Step) -> Option<(Step, Place)>
+    ensures { result ≡ at_lane board.now (pieces_of line.now) step }
+{
+    let lane = lane_in(board, piece(line, 4)?)?;
+    Some((step, Place::Lane(lane)))
+}

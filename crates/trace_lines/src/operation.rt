@@ -1,0 +1,76 @@
+ghost use Rattle.std.specs.Prelude.{◌≡◌, Some, None};
+ghost use Rattle.std.specs.Option.{option_map};
+ghost use Rattle.std.specs.List.{list_any, position, position_or_len};
+ghost use Rattle.trace_lines.specs.Words.{at_most, number_of, is_master_named, master_in, is_dot, at_dot, named, index_and_try, op_by, op_in};
+ghost use Rattle.trace_text.specs.Words.{names_poll};
+
+use crate::words::number_of;
+use board_model::{Board, Op, op_of};
+use pci_command::OpId;
+
+/// An operation of the board: NAME.INDEX, for a poll NAME.INDEX.TRY.
+pub(crate) fn op_in(board: &Board, word: &[u8]) -> Option<OpId>
+    ensures { result ≡ op_in board.now word.now }
+{
+    let (name, rest) = at_dot(word)?;
+    let master = master_in(board, name)?;
+    match at_dot(rest) {
+        None => named(board, false, master, index_of(rest)?, 0),
+        Some((index, attempt)) => {
+            let index = index_of(index)?;
+            let attempt = number_of(attempt)?;
+            named(board, true, master, index, attempt)
+        }
+    }
+}
+
+fn index_of(word: &[u8]) -> Option<u16>
+    ensures { result ≡ at_most 65535 (number_of word.now) }
+{
+    let number = number_of(word)?;
+    u16::try_from(number).ok()
+}
+
+/// What stands before the first dot, and what behind it.
+fn at_dot(word: &[u8]) -> Option<(&[u8], &[u8])>
+    ensures { option_map (λ parts. (parts.0.now, parts.1.now)) result ≡ at_dot word.now }
+{
+    let place = word.iter().position(|byte| *byte == b'.')?;
+    let (before, behind) = word.split_at(place);
+    let (_dot, after) = behind.split_at(1);
+    Some((before, after))
+}
+
+/// The place of the master of this name.
+fn master_in(board: &Board, word: &[u8]) -> Option<u16>
+    ensures { result ≡ master_in board.now word.now }
+{
+    let place = master_place(board, word)?;
+    u16::try_from(place).ok()
+}
+
+fn master_place(board: &Board, word: &[u8]) -> Option<usize>
+    ensures { result ≡ position (is_master_named word.now) board.now.masters }
+{
+    let masters = board.masters.as_slice();
+    masters
+        .iter()
+        .position(|master| master.name.bytes() == word)
+}
+
+/// The operation of that name, which is there, and a poll or none as it is named.
+fn named(board: &Board, polls: bool, master: u16, index: u16, attempt: u32) -> Option<OpId>
+    ensures { result ≡ named board.now polls master index attempt }
+{
+    let op = OpId {
+        master,
+        index,
+        attempt,
+    };
+    let found = op_of(board, op)?;
+    if matches!(found, Op::Poll { .. }) == polls {
+        Some(op)
+    } else {
+        None
+    }
+}
