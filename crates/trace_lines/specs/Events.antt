@@ -20,6 +20,15 @@ use Rattle.trace_lines.specs.declared.kind.Kind.TheVariants.{Land, Part, Read, A
 use Rattle.trace_lines.specs.Words.{only_where, value_of, bus_in, lane_in, by_in, target_in, op_in, begins_header, header_in, outcome_in, phases_in}
 
 -- the ten kinds, by their words
+abbrev pub later_kind_of : List ℕ → Option Kind
+later_kind_of word =
+    if bytes_eq word (codes "take") then Some Take
+    else if bytes_eq word (codes "stall") then Some Stall
+    else if bytes_eq word (codes "nobody") then Some Nobody
+    else if bytes_eq word (codes "tabort") then Some Abort
+    else if bytes_eq word (codes "arrive") then Some Arrive
+    else None
+
 abbrev pub kind_of : List ℕ → Option Kind
 kind_of word =
     if bytes_eq word (codes "land") then Some Land
@@ -27,12 +36,7 @@ kind_of word =
     else if bytes_eq word (codes "read") then Some Read
     else if bytes_eq word (codes "accept") then Some Accept
     else if bytes_eq word (codes "latch") then Some Latch
-    else if bytes_eq word (codes "take") then Some Take
-    else if bytes_eq word (codes "stall") then Some Stall
-    else if bytes_eq word (codes "nobody") then Some Nobody
-    else if bytes_eq word (codes "tabort") then Some Abort
-    else if bytes_eq word (codes "arrive") then Some Arrive
-    else None
+    else later_kind_of word
 
 -- the mark of an arrival
 abbrev pub mark_of : List ℕ → Option Mark

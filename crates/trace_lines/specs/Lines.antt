@@ -1,7 +1,6 @@
 -- A line behind `events`: an event, the end, or its first fault, by the number of the fault.
-use Rattle.std.specs.Prelude.{ℕ, Bool, false, List, [], ◌∷◌, length, Option, Some, None, is_some, Result, Ok, Err, not, nat_lt, nat_le, ◌==◌, ◌&&◌, ◌||◌, codes, if◌then◌else◌, slice_get}
-use Rattle.std.specs.List.{list_all, slice_split, filter}
-use Rattle.std.specs.Option.{option_and_then}
+use Rattle.std.specs.Prelude.{◌≡◌, ℕ, Bool, false, List, [], ◌∷◌, length, Option, Some, None, Result, Ok, Err, not, nat_lt, nat_le, ◌==◌, ◌&&◌, ◌||◌, codes, if◌then◌else◌}
+use Rattle.std.specs.List.{list_all, slice_split}
 use Rattle.std.specs.Str.{bytes_eq}
 use Rattle.board_model.specs.declared.board.Board.{Board}
 use Rattle.history_model.specs.declared.event.Event.{Event}
@@ -10,8 +9,10 @@ use Rattle.trace_lines.specs.declared.line.TraceLine.{TraceLine}
 use Rattle.trace_lines.specs.declared.line.TraceLine.TheVariants.{Happens, Ends}
 use Rattle.trace_lines.specs.declared.line.LineFault.{LineFault}
 use Rattle.trace_lines.specs.declared.line.LineFault.TheVariants.{Unreadable, NoKind, Misshapen, Unknown}
+use Rattle.trace_lines.specs.declared.line.Unread.{Unread}
+use Rattle.trace_lines.specs.declared.line.Unread.TheVariants.{Fault, NoMemory}
 use Rattle.trace_lines.specs.Words.{number_of}
-use Rattle.trace_lines.specs.Events.{kind_of, has_words_for, event_in}
+use Rattle.trace_lines.specs.Events.{kind_of, has_words_for, word_as, event_in}
 
 abbrev pub is_space : ℕ → Bool
 is_space byte = byte == 32
@@ -22,10 +23,15 @@ pieces_of line = slice_split is_space line
 
 -- a run of bytes that are no space
 abbrev pub has_bytes : List ℕ → Bool
-has_bytes piece = nat_lt 0 (length piece)
+has_bytes piece = not (length piece == 0)
 
-abbrev pub words_of : List ℕ → List (List ℕ)
-words_of line = filter has_bytes (pieces_of line)
+abbrev pub first_word : List (List ℕ) → Option (List ℕ)
+first_word [] = None
+first_word (piece ∷ pieces) = if length piece == 0 then first_word pieces else Some piece
+
+abbrev pub second_word : List (List ℕ) → Option (List ℕ)
+second_word [] = None
+second_word (piece ∷ pieces) = if length piece == 0 then second_word pieces else first_word pieces
 
 -- a byte from 20 to 7e
 abbrev pub is_printing : ℕ → Bool
@@ -50,7 +56,7 @@ ends_with (Some count) = Ok (Ends count)
 
 abbrev pub end_line : List (List ℕ) → Result TraceLine LineFault
 end_line pieces =
-    if is_regular pieces && length pieces == 2 then ends_with (option_and_then number_of (slice_get pieces 1)) else Err Misshapen
+    if is_regular pieces && length pieces == 2 then ends_with (word_as number_of pieces 1) else Err Misshapen
 
 abbrev pub happens : Option Event → Result TraceLine LineFault
 happens None = Err Unknown
@@ -62,11 +68,17 @@ event_line_by board pieces (Some kind) =
     if is_regular pieces && has_words_for kind pieces then happens (event_in board kind pieces) else Err Misshapen
 
 -- the second word tells the kind
+abbrev pub kind_by : Option (List ℕ) → Option Kind
+kind_by None = None
+kind_by (Some word) = kind_of word
+
+abbrev pub pieces_line : Board → List (List ℕ) → Result TraceLine LineFault
+pieces_line board pieces =
+    if begins_end pieces then end_line pieces else event_line_by board pieces (kind_by (second_word pieces))
+
+-- a line, without its newline
 abbrev pub line_of : Board → List ℕ → Result TraceLine LineFault
-line_of board line =
-    if is_unreadable line then Err Unreadable
-    else if begins_end (pieces_of line) then end_line (pieces_of line)
-    else event_line_by board (pieces_of line) (option_and_then kind_of (slice_get (words_of line) 1))
+line_of board line = if is_unreadable line then Err Unreadable else pieces_line board (pieces_of line)
 
 -- the number by which the fault is told
 abbrev pub code_of : LineFault → ℕ
@@ -74,3 +86,8 @@ code_of Unreadable = 3
 code_of NoKind = 4
 code_of Misshapen = 5
 code_of Unknown = 6
+
+-- a line is not read for its fault, or for want of memory
+abbrev pub IsFaultOf : Result TraceLine LineFault → Unread → Type 0
+IsFaultOf answer (Fault fault) = answer ≡ Err fault
+IsFaultOf answer NoMemory = Unit {0}

@@ -1,24 +1,25 @@
-ghost use Rattle.std.specs.Prelude.{◌≡◌, is_some, Some, None, slice_get};
-ghost use Rattle.std.specs.Option.{option_map, option_and_then};
-ghost use Rattle.board_model.specs.Ways.{end_of};
+ghost use Rattle.std.specs.Prelude.{◌≡◌, map, is_some, slice_get};
+ghost use Rattle.std.specs.Option.{option_map};
+ghost use Rattle.std.specs.List.{find};
+ghost use Rattle.board_model.specs.WellFormed.{has_bus};
+ghost use Rattle.board_model.specs.Ways.{end_of, primary_of};
 ghost use Rattle.trace_lines.specs.Words.{value_of, bus_in, lane_in, by_in, target_in, op_in, outcome_in, phases_in};
 ghost use Rattle.trace_lines.specs.Events.{mark_of, mark_at_end, has_words_for, word_as, at_target, reader_in, at_reader, at_lane, done_by, act_in, arrival_in, event_in};
-ghost use Rattle.trace_lines.specs.Lines.{pieces_of};
 
 use crate::kind::Kind;
-use crate::line::{count, piece};
+use crate::line::piece;
 use crate::operation::op_in;
 use crate::words::{
     begins_header, bus_in, by_in, header_in, lane_in, outcome_in, phases_in, target_in, value_of,
 };
-use board_model::{Board, Lane, Place};
+use board_model::{Board, Bridge, Lane, Place};
 use history_model::{Event, Mark, Step};
 
 /// Whether the line has as many words as its kind, and an arrival no fourth one but a mark.
-pub(crate) fn has_words_for(kind: Kind, line: &[u8]) -> bool
-    ensures { result ≡ has_words_for kind (pieces_of line.now) }
+pub(crate) fn has_words_for(kind: Kind, line: &[&[u8]]) -> bool
+    ensures { result ≡ has_words_for kind (map (λ piece. piece.now) line.now) }
 {
-    let words = count(line);
+    let words = line.len();
     match kind {
         Kind::Land | Kind::Accept | Kind::Latch | Kind::Stall | Kind::Abort => words == 5,
         Kind::Part | Kind::Read | Kind::Take => words == 6,
@@ -28,8 +29,8 @@ pub(crate) fn has_words_for(kind: Kind, line: &[u8]) -> bool
 }
 
 /// The mark of an arrival: no word, or one.
-fn mark_at_end(line: &[u8]) -> Option<Mark>
-    ensures { result ≡ mark_at_end (slice_get (pieces_of line.now) 3) }
+fn mark_at_end(line: &[&[u8]]) -> Option<Mark>
+    ensures { result ≡ mark_at_end (slice_get (map (λ piece. piece.now) line.now) 3) }
 {
     match piece(line, 3) {
         None => Some(Mark::Plain),
@@ -40,8 +41,8 @@ fn mark_at_end(line: &[u8]) -> Option<Mark>
 }
 
 /// The event of a line of this kind.
-pub(crate) fn event_in(board: &Board, kind: Kind, line: &[u8]) -> Option<Event>
-    ensures { result ≡ event_in board.now kind (pieces_of line.now) }
+pub(crate) fn event_in(board: &Board, kind: Kind, line: &[&[u8]]) -> Option<Event>
+    ensures { result ≡ event_in board.now kind (map (λ piece. piece.now) line.now) }
 {
     match kind {
         Kind::Arrive => arrival_in(board, line),
@@ -49,8 +50,8 @@ pub(crate) fn event_in(board: &Board, kind: Kind, line: &[u8]) -> Option<Event>
     }
 }
 
-fn act_in(board: &Board, kind: Kind, line: &[u8]) -> Option<Event>
-    ensures { result ≡ act_in board.now kind (pieces_of line.now) }
+fn act_in(board: &Board, kind: Kind, line: &[&[u8]]) -> Option<Event>
+    ensures { result ≡ act_in board.now kind (map (λ piece. piece.now) line.now) }
 {
     let bus = bus_in(board, piece(line, 0)?)?;
     let by = by_in(board, piece(line, 2)?)?;
@@ -65,8 +66,8 @@ fn act_in(board: &Board, kind: Kind, line: &[u8]) -> Option<Event>
     })
 }
 
-fn arrival_in(board: &Board, line: &[u8]) -> Option<Event>
-    ensures { result ≡ arrival_in board.now (pieces_of line.now) }
+fn arrival_in(board: &Board, line: &[&[u8]]) -> Option<Event>
+    ensures { result ≡ arrival_in board.now (map (λ piece. piece.now) line.now) }
 {
     let bus = bus_in(board, piece(line, 0)?)?;
     let lane = lane_in(board, piece(line, 2)?)?;
@@ -90,18 +91,24 @@ fn end_of(board: &Board, lane: Lane) -> u8
 }
 
 fn primary_of(board: &Board, bus: u8) -> u8
-    ensures { result ≡ Rattle.board_model.specs.Ways.primary_of board.now bus }
+    ensures { result ≡ primary_of board.now bus }
 {
-    let bridges = board.bridges.as_slice();
-    match bridges.iter().find(|bridge| bridge.bus == bus) {
+    match bridge_to(board, bus) {
         Some(bridge) => bridge.parent,
         None => 0,
     }
 }
 
+fn bridge_to(board: &Board, bus: u8) -> Option<&Bridge>
+    ensures { option_map (λ bridge. bridge.now) result ≡ find (has_bus bus) board.now.bridges }
+{
+    let bridges = board.bridges.as_slice();
+    bridges.iter().find(|bridge| bridge.bus == bus)
+}
+
 /// What an act did, and who claimed it.
-fn done_by(board: &Board, kind: Kind, line: &[u8]) -> Option<(Step, Place)>
-    ensures { result ≡ done_by board.now kind (pieces_of line.now) }
+fn done_by(board: &Board, kind: Kind, line: &[&[u8]]) -> Option<(Step, Place)>
+    ensures { result ≡ done_by board.now kind (map (λ piece. piece.now) line.now) }
 {
     match kind {
         Kind::Land => at_target(board, line, Step::Land),
@@ -117,15 +124,15 @@ fn done_by(board: &Board, kind: Kind, line: &[u8]) -> Option<(Step, Place)>
     }
 }
 
-fn at_target(board: &Board, line: &[u8], step: Step) -> Option<(Step, Place)>
-    ensures { result ≡ at_target board.now (pieces_of line.now) step }
+fn at_target(board: &Board, line: &[&[u8]], step: Step) -> Option<(Step, Place)>
+    ensures { result ≡ at_target board.now (map (λ piece. piece.now) line.now) step }
 {
     let target = target_in(board, piece(line, 4)?)?;
     Some((step, Place::Target(target)))
 }
 
-fn at_reader(board: &Board, line: &[u8], step: Step) -> Option<(Step, Place)>
-    ensures { result ≡ at_reader board.now (pieces_of line.now) step }
+fn at_reader(board: &Board, line: &[&[u8]], step: Step) -> Option<(Step, Place)>
+    ensures { result ≡ at_reader board.now (map (λ piece. piece.now) line.now) step }
 {
     let place = reader_in(board, piece(line, 4)?)?;
     Some((step, place))
@@ -142,8 +149,8 @@ fn reader_in(board: &Board, word: &[u8]) -> Option<Place>
     }
 }
 
-fn at_lane(board: &Board, line: &[u8], step: Step) -> Option<(Step, Place)>
-    ensures { result ≡ at_lane board.now (pieces_of line.now) step }
+fn at_lane(board: &Board, line: &[&[u8]], step: Step) -> Option<(Step, Place)>
+    ensures { result ≡ at_lane board.now (map (λ piece. piece.now) line.now) step }
 {
     let lane = lane_in(board, piece(line, 4)?)?;
     Some((step, Place::Lane(lane)))

@@ -1,6 +1,6 @@
-ghost use Rattle.std.specs.Prelude.{◌≡◌, Some, None};
+ghost use Rattle.std.specs.Prelude.{◌≡◌, ◌≤◌, length};
 ghost use Rattle.std.specs.Option.{option_map};
-ghost use Rattle.std.specs.List.{list_any, position, position_or_len};
+ghost use Rattle.std.specs.List.{position, position_or_len};
 ghost use Rattle.trace_lines.specs.Words.{at_most, number_of, is_master_named, master_in, is_dot, at_dot, named, index_and_try, op_by, op_in};
 ghost use Rattle.trace_text.specs.Words.{names_poll};
 
@@ -35,10 +35,22 @@ fn index_of(word: &[u8]) -> Option<u16>
 fn at_dot(word: &[u8]) -> Option<(&[u8], &[u8])>
     ensures { option_map (λ parts. (parts.0.now, parts.1.now)) result ≡ at_dot word.now }
 {
-    let place = word.iter().position(|byte| *byte == b'.')?;
+    let place = length_before_dot(word);
+    if place == word.len() {
+        return None;
+    }
     let (before, behind) = word.split_at(place);
     let (_dot, after) = behind.split_at(1);
     Some((before, after))
+}
+
+fn length_before_dot(word: &[u8]) -> usize
+    ensures value { result ≡ position_or_len is_dot word.now }
+    ensures within { result ≤ length word.now }
+{
+    word.iter()
+        .position(|byte| *byte == b'.')
+        .unwrap_or(word.len())
 }
 
 /// The place of the master of this name.
