@@ -4,6 +4,7 @@
 
 mod fault;
 mod statement;
+mod words;
 
 pub use fault::{Family, LineFault};
 pub use statement::Statement;
