@@ -1,3 +1,5 @@
 pub mod Faults
 pub mod Cuts
 pub mod Words
+pub mod Keywords
+pub mod Bridges

@@ -1,8 +1,9 @@
 -- The words of a line, read from left to right. A reader takes words from the front of those that are left. It gives
 -- a value and the words behind what it took, or the first fault.
 use Rattle.std.specs.Prelude.{◌≡◌, ℕ, Bool, false, ◌+◌, ◌*◌, ◌^◌, List, [], ◌∷◌, length, Option, Some, None, Result, Ok, Err, ◌==◌, ◌&&◌, nat_le, if◌then◌else◌, codes}
-use Rattle.std.specs.List.{list_any, before_first, after_first}
+use Rattle.std.specs.List.{list_any, list_all, before_first, after_first}
 use Rattle.std.specs.Str.{bytes_eq}
+use Rattle.std.specs.Char.{digit_value, is_digit}
 use Rattle.pci_command.specs.declared.phases.Phase.{Phase}
 use Rattle.board_model.specs.Names.{is_name}
 use Rattle.board_text.specs.declared.numbers.NumberFault.{NumberFault}
@@ -44,7 +45,7 @@ abbrev pub one_word : {A : Type 0} → (List ℕ → Result A LineFault) → Rea
 one_word kind [] = Err Missing
 one_word kind (word ∷ words) = with_rest (kind word) words
 
--- the word at which the words begin, if it is this one, leads to what stands behind it; else nothing is taken
+-- whether the next word is this one
 abbrev pub begins_with : List ℕ → List (List ℕ) → Bool
 begins_with expected [] = false
 begins_with expected (word ∷ words) = bytes_eq word expected
@@ -53,9 +54,13 @@ abbrev pub behind_first : List (List ℕ) → List (List ℕ)
 behind_first [] = []
 behind_first (word ∷ words) = words
 
+-- what stands behind this word, if it is the next one, and else what stands here
+abbrev pub choice : {A : Type 0} → List ℕ → Reader A → Reader A → Reader A
+choice expected behind here words = if begins_with expected words then behind (behind_first words) else here words
+
+-- what stands behind this word, which may be left out: then it is as if this value stood there
 abbrev pub optional : {A : Type 0} → List ℕ → A → Reader A → Reader A
-optional expected default reader words =
-    if begins_with expected words then reader (behind_first words) else Ok (default, words)
+optional expected default behind = choice expected behind (give default)
 
 -- a word behind the last one of the line is too many
 abbrev pub whole : {A : Type 0} → Result (A × List (List ℕ)) LineFault → Result A LineFault
@@ -123,9 +128,15 @@ long_of wide word =
     then and_part (hex_of 8 (before_mark 58 word)) (λ upper. and_part (lower_of (behind_mark 58 word)) (λ lower. Ok (upper * 2 ^ 32 + lower)))
     else hex_of 8 word
 
+-- one hexadecimal digit
+abbrev pub digit_of : ℕ → Result ℕ LineFault
+digit_of byte = if is_digit byte 16 then Ok (digit_value byte) else Err IllFormed
+
 -- the enables of a data word: exactly one digit
 abbrev pub enables_of : List ℕ → Result ℕ LineFault
-enables_of part = if length part == 1 then hex_of 1 part else Err IllFormed
+enables_of [] = Err IllFormed
+enables_of (byte ∷ []) = digit_of byte
+enables_of (byte ∷ next ∷ part) = Err IllFormed
 
 -- VALUE, with all bytes enabled, or VALUE/E
 unfoldable pub data_word_of : List ℕ → Result Phase LineFault
@@ -133,6 +144,16 @@ data_word_of word =
     if has_mark 47 word
     then and_part (hex_of 8 (before_mark 47 word)) (λ number. and_part (enables_of (behind_mark 47 word)) (λ bits. Ok (record { value = number; enables = bits })))
     else and_part (hex_of 8 word) (λ number. Ok (record { value = number; enables = 15 }))
+
+-- the 64 bytes of a header, each in two digits
+abbrev pub in_pairs : List ℕ → List ℕ
+in_pairs [] = []
+in_pairs (high ∷ []) = []
+in_pairs (high ∷ low ∷ word) = (16 * digit_value high + digit_value low) ∷ in_pairs word
+
+unfoldable pub header_of : List ℕ → Result (List ℕ) LineFault
+header_of word =
+    if length word == 128 && list_all (λ byte. is_digit byte 16) word then Ok (in_pairs word) else Err IllFormed
 
 -- The readers of one word of each kind.
 
@@ -153,3 +174,6 @@ long wide = one_word (long_of wide)
 
 abbrev pub data_word : Reader Phase
 data_word = one_word data_word_of
+
+abbrev pub header_bytes : Reader (List ℕ)
+header_bytes = one_word header_of

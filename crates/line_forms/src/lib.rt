@@ -2,7 +2,10 @@
 //! statement, or give the first fault.
 #![tactic(auto)]
 
+mod bridges;
 mod fault;
+mod keyword;
+mod kinds;
 mod statement;
 mod words;
 

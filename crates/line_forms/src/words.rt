@@ -4,9 +4,12 @@ ghost use Rattle.std.specs.Prelude.{if◌then◌else◌};
 ghost use Rattle.std.specs.Str.{bytes_eq};
 ghost use Rattle.board_text.specs.Tokens.{is_separator, is_comment, words_of};
 ghost use Rattle.line_forms.specs.Cuts.{words_in, is_no_separator};
-ghost use Rattle.line_forms.specs.Words.{begins_with, behind_first};
+ghost use Rattle.line_forms.specs.Words.{Gives, begins_with, behind_first, hex, decimal, fixed, name, long, data_word};
 
 use crate::LineFault;
+use crate::kinds::{data_word_of, decimal_of, fixed_of, hex_of, long_of, name_of};
+use board_model::Name;
+use pci_command::Phase;
 use std::marker::Model;
 
 /// The words of a line that are left, of which the next one is the first.
@@ -59,6 +62,64 @@ impl<'a> Words<'a> {
             }
             _ => false,
         }
+    }
+
+    /// The next word as a fixed one.
+    pub fn fixed(&mut self, expected: &[u8]) -> Result<(), LineFault>
+        ensures { Gives result self.new (fixed expected.now self.old) }
+    {
+        fixed_of(self.take()?, expected)
+    }
+
+    /// The next word as a decimal number from `low` to `high`.
+    pub fn decimal(&mut self, low: u32, high: u32) -> Result<u32, LineFault>
+        ensures { Gives result self.new (decimal low high self.old) }
+    {
+        decimal_of(self.take()?, low, high)
+    }
+
+    /// The same of a number of a byte.
+    pub fn decimal_byte(&mut self, low: u8, high: u8) -> Result<u8, LineFault>
+        ensures { Gives result self.new (decimal low high self.old) }
+    {
+        let number = decimal_of(self.take()?, u32::from(low), u32::from(high))?;
+        Ok(number as u8)
+    }
+
+    /// The next word as a number of 32 bits.
+    pub fn hex(&mut self) -> Result<u32, LineFault>
+        ensures { Gives result self.new (hex 8 self.old) }
+    {
+        hex_of(self.take()?, 8)
+    }
+
+    /// The next word as a number of 16 bits.
+    pub fn hex_half(&mut self) -> Result<u16, LineFault>
+        ensures { Gives result self.new (hex 4 self.old) }
+    {
+        let number = hex_of(self.take()?, 4)?;
+        Ok(number as u16)
+    }
+
+    /// The next word as an address, a size or a limit that may have 64 bits in a wide text.
+    pub fn long(&mut self, wide: bool) -> Result<u64, LineFault>
+        ensures { Gives result self.new (long wide self.old) }
+    {
+        long_of(self.take()?, wide)
+    }
+
+    /// The next word as a name.
+    pub fn name(&mut self) -> Result<Name, LineFault>
+        ensures { Gives result self.new (name self.old) }
+    {
+        name_of(self.take()?)
+    }
+
+    /// The next word as a data word.
+    pub fn data_word(&mut self) -> Result<Phase, LineFault>
+        ensures { Gives result self.new (data_word self.old) }
+    {
+        data_word_of(self.take()?)
     }
 }
 
