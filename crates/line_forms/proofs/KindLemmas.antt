@@ -1,15 +1,17 @@
 -- Numbers that fit, words of two parts, and digits in pairs.
-use Rattle.std.proofs.Common.{◌≡◌, ℕ, suc, ◌+◌, ◌^◌, ◌<◌, ◌≤◌, Bool, true, false, not, cond, eqb, ltb, ◌&&◌, ◌||◌, List, [], ◌∷◌, length, drop, Result, Ok, Err, arith, refl, sym, ap, ◌∙◌}
+use Rattle.std.proofs.Common.{◌≡◌, ℕ, zero, suc, ◌+◌, ◌*◌, ◌^◌, ◌<◌, ◌≤◌, Bool, true, false, not, cond, eqb, ltb, ◌&&◌, ◌||◌, List, [], ◌∷◌, ◌++◌, append_assoc, length, take, drop, get_or, Result, Ok, Err, arith, refl, sym, ap, ◌∙◌}
 use Rattle.std.proofs.lemmas.Bool.Decides.{nat_tests}
-use Rattle.std.proofs.lemmas.List.{drop-drop}
+use Rattle.std.proofs.lemmas.List.{drop-drop, drop_all, take_all, append-nil}
+use Rattle.std.proofs.Math.Seq.{drop-cons, take-suc-set}
+use Rattle.std.proofs.Math.ListN.{set}
 use Rattle.std.specs.List.{position_or_len, list_any, list_all}
-use Rattle.std.specs.Char.{is_digit}
+use Rattle.std.specs.Char.{digit_value, is_digit}
 use Rattle.std.specs.Str.Parse.{digits_value}
 use Rattle.board_text.specs.declared.numbers.NumberFault.{NumberFault}
 use Rattle.board_text.specs.declared.numbers.NumberFault.TheVariants.{TooWide, NotDigits}
 use Rattle.board_text.specs.Numbers.{is_numeral, hex_answer}
 use Rattle.board_text.proofs.DigitLemmas.{digits_below}
-use Rattle.line_forms.specs.Words.{has_mark, behind_mark}
+use Rattle.line_forms.specs.Words.{has_mark, behind_mark, in_pairs}
 
 abbrev answer : ℕ → Result ℕ NumberFault
 answer n = Ok n
@@ -50,3 +52,31 @@ one_mark mark word at is within inside = mark_is_there (λ byte. eqb byte mark) 
 
 pub behind_is : (mark at : ℕ) (word from behind : List ℕ) → at ≡ position_or_len (λ byte. eqb byte mark) word → from ≡ drop at word → behind ≡ drop 1 from → behind ≡ behind_mark mark word
 behind_is mark at word from behind is cut last = last ∙ ap (drop 1) cut ∙ drop-drop 1 at word ∙ ap (λ (n : ℕ). drop (n + 1) word) is
+
+pub digit_in : (word : List ℕ) (at : ℕ) → list_all (λ byte. is_digit byte 16) word ≡ true → at < length word → is_digit (get_or word at 0) 16 ≡ true
+digit_in [] at all inside = absurd (omega arith)
+digit_in (byte ∷ word) zero all inside = grind arith
+digit_in (byte ∷ word) (suc at) all inside =
+    let others : list_all (λ byte. is_digit byte 16) word ≡ true = grind arith in
+    digit_in word at others (omega arith)
+
+-- one byte more
+pub pair_more : (word bytes whole : List ℕ) (i value : ℕ) → 2 * i + 1 < length word → i < length bytes → value ≡ 16 * digit_value (get_or word (2 * i) 0) + digit_value (get_or word (2 * i + 1) 0)
+    → take i bytes ++ in_pairs (drop (2 * i) word) ≡ whole → take (i + 1) (set bytes i value) ++ in_pairs (drop (2 * (i + 1)) word) ≡ whole
+pair_more word bytes whole i value inside within is so_far =
+    let next : i + 1 ≡ suc i = omega arith in
+    let after : 2 * (i + 1) ≡ suc (suc (2 * i)) = omega arith in
+    let second : 2 * i + 1 ≡ suc (2 * i) = omega arith in
+    let left : drop (2 * i) word ≡ get_or word (2 * i) 0 ∷ get_or word (2 * i + 1) 0 ∷ drop (2 * (i + 1)) word =
+        rw (after, second) (drop-cons word (2 * i) 0 (omega arith) ∙ ap (λ (more : List ℕ). get_or word (2 * i) 0 ∷ more) (drop-cons word (suc (2 * i)) 0 (omega arith))) in
+    let these : in_pairs (drop (2 * i) word) ≡ value ∷ in_pairs (drop (2 * (i + 1)) word) = ap in_pairs left ∙ ap (λ (v : ℕ). v ∷ in_pairs (drop (2 * (i + 1)) word)) (sym is) in
+    let wrote : take (i + 1) (set bytes i value) ≡ take i bytes ++ value ∷ [] = rw next (take-suc-set bytes i value within) in
+    let regrouped : take i bytes ++ (value ∷ in_pairs (drop (2 * (i + 1)) word)) ≡ whole = rw these at so_far in
+    rw (wrote, append_assoc) regrouped
+
+pub pairs_done : (word bytes : List ℕ) (i : ℕ) → length word ≡ 128 → length bytes ≡ 64 → i ≡ 64 → take i bytes ++ in_pairs (drop (2 * i) word) ≡ in_pairs word → bytes ≡ in_pairs word
+pairs_done word bytes i size long last so_far =
+    let none : drop (2 * i) word ≡ [] = drop_all (2 * i) word (omega arith) in
+    let all : take i bytes ≡ bytes = take_all i bytes (omega arith) in
+    let whole : bytes ++ [] ≡ in_pairs word = rw (none, all) at so_far in
+    sym (append-nil bytes) ∙ whole

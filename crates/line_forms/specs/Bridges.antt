@@ -1,7 +1,6 @@
 -- The lines of bridges.
 use Rattle.std.specs.Prelude.{ℕ, Bool, false, ◌==◌, List, Option, Some, None, codes}
 use Rattle.board_model.specs.declared.bridge.Window.{Window}
-use Rattle.board_model.specs.declared.bridge.Bridge.{Bridge}
 use Rattle.line_forms.specs.declared.statement.Statement.{Statement}
 use Rattle.line_forms.specs.declared.statement.Statement.TheVariants.{NewBridge, NewHeader}
 use Rattle.line_forms.specs.Words.{◌>>=◌, ◌>>◌, Reader, give, choice, optional, decimal, fixed, long, header_bytes}
@@ -28,7 +27,7 @@ abort_mode = optional (codes "abort") false do
   give (bit == 1)
 
 -- `bridge B on Q dev D last S`, and then what may be left out, in this order
-unfoldable pub bridge_form : Bool → Reader Bridge
+unfoldable pub bridge_form : Bool → Reader Statement
 bridge_form wide = do
   bus ← decimal 1 255
   fixed (codes "on")
@@ -43,7 +42,7 @@ bridge_form wide = do
   posted ← depth (codes "posted")
   delayed ← depth (codes "delayed")
   mode ← abort_mode
-  give (record { bus = bus; parent = parent; device = device; last = last; mem = mem; pref = pref; io = io; posted = posted; delayed = delayed; mode = mode })
+  give (NewBridge (record { bus = bus; parent = parent; device = device; last = last; mem = mem; pref = pref; io = io; posted = posted; delayed = delayed; mode = mode }))
 
 -- `header D BYTES`, and then what may be left out
 unfoldable pub header_form : Reader Statement

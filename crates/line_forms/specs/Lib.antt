@@ -3,3 +3,5 @@ pub mod Cuts
 pub mod Words
 pub mod Keywords
 pub mod Bridges
+pub mod Targets
+pub mod Masters

@@ -1,14 +1,14 @@
 ghost use Rattle.std.specs.Prelude.{false};
 ghost use Rattle.line_forms.specs.Words.{Gives, choice, give};
-ghost use Rattle.line_forms.specs.Bridges.{window, base_limit, depth, abort_mode, bridge_form};
+ghost use Rattle.line_forms.specs.Bridges.{window, base_limit, depth, abort_mode, bridge_form, header_form};
 
-use crate::LineFault;
 use crate::words::Words;
+use crate::{LineFault, Statement};
 use board_model::{Bridge, Window};
 
 /// `bridge B on Q dev D last S`, and then what may be left out, in its order.
 #[tactic(auto, unfolding(crate::specs::Bridges::bridge_form))]
-pub fn bridge(words: &mut Words, wide: bool) -> Result<Bridge, LineFault>
+pub fn bridge(words: &mut Words, wide: bool) -> Result<Statement, LineFault>
     ensures { Gives result words.new (bridge_form wide words.old) }
 {
     let bus = words.decimal_byte(1, 255)?;
@@ -24,7 +24,7 @@ pub fn bridge(words: &mut Words, wide: bool) -> Result<Bridge, LineFault>
     let posted = depth(words, b"posted")?;
     let delayed = depth(words, b"delayed")?;
     let mode = abort_mode(words)?;
-    Ok(Bridge {
+    Ok(Statement::NewBridge(Bridge {
         bus,
         parent,
         device,
@@ -35,6 +35,23 @@ pub fn bridge(words: &mut Words, wide: bool) -> Result<Bridge, LineFault>
         posted,
         delayed,
         mode,
+    }))
+}
+
+/// `header D BYTES`, and then what may be left out, in its order.
+#[tactic(auto, unfolding(crate::specs::Bridges::header_form))]
+pub fn header(words: &mut Words) -> Result<Statement, LineFault>
+    ensures { Gives result words.new (header_form words.old) }
+{
+    let device = words.decimal_byte(0, 31)?;
+    let bytes = words.header()?;
+    let posted = depth(words, b"posted")?;
+    let delayed = depth(words, b"delayed")?;
+    Ok(Statement::NewHeader {
+        device,
+        bytes,
+        posted,
+        delayed,
     })
 }
 

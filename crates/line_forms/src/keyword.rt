@@ -1,6 +1,7 @@
 ghost use Rattle.std.specs.Prelude.{◌≡◌};
 ghost use Rattle.line_forms.specs.Keywords.{form_of};
 
+use crate::LineFault;
 use pci_command::{Command, Space};
 
 /// The kinds of lines behind the first one.
@@ -31,33 +32,33 @@ pub enum Form {
 
 /// The kind of a line that begins with this word.
 #[tactic(auto, using(std::proofs::lemmas::Slice::Eq::text_from_reads), unfolding(crate::specs::Keywords::form_of))]
-pub fn form_of(word: &[u8]) -> Option<Form>
+pub fn form_of(word: &[u8]) -> Result<Form, LineFault>
     ensures { result ≡ form_of word.now }
 {
     match word {
-        b"bridge" => Some(Form::Bridge),
-        b"header" => Some(Form::Header),
-        b"target" => Some(Form::Target),
-        b"id" => Some(Form::Id),
-        b"stall" => Some(Form::Stall),
-        b"burst" => Some(Form::Burst),
-        b"range" => Some(Form::Range),
-        b"abort" => Some(Form::Abort),
-        b"word" => Some(Form::Word),
-        b"master" => Some(Form::Master),
-        b"mr" => Some(Form::Reads(Command::MemRead)),
-        b"mrl" => Some(Form::Reads(Command::MemReadLine)),
-        b"mrm" => Some(Form::Reads(Command::MemReadMultiple)),
-        b"ior" => Some(Form::Reads(Command::IoRead)),
-        b"mw" => Some(Form::WritesBurst(Command::MemWrite)),
-        b"mwi" => Some(Form::WritesBurst(Command::MemWriteInvalidate)),
-        b"iow" => Some(Form::WritesPort),
-        b"cfr" => Some(Form::ReadsRegister),
-        b"cfw" => Some(Form::WritesRegister),
-        b"poll" => Some(Form::Polls(Space::Mem)),
-        b"iopoll" => Some(Form::Polls(Space::Io)),
-        b"discard" => Some(Form::Discard),
-        b"drop" => Some(Form::Drop),
-        _ => None,
+        b"bridge" => Ok(Form::Bridge),
+        b"header" => Ok(Form::Header),
+        b"target" => Ok(Form::Target),
+        b"id" => Ok(Form::Id),
+        b"stall" => Ok(Form::Stall),
+        b"burst" => Ok(Form::Burst),
+        b"range" => Ok(Form::Range),
+        b"abort" => Ok(Form::Abort),
+        b"word" => Ok(Form::Word),
+        b"master" => Ok(Form::Master),
+        b"mr" => Ok(Form::Reads(Command::MemRead)),
+        b"mrl" => Ok(Form::Reads(Command::MemReadLine)),
+        b"mrm" => Ok(Form::Reads(Command::MemReadMultiple)),
+        b"ior" => Ok(Form::Reads(Command::IoRead)),
+        b"mw" => Ok(Form::WritesBurst(Command::MemWrite)),
+        b"mwi" => Ok(Form::WritesBurst(Command::MemWriteInvalidate)),
+        b"iow" => Ok(Form::WritesPort),
+        b"cfr" => Ok(Form::ReadsRegister),
+        b"cfw" => Ok(Form::WritesRegister),
+        b"poll" => Ok(Form::Polls(Space::Mem)),
+        b"iopoll" => Ok(Form::Polls(Space::Io)),
+        b"discard" => Ok(Form::Discard),
+        b"drop" => Ok(Form::Drop),
+        _ => Err(LineFault::WrongWord),
     }
 }

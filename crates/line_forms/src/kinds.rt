@@ -1,8 +1,9 @@
 //! What one word is read as.
 
-ghost use Rattle.std.specs.Prelude.{◌≡◌, ◌==◌, ◌+◌, ◌<◌, ◌≤◌, ◌^◌, true, false, length, IfOk, MatchOption};
-ghost use Rattle.std.specs.List.{position_or_len};
-ghost use Rattle.line_forms.specs.Words.{hex_of, decimal_of, long_of, lower_of, data_word_of, digit_of, enables_of, name_of, fixed_of, header_of, has_mark, before_mark, behind_mark};
+ghost use Rattle.std.specs.Prelude.{◌≡◌, ◌==◌, ◌+◌, ◌*◌, ◌<◌, ◌≤◌, ◌^◌, true, false, length, slice_index, IfOk, MatchOption};
+ghost use Rattle.std.specs.List.{position_or_len, list_all};
+ghost use Rattle.std.specs.Char.{digit_value, is_digit};
+ghost use Rattle.line_forms.specs.Words.{hex_of, decimal_of, long_of, lower_of, data_word_of, digit_of, enables_of, name_of, fixed_of, header_of, in_pairs, has_mark, before_mark, behind_mark};
 
 use crate::LineFault;
 use crate::words::is_word;
@@ -138,4 +139,57 @@ fn length_before(word: &[u8], mark: u8) -> usize
     word.iter()
         .position(|byte| *byte == mark)
         .unwrap_or(word.len())
+}
+
+/// The 64 bytes of a header, each in two hexadecimal digits.
+#[tactic(auto, unfolding(crate::specs::Words::header_of))]
+pub fn header_of(word: &[u8]) -> Result<[u8; 64], LineFault>
+    ensures { result ≡ header_of word.now }
+{
+    if word.len() == 128 && are_digits(word) {
+        Ok(in_pairs(word))
+    } else {
+        Err(LineFault::IllFormed)
+    }
+}
+
+fn are_digits(word: &[u8]) -> bool
+    ensures { result ≡ list_all (λ byte. is_digit byte 16) word.now }
+{
+    word.iter().all(|byte| is_digit(*byte))
+}
+
+fn is_digit(byte: u8) -> bool
+    ensures { result ≡ is_digit byte 16 }
+{
+    digit_of(byte).is_ok()
+}
+
+fn in_pairs(word: &[u8]) -> [u8; 64]
+    requires size { length word.now ≡ 128 }
+    requires digits { list_all (λ byte. is_digit byte 16) word.now ≡ true }
+    ensures { result ≡ in_pairs word.now }
+{
+    let mut bytes = [0; 64];
+    for i in 0..64 {
+        bytes[i] = pair_at(word, 2 * i);
+    }
+    bytes
+}
+
+#[tactic(auto, using(crate::proofs::KindLemmas::digit_in))]
+fn pair_at(word: &[u8], at: usize) -> u8
+    requires inside { at + 1 < length word.now }
+    requires digits { list_all (λ byte. is_digit byte 16) word.now ≡ true }
+    ensures { result ≡ 16 * digit_value (slice_index word.now at) + digit_value (slice_index word.now (at + 1)) }
+{
+    16 * value_of_digit(word[at]) + value_of_digit(word[at + 1])
+}
+
+fn value_of_digit(digit: u8) -> u8
+    requires { is_digit digit 16 ≡ true }
+    ensures value { result ≡ digit_value digit }
+    ensures below { result < 16 }
+{
+    char::from(digit).to_digit(16).unwrap() as u8
 }

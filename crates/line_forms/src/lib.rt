@@ -6,7 +6,9 @@ mod bridges;
 mod fault;
 mod keyword;
 mod kinds;
+mod masters;
 mod statement;
+mod targets;
 mod words;
 
 pub use fault::{Family, LineFault};

@@ -1,13 +1,13 @@
-ghost use Rattle.std.specs.Prelude.{◌≡◌, ◌<◌, ◌≤◌, [], ◌∷◌, List, length, MatchOption, MatchResult};
+ghost use Rattle.std.specs.Prelude.{◌≡◌, ◌==◌, ◌<◌, ◌≤◌, [], ◌∷◌, List, length, MatchOption, MatchResult};
 ghost use Rattle.std.specs.List.{position_or_len};
 ghost use Rattle.std.specs.Prelude.{if◌then◌else◌};
 ghost use Rattle.std.specs.Str.{bytes_eq};
 ghost use Rattle.board_text.specs.Tokens.{is_separator, is_comment, words_of};
 ghost use Rattle.line_forms.specs.Cuts.{words_in, is_no_separator};
-ghost use Rattle.line_forms.specs.Words.{Gives, begins_with, behind_first, hex, decimal, fixed, name, long, data_word};
+ghost use Rattle.line_forms.specs.Words.{Gives, begins_with, behind_first, hex, decimal, fixed, name, long, data_word, header_bytes};
 
 use crate::LineFault;
-use crate::kinds::{data_word_of, decimal_of, fixed_of, hex_of, long_of, name_of};
+use crate::kinds::{data_word_of, decimal_of, fixed_of, header_of, hex_of, long_of, name_of};
 use board_model::Name;
 use pci_command::Phase;
 use std::marker::Model;
@@ -35,6 +35,13 @@ impl<'a> Words<'a> {
     {
         let (rest, _comment) = line.split_at(length_before_comment(line));
         Words { rest }
+    }
+
+    /// Whether no word is left.
+    pub fn is_done(&self) -> bool
+        ensures { result ≡ (length self.now == 0) }
+    {
+        next_word(self.rest).is_none()
     }
 
     /// Takes the next word.
@@ -106,6 +113,13 @@ impl<'a> Words<'a> {
         ensures { Gives result self.new (long wide self.old) }
     {
         long_of(self.take()?, wide)
+    }
+
+    /// The next word as the bytes of a header.
+    pub fn header(&mut self) -> Result<[u8; 64], LineFault>
+        ensures { Gives result self.new (header_bytes self.old) }
+    {
+        header_of(self.take()?)
     }
 
     /// The next word as a name.
