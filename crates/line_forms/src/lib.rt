@@ -6,10 +6,12 @@ mod bridges;
 mod fault;
 mod keyword;
 mod kinds;
+mod lines;
 mod masters;
 mod statement;
 mod targets;
 mod words;
 
 pub use fault::{Family, LineFault};
+pub use lines::{first_line, has_words, statement_of};
 pub use statement::Statement;
