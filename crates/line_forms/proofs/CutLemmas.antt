@@ -54,7 +54,7 @@ first_word xs some =
       | inl inside ↦
           let size = length-take-le n xs (omega arith) in
           let front : words_in xs ≡ take n xs ∷ words_in (drop (n + 1) xs) =
-              rw (slice_split_first is_separator xs 0 inside) (kept (take n xs) (slice_split is_separator (drop (n + 1) xs)) (omega (arith, size))) in
+          rw (slice_split_first is_separator xs 0 inside) (kept (take n xs) (slice_split is_separator (drop (n + 1) xs)) (omega (arith, size))) in
           let next : n + 1 ≡ suc n = omega arith in
           let back : drop n xs ≡ get_or xs n 0 ∷ drop (n + 1) xs = rw next (drop-cons xs n 0 inside) in
           let rest : words_in (drop n xs) ≡ words_in (drop (n + 1) xs) = ap words_in back ∙ separator_in_front (get_or xs n 0) (drop (n + 1) xs) (passes_at_first is_separator xs 0 inside) in

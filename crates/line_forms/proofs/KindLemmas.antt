@@ -68,7 +68,7 @@ pair_more word bytes whole i value inside within is so_far =
     let after : 2 * (i + 1) ≡ suc (suc (2 * i)) = omega arith in
     let second : 2 * i + 1 ≡ suc (2 * i) = omega arith in
     let left : drop (2 * i) word ≡ get_or word (2 * i) 0 ∷ get_or word (2 * i + 1) 0 ∷ drop (2 * (i + 1)) word =
-        rw (after, second) (drop-cons word (2 * i) 0 (omega arith) ∙ ap (λ (more : List ℕ). get_or word (2 * i) 0 ∷ more) (drop-cons word (suc (2 * i)) 0 (omega arith))) in
+    rw (after, second) (drop-cons word (2 * i) 0 (omega arith) ∙ ap (λ (more : List ℕ). get_or word (2 * i) 0 ∷ more) (drop-cons word (suc (2 * i)) 0 (omega arith))) in
     let these : in_pairs (drop (2 * i) word) ≡ value ∷ in_pairs (drop (2 * (i + 1)) word) = ap in_pairs left ∙ ap (λ (v : ℕ). v ∷ in_pairs (drop (2 * (i + 1)) word)) (sym is) in
     let wrote : take (i + 1) (set bytes i value) ≡ take i bytes ++ value ∷ [] = rw next (take-suc-set bytes i value within) in
     let regrouped : take i bytes ++ (value ∷ in_pairs (drop (2 * (i + 1)) word)) ≡ whole = rw these at so_far in

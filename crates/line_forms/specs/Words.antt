@@ -14,7 +14,6 @@ use Rattle.line_forms.specs.declared.fault.LineFault.TheVariants.{TooWide, Wrong
 
 infixl 10 ◌>>=◌
 infixl 10 ◌>>◌
-
 -- Readers.
 
 abbrev pub Reader : Type 0 → Type 0

@@ -15,3 +15,6 @@ mod words;
 pub use fault::{Family, LineFault};
 pub use lines::{first_line, has_words, statement_of};
 pub use statement::Statement;
+
+#[cfg(test)]
+mod tests;
