@@ -169,16 +169,14 @@ fn a_bridge_by_its_header(rt: HostRuntime) -> Result<(), Fail> {
 #[test]
 fn a_write_keeps_eight_words(rt: HostRuntime) -> Result<(), Fail> {
     let line = b"mwi 40 1 2/3 3 4 5 6 7 8 9";
-    let Ok(
-        Statement::Does {
-            op: Op::Write {
-                command,
-                address,
-                phases,
-            },
-            too_many,
-        },
-    ) = statement_of(false, line)
+    let Ok(Statement::Does { op, too_many }) = statement_of(false, line) else {
+        return Err("no operation".into());
+    };
+    let Op::Write {
+        command,
+        address,
+        phases,
+    } = op
     else {
         return Err("no write".into());
     };
