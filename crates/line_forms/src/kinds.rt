@@ -119,8 +119,8 @@ fn digit_of(byte: u8) -> Result<u8, LineFault>
     }
 }
 
-// The parts of a word before and behind the first such mark.
-fn parts(word: &[u8], mark: u8) -> Option<(&[u8], &[u8])>
+/// The parts of a word before and behind the first such mark, if it has one.
+pub fn parts(word: &[u8], mark: u8) -> Option<(&[u8], &[u8])>
     ensures { MatchOption result (has_mark mark word.now ≡ false) (λ found. (has_mark mark word.now ≡ true) × (found.0.now ≡ before_mark mark word.now) × (found.1.now ≡ behind_mark mark word.now)) }
 {
     let at = length_before(word, mark);

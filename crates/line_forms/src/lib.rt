@@ -13,6 +13,7 @@ mod targets;
 mod words;
 
 pub use fault::{Family, LineFault};
+pub use kinds::parts;
 pub use lines::{first_line, has_words, statement_of};
 pub use statement::Statement;
 

@@ -1,6 +1,6 @@
 -- The words of an event line, each read only as it is printed.
 use Rattle.std.specs.Prelude.{ℕ, Bool, true, false, ◌-◌, List, [], ◌∷◌, length, take, Option, Some, None, is_some, Result, Ok, Err, not, nat_le, ◌==◌, ◌&&◌, codes, if◌then◌else◌, slice_index}
-use Rattle.std.specs.List.{list_all, list_any, position, before_first, after_first}
+use Rattle.std.specs.List.{list_all, position}
 use Rattle.std.specs.Option.{option_map, option_and_then}
 use Rattle.std.specs.Str.{bytes_eq}
 use Rattle.pci_command.specs.declared.op_id.OpId.{OpId}
@@ -12,6 +12,7 @@ use Rattle.board_model.specs.declared.bridge.Lane.{Lane as BridgeLane}
 use Rattle.board_model.specs.declared.board.Board.{Board}
 use Rattle.board_model.specs.Requests.{op_of}
 use Rattle.board_text.specs.Numbers.{hex_answer, decimal_answer}
+use Rattle.line_forms.specs.Words.{has_mark, before_mark, behind_mark}
 use Rattle.history_model.specs.declared.event.By.{By}
 use Rattle.history_model.specs.declared.event.By.TheVariants.{Master, Lane as FromLane}
 use Rattle.trace_text.specs.Events.{has_bridge, has_bus}
@@ -92,12 +93,9 @@ is_master_named word master = bytes_eq master.name word
 abbrev pub master_in : Board → List ℕ → Option ℕ
 master_in board word = at_most 65535 (position (is_master_named word) board.masters)
 
-abbrev pub is_dot : ℕ → Bool
-is_dot byte = byte == 46
-
 -- what stands before the first dot, and what behind it
 abbrev pub at_dot : List ℕ → Option (List ℕ × List ℕ)
-at_dot word = only_where (list_any is_dot word) (Some (before_first is_dot word, after_first is_dot word))
+at_dot word = only_where (has_mark 46 word) (Some (before_mark 46 word, behind_mark 46 word))
 
 abbrev pub same_flag : Bool → Bool → Bool
 same_flag true flag = flag

@@ -1,11 +1,12 @@
-ghost use Rattle.std.specs.Prelude.{◌≡◌, ◌≤◌, length};
+ghost use Rattle.std.specs.Prelude.{◌≡◌};
 ghost use Rattle.std.specs.Option.{option_map};
-ghost use Rattle.std.specs.List.{position, position_or_len};
-ghost use Rattle.trace_lines.specs.Words.{at_most, number_of, is_master_named, master_in, is_dot, at_dot, named, index_and_try, op_by, op_in};
+ghost use Rattle.std.specs.List.{position};
+ghost use Rattle.trace_lines.specs.Words.{at_most, number_of, is_master_named, master_in, at_dot, named, index_and_try, op_by, op_in};
 ghost use Rattle.trace_text.specs.Words.{names_poll};
 
 use crate::words::number_of;
 use board_model::{Board, Op, op_of};
+use line_forms::parts;
 use pci_command::OpId;
 
 /// An operation of the board: NAME.INDEX, for a poll NAME.INDEX.TRY.
@@ -35,22 +36,7 @@ fn index_of(word: &[u8]) -> Option<u16>
 fn at_dot(word: &[u8]) -> Option<(&[u8], &[u8])>
     ensures { option_map (λ parts. (parts.0.now, parts.1.now)) result ≡ at_dot word.now }
 {
-    let place = length_before_dot(word);
-    if place == word.len() {
-        return None;
-    }
-    let (before, behind) = word.split_at(place);
-    let (_dot, after) = behind.split_at(1);
-    Some((before, after))
-}
-
-fn length_before_dot(word: &[u8]) -> usize
-    ensures value { result ≡ position_or_len is_dot word.now }
-    ensures within { result ≤ length word.now }
-{
-    word.iter()
-        .position(|byte| *byte == b'.')
-        .unwrap_or(word.len())
+    parts(word, b'.')
 }
 
 /// The place of the master of this name.
