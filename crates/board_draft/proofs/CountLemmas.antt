@@ -20,7 +20,7 @@ use Rattle.board_draft.specs.declared.draft.Owner.{Owner}
 use Rattle.board_draft.specs.declared.draft.Owner.TheVariants.{Nobody, OfTarget, OfMaster}
 use Rattle.board_draft.specs.Drafts.{board_of, draft_of, with_owner}
 use Rattle.board_draft.specs.Bridges.{bridge_of}
-use Rattle.board_draft.specs.Targets.{on_target}
+use Rattle.board_draft.specs.Targets.{on_target, set_identity, set_stalls, set_burst, add_range, add_abort, add_opening}
 use Rattle.board_draft.specs.Masters.{add_op, does}
 use Rattle.board_draft.specs.Add.{add, tries_in}
 use Rattle.board_draft.proofs.AddedLemmas.{BridgePut, add_bridge-ok, put_header-ok, unless-ok, TargetChanged, on_target-ok, MasterChanged, on_master-ok, OpAdded, add_op-ok, add_discard-ok, add_drop-ok}
@@ -34,7 +34,7 @@ pub record Counted (before after more : ℕ) : Type 0 where
   pub few : before ≤ 65536 → after ≤ 65536
 
 same_count : (before after : ℕ) → after ≡ before → Counted before after 0
-same_count before after h = record { is = omega arith; few = λ few. omega arith }
+same_count before after h = record { is = omega arith; few = λ (limit : before ≤ 65536). omega arith }
 
 bridge_count : (wide : Bool) (board : Board) (bridge : Bridge) (added : Draft) → BridgePut wide board bridge added → operations_of added ≡ operations_in board.masters
 bridge_count wide board bridge added put = ap operations_of put.is
@@ -76,12 +76,12 @@ operations-add draft (NewHeader device bytes posted delayed) added h =
     same_count _ _ (bridge_count draft.wide (board_of draft) (bridge_of read.0 device posted delayed) added read.1.1)
 operations-add draft (NewTarget name bus device) added h =
     same_count _ _ (ap operations_of (unless-ok _ _ _ h).1)
-operations-add draft (Identifies vendor model) added h = same_count _ _ (target_count draft _ added h)
-operations-add draft (Stalls tokens) added h = same_count _ _ (target_count draft _ added h)
-operations-add draft (Bursts phases) added h = same_count _ _ (target_count draft _ added h)
-operations-add draft (Claims range) added h = same_count _ _ (target_count draft _ added h)
-operations-add draft (Aborts range) added h = same_count _ _ (target_count draft _ added h)
-operations-add draft (Opens opening) added h = same_count _ _ (target_count draft _ added h)
+operations-add draft (Identifies vendor model) added h = same_count _ _ (target_count draft (set_identity vendor model) added h)
+operations-add draft (Stalls tokens) added h = same_count _ _ (target_count draft (set_stalls tokens) added h)
+operations-add draft (Bursts phases) added h = same_count _ _ (target_count draft (set_burst phases) added h)
+operations-add draft (Claims range) added h = same_count _ _ (target_count draft (add_range draft.wide range) added h)
+operations-add draft (Aborts range) added h = same_count _ _ (target_count draft (add_abort draft.wide range) added h)
+operations-add draft (Opens opening) added h = same_count _ _ (target_count draft (add_opening opening) added h)
 operations-add draft (NewMaster name bus) added h =
     let counted = ap operations_of (unless-ok _ _ _ h).1 ∙ operations-push (board_of draft).masters (record { name = name; bus = bus; ops = [] }) in
     same_count _ _ (omega (arith, counted))

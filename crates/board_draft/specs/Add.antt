@@ -1,25 +1,24 @@
 -- A statement is added to a draft, or is refused by the first of its faults.
-use Rattle.std.specs.Prelude.{ℕ, Result, Ok}
+use Rattle.std.specs.Prelude.{ℕ, Result}
 use Rattle.line_forms.specs.declared.fault.LineFault.{LineFault}
 use Rattle.line_forms.specs.declared.statement.Statement.{Statement}
 use Rattle.line_forms.specs.declared.statement.Statement.TheVariants.{NewBridge, NewHeader, NewTarget, Identifies, Stalls, Bursts, Claims, Aborts, Opens, NewMaster, Does, Discards, Drops}
 use Rattle.board_draft.specs.declared.draft.Draft.{Draft}
 use Rattle.board_draft.specs.Drafts.{board_of}
 use Rattle.board_draft.specs.Bridges.{add_bridge, add_header}
-use Rattle.board_draft.specs.Targets.{add_target, on_target, add_range, add_abort, add_opening}
+use Rattle.board_draft.specs.Targets.{add_target, on_target, set_identity, set_stalls, set_burst, add_range, add_abort, add_opening}
 use Rattle.board_draft.specs.Masters.{add_master, does}
 use Rattle.board_draft.specs.Plans.{add_discard, add_drop}
 use Rattle.board_model.specs.declared.op.Op.{Op}
 use Rattle.board_model.specs.Requests.{tries_of}
 
--- a second `id`, `stall` or `burst` line of a target replaces the first
 abbrev pub add : Draft → Statement → Result Draft LineFault
 add draft (NewBridge bridge) = add_bridge draft.wide (board_of draft) bridge
 add draft (NewHeader device bytes posted delayed) = add_header draft.wide (board_of draft) device bytes posted delayed
 add draft (NewTarget name bus device) = add_target draft.wide (board_of draft) name bus device
-add draft (Identifies vendor model) = on_target draft (λ target. Ok (record target { vendor = vendor; model = model }))
-add draft (Stalls tokens) = on_target draft (λ target. Ok (record target { stalls = tokens }))
-add draft (Bursts phases) = on_target draft (λ target. Ok (record target { burst = phases }))
+add draft (Identifies vendor model) = on_target draft (set_identity vendor model)
+add draft (Stalls tokens) = on_target draft (set_stalls tokens)
+add draft (Bursts phases) = on_target draft (set_burst phases)
 add draft (Claims range) = on_target draft (add_range draft.wide range)
 add draft (Aborts range) = on_target draft (add_abort draft.wide range)
 add draft (Opens opening) = on_target draft (add_opening opening)

@@ -63,6 +63,16 @@ on_target draft change = do
   changed ← change target
   Ok (record draft { owner = OfTarget changed })
 
+-- an `id`, a `stall` and a `burst` line: a second one of a target replaces the first
+abbrev pub set_identity : ℕ → ℕ → Target → Result Target LineFault
+set_identity vendor model target = Ok (record target { vendor = vendor; model = model })
+
+abbrev pub set_stalls : ℕ → Target → Result Target LineFault
+set_stalls tokens target = Ok (record target { stalls = tokens })
+
+abbrev pub set_burst : ℕ → Target → Result Target LineFault
+set_burst phases target = Ok (record target { burst = phases })
+
 -- memory in units of 64 bytes, I/O in units of 4
 abbrev pub unit_of : Space → ℕ
 unit_of Mem = 64

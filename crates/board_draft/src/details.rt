@@ -1,9 +1,8 @@
-ghost use Rattle.std.specs.Prelude.{◌≡◌, Ok};
-ghost use Rattle.board_model.specs.declared.agents.Target.{Target};
+ghost use Rattle.std.specs.Prelude.{◌≡◌};
 ghost use Rattle.board_model.specs.WellFormed.{operations_in};
 ghost use Rattle.board_draft.specs.Steps.{Answers};
 ghost use Rattle.board_draft.specs.Drafts.{board_of};
-ghost use Rattle.board_draft.specs.Targets.{on_target, add_range, add_abort, add_opening};
+ghost use Rattle.board_draft.specs.Targets.{on_target, set_identity, set_stalls, set_burst, add_range, add_abort, add_opening};
 ghost use Rattle.board_draft.specs.Masters.{does};
 
 use crate::masters::{add_op, master_in};
@@ -13,7 +12,7 @@ use board_model::{Op, Opening, Range};
 use std::alloc::Global;
 
 pub(crate) fn identify(draft: Draft, vendor: u16, model: u16) -> Result<Draft, AddFault>
-    ensures { Answers result (on_target draft (λ (target : Target). Ok (record target { vendor = vendor; model = model }))) }
+    ensures { Answers result (on_target draft (set_identity vendor model)) }
 {
     let Draft { wide, board, owner } = draft;
     let mut target = target_in(owner)?;
@@ -27,7 +26,7 @@ pub(crate) fn identify(draft: Draft, vendor: u16, model: u16) -> Result<Draft, A
 }
 
 pub(crate) fn stall(draft: Draft, tokens: u32) -> Result<Draft, AddFault>
-    ensures { Answers result (on_target draft (λ (target : Target). Ok (record target { stalls = tokens }))) }
+    ensures { Answers result (on_target draft (set_stalls tokens)) }
 {
     let Draft { wide, board, owner } = draft;
     let mut target = target_in(owner)?;
@@ -40,7 +39,7 @@ pub(crate) fn stall(draft: Draft, tokens: u32) -> Result<Draft, AddFault>
 }
 
 pub(crate) fn burst(draft: Draft, phases: u8) -> Result<Draft, AddFault>
-    ensures { Answers result (on_target draft (λ (target : Target). Ok (record target { burst = phases }))) }
+    ensures { Answers result (on_target draft (set_burst phases)) }
 {
     let Draft { wide, board, owner } = draft;
     let mut target = target_in(owner)?;
