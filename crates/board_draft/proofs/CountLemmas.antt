@@ -51,6 +51,12 @@ total-op ops op = total-push tries_of ops op
 operations-push : (masters : List Master) (master : Master) → operations_in (masters ++ master ∷ []) ≡ operations_in masters + total tries_of master.ops
 operations-push masters master = total-push (λ (m : Master). total tries_of m.ops) masters master
 
+-- the operations of a draft whose owner is a master
+pub owner_count : (board : Board) (owner : Owner) (master : Master) → owner ≡ OfMaster master → operations_in (with_owner board owner).masters ≡ operations_in board.masters + total tries_of master.ops
+owner_count board owner master was =
+    let P : Owner → Type 0 = λ o. operations_in (with_owner board o).masters ≡ operations_in board.masters + total tries_of master.ops in
+    subst P (sym was) (operations-push board.masters master)
+
 few_enough : (a n : ℕ) → (nat_le 1024 a || nat_lt 65536 n) ≡ false → n ≤ 65536
 few_enough a n h = grind (arith, nat_tests)
 
@@ -58,15 +64,14 @@ does_count : (draft : Draft) (op : Op) (too_many : Bool) (added : Draft) → doe
 does_count draft op too_many added h =
     let done = on_master-ok draft (add_op (operations_of draft) op too_many) added h in
     let put = add_op-ok (operations_of draft) op too_many done.master done.changed done.did in
-    let P : Owner → Type 0 = λ owner. operations_in (with_owner draft.board owner).masters ≡ operations_in draft.board.masters + total tries_of done.master.ops in
     let before : operations_of draft ≡ operations_in draft.board.masters + total tries_of done.master.ops =
-        subst P (sym done.was) (operations-push draft.board.masters done.master) in
+        owner_count draft.board draft.owner done.master done.was in
     let after : operations_of added ≡ operations_in draft.board.masters + total tries_of done.changed.ops =
         ap operations_of done.is ∙ operations-push draft.board.masters done.changed in
     let more : total tries_of done.changed.ops ≡ total tries_of done.master.ops + tries_of op =
         ap (λ (m : Master). total tries_of m.ops) put.is ∙ total-op done.master.ops op in
     let few : operations_of draft + tries_of op ≤ 65536 = few_enough _ _ put.few in
-    record { is = omega arith; few = λ _. omega arith }
+    record { is = omega arith; few = λ (limit : operations_of draft ≤ 65536). omega arith }
 
 pub operations-add : (draft : Draft) (statement : Statement) (added : Draft) → add draft statement ≡ Ok added → Counted (operations_of draft) (operations_of added) (tries_in statement)
 operations-add draft (NewBridge bridge) added h =

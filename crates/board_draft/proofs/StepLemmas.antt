@@ -3,7 +3,7 @@ use Rattle.std.proofs.Common.{◌≡◌, Bool, true, false, cond, Result, Ok, Er
 use Rattle.line_forms.specs.declared.fault.LineFault.{LineFault}
 use Rattle.board_draft.specs.Steps.{◌>>=◌}
 
-pub if-ok : {A : Type 0} (test : Bool) (fault : LineFault) (step : Result A LineFault) (x : A) → cond test (Err fault) step ≡ Ok x → (test ≡ false) × (step ≡ Ok x)
+pub if-ok : {A F : Type 0} (test : Bool) (fault : F) (step : Result A F) (x : A) → cond test (Err fault) step ≡ Ok x → (test ≡ false) × (step ≡ Ok x)
 if-ok true fault step x h = absurd (cc)
 if-ok false fault step x h = (refl, h)
 

@@ -5,3 +5,4 @@ pub mod Targets
 pub mod Masters
 pub mod Plans
 pub mod Add
+pub mod Formed
