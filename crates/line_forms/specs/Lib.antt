@@ -1,1 +1,8 @@
 pub mod Faults
+pub mod Cuts
+pub mod Words
+pub mod Keywords
+pub mod Bridges
+pub mod Targets
+pub mod Masters
+pub mod Statements

@@ -1,3 +1,4 @@
+use board_text::NumberFault;
 use thiserror::Error;
 
 /// The letter of a fault of the board text.
@@ -88,6 +89,20 @@ impl LineFault {
             LineFault::BusUsed => 10,
             LineFault::OverLimit => 11,
             LineFault::PastItsSpace => 12,
+        }
+    }
+}
+
+impl From<NumberFault> for LineFault {
+    ghost use Rattle.std.specs.Prelude.{◌≡◌};
+    ghost use Rattle.line_forms.specs.Words.{number_fault};
+
+    ghost from_gives = { λ number fault. fault ≡ number_fault number };
+
+    fn from(number: NumberFault) -> LineFault {
+        match number {
+            NumberFault::TooWide => LineFault::TooWide,
+            NumberFault::NotDigits | NumberFault::OutOfRange => LineFault::IllFormed,
         }
     }
 }

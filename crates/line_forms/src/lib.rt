@@ -2,8 +2,19 @@
 //! statement, or give the first fault.
 #![tactic(auto)]
 
+mod bridges;
 mod fault;
+mod keyword;
+mod kinds;
+mod lines;
+mod masters;
 mod statement;
+mod targets;
+mod words;
 
 pub use fault::{Family, LineFault};
+pub use lines::{first_line, has_words, statement_of};
 pub use statement::Statement;
+
+#[cfg(test)]
+mod tests;
