@@ -1,0 +1,11 @@
+pub mod StepLemmas
+pub mod AddedLemmas
+pub mod CountLemmas
+pub mod PushLemmas
+pub mod PartLemmas
+pub mod BridgeLemmas
+pub mod TargetLemmas
+pub mod OpLemmas
+pub mod SoundLemmas
+pub mod HeaderLemmas
+pub mod DraftLemmas

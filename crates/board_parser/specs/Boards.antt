@@ -1,0 +1,47 @@
+-- What a board text is read as: a board, or its first fault with the number of its line.
+use Rattle.std.specs.Prelude.{◌≡◌, ℕ, ◌+◌, List, [], ◌∷◌, Option, Some, None, Result, Ok, Err}
+use Rattle.board_model.specs.declared.board.Board.{Board}
+use Rattle.board_text.specs.Lines.{lines_of}
+use Rattle.line_forms.specs.declared.fault.LineFault.{LineFault}
+use Rattle.line_forms.specs.declared.fault.LineFault.TheVariants.{NoFirstLine}
+use Rattle.line_forms.specs.Faults.{family_of, code_of}
+use Rattle.board_draft.specs.declared.draft.Draft.{Draft}
+use Rattle.board_draft.specs.Drafts.{board_of}
+use Rattle.board_parser.specs.declared.fault.ParseFault.{ParseFault}
+use Rattle.board_parser.specs.declared.fault.ParseFault.TheVariants.{Fault, NoMemory}
+use Rattle.board_parser.specs.OneLine.{read_line}
+
+-- the lines behind the line of this number, unless that line has a fault
+abbrev pub then_lines : ℕ → Result (Option Draft) LineFault → (Option Draft → Result (Option Draft) (ℕ × LineFault)) → Result (Option Draft) (ℕ × LineFault)
+then_lines number (Ok draft) later = later draft
+then_lines number (Err fault) later = Err (number, fault)
+
+-- line by line, where the first of the lines has this number: the first with a fault decides
+abbrev pub read_lines : Option Draft → ℕ → List (List ℕ) → Result (Option Draft) (ℕ × LineFault)
+read_lines draft number [] = Ok draft
+read_lines draft number (line ∷ lines) =
+    then_lines number (read_line draft line) (λ next. read_lines next (number + 1) lines)
+
+-- at the end of a text: one without any word has no first line, which is told of line 1
+abbrev pub ended : Result (Option Draft) (ℕ × LineFault) → Result Board (ℕ × LineFault)
+ended (Ok None) = Err (1, NoFirstLine)
+ended (Ok (Some draft)) = Ok (board_of draft)
+ended (Err fault) = Err fault
+
+-- the board of a text, or its first fault
+abbrev pub board_read : List ℕ → Result Board (ℕ × LineFault)
+board_read text = ended (read_lines None 1 (lines_of text))
+
+-- the same, with the fault by its letter and number
+abbrev pub told : ℕ → LineFault → ParseFault
+told line fault = Fault line (family_of fault) (code_of fault)
+
+abbrev pub told_of : Result Board (ℕ × LineFault) → Result Board ParseFault
+told_of (Ok board) = Ok board
+told_of (Err fault) = Err (told fault.0 fault.1)
+
+-- a board or a fault is told exactly where the text reads so, unless there was no memory
+abbrev pub Tells : Result Board ParseFault → Result Board (ℕ × LineFault) → Type 0
+Tells (Ok board) reading = reading ≡ Ok board
+Tells (Err (Fault line family code)) reading = told_of reading ≡ Err (Fault line family code)
+Tells (Err NoMemory) reading = Unit {0}

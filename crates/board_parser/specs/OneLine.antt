@@ -1,0 +1,41 @@
+-- How one line of a board text is read, behind the lines before it.
+use Rattle.std.specs.Prelude.{ℕ, Bool, List, length, Option, Some, None, Result, Ok, Err, nat_lt, ◌==◌, if◌then◌else◌}
+use Rattle.board_text.specs.Lines.{line_fault}
+use Rattle.board_text.specs.Tokens.{words_of}
+use Rattle.line_forms.specs.declared.fault.LineFault.{LineFault}
+use Rattle.line_forms.specs.declared.fault.LineFault.TheVariants.{BadByte, TooLong, NoFirstLine}
+use Rattle.line_forms.specs.Statements.{statement_of, first_line_of}
+use Rattle.board_draft.specs.declared.draft.Draft.{Draft}
+use Rattle.board_draft.specs.Steps.{◌>>=◌}
+use Rattle.board_draft.specs.Drafts.{first_draft}
+use Rattle.board_draft.specs.Add.{add}
+
+-- the first line that has words is `pciboard 1` or `pciboard 2`; before it there is no draft
+abbrev pub begin : Option Bool → Result (Option Draft) LineFault
+begin None = Err NoFirstLine
+begin (Some wide) = Ok (Some (first_draft wide))
+
+-- each later line with words is a statement that is added to the draft
+abbrev pub some_of : Result Draft LineFault → Result (Option Draft) LineFault
+some_of (Ok draft) = Ok (Some draft)
+some_of (Err fault) = Err fault
+
+abbrev pub read_words : Option Draft → List (List ℕ) → Result (Option Draft) LineFault
+read_words None words = begin (first_line_of words)
+read_words (Some draft) words = some_of (statement_of draft.wide words >>= add draft)
+
+-- a line without words is skipped
+abbrev pub read_more : Option Draft → List (List ℕ) → Result (Option Draft) LineFault
+read_more draft words = if nat_lt 0 (length words) then read_words draft words else Ok draft
+
+-- the fault of a line that is too long, or of one with a byte that no line may have
+abbrev pub text_fault : ℕ → LineFault
+text_fault code = if code == 3 then TooLong else BadByte
+
+abbrev pub read_unless : Option ℕ → Option Draft → List ℕ → Result (Option Draft) LineFault
+read_unless None draft line = read_more draft (words_of line)
+read_unless (Some code) draft line = Err (text_fault code)
+
+-- the draft behind the line, or the first fault of the line
+abbrev pub read_line : Option Draft → List ℕ → Result (Option Draft) LineFault
+read_line draft line = read_unless (line_fault line) draft line

@@ -1,0 +1,9 @@
+//! A board text is read as a board, or its first fault is told with its line.
+#![tactic(auto)]
+
+mod fault;
+mod line;
+mod text;
+
+pub use fault::ParseFault;
+pub use text::parse;

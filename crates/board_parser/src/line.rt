@@ -1,0 +1,56 @@
+ghost use Rattle.std.specs.Prelude.{◌≡◌, nat_lt, length};
+ghost use Rattle.board_text.specs.Tokens.{words_of};
+ghost use Rattle.line_forms.specs.Statements.{statement_of, first_line_of};
+ghost use Rattle.board_draft.specs.Steps.{Answers};
+ghost use Rattle.board_parser.specs.OneLine.{read_line, read_words, text_fault};
+
+use board_draft::{AddFault, Sheet};
+use board_text::check_line;
+use line_forms::{LineFault, first_line, has_words, statement_in};
+use std::alloc::Global;
+
+/// The sheet behind one more line. There is none before the first line that has words.
+pub(crate) fn read_line(
+    alloc: Global,
+    sheet: Option<Sheet>,
+    line: &[u8],
+) -> Result<Option<Sheet>, AddFault>
+    ensures { Answers result (read_line sheet line.now) }
+{
+    if let Err(code) = check_line(line) {
+        return Err(AddFault::Fault(text_fault(code)));
+    }
+    if !has_words(line) {
+        return Ok(sheet);
+    }
+    read_words(alloc, sheet, line)
+}
+
+fn text_fault(code: u8) -> LineFault
+    ensures { result ≡ text_fault code }
+{
+    if code == 3 {
+        LineFault::TooLong
+    } else {
+        LineFault::BadByte
+    }
+}
+
+fn read_words(
+    alloc: Global,
+    sheet: Option<Sheet>,
+    line: &[u8],
+) -> Result<Option<Sheet>, AddFault>
+    ensures { Answers result (read_words sheet (words_of line.now)) }
+{
+    match sheet {
+        None => match first_line(line) {
+            None => Err(AddFault::Fault(LineFault::NoFirstLine)),
+            Some(wide) => Ok(Some(Sheet::new(alloc, wide))),
+        },
+        Some(sheet) => {
+            let statement = statement_in(sheet.is_wide(), line)?;
+            Ok(Some(sheet.add(alloc, statement)?))
+        }
+    }
+}

@@ -1,0 +1,46 @@
+ghost use Rattle.std.specs.Prelude.{◌≡◌, ◌<◌, ◌^◌, length};
+ghost use Rattle.board_parser.specs.Boards.{board_read, told, Tells};
+
+use crate::ParseFault;
+use crate::line::read_line;
+use board_draft::AddFault;
+use board_model::Board;
+use board_text::next_line;
+use line_forms::LineFault;
+use std::alloc::Global;
+
+/// The board of a text, or its first fault. A text has fewer than 2^31 bytes. Lines are numbered
+/// from 1, and the first line with a fault decides; of the faults of one line a byte or a length
+/// that no line may have comes first, then what its words say, from left to right, and then what
+/// the line would add to the board.
+pub fn parse(alloc: Global, bytes: &[u8]) -> Result<Board, ParseFault>
+    requires { length bytes.now < 2 ^ 31 }
+    ensures { Tells result (board_read bytes.now) }
+{
+    let mut sheet = None;
+    let mut number = 1;
+    let mut at = 0;
+    while let Some((line, next)) = next_line(bytes, at) {
+        match read_line(alloc, sheet, line) {
+            Ok(read) => sheet = read,
+            Err(AddFault::Fault(fault)) => return Err(fault_at(number, fault)),
+            Err(AddFault::NoMemory) => return Err(ParseFault::NoMemory),
+        }
+        number += 1;
+        at = next;
+    }
+    match sheet {
+        None => Err(fault_at(1, LineFault::NoFirstLine)),
+        Some(sheet) => Ok(sheet.into_board(alloc)?),
+    }
+}
+
+fn fault_at(line: u32, fault: LineFault) -> ParseFault
+    ensures { result ≡ told line fault }
+{
+    ParseFault::Fault {
+        line,
+        family: fault.family(),
+        code: fault.code(),
+    }
+}
