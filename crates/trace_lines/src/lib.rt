@@ -9,4 +9,4 @@ mod operation;
 mod words;
 
 pub use kind::Kind;
-pub use line::{LineFault, TraceLine, read_line};
+pub use line::{LineFault, TraceLine, Unread, read_line};

@@ -1,0 +1,79 @@
+ghost use Rattle.std.specs.Prelude.{◌≡◌, ◌+◌, ◌<◌, ◌≤◌, ◌^◌, [], length, drop};
+ghost use Rattle.board_text.specs.Lines.{lines_of};
+ghost use Rattle.trace_reader.specs.Traces.{nothing_behind, at_end, events_read, Tells};
+
+use crate::TraceFault;
+use board_model::Board;
+use board_text::next_line;
+use history_model::Event;
+use pci_command::List;
+use std::alloc::Global;
+use trace_lines::{TraceLine, Unread, read_line};
+
+/// The events of the lines from `from` on, where the first line has this number, up to the `end`
+/// line, behind which nothing stands.
+pub(crate) fn read_events(
+    alloc: Global,
+    board: &Board,
+    bytes: &[u8],
+    from: usize,
+    first: u32,
+) -> Result<List<Event>, TraceFault>
+    requires short { length bytes.now < 2 ^ 31 }
+    requires within { from ≤ length bytes.now + 1 }
+    requires small { first ≤ from + 1 }
+    ensures { Tells result (events_read board.now first [] (lines_of (drop from bytes.now))) }
+{
+    let mut events = Vec::new(alloc);
+    let mut number = first;
+    let mut at = from;
+    while let Some((line, next)) = next_line(bytes, at) {
+        match read_line(alloc, board, line) {
+            Ok(TraceLine::Happens(event)) => events.push(event)?,
+            Ok(TraceLine::Ends(count)) => {
+                let read = List::from_vec(events);
+                return ended(bytes, next, number, count, read);
+            }
+            Err(Unread::Fault(fault)) => {
+                return Err(TraceFault::Trace {
+                    line: number,
+                    code: fault.code(),
+                });
+            }
+            Err(Unread::NoMemory) => return Err(TraceFault::NoMemory),
+        }
+        number += 1;
+        at = next;
+    }
+    Err(TraceFault::Trace {
+        line: number,
+        code: 7,
+    })
+}
+
+/// The events at the `end` line of this number, where it counts them right and nothing stands
+/// behind it.
+fn ended(
+    bytes: &[u8],
+    behind: usize,
+    number: u32,
+    count: u32,
+    events: List<Event>,
+) -> Result<List<Event>, TraceFault>
+    requires { number < 2 ^ 32 - 1 }
+    ensures { Tells result (at_end number events count (lines_of (drop behind bytes.now))) }
+{
+    if count as usize != events.as_slice().len() {
+        return Err(TraceFault::Trace {
+            line: number,
+            code: 7,
+        });
+    }
+    if next_line(bytes, behind).is_some() {
+        return Err(TraceFault::Trace {
+            line: number + 1,
+            code: 8,
+        });
+    }
+    Ok(events)
+}
