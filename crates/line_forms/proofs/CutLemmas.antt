@@ -1,13 +1,13 @@
 -- The first word of a text, and what is left behind it.
-use Rattle.std.proofs.Common.{◌≡◌, ℕ, suc, ◌+◌, ◌<◌, ◌≤◌, Bool, true, false, not, cond, ltb, List, [], ◌∷◌, length, take, drop, get_or, Option, Some, None, arith, inl, inr, refl, sym, ap, subst, ◌∙◌}
+use Rattle.std.proofs.Common.{◌≡◌, ℕ, suc, ◌+◌, ◌<◌, ◌≤◌, Bool, true, false, not, cond, ltb, List, [], ◌∷◌, length, take, drop, get_or, Option, Some, None, arith, inl, inr, refl, sym, ap, ◌∙◌}
 use Rattle.std.proofs.lemmas.Bool.{cases_lt}
-use Rattle.std.proofs.lemmas.List.{take_all, drop_all, length-take-le, length-drop}
+use Rattle.std.proofs.lemmas.List.{take_all, drop_all, length-take-le}
 use Rattle.std.proofs.lemmas.List.Sums.{prefix_len-le-length, passes_at_first}
 use Rattle.std.proofs.lemmas.List.Sums.{fails_before_first}
 use Rattle.std.proofs.lemmas.List.Splits.{slice_split_none, slice_split_first}
 use Rattle.std.proofs.Math.Seq.{drop-cons}
 use Rattle.std.specs.Option.{unwrap_or}
-use Rattle.std.specs.List.{position_or_len, slice_split, onto_first, filter}
+use Rattle.std.specs.List.{position_or_len, slice_split, filter}
 use Rattle.board_text.specs.Tokens.{is_separator}
 use Rattle.line_forms.specs.Cuts.{words_in, is_no_separator}
 

@@ -6,7 +6,6 @@ use Rattle.pci_command.specs.declared.command.Command.TheVariants.{IoWrite}
 use Rattle.pci_command.specs.declared.command.Space.{Space}
 use Rattle.pci_command.specs.declared.phases.Phase.{Phase}
 use Rattle.pci_command.specs.Command.{space_of}
-use Rattle.board_model.specs.declared.op.Op.{Op}
 use Rattle.board_model.specs.declared.op.Op.TheVariants.{Read, Write, CfgRead, CfgWrite, Poll}
 use Rattle.board_model.specs.declared.board.Planned.{Planned}
 use Rattle.line_forms.specs.declared.fault.LineFault.{LineFault}

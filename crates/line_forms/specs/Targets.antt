@@ -4,7 +4,6 @@ use Rattle.std.specs.Str.{bytes_eq}
 use Rattle.pci_command.specs.declared.command.Space.{Space}
 use Rattle.pci_command.specs.declared.command.Space.TheVariants.{Mem, Io, Cfg}
 use Rattle.board_model.specs.declared.agents.Range.{Range}
-use Rattle.board_model.specs.declared.agents.Opening.{Opening}
 use Rattle.line_forms.specs.declared.fault.LineFault.{LineFault}
 use Rattle.line_forms.specs.declared.fault.LineFault.TheVariants.{WrongWord}
 use Rattle.line_forms.specs.declared.statement.Statement.{Statement}

@@ -1,4 +1,3 @@
-use Rattle.std.proofs.Common.{sym}
 use Rattle.line_forms.proofs.KindLemmas.{hex_below}
 use Rattle.line_forms.proofs.kinds.hex_of.Goals as goal
 

@@ -1,4 +1,4 @@
-use Rattle.std.proofs.Common.{◌≡◌, arith, ◌∙◌}
+use Rattle.std.proofs.Common.{arith, ◌∙◌}
 use Rattle.std.proofs.lemmas.List.{length-set}
 use Rattle.line_forms.proofs.KindLemmas.{pair_more, pairs_done}
 use Rattle.line_forms.proofs.kinds.in_pairs.Goals as goal

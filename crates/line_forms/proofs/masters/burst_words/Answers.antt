@@ -1,8 +1,7 @@
-use Rattle.std.proofs.Common.{◌≡◌, ◌<◌, List, [], ◌∷◌, ◌++◌, length, ap, arith, rules, ◌∙◌}
+use Rattle.std.proofs.Common.{◌≡◌, List, [], ◌∷◌, ◌++◌, ap, arith, ◌∙◌}
 use Rattle.std.proofs.lemmas.Result.{err_from_is_err_and}
-use Rattle.std.proofs.lemmas.Bool.Decides.{nat_tests}
 use Rattle.pci_command.specs.declared.phases.Phase.{Phase}
-use Rattle.line_forms.proofs.BurstLemmas.{begins, fails_first, keeps, leaves, ends, is_done, shorter}
+use Rattle.line_forms.proofs.BurstLemmas.{begins, fails_first, leaves}
 use Rattle.line_forms.proofs.masters.burst_words.Goals as goal
 
 pub returns-in_err-data_word : goal.returns-in_err-data_word

@@ -1,7 +1,7 @@
-use Rattle.std.proofs.Common.{◌≡◌, ◌<◌, length, take, drop, arith}
+use Rattle.std.proofs.Common.{◌≡◌, ◌<◌, length, drop, arith}
 use Rattle.std.specs.List.{position_or_len}
 use Rattle.std.proofs.lemmas.Bool.Decides.{nat_tests}
-use Rattle.line_forms.specs.Cuts.{words_in, is_no_separator}
+use Rattle.line_forms.specs.Cuts.{is_no_separator}
 use Rattle.line_forms.proofs.CutLemmas.{next_of, none_of}
 use Rattle.line_forms.proofs.words.next_word.Goals as goal
 
