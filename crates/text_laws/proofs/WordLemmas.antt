@@ -140,7 +140,7 @@ line_is : (words : Line) → line_text words ≡ joined words ++ 10 ∷ []
 line_is [] = refl
 line_is (word ∷ words) = let later = spaced_end words (10 ∷ []) in let whole = append_assoc word (spaced words []) (10 ∷ []) in cc
 
-split_line : (bytes rest : List ℕ) → list_all (λ byte. not (is_newline byte)) bytes ≡ true → slice_split is_newline (bytes ++ 10 ∷ rest) ≡ bytes ∷ slice_split is_newline rest
+pub split_line : (bytes rest : List ℕ) → list_all (λ byte. not (is_newline byte)) bytes ≡ true → slice_split is_newline (bytes ++ 10 ∷ rest) ≡ bytes ∷ slice_split is_newline rest
 split_line [] rest none = slice_split-cons_yes is_newline 10 rest refl
 split_line (byte ∷ bytes) rest none =
     let parts = and_parts (not (is_newline byte)) (list_all (λ b. not (is_newline b)) bytes) none in
@@ -150,7 +150,7 @@ split_line (byte ∷ bytes) rest none =
     cc
 
 -- what is split has a first piece
-first_piece : (test : ℕ → Bool) (text : List ℕ) → (first : List ℕ) × (rest : List (List ℕ)) × (slice_split test text ≡ first ∷ rest)
+pub first_piece : (test : ℕ → Bool) (text : List ℕ) → (first : List ℕ) × (rest : List (List ℕ)) × (slice_split test text ≡ first ∷ rest)
 first_piece test [] = ([], [], refl)
 first_piece test (byte ∷ bytes) =
     let P : Bool → Type 0 = λ b. (first : List ℕ) × (rest : List (List ℕ)) × (cond b ([] ∷ slice_split test bytes) (onto_first byte (slice_split test bytes)) ≡ first ∷ rest) in
@@ -161,7 +161,7 @@ first_piece test (byte ∷ bytes) =
     ]
 
 -- without an empty end, behind a line
-ends_behind : (line : List ℕ) (text : List ℕ) → without_empty_end (line ∷ slice_split is_newline text) ≡ line ∷ lines_of text
+pub ends_behind : (line : List ℕ) (text : List ℕ) → without_empty_end (line ∷ slice_split is_newline text) ≡ line ∷ lines_of text
 ends_behind line text = let piece = first_piece is_newline text in let e = piece.2 in cc
 
 pub lines_again : (lines : List Line) → list_all has_words_alone lines ≡ true → lines_of (text_of lines) ≡ map joined lines
