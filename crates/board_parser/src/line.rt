@@ -6,7 +6,7 @@ ghost use Rattle.board_parser.specs.OneLine.{read_line, read_words, text_fault};
 
 use board_draft::{AddFault, Sheet};
 use board_text::check_line;
-use line_forms::{LineFault, first_line, has_words, statement_in};
+use line_forms::{LineFault, first_line, has_words, statement_of};
 use std::alloc::Global;
 
 /// The sheet behind one more line. There is none before the first line that has words.
@@ -49,7 +49,7 @@ fn read_words(
             Some(wide) => Ok(Some(Sheet::new(alloc, wide))),
         },
         Some(sheet) => {
-            let statement = statement_in(sheet.is_wide(), line)?;
+            let statement = statement_of(sheet.is_wide(), line)?;
             Ok(Some(sheet.add(alloc, statement)?))
         }
     }
