@@ -2,8 +2,13 @@
 #![tactic(auto)]
 
 mod fault;
+mod laws;
 mod line;
 mod text;
 
 pub use fault::ParseFault;
+pub use laws::read_is_well_formed;
 pub use text::parse;
+
+#[cfg(test)]
+mod tests;

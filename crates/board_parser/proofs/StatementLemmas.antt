@@ -1,0 +1,80 @@
+-- A statement that was read is one that its words saw to.
+use Rattle.std.proofs.Common.{subst, ◌≡◌, ℕ, Bool, true, false, cond, List, refl}
+use Rattle.std.specs.Prelude.{Result, Ok, Err}
+use Rattle.pci_command.specs.declared.command.Space.TheVariants.{Mem}
+use Rattle.pci_command.specs.Command.{space_of}
+use Rattle.board_model.specs.WellFormed.{read_space, write_space}
+use Rattle.board_draft.specs.Formed.{is_target_space, is_formed}
+use Rattle.line_forms.specs.declared.fault.LineFault.{LineFault}
+use Rattle.line_forms.specs.declared.keyword.Form.{Form}
+use Rattle.line_forms.specs.declared.keyword.Form.TheVariants.{Bridge, Header, Target, Id, Stall, Burst, Range, Abort, Word, Master, Reads, WritesBurst, WritesPort, ReadsRegister, WritesRegister, Polls, Discard, Drop}
+use Rattle.line_forms.specs.declared.statement.Statement.{Statement}
+use Rattle.line_forms.specs.Words.{one_word, whole}
+use Rattle.line_forms.specs.Keywords.{form_of}
+use Rattle.line_forms.specs.Statements.{behind_word, statement_form, statement_of}
+use Rattle.board_parser.proofs.ReaderLemmas.{on-ok, word-ok, yields-whole}
+use Rattle.board_parser.proofs.FormLemmas.{is_space_of, bridge-formed, header-formed, target-formed, id-formed, stall-formed, burst-formed, claim-formed, abort-formed, opening-formed, master-formed, read-formed, burst_write-formed, port_write-formed, register_read-formed, register_write-formed, poll-formed, discard-formed, drop-formed}
+
+-- the command of the form reads or writes in a space of targets
+abbrev is_served : Form → Bool
+is_served Bridge = true
+is_served Header = true
+is_served Target = true
+is_served Id = true
+is_served Stall = true
+is_served Burst = true
+is_served Range = true
+is_served Abort = true
+is_served Word = true
+is_served Master = true
+is_served (Reads command) = is_space_of (read_space command) (space_of command)
+is_served (WritesBurst command) = is_space_of (write_space command) Mem
+is_served WritesPort = true
+is_served ReadsRegister = true
+is_served WritesRegister = true
+is_served (Polls space) = is_target_space space
+is_served Discard = true
+is_served Drop = true
+
+kept : (test : Bool) (form : Form) (later : Result Form LineFault) → is_served form ≡ true → ((found : Form) → later ≡ Ok found → is_served found ≡ true) → (found : Form) → cond test (Ok form) later ≡ Ok found → is_served found ≡ true
+kept true form later served each found h = let is : form ≡ found = cc in let P : Form → Type 0 = λ f. is_served f ≡ true in subst P is served
+kept false form later served each found h = each found h
+
+form-served : (word : List ℕ) (found : Form) → form_of word ≡ Ok found → is_served found ≡ true
+unfolding form_of
+form-served word =
+    kept _ _ _ refl (kept _ _ _ refl (kept _ _ _ refl (kept _ _ _ refl (kept _ _ _ refl (kept _ _ _ refl (kept _ _ _ refl (kept _ _ _ refl
+    (kept _ _ _ refl (kept _ _ _ refl (kept _ _ _ refl (kept _ _ _ refl (kept _ _ _ refl (kept _ _ _ refl (kept _ _ _ refl (kept _ _ _ refl
+    (kept _ _ _ refl (kept _ _ _ refl (kept _ _ _ refl (kept _ _ _ refl (kept _ _ _ refl (kept _ _ _ refl (kept _ _ _ refl
+    (λ found h. absurd (cc))))))))))))))))))))))))
+
+behind-formed : (wide : Bool) (form : Form) → is_served form ≡ true → (words : List (List ℕ)) (read : Statement × List (List ℕ)) → behind_word wide form words ≡ Ok read → is_formed (read.0) ≡ true
+unfolding behind_word
+behind-formed wide Bridge served words read h = bridge-formed wide words read h
+behind-formed wide Header served words read h = header-formed words read h
+behind-formed wide Target served words read h = target-formed words read h
+behind-formed wide Id served words read h = id-formed words read h
+behind-formed wide Stall served words read h = stall-formed words read h
+behind-formed wide Burst served words read h = burst-formed words read h
+behind-formed wide Range served words read h = claim-formed wide words read h
+behind-formed wide Abort served words read h = abort-formed wide words read h
+behind-formed wide Word served words read h = opening-formed wide words read h
+behind-formed wide Master served words read h = master-formed words read h
+behind-formed wide (Reads command) served words read h = read-formed wide command served words read h
+behind-formed wide (WritesBurst command) served words read h = burst_write-formed wide command served words read h
+behind-formed wide WritesPort served words read h = port_write-formed words read h
+behind-formed wide ReadsRegister served words read h = register_read-formed words read h
+behind-formed wide WritesRegister served words read h = register_write-formed words read h
+behind-formed wide (Polls space) served words read h = poll-formed wide space served words read h
+behind-formed wide Discard served words read h = discard-formed words read h
+behind-formed wide Drop served words read h = drop-formed words read h
+
+line-formed : (wide : Bool) (words : List (List ℕ)) (read : Statement × List (List ℕ)) → statement_form wide words ≡ Ok read → is_formed (read.0) ≡ true
+unfolding statement_form
+line-formed wide words read h =
+    let form = on-ok (one_word form_of words) _ read h in
+    behind-formed wide (form.0.0) (word-ok form_of (λ f. is_served f ≡ true) form-served words form.0 form.1.0) (form.0.1) read form.1.1
+
+pub statement-formed : (wide : Bool) (words : List (List ℕ)) (statement : Statement) → statement_of wide words ≡ Ok statement → is_formed statement ≡ true
+unfolding statement_of
+statement-formed wide words statement h = yields-whole (statement_form wide words) (λ s. is_formed s ≡ true) (line-formed wide words) statement h
