@@ -54,12 +54,12 @@ Ends end window = ends_within end window ≡ true
 limit-ends : (wide : Bool) (end : ℕ) → ((word : List ℕ) (n : ℕ) → long_of wide word ≡ Ok n → n < end) → Yields (base_limit wide) (Ends end)
 limit-ends wide end below = record {
   at = λ words read h.
-    let from = on-ok (long wide words) _ read h in
-    let to = on-ok (long wide (from.0.1)) _ read from.1.1 in
-    let limit = word-ok (long_of wide) (λ n. n < end) below (from.0.1) to.0 to.1.0 in
-    let is = give-ok (Some (record { base = from.0.0; limit = to.0.0 })) (to.0.1) read to.1.1 in
-    let P : Option Window → Type 0 = λ w. Ends end w in
-    subst P is (lt-ltb _ _ limit);
+      let from = on-ok (long wide words) _ read h in
+      let to = on-ok (long wide (from.0.1)) _ read from.1.1 in
+      let limit = word-ok (long_of wide) (λ n. n < end) below (from.0.1) to.0 to.1.0 in
+      let is = give-ok (Some (record { base = from.0.0; limit = to.0.0 })) (to.0.1) read to.1.1 in
+      let P : Option Window → Type 0 = λ w. Ends end w in
+      subst P is (lt-ltb _ _ limit);
 }
 
 window-ends : (word : List ℕ) (wide : Bool) (end : ℕ) → ((w : List ℕ) (n : ℕ) → long_of wide w ≡ Ok n → n < end) → Yields (window word wide) (Ends end)

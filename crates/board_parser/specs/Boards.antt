@@ -1,5 +1,5 @@
 -- What a board text is read as: a board, or its first fault with the number of its line.
-use Rattle.std.specs.Prelude.{◌≡◌, ℕ, ◌+◌, List, [], ◌∷◌, Option, Some, None, Result, Ok, Err}
+use Rattle.std.specs.Prelude.{◌≡◌, ◌≤◌, ℕ, ◌+◌, List, [], ◌∷◌, Option, Some, None, Result, Ok, Err}
 use Rattle.board_model.specs.declared.board.Board.{Board}
 use Rattle.board_text.specs.Lines.{lines_of}
 use Rattle.line_forms.specs.declared.fault.LineFault.{LineFault}
@@ -45,3 +45,8 @@ abbrev pub Tells : Result Board ParseFault → Result Board (ℕ × LineFault) �
 Tells (Ok board) reading = reading ≡ Ok board
 Tells (Err (Fault line family code)) reading = told_of reading ≡ Err (Fault line family code)
 Tells (Err NoMemory) reading = Unit {0}
+
+-- a fault is told of one of so many lines
+abbrev pub IsWithin : ℕ → ParseFault → Type 0
+IsWithin lines (Fault line family code) = line ≤ lines
+IsWithin lines NoMemory = Unit {0}

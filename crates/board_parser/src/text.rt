@@ -1,5 +1,5 @@
-ghost use Rattle.std.specs.Prelude.{◌≡◌, ◌<◌, ◌^◌, length};
-ghost use Rattle.board_parser.specs.Boards.{board_read, told, Tells};
+ghost use Rattle.std.specs.Prelude.{◌≡◌, ◌+◌, ◌<◌, ◌^◌, length, IfErr};
+ghost use Rattle.board_parser.specs.Boards.{board_read, told, Tells, IsWithin};
 
 use crate::ParseFault;
 use crate::line::read_line;
@@ -15,7 +15,8 @@ use std::alloc::Global;
 /// the line would add to the board.
 pub fn parse(alloc: Global, bytes: &[u8]) -> Result<Board, ParseFault>
     requires { length bytes.now < 2 ^ 31 }
-    ensures { Tells result (board_read bytes.now) }
+    ensures read { Tells result (board_read bytes.now) }
+    ensures numbered { IfErr result (IsWithin (length bytes.now + 1)) }
 {
     let mut sheet = None;
     let mut number = 1;
