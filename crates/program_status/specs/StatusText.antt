@@ -2,10 +2,10 @@
 use Rattle.std.specs.Prelude.{ℕ, List, [], ◌++◌, codes}
 use Rattle.std.specs.Fmt.{decimal}
 use Rattle.history_model.specs.WhyText.{why_text}
-use Rattle.pcitree.specs.declared.status.Status.{Status}
-use Rattle.pcitree.specs.declared.status.Status.TheVariants.{Done, NoMemory, Usage, ReadFault, WriteFault, TooLong, BadBoard, BadTrace, NotRun, Incomplete}
-use Rattle.pcitree.specs.declared.status.BoardFault.{BoardFault}
-use Rattle.pcitree.specs.declared.status.BoardFault.TheVariants.{L, P, H, V, Bound}
+use Rattle.program_status.specs.declared.status.Status.{Status}
+use Rattle.program_status.specs.declared.status.Status.TheVariants.{Done, NoMemory, Usage, ReadFault, WriteFault, TooLong, BadBoard, BadTrace, NotRun, Incomplete}
+use Rattle.program_status.specs.declared.status.BoardFault.{BoardFault}
+use Rattle.program_status.specs.declared.status.BoardFault.TheVariants.{L, P, H, V, Bound}
 
 -- what the process ends with
 abbrev pub number_of : Status → ℕ

@@ -44,7 +44,7 @@ pub enum Status {
 
 impl Status {
     ghost use Rattle.std.specs.Prelude.{◌≡◌};
-    ghost use Rattle.pcitree.specs.StatusText.{number_of};
+    ghost use Rattle.program_status.specs.StatusText.{number_of};
 
     /// The number that the process ends with: 0 to 9.
     pub fn number(&self) -> u8
@@ -67,7 +67,7 @@ impl Status {
 
 impl fmt::Display for BoardFault {
     ghost use Rattle.std.specs.Prelude.{Some};
-    ghost use Rattle.pcitree.specs.StatusText.{fault_text};
+    ghost use Rattle.program_status.specs.StatusText.{fault_text};
 
     ghost output = { λ fault. Some (fault_text fault) };
 
@@ -84,7 +84,7 @@ impl fmt::Display for BoardFault {
 
 impl fmt::Display for Status {
     ghost use Rattle.std.specs.Prelude.{Some};
-    ghost use Rattle.pcitree.specs.StatusText.{status_text};
+    ghost use Rattle.program_status.specs.StatusText.{status_text};
 
     ghost output = { λ status. Some (status_text status) };
 
@@ -116,7 +116,7 @@ impl fmt::Display for Status {
 
 impl From<AllocError> for Status {
     ghost use Rattle.std.specs.Prelude.{◌≡◌};
-    ghost use Rattle.pcitree.specs.declared.status.Status.TheVariants.{NoMemory};
+    ghost use Rattle.program_status.specs.declared.status.Status.TheVariants.{NoMemory};
 
     ghost from_gives = { λ _ status. status ≡ NoMemory };
 
