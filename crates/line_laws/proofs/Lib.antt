@@ -1,1 +1,3 @@
 pub mod NumberTexts
+pub mod PartTexts
+pub mod TargetTexts

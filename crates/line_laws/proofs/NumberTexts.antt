@@ -15,7 +15,7 @@ use Rattle.board_printer.specs.Numbers.{hex}
 use Rattle.line_forms.specs.declared.fault.LineFault.{LineFault}
 use Rattle.line_forms.specs.Words.{hex_of, decimal_of, within}
 
-abbrev number : ℕ → Result ℕ LineFault
+abbrev pub number : ℕ → Result ℕ LineFault
 number n = Ok n
 
 pub glyph_value : (d : ℕ) → d < 16 → digit_value (digit_glyph false d) ≡ d
