@@ -1,3 +1,4 @@
 pub mod NumberTexts
 pub mod PartTexts
 pub mod TargetTexts
+pub mod MasterTexts
