@@ -2,3 +2,4 @@ pub mod NumberTexts
 pub mod PartTexts
 pub mod TargetTexts
 pub mod MasterTexts
+pub mod BridgeTexts

@@ -134,3 +134,20 @@ phase_is_read phase fits few =
           let part : List ℕ = digit_glyph false phase.enables ∷ [] in
           rw (mark_stands 47 (word_text phase.value) part, before_is 47 (word_text phase.value) part none, behind_is 47 (word_text phase.value) part none, word_is_read phase.value fits, digit_is_read phase.enables (omega arith)) refl
     ]) refl)
+
+mark-append : (mark : ℕ) (xs ys : List ℕ) → has_mark mark xs ≡ false → has_mark mark ys ≡ false → has_mark mark (xs ++ ys) ≡ false
+mark-append mark [] ys front back = back
+mark-append mark (x ∷ xs) ys front back =
+    let here : eqb x mark ≡ false = grind arith in
+    let others : has_mark mark xs ≡ false = grind arith in
+    rw (here, mark-append mark xs ys others back) refl
+
+pub address_has_none : (mark n : ℕ) → is_digit mark 16 ≡ false → eqb 58 mark ≡ false → has_mark mark (address_text n) ≡ false
+unfolding address_text
+address_has_none mark n none apart =
+    let lower : has_mark mark (58 ∷ word_text (n % 2 ^ 32)) ≡ false = rw (apart, word_has_none mark (n % 2 ^ 32) none) refl in
+    let P : Bool → Type 0 = λ b. has_mark mark (cond b (word_text n) (word_text (n / 2 ^ 32) ++ 58 ∷ word_text (n % 2 ^ 32))) ≡ false in
+    elim (ltb n (2 ^ 32)) as P [
+      | true ↦ word_has_none mark n none
+      | false ↦ mark-append mark (word_text (n / 2 ^ 32)) (58 ∷ word_text (n % 2 ^ 32)) (word_has_none mark (n / 2 ^ 32) none) lower
+    ]

@@ -5,6 +5,7 @@ use Rattle.pci_command.specs.declared.command.Space.{Space}
 use Rattle.pci_command.specs.declared.command.Space.TheVariants.{Io}
 use Rattle.pci_command.specs.declared.phases.Phase.{Phase}
 use Rattle.board_model.specs.Names.{is_name}
+use Rattle.board_model.specs.declared.bridge.Bridge.{Bridge}
 use Rattle.board_model.specs.declared.agents.Range.{Range}
 use Rattle.board_model.specs.declared.agents.Opening.{Opening}
 use Rattle.board_model.specs.declared.agents.Target.{Target}
@@ -12,6 +13,11 @@ use Rattle.board_model.specs.declared.agents.Master.{Master}
 use Rattle.board_model.specs.declared.op.Op.{Op}
 use Rattle.board_model.specs.declared.op.Op.TheVariants.{Read, Write, CfgRead, CfgWrite, Poll}
 use Rattle.board_model.specs.declared.board.Planned.{Planned}
+
+pub record BridgeFits (bridge : Bridge) : Type 0 where
+  pub bus : bridge.bus < 2 ^ 8
+  pub parent : bridge.parent < 2 ^ 8
+  pub last : bridge.last < 2 ^ 8
 
 pub record TargetFits (target : Target) : Type 0 where
   pub name : is_name target.name ≡ true
