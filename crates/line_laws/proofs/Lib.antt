@@ -3,3 +3,4 @@ pub mod PartTexts
 pub mod TargetTexts
 pub mod MasterTexts
 pub mod BridgeTexts
+pub mod WordTexts
