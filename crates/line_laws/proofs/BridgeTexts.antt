@@ -1,25 +1,23 @@
 -- The line of a bridge as it is printed is read as what it says.
-use Rattle.std.proofs.Common.{◌≡◌, ℕ, ◌+◌, ◌%◌, ◌^◌, ◌<◌, ◌≤◌, Bool, true, false, cond, eqb, ltb, leb, ◌&&◌, ◌||◌, List, [], ◌∷◌, ◌++◌, Option, Some, None, Result, Ok, Err, arith, refl, sym, ap, ◌∙◌}
+use Rattle.std.proofs.Common.{◌≡◌, ℕ, ◌+◌, ◌%◌, ◌^◌, ◌<◌, ◌≤◌, Bool, true, false, cond, eqb, ltb, leb, ◌&&◌, ◌||◌, List, [], ◌∷◌, ◌++◌, Option, Some, None, Result, Ok, arith, refl, sym, ap}
 use Rattle.std.specs.Prelude.{codes}
 use Rattle.std.specs.Str.{bytes_eq}
 use Rattle.std.specs.Fmt.{decimal}
 use Rattle.std.proofs.lemmas.Bool.{lt-ltb, eqb-true, ltb-true, leb-true}
-use Rattle.std.proofs.lemmas.Bool.Decides.{nat_tests}
 use Rattle.board_model.specs.declared.bridge.Window.{Window}
 use Rattle.board_model.specs.declared.bridge.Bridge.{Bridge}
 use Rattle.board_model.specs.WellFormed.{is_within, is_window, is_well_formed_bridge}
 use Rattle.board_printer.specs.Numbers.{address_text}
-use Rattle.board_printer.specs.Bridges.{window_words, depth_words, mode_words, option_words, bridge_line}
+use Rattle.board_printer.specs.Bridges.{window_words, depth_words, mode_words, bridge_line}
 use Rattle.board_printer.specs.Boards.{is_short, is_short_window, is_short_bridge}
 use Rattle.line_forms.specs.declared.fault.LineFault.{LineFault}
-use Rattle.line_forms.specs.declared.statement.Statement.{Statement}
 use Rattle.line_forms.specs.declared.statement.Statement.TheVariants.{NewBridge}
-use Rattle.line_forms.specs.Words.{has_mark, begins_with, decimal_of, fixed_of, long_of}
+use Rattle.line_forms.specs.Words.{has_mark, begins_with, decimal_of, fixed_of}
 use Rattle.line_forms.specs.Keywords.{form_of}
 use Rattle.line_forms.specs.Bridges.{window, depth, abort_mode, bridge_form}
 use Rattle.line_forms.specs.Statements.{behind_word, statement_form, statement_of}
 use Rattle.line_laws.specs.Ranges.{BridgeFits}
-use Rattle.line_laws.proofs.NumberTexts.{number, decimal_is_read}
+use Rattle.line_laws.proofs.NumberTexts.{decimal_is_read}
 use Rattle.line_laws.proofs.PartTexts.{address_is_read, address_has_none}
 use Rattle.line_laws.proofs.TargetTexts.{first_may, second_may}
 
@@ -110,18 +108,18 @@ may_long wide unit (Some it) formed may =
     (omega arith, below, first_may wide (is_short it.base) (is_short it.limit) may, second_may wide (is_short it.base) (is_short it.limit) may)
 
 -- what is well formed of a bridge, one by one
-record Formed (bridge : Bridge) : Type 0 where
-  some : 1 ≤ bridge.bus
-  device : bridge.device ≤ 31
-  posted_some : 1 ≤ bridge.posted
-  posted_few : bridge.posted ≤ 8
-  delayed_some : 1 ≤ bridge.delayed
-  delayed_few : bridge.delayed ≤ 8
-  mem : is_window (2 ^ 20) (2 ^ 32) bridge.mem ≡ true
-  pref : is_window (2 ^ 20) (2 ^ 64) bridge.pref ≡ true
-  io : is_window (2 ^ 12) (2 ^ 32) bridge.io ≡ true
+pub record Formed (bridge : Bridge) : Type 0 where
+  pub some : 1 ≤ bridge.bus
+  pub device : bridge.device ≤ 31
+  pub posted_some : 1 ≤ bridge.posted
+  pub posted_few : bridge.posted ≤ 8
+  pub delayed_some : 1 ≤ bridge.delayed
+  pub delayed_few : bridge.delayed ≤ 8
+  pub mem : is_window (2 ^ 20) (2 ^ 32) bridge.mem ≡ true
+  pub pref : is_window (2 ^ 20) (2 ^ 64) bridge.pref ≡ true
+  pub io : is_window (2 ^ 12) (2 ^ 32) bridge.io ≡ true
 
-formed_of : (bridge : Bridge) → is_well_formed_bridge bridge ≡ true → Formed bridge
+pub formed_of : (bridge : Bridge) → is_well_formed_bridge bridge ≡ true → Formed bridge
 formed_of bridge formed =
     let one = leb 1 bridge.bus in
     let two = one && leb bridge.device 31 in
@@ -172,10 +170,15 @@ bridge_is_read wide bridge fits formed may =
     let io_posts = skip_depth (codes "io") (codes "posted") bridge.posted delays refl (skip_depth (codes "io") (codes "delayed") bridge.delayed modes refl (skip_mode (codes "io") bridge.mode refl)) in
     let pref_ios = skip_window (codes "pref") (codes "io") bridge.io posts refl (skip_depth (codes "pref") (codes "posted") bridge.posted delays refl (skip_depth (codes "pref") (codes "delayed") bridge.delayed modes refl (skip_mode (codes "pref") bridge.mode refl))) in
     let mem_prefs = skip_window (codes "mem") (codes "pref") bridge.pref ios refl (skip_window (codes "mem") (codes "io") bridge.io posts refl (skip_depth (codes "mem") (codes "posted") bridge.posted delays refl (skip_depth (codes "mem") (codes "delayed") bridge.delayed modes refl (skip_mode (codes "mem") bridge.mode refl)))) in
-    rw (decimal_is_read 1 255 bridge.bus it.some (omega arith) (omega arith), decimal_is_read 0 255 bridge.parent (omega arith) (omega arith) (omega arith), decimal_is_read 0 31 bridge.device (omega arith) it.device (omega arith), decimal_is_read 0 255 bridge.last (omega arith) (omega arith) (omega arith),
-        window_is_read (codes "mem") false bridge.mem prefs refl (may_short (2 ^ 20) bridge.mem it.mem) mem_prefs,
-        window_is_read (codes "pref") wide bridge.pref ios refl (may_long wide (2 ^ 20) bridge.pref it.pref (pref_may wide bridge may)) pref_ios,
-        window_is_read (codes "io") false bridge.io posts refl (may_short (2 ^ 12) bridge.io it.io) io_posts,
-        depth_is_read (codes "posted") bridge.posted delays refl it.posted_some it.posted_few posted_delays,
-        depth_is_read (codes "delayed") bridge.delayed modes refl it.delayed_some it.delayed_few delayed_modes,
-        mode_is_read bridge.mode) refl
+    rw (
+      decimal_is_read 1 255 bridge.bus it.some (omega arith) (omega arith),
+      decimal_is_read 0 255 bridge.parent (omega arith) (omega arith) (omega arith),
+      decimal_is_read 0 31 bridge.device (omega arith) it.device (omega arith),
+      decimal_is_read 0 255 bridge.last (omega arith) (omega arith) (omega arith),
+      window_is_read (codes "mem") false bridge.mem prefs refl (may_short (2 ^ 20) bridge.mem it.mem) mem_prefs,
+      window_is_read (codes "pref") wide bridge.pref ios refl (may_long wide (2 ^ 20) bridge.pref it.pref (pref_may wide bridge may)) pref_ios,
+      window_is_read (codes "io") false bridge.io posts refl (may_short (2 ^ 12) bridge.io it.io) io_posts,
+      depth_is_read (codes "posted") bridge.posted delays refl it.posted_some it.posted_few posted_delays,
+      depth_is_read (codes "delayed") bridge.delayed modes refl it.delayed_some it.delayed_few delayed_modes,
+      mode_is_read bridge.mode,
+    ) refl

@@ -4,3 +4,5 @@ pub mod TargetTexts
 pub mod MasterTexts
 pub mod BridgeTexts
 pub mod WordTexts
+pub mod PlainTexts
+pub mod Laws

@@ -1,5 +1,5 @@
 -- The lines of masters, and those that discard or drop, as they are printed are read as what they say.
-use Rattle.std.proofs.Common.{◌≡◌, ℕ, ◌+◌, ◌^◌, ◌<◌, ◌≤◌, Bool, true, false, cond, eqb, ltb, leb, ◌&&◌, ◌||◌, List, [], ◌∷◌, map, length, take, Option, Some, None, Result, Ok, Err, arith, refl, sym, ap, ◌∙◌}
+use Rattle.std.proofs.Common.{◌≡◌, ℕ, ◌^◌, ◌<◌, ◌≤◌, Bool, true, false, ltb, ◌&&◌, ◌||◌, List, [], ◌∷◌, map, length, take, Result, Ok, arith, refl, ap, ◌∙◌}
 use Rattle.std.specs.Prelude.{codes}
 use Rattle.std.specs.List.{AllByRecursion, list_all}
 use Rattle.std.specs.Fmt.{decimal}
@@ -16,19 +16,18 @@ use Rattle.board_model.specs.declared.op.Op.TheVariants.{Read, Write, CfgRead, C
 use Rattle.board_model.specs.declared.agents.Master.{Master}
 use Rattle.board_model.specs.declared.board.Planned.{Planned}
 use Rattle.board_model.specs.WellFormed.{read_space, write_space, is_well_formed_phase, is_well_formed_read, is_well_formed_write, is_well_formed_op, is_well_formed_plan, is_dword_in, is_within}
-use Rattle.board_printer.specs.Numbers.{word_text, phase_text, address_text}
+use Rattle.board_printer.specs.Numbers.{phase_text}
 use Rattle.board_printer.specs.Masters.{master_line, op_line, write_line}
 use Rattle.board_printer.specs.Spaces.{direction_word}
 use Rattle.board_printer.specs.Boards.{is_short, is_short_op, planned_line}
 use Rattle.line_forms.specs.declared.fault.LineFault.{LineFault}
-use Rattle.line_forms.specs.declared.statement.Statement.{Statement}
 use Rattle.line_forms.specs.declared.statement.Statement.TheVariants.{NewMaster, Does, Discards, Drops}
-use Rattle.line_forms.specs.Words.{hex_of, decimal_of, fixed_of, name_of, long_of, data_word_of}
+use Rattle.line_forms.specs.Words.{fixed_of, name_of}
 use Rattle.line_forms.specs.Keywords.{form_of}
 use Rattle.line_forms.specs.Masters.{master_form, read_form, data_words, burst_words, burst_write_form, port_write_form, register_read_form, register_write_form, poll_form, planned_form, discard_form, drop_form, direction_of_word}
 use Rattle.line_forms.specs.Statements.{behind_word, statement_form, statement_of}
 use Rattle.line_laws.specs.Ranges.{MasterFits, OpFits, PhaseFits, PlannedFits}
-use Rattle.line_laws.proofs.NumberTexts.{number, decimal_is_read}
+use Rattle.line_laws.proofs.NumberTexts.{decimal_is_read}
 use Rattle.line_laws.proofs.PartTexts.{word_is_read, address_is_read, phase_is_read}
 use Rattle.line_laws.proofs.TargetTexts.{port_is_read, port_hex_is_read}
 

@@ -1,15 +1,15 @@
 -- Words of two parts as they are printed are read as the same: addresses and data words.
-use Rattle.std.proofs.Common.{◌≡◌, ℕ, zero, suc, ◌+◌, ◌*◌, ◌/◌, ◌%◌, ◌^◌, ◌<◌, ◌≤◌, Bool, true, false, not, cond, eqb, ltb, ◌&&◌, ◌||◌, List, [], ◌∷◌, ◌++◌, length, take, drop, Result, Ok, Err, arith, inl, inr, refl, sym, ap, subst, ◌∙◌}
+use Rattle.std.proofs.Common.{◌≡◌, ℕ, suc, ◌+◌, ◌*◌, ◌/◌, ◌%◌, ◌^◌, ◌<◌, ◌≤◌, Bool, true, false, cond, eqb, ltb, ◌||◌, List, [], ◌∷◌, ◌++◌, length, drop, Result, Ok, arith, inl, inr, refl, sym, ap, subst, ◌∙◌}
 use Rattle.std.proofs.lemmas.Bool.{cases_lt, lt-ltb, le-ltb, eqb-true}
 use Rattle.std.proofs.lemmas.Bool.Decides.{nat_tests}
-use Rattle.std.proofs.lemmas.List.{append-nil, length-append, take_at, drop_at}
-use Rattle.std.specs.List.{list_all, list_any, position_or_len}
-use Rattle.std.specs.Char.{digit_value, is_digit}
+use Rattle.std.proofs.lemmas.List.{append-nil, take_at}
+use Rattle.std.specs.List.{list_all, position_or_len}
+use Rattle.std.specs.Char.{is_digit}
 use Rattle.std.specs.Fmt.{digit_glyph}
 use Rattle.pci_command.specs.declared.phases.Phase.{Phase}
-use Rattle.board_printer.specs.Numbers.{hex, word_text, half_text, address_text, enables_text, phase_text}
+use Rattle.board_printer.specs.Numbers.{hex, word_text, half_text, address_text, phase_text}
 use Rattle.line_forms.specs.declared.fault.LineFault.{LineFault}
-use Rattle.line_forms.specs.Words.{hex_of, has_mark, before_mark, behind_mark, and_part, lower_of, long_of, digit_of, enables_of, data_word_of}
+use Rattle.line_forms.specs.Words.{hex_of, has_mark, before_mark, behind_mark, lower_of, long_of, digit_of, data_word_of}
 use Rattle.line_laws.proofs.NumberTexts.{number, glyph_value, glyph_is_digit, hex_digits, hex_length, hex_is_read}
 
 pub word_is_read : (n : ℕ) → n < 2 ^ 32 → hex_of 8 (word_text n) ≡ number n

@@ -1,5 +1,5 @@
 -- The lines of targets as they are printed are read as what they say.
-use Rattle.std.proofs.Common.{◌≡◌, ℕ, ◌+◌, ◌^◌, ◌<◌, ◌≤◌, Bool, true, false, cond, eqb, ltb, leb, ◌&&◌, ◌||◌, List, [], ◌∷◌, Result, Ok, Err, arith, refl, sym, ap, ◌∙◌}
+use Rattle.std.proofs.Common.{◌≡◌, ℕ, ◌^◌, ◌<◌, ◌≤◌, Bool, true, false, ◌&&◌, ◌||◌, List, [], ◌∷◌, Result, Ok, arith, refl}
 use Rattle.std.specs.Prelude.{codes}
 use Rattle.std.specs.Fmt.{decimal}
 use Rattle.std.proofs.lemmas.Bool.{lt-ltb}
@@ -15,11 +15,10 @@ use Rattle.board_printer.specs.Spaces.{space_word}
 use Rattle.board_printer.specs.Targets.{target_line, range_line, opening_line}
 use Rattle.board_printer.specs.Boards.{is_short, is_short_range}
 use Rattle.line_forms.specs.declared.fault.LineFault.{LineFault}
-use Rattle.line_forms.specs.declared.statement.Statement.{Statement}
 use Rattle.line_forms.specs.declared.statement.Statement.TheVariants.{NewTarget, Identifies, Stalls, Bursts, Claims, Aborts, Opens}
-use Rattle.line_forms.specs.Words.{hex_of, decimal_of, fixed_of, name_of, long_of}
+use Rattle.line_forms.specs.Words.{hex_of, fixed_of, name_of, long_of}
 use Rattle.line_forms.specs.Keywords.{form_of}
-use Rattle.line_forms.specs.Targets.{is_wide_in, space_of_word, target_form, id_form, stall_form, burst_form, range_form, claim_form, abort_form, opening_form}
+use Rattle.line_forms.specs.Targets.{space_of_word, target_form, id_form, stall_form, burst_form, range_form, claim_form, abort_form, opening_form}
 use Rattle.line_forms.specs.Statements.{behind_word, statement_form, statement_of}
 use Rattle.line_laws.specs.Ranges.{TargetFits, RangeFits, OpeningFits}
 use Rattle.line_laws.proofs.NumberTexts.{number, decimal_is_read}

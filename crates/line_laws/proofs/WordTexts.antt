@@ -1,13 +1,11 @@
 -- The words of a line that was printed are those words.
-use Rattle.std.proofs.Common.{◌≡◌, ℕ, suc, ◌+◌, ◌<◌, ◌≤◌, Bool, true, false, not, cond, eqb, ltb, ◌&&◌, ◌||◌, List, [], ◌∷◌, ◌++◌, append_assoc, length, take, arith, refl, sym, ap, subst, ◌∙◌}
-use Rattle.std.proofs.lemmas.Bool.Decides.{nat_tests}
-use Rattle.std.proofs.lemmas.Bool.{lt-ltb, ltb-true}
-use Rattle.std.proofs.lemmas.List.{append-nil, take_all, length-append, take_at}
+use Rattle.std.proofs.Common.{◌≡◌, ℕ, Bool, true, false, not, ltb, List, [], ◌∷◌, ◌++◌, append_assoc, length, arith, refl, sym, ap, subst, ◌∙◌}
+use Rattle.std.proofs.lemmas.List.{append-nil, take_all, length-append}
 use Rattle.std.proofs.lemmas.List.Folds.{list_all-append}
 use Rattle.std.proofs.lemmas.List.Splits.{slice_split-cons_no}
-use Rattle.std.specs.List.{list_all, position_or_len, before_first, slice_split, onto_first, filter}
+use Rattle.std.specs.List.{list_all, position_or_len, slice_split, filter}
 use Rattle.board_text.specs.Tokens.{is_separator, is_comment, uncommented, words_of}
-use Rattle.board_printer.specs.Lines.{Line, spaced, line_text}
+use Rattle.board_printer.specs.Lines.{spaced, line_text}
 use Rattle.line_laws.specs.PlainWords.{is_plain_byte, is_plain_word}
 
 -- a byte of a plain word

@@ -1,7 +1,6 @@
 -- What a line can be of: numbers are as wide as their fields, and lie within the space that they are of.
-use Rattle.std.specs.Prelude.{◌≡◌, ℕ, Bool, true, ◌^◌, ◌<◌, List, ◌||◌}
+use Rattle.std.specs.Prelude.{◌≡◌, true, ◌^◌, ◌<◌}
 use Rattle.std.specs.List.{AllByRecursion}
-use Rattle.pci_command.specs.declared.command.Space.{Space}
 use Rattle.pci_command.specs.declared.command.Space.TheVariants.{Io}
 use Rattle.pci_command.specs.declared.phases.Phase.{Phase}
 use Rattle.board_model.specs.Names.{is_name}
