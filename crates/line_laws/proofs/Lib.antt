@@ -5,4 +5,6 @@ pub mod MasterTexts
 pub mod BridgeTexts
 pub mod WordTexts
 pub mod PlainTexts
+pub mod AllowedTexts
+pub mod WidthTexts
 pub mod Laws

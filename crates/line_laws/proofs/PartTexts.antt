@@ -20,7 +20,7 @@ pub half_is_read : (n : ℕ) → n < 2 ^ 16 → hex_of 4 (half_text n) ≡ numbe
 unfolding half_text
 half_is_read n below = hex_is_read 4 n (omega arith) below
 
-word_length : (n : ℕ) → length (word_text n) ≡ 8
+pub word_length : (n : ℕ) → length (word_text n) ≡ 8
 unfolding word_text
 word_length n = hex_length 8 n
 

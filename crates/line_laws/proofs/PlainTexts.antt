@@ -1,7 +1,8 @@
 -- What is printed on a line is plain words.
 use Rattle.std.proofs.Common.{◌≡◌, ℕ, ◌/◌, ◌%◌, ◌^◌, ◌<◌, ◌≤◌, Bool, true, false, cond, eqb, ltb, List, [], ◌∷◌, ◌++◌, length, map, Option, Some, None, arith, refl, sym, subst, ◌∙◌}
 use Rattle.std.specs.Prelude.{codes}
-use Rattle.std.proofs.lemmas.Bool.{lt-ltb, eqb-true}
+use Rattle.std.proofs.lemmas.Bool.{lt-ltb, le-leb, eqb-true}
+use Rattle.std.proofs.lemmas.Bool.Decides.{nat_tests}
 use Rattle.std.proofs.lemmas.List.{length-append}
 use Rattle.std.proofs.lemmas.List.Folds.{list_all-append}
 use Rattle.std.specs.List.{list_all}
@@ -44,22 +45,56 @@ apart_from test mark byte none passes =
       | false ↦ λ other. refl
     ]) refl
 
-plain_by : (test : ℕ → Bool) → test 32 ≡ false → test 9 ≡ false → test 35 ≡ false → (byte : ℕ) → test byte ≡ true → is_plain_byte byte ≡ true
-plain_by test space tab mark byte passes =
-    rw (apart_from test 32 byte space passes, apart_from test 9 byte tab passes, apart_from test 35 byte mark passes) refl
+-- a test that no separator and no mark of a comment passes, and only bytes that a line may have
+record IsPlain (test : ℕ → Bool) : Type 0 where
+  space : test 32 ≡ false
+  tab : test 9 ≡ false
+  mark : test 35 ≡ false
+  printing : (byte : ℕ) → test byte ≡ true → (32 ≤ byte) × (byte ≤ 126)
 
-all_plain_by : (test : ℕ → Bool) → test 32 ≡ false → test 9 ≡ false → test 35 ≡ false → (word : List ℕ) → list_all test word ≡ true → list_all is_plain_byte word ≡ true
-all_plain_by test space tab mark [] all = refl
-all_plain_by test space tab mark (byte ∷ word) all =
+plain_by : (test : ℕ → Bool) → IsPlain test → (byte : ℕ) → test byte ≡ true → is_plain_byte byte ≡ true
+plain_by test plain byte passes =
+    let bounds = plain.printing byte passes in
+    let low = le-leb 32 byte bounds.0 in
+    let high = le-leb byte 126 bounds.1 in
+    rw (apart_from test 32 byte plain.space passes, apart_from test 9 byte plain.tab passes, apart_from test 35 byte plain.mark passes, low, high) refl
+
+all_plain_by : (test : ℕ → Bool) → IsPlain test → (word : List ℕ) → list_all test word ≡ true → list_all is_plain_byte word ≡ true
+all_plain_by test plain [] all = refl
+all_plain_by test plain (byte ∷ word) all =
     let here : test byte ≡ true = grind arith in
     let others : list_all test word ≡ true = grind arith in
-    rw (plain_by test space tab mark byte here, all_plain_by test space tab mark word others) refl
+    rw (plain_by test plain byte here, all_plain_by test plain word others) refl
+
+digit_bounds : (byte : ℕ) → is_digit byte 16 ≡ true → (32 ≤ byte) × (byte ≤ 126)
+digit_bounds byte digit = (grind (arith, nat_tests), grind (arith, nat_tests))
+
+decimal_bounds : (byte : ℕ) → is_digit byte 10 ≡ true → (32 ≤ byte) × (byte ≤ 126)
+decimal_bounds byte digit = (grind (arith, nat_tests), grind (arith, nat_tests))
+
+start_bounds : (byte : ℕ) → is_name_start byte ≡ true → (32 ≤ byte) × (byte ≤ 126)
+start_bounds byte start = (grind (arith, nat_tests), grind (arith, nat_tests))
+
+name_bounds : (byte : ℕ) → is_name_byte byte ≡ true → (32 ≤ byte) × (byte ≤ 126)
+name_bounds byte later = (grind (arith, nat_tests), grind (arith, nat_tests))
+
+digit_plain : IsPlain (λ byte. is_digit byte 16)
+digit_plain = record { space = refl; tab = refl; mark = refl; printing = digit_bounds }
+
+decimal_digit_plain : IsPlain (λ byte. is_digit byte 10)
+decimal_digit_plain = record { space = refl; tab = refl; mark = refl; printing = decimal_bounds }
+
+start_plain : IsPlain is_name_start
+start_plain = record { space = refl; tab = refl; mark = refl; printing = start_bounds }
+
+later_plain : IsPlain is_name_byte
+later_plain = record { space = refl; tab = refl; mark = refl; printing = name_bounds }
 
 plain_word : (word : List ℕ) → 0 < length word → list_all is_plain_byte word ≡ true → is_plain_word word ≡ true
 plain_word word some all = rw (lt-ltb 0 (length word) some, all) refl
 
 hex_plain : (k n : ℕ) → list_all is_plain_byte (hex k n) ≡ true
-hex_plain k n = all_plain_by (λ byte. is_digit byte 16) refl refl refl (hex k n) (hex_digits k n)
+hex_plain k n = all_plain_by (λ byte. is_digit byte 16) digit_plain (hex k n) (hex_digits k n)
 
 pub word_plain : (n : ℕ) → is_plain_word (word_text n) ≡ true
 unfolding word_text
@@ -96,21 +131,21 @@ pub phase_plain : (phase : Phase) → is_plain_word (phase_text phase) ≡ true
 unfolding phase_text
 phase_plain phase =
     let bits = phase.enables % 16 in
-    let digit = plain_by (λ byte. is_digit byte 16) refl refl refl (digit_glyph false bits) (glyph_is_digit bits (omega arith)) in
+    let digit = plain_by (λ byte. is_digit byte 16) digit_plain (digit_glyph false bits) (glyph_is_digit bits (omega arith)) in
     let P : Bool → Type 0 = λ b. list_all is_plain_byte (cond b [] (47 ∷ digit_glyph false bits ∷ [])) ≡ true in
     let enables : list_all is_plain_byte (enables_text bits) ≡ true = elim (eqb bits 15) as P [ true ↦ refl | false ↦ rw digit refl ] in
     longer_plain (word_text phase.value) (enables_text bits) (word_some phase.value) (word_bytes phase.value) enables
 
 pub decimal_plain : (n : ℕ) → n < 2 ^ 32 → is_plain_word (decimal n) ≡ true
 decimal_plain n below =
-    plain_word (decimal n) (decimal_some n below) (all_plain_by (λ byte. is_digit byte 10) refl refl refl (decimal n) (decimal_digits n below))
+    plain_word (decimal n) (decimal_some n below) (all_plain_by (λ byte. is_digit byte 10) decimal_digit_plain (decimal n) (decimal_digits n below))
 
 name_plain : (name : List ℕ) → is_name name ≡ true → is_plain_word name ≡ true
 name_plain [] named = absurd (let apart : false ≡ true = named in cc)
 name_plain (byte ∷ name) named =
     let first : is_name_start byte ≡ true = grind arith in
     let others : list_all is_name_byte name ≡ true = grind arith in
-    plain_word (byte ∷ name) (omega arith) (rw (plain_by is_name_start refl refl refl byte first, all_plain_by is_name_byte refl refl refl name others) refl)
+    plain_word (byte ∷ name) (omega arith) (rw (plain_by is_name_start start_plain byte first, all_plain_by is_name_byte later_plain name others) refl)
 
 pub target_plain : (target : Target) → TargetFits target → target.device ≤ 31 → list_all is_plain_word (target_line target) ≡ true
 target_plain target fits few =

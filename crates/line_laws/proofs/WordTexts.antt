@@ -106,13 +106,18 @@ last_off (x ∷ xs) (y ∷ ys) z same =
     let others : xs ++ z ∷ [] ≡ ys ++ z ∷ [] = cc in
     rw (first, last_off xs ys z others) refl
 
+-- the line of a printed text of one word or more
+pub line_is : (word : List ℕ) (words : List (List ℕ)) (line : List ℕ) → line_text (word ∷ words) ≡ line ++ 10 ∷ [] → word ++ spaced words [] ≡ line
+line_is word words line printed =
+    let ends : line_text (word ∷ words) ≡ (word ++ spaced words []) ++ 10 ∷ [] = ap (λ (more : List ℕ). word ++ more) (spaced-behind words (10 ∷ [])) ∙ sym (append_assoc word (spaced words []) (10 ∷ [])) in
+    last_off (word ++ spaced words []) line 10 (sym ends ∙ printed)
+
+pub empty_line : (line : List ℕ) → line_text [] ≡ line ++ 10 ∷ [] → line ≡ []
+empty_line line printed = sym (last_off [] line 10 printed)
+
 pub words_are_read : (words : List (List ℕ)) (line : List ℕ) → list_all is_plain_word words ≡ true → line_text words ≡ line ++ 10 ∷ [] → words_of line ≡ words
-words_are_read [] line plain printed =
-    let none : line ≡ [] = sym (last_off [] line 10 printed) in
-    rw none refl
+words_are_read [] line plain printed = rw (empty_line line printed) refl
 words_are_read (word ∷ words) line plain printed =
     let first : is_plain_word word ≡ true = grind arith in
     let others : list_all is_plain_word words ≡ true = grind arith in
-    let ends : line_text (word ∷ words) ≡ (word ++ spaced words []) ++ 10 ∷ [] = ap (λ (more : List ℕ). word ++ more) (spaced-behind words (10 ∷ [])) ∙ sym (append_assoc word (spaced words []) (10 ∷ [])) in
-    let same : word ++ spaced words [] ≡ line = last_off (word ++ spaced words []) line 10 (sym ends ∙ printed) in
-    subst (λ (l : List ℕ). words_of l ≡ word ∷ words) same (words_between word words first others)
+    subst (λ (l : List ℕ). words_of l ≡ word ∷ words) (line_is word words line printed) (words_between word words first others)
