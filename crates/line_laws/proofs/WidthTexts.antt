@@ -1,5 +1,5 @@
 -- How long the words of printed lines are: no line is longer than a text may have.
-use Rattle.std.proofs.Common.{◌≡◌, ℕ, ◌+◌, ◌*◌, ◌/◌, ◌%◌, ◌^◌, ◌<◌, ◌≤◌, Bool, true, false, cond, eqb, ltb, leb, ◌&&◌, ◌||◌, List, [], ◌∷◌, ◌++◌, length, map, Option, Some, None, arith, refl, sym, ap, ◌∙◌}
+use Rattle.std.proofs.Common.{◌≡◌, ℕ, ◌+◌, ◌*◌, ◌/◌, ◌%◌, ◌^◌, ◌<◌, ◌≤◌, Bool, true, false, cond, eqb, ltb, List, [], ◌∷◌, ◌++◌, length, map, Option, Some, None, arith}
 use Rattle.std.specs.Prelude.{codes}
 use Rattle.std.proofs.lemmas.Bool.Decides.{nat_tests}
 use Rattle.std.proofs.lemmas.List.{length-append}
@@ -25,7 +25,7 @@ use Rattle.board_printer.specs.Numbers.{word_text, half_text, address_text, enab
 use Rattle.board_printer.specs.Spaces.{space_word, poll_word, command_word, direction_word}
 use Rattle.board_printer.specs.Bridges.{window_words, depth_words, mode_words, option_words, bridge_line}
 use Rattle.board_printer.specs.Targets.{target_line, range_line, opening_line}
-use Rattle.board_printer.specs.Masters.{master_line, op_line, write_line}
+use Rattle.board_printer.specs.Masters.{master_line, op_line}
 use Rattle.board_printer.specs.Boards.{planned_line}
 use Rattle.line_laws.specs.Ranges.{BridgeFits, TargetFits, MasterFits}
 use Rattle.line_laws.proofs.NumberTexts.{hex_length}

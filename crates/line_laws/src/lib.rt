@@ -3,9 +3,10 @@
 //! addresses, sizes and limits are all below 2^32.
 #![tactic(auto)]
 
-ghost use Rattle.std.specs.Prelude.{◌≡◌, ◌<◌, ◌≤◌, ◌^◌, ◌++◌, ℕ, List, [], ◌∷◌, Some, true, false, Bool, not, ◌||◌, codes};
+ghost use Rattle.std.specs.Prelude.{◌≡◌, ◌<◌, ◌≤◌, ◌^◌, ◌++◌, ℕ, List, [], ◌∷◌, Some, None, true, false, Bool, not, ◌||◌, codes};
 ghost use Rattle.std.specs.List.{list_all};
 ghost use Rattle.std.specs.Fmt.{decimal};
+ghost use Rattle.board_text.specs.Lines.{line_fault};
 ghost use Rattle.board_text.specs.Tokens.{words_of};
 ghost use Rattle.board_model.specs.declared.bridge.Bridge.{Bridge};
 ghost use Rattle.board_model.specs.declared.agents.Range.{Range};
@@ -37,7 +38,8 @@ pub fn words_are_read()
 /// The first line tells whether an address, a size, a limit or the last address of a range needs 64
 /// bits.
 pub fn first_line_is_read()
-    ensures { (board : Board) (line : List ℕ) → line_text (first_line board) ≡ line ++ 10 ∷ [] → first_line_of (words_of line) ≡ Some (not (is_short_board board)) }
+    ensures told { (board : Board) (line : List ℕ) → line_text (first_line board) ≡ line ++ 10 ∷ [] → first_line_of (words_of line) ≡ Some (not (is_short_board board)) }
+    ensures allowed { (board : Board) (line : List ℕ) → line_text (first_line board) ≡ line ++ 10 ∷ [] → line_fault line ≡ None }
 {}
 
 /// The line of a bridge is read as the bridge.
