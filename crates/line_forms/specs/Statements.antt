@@ -43,7 +43,7 @@ statement_form wide = do
 unfoldable pub statement_of : Bool → List (List ℕ) → Result Statement LineFault
 statement_of wide words = whole (statement_form wide words)
 
--- whether the texts of 64-bit addresses are of this version
+-- 1, or 2 of a wide text
 abbrev pub version_of : List ℕ → Option Bool
 version_of word =
     if bytes_eq word (codes "1") then Some false

@@ -87,6 +87,7 @@ number_of (Err fault) = Err (number_fault fault)
 unfoldable pub hex_of : ℕ → List ℕ → Result ℕ LineFault
 hex_of digits word = number_of (hex_answer word digits)
 
+-- a number within these bounds
 abbrev pub within : ℕ → ℕ → Result ℕ LineFault → Result ℕ LineFault
 within low high (Ok n) = if nat_le low n && nat_le n high then Ok n else Err IllFormed
 within low high (Err fault) = Err fault
@@ -95,13 +96,15 @@ within low high (Err fault) = Err fault
 unfoldable pub decimal_of : ℕ → ℕ → List ℕ → Result ℕ LineFault
 decimal_of low high word = within low high (number_of (decimal_answer word))
 
+-- this word and no other
 unfoldable pub fixed_of : List ℕ → List ℕ → Result (Unit {0}) LineFault
 fixed_of expected word = if bytes_eq word expected then Ok tt else Err WrongWord
 
+-- the name of a target or a master
 unfoldable pub name_of : List ℕ → Result (List ℕ) LineFault
 name_of word = if is_name word then Ok word else Err IllFormed
 
--- a word of two parts, at the first such mark between them
+-- a word of two parts, with the first such mark between them: `:` (58) or `/` (47)
 abbrev pub has_mark : ℕ → List ℕ → Bool
 has_mark mark word = list_any (λ byte. byte == mark) word
 

@@ -1,1 +1,10 @@
 pub mod NumberTexts
+pub mod PartTexts
+pub mod TargetTexts
+pub mod MasterTexts
+pub mod BridgeTexts
+pub mod WordTexts
+pub mod PlainTexts
+pub mod AllowedTexts
+pub mod WidthTexts
+pub mod Laws

@@ -1,21 +1,21 @@
 -- Numbers as they are printed are read as the same numbers.
-use Rattle.std.proofs.Common.{◌≡◌, ℕ, zero, suc, ◌+◌, ◌*◌, ◌/◌, ◌%◌, ◌^◌, ◌<◌, ◌≤◌, Bool, true, false, not, cond, eqb, ltb, leb, ◌&&◌, ◌||◌, List, [], ◌∷◌, ◌++◌, length, take, drop, Result, Ok, Err, arith, inl, inr, refl, sym, ap, subst, ◌∙◌}
+use Rattle.std.proofs.Common.{◌≡◌, ℕ, zero, suc, ◌*◌, ◌/◌, ◌%◌, ◌^◌, ◌<◌, ◌≤◌, true, false, ltb, leb, List, [], ◌∷◌, length, Result, Ok, arith, inl, inr, refl, ◌∙◌}
 use Rattle.std.proofs.lemmas.Bool.{cases_lt, lt-ltb, le-ltb}
 use Rattle.std.proofs.lemmas.Bool.Decides.{nat_tests}
-use Rattle.std.proofs.lemmas.List.{length-append, take_at, drop_at}
+use Rattle.std.proofs.lemmas.List.{length-append}
 use Rattle.std.proofs.lemmas.List.Folds.{list_all-append}
 use Rattle.std.proofs.lemmas.Int.Digits.{digits_value_push}
 use Rattle.std.proofs.lemmas.Fmt.{decimal_is_IsNumeral, length-decimal-le}
-use Rattle.std.specs.List.{list_all, list_any, position_or_len, before_first, after_first}
+use Rattle.std.specs.List.{list_all}
 use Rattle.std.specs.Char.{digit_value, is_digit}
 use Rattle.std.specs.Fmt.{digit_glyph, decimal}
 use Rattle.std.specs.Str.Parse.{digits_value, AllDigits}
-use Rattle.board_text.specs.Numbers.{is_numeral, hex_answer, decimal_answer}
+use Rattle.board_text.specs.Numbers.{is_numeral}
 use Rattle.board_printer.specs.Numbers.{hex}
 use Rattle.line_forms.specs.declared.fault.LineFault.{LineFault}
-use Rattle.line_forms.specs.Words.{hex_of, decimal_of, within}
+use Rattle.line_forms.specs.Words.{hex_of, decimal_of}
 
-abbrev number : ℕ → Result ℕ LineFault
+abbrev pub number : ℕ → Result ℕ LineFault
 number n = Ok n
 
 pub glyph_value : (d : ℕ) → d < 16 → digit_value (digit_glyph false d) ≡ d

@@ -1,0 +1,50 @@
+-- What a line can be of: numbers are as wide as their fields, and lie within the space that they are of.
+use Rattle.std.specs.Prelude.{◌≡◌, true, ◌^◌, ◌<◌}
+use Rattle.std.specs.List.{AllByRecursion}
+use Rattle.pci_command.specs.declared.command.Space.TheVariants.{Io}
+use Rattle.pci_command.specs.declared.phases.Phase.{Phase}
+use Rattle.board_model.specs.Names.{is_name}
+use Rattle.board_model.specs.declared.bridge.Bridge.{Bridge}
+use Rattle.board_model.specs.declared.agents.Range.{Range}
+use Rattle.board_model.specs.declared.agents.Opening.{Opening}
+use Rattle.board_model.specs.declared.agents.Target.{Target}
+use Rattle.board_model.specs.declared.agents.Master.{Master}
+use Rattle.board_model.specs.declared.op.Op.{Op}
+use Rattle.board_model.specs.declared.op.Op.TheVariants.{Read, Write, CfgRead, CfgWrite, Poll}
+use Rattle.board_model.specs.declared.board.Planned.{Planned}
+
+pub record BridgeFits (bridge : Bridge) : Type 0 where
+  pub bus : bridge.bus < 2 ^ 8
+  pub parent : bridge.parent < 2 ^ 8
+  pub last : bridge.last < 2 ^ 8
+
+pub record TargetFits (target : Target) : Type 0 where
+  pub name : is_name target.name ≡ true
+  pub bus : target.bus < 2 ^ 8
+
+pub record MasterFits (master : Master) : Type 0 where
+  pub name : is_name master.name ≡ true
+  pub bus : master.bus < 2 ^ 8
+
+-- all of the I/O space has no size that can be written
+pub record RangeFits (range : Range) : Type 0 where
+  pub base : range.base < 2 ^ 64
+  pub size : range.size < 2 ^ 64
+  pub port_size : range.space ≡ Io → range.size < 2 ^ 32
+
+pub record OpeningFits (opening : Opening) : Type 0 where
+  pub address : opening.address < 2 ^ 64
+  pub value : opening.value < 2 ^ 32
+
+abbrev pub PlannedFits : Planned → Type 0
+PlannedFits planned = planned.bus < 2 ^ 8
+
+abbrev pub PhaseFits : Phase → Type 0
+PhaseFits phase = phase.value < 2 ^ 32
+
+abbrev pub OpFits : Op → Type 0
+OpFits (Read command address) = address < 2 ^ 64
+OpFits (Write command address phases) = (address < 2 ^ 64) × AllByRecursion PhaseFits phases
+OpFits (CfgRead bus device register) = bus < 2 ^ 8
+OpFits (CfgWrite bus device register phase) = (bus < 2 ^ 8) × PhaseFits phase
+OpFits (Poll space address mask value tries) = (address < 2 ^ 64) × (mask < 2 ^ 32) × (value < 2 ^ 32)
