@@ -15,15 +15,15 @@ on-ok (Err fault) next read h = absurd (cc)
 pub yields-bind : {A B : Type 0} (reader : Reader A) (next : A → Reader B) (P : A → Type 0) (Q : B → Type 0) → Yields reader P → ((value : A) → P value → Yields (next value) Q) → Yields (reader >>= next) Q
 yields-bind reader next P Q first then = record {
   at = λ words read h.
-    let step = on-ok (reader words) next read h in
-    (then (step.0.0) (first.at words step.0 step.1.0)).at (step.0.1) read step.1.1;
+      let step = on-ok (reader words) next read h in
+      (then (step.0.0) (first.at words step.0 step.1.0)).at (step.0.1) read step.1.1;
 }
 
 pub yields-next : {A B : Type 0} (reader : Reader A) (next : Reader B) (Q : B → Type 0) → Yields next Q → Yields (reader >> next) Q
 yields-next reader next Q then = record {
   at = λ words read h.
-    let step = on-ok (reader words) (λ _. next) read h in
-    then.at (step.0.1) read step.1.1;
+      let step = on-ok (reader words) (λ _. next) read h in
+      then.at (step.0.1) read step.1.1;
 }
 
 pub yields-give : {A : Type 0} (value : A) (P : A → Type 0) → P value → Yields (give value) P
@@ -52,7 +52,7 @@ choice-ok false behind here P read one other h = other h
 pub yields-choice : {A : Type 0} (expected : List ℕ) (behind here : Reader A) (P : A → Type 0) → Yields behind P → Yields here P → Yields (choice expected behind here) P
 yields-choice expected behind here P one other = record {
   at = λ words read h.
-    choice-ok (begins_with expected words) (behind (behind_first words)) (here words) P read (one.at (behind_first words) read) (other.at words read) h;
+      choice-ok (begins_with expected words) (behind (behind_first words)) (here words) P read (one.at (behind_first words) read) (other.at words read) h;
 }
 
 pub yields-optional : {A : Type 0} (expected : List ℕ) (default : A) (behind : Reader A) (P : A → Type 0) → P default → Yields behind P → Yields (optional expected default behind) P

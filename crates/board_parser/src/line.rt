@@ -36,11 +36,7 @@ fn text_fault(code: u8) -> LineFault
     }
 }
 
-fn read_words(
-    alloc: Global,
-    sheet: Option<Sheet>,
-    line: &[u8],
-) -> Result<Option<Sheet>, AddFault>
+fn read_words(alloc: Global, sheet: Option<Sheet>, line: &[u8]) -> Result<Option<Sheet>, AddFault>
     ensures { Answers result (read_words sheet (words_of line.now)) }
 {
     match sheet {

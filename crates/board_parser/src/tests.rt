@@ -17,7 +17,10 @@ fn said(alloc: Global, text: &str) -> Result<String, AllocError> {
 fn first_lines(rt: HostRuntime) -> Result<(), Fail> {
     for (text, expected) in [
         ("pciboard 1", "board"),
-        (" # a comment\n\n\tpciboard\t2 # of 64-bit addresses", "board"),
+        (
+            " # a comment\n\n\tpciboard\t2 # of 64-bit addresses",
+            "board",
+        ),
         ("pciboards 1", "line 1: P1"),
         ("pciboard 3", "line 1: P1"),
         ("pciboard 1 1", "line 1: P1"),
@@ -62,10 +65,7 @@ fn faults_of_lines(rt: HostRuntime) -> Result<(), Fail> {
             "target a on 0 dev 0\nrange mem ffffffc0 00000080",
             "line 3: P12",
         ),
-        (
-            "target a on 0 dev 0\nabort io fffffffc 8",
-            "line 3: P12",
-        ),
+        ("target a on 0 dev 0\nabort io fffffffc 8", "line 3: P12"),
         ("target a on 0 dev 0\nrange mem 0 0", "line 3: P6"),
         ("target a on 0 dev 0\nword mem 2 0", "line 3: P6"),
         (
@@ -81,12 +81,12 @@ fn faults_of_lines(rt: HostRuntime) -> Result<(), Fail> {
             "bridge 1 on 0 dev 1 last 1 mem 80100000 800fffff io 00001000 00001ffe",
             "line 2: P6",
         ),
-        (
-            "master a on 0\npoll 0 0 0 65536\nmr 0",
-            "line 4: P11",
-        ),
+        ("master a on 0\npoll 0 0 0 65536\nmr 0", "line 4: P11"),
         ("master a on 0\nmr 1:00000000", "line 3: P5"),
-        ("bridge 1 on 0 dev 1 last 1\ndiscard 1 up 1\nstall 1", "line 4: P8"),
+        (
+            "bridge 1 on 0 dev 1 last 1\ndiscard 1 up 1\nstall 1",
+            "line 4: P8",
+        ),
     ] {
         let found = said_behind(rt.alloc(), "pciboard 1", lines)?;
         assert_eq!(rt; found.as_str(), expected, "{lines}");
@@ -119,7 +119,13 @@ fn limits(rt: HostRuntime) -> Result<(), Fail> {
         (target, "range mem 1:000", 4, "0000 00000100", "line 6: P11"),
         (target, "abort mem 1:000", 7, "0000 00000100", "line 9: P11"),
         (target, "word mem 0 ", 257, "", "line 259: P11"),
-        ("pciboard 1\nmaster a on 0", "mw 0 ", 1025, "", "line 1027: P11"),
+        (
+            "pciboard 1\nmaster a on 0",
+            "mw 0 ",
+            1025,
+            "",
+            "line 1027: P11",
+        ),
         ("pciboard 1", "drop 1 up 1", 1025, "", "line 1026: P11"),
         ("pciboard 1", "discard 1 up 1", 1025, "", "line 1026: P11"),
     ] {
@@ -208,7 +214,10 @@ fn a_board_with_all_details(rt: HostRuntime) -> Result<(), Fail> {
     let board = parse(rt.alloc(), text.as_bytes())?;
     let target = board.targets.as_slice().first().ok_or("no target")?;
     assert_eq!(rt; target.name.as_str(), "dev");
-    assert_eq!(rt; (target.stalls, target.burst, target.vendor), (1, 8, 0x1234));
+    assert_eq!(rt;
+        (target.stalls, target.burst, target.vendor),
+        (1, 8, 0x1234)
+    );
     assert_eq!(rt; target.ranges.as_slice().len(), 1);
     assert_eq!(rt; target.aborts.as_slice().len(), 1);
     assert_eq!(rt; target.openings.as_slice().len(), 1);
