@@ -65,11 +65,11 @@ does_count draft op too_many added h =
     let done = on_master-ok draft (add_op (operations_of draft) op too_many) added h in
     let put = add_op-ok (operations_of draft) op too_many done.master done.changed done.did in
     let before : operations_of draft ≡ operations_in draft.board.masters + total tries_of done.master.ops =
-        owner_count draft.board draft.owner done.master done.was in
+    owner_count draft.board draft.owner done.master done.was in
     let after : operations_of added ≡ operations_in draft.board.masters + total tries_of done.changed.ops =
-        ap operations_of done.is ∙ operations-push draft.board.masters done.changed in
+    ap operations_of done.is ∙ operations-push draft.board.masters done.changed in
     let more : total tries_of done.changed.ops ≡ total tries_of done.master.ops + tries_of op =
-        ap (λ (m : Master). total tries_of m.ops) put.is ∙ total-op done.master.ops op in
+    ap (λ (m : Master). total tries_of m.ops) put.is ∙ total-op done.master.ops op in
     let few : operations_of draft + tries_of op ≤ 65536 = few_enough _ _ put.few in
     record { is = omega arith; few = λ (limit : operations_of draft ≤ 65536). omega arith }
 

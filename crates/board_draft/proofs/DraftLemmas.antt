@@ -45,10 +45,20 @@ closed_sound draft sound = owner_closed draft.board draft.owner sound.board soun
 pub first_sound : (wide : Bool) → IsDraftSound (first_draft wide)
 first_sound wide = record {
   board = record {
-    few_bridges = omega arith; bridges = refl; numbered = refl; targets = refl; masters = refl;
-    children = λ bus. omega arith; agents = λ bus. omega arith;
-    targets_named = refl; masters_named = refl; operations = omega arith;
-    few_discards = omega arith; discards = refl; few_drops = omega arith; drops = refl;
+    few_bridges = omega arith;
+    bridges = refl;
+    numbered = refl;
+    targets = refl;
+    masters = refl;
+    children = λ bus. omega arith;
+    agents = λ bus. omega arith;
+    targets_named = refl;
+    masters_named = refl;
+    operations = omega arith;
+    few_discards = omega arith;
+    discards = refl;
+    few_drops = omega arith;
+    drops = refl;
   };
   owner = tt;
 }
@@ -60,7 +70,15 @@ bridge_sound wide board bridge added sound formed put =
 
 new_target_formed : (name : List ℕ) (bus device : ℕ) → nat_le device 31 ≡ true → is_well_formed_target (new_target name bus device) ≡ true
 new_target_formed name bus device formed = formed_by (new_target name bus device) (record {
-  device = formed; stalls = refl; burst = refl; ranges = refl; registers = refl; aborts = refl; few_aborts = refl; openings = refl; few_openings = refl;
+  device = formed;
+  stalls = refl;
+  burst = refl;
+  ranges = refl;
+  registers = refl;
+  aborts = refl;
+  few_aborts = refl;
+  openings = refl;
+  few_openings = refl;
 })
 
 detail_sound : (draft : Draft) (change : Target → Result Target LineFault) (added : Draft) → IsDraftSound draft → on_target draft change ≡ Ok added → ((target changed : Target) → is_well_formed_target target ≡ true → change target ≡ Ok changed → IsDetailed target changed) → IsDraftSound added
@@ -72,7 +90,7 @@ detail_sound draft change added sound h each =
     let NamedPlace : List ℕ → Type 0 = λ name. HasPlace draft.board name done.target.bus in
     let BusPlace : ℕ → Type 0 = λ bus. HasPlace draft.board done.changed.name bus in
     let place : HasPlace draft.board done.changed.name done.changed.bus =
-        subst BusPlace (sym detailed.bus) (subst NamedPlace (sym detailed.name) before.place) in
+    subst BusPlace (sym detailed.bus) (subst NamedPlace (sym detailed.name) before.place) in
     let P : Draft → Type 0 = λ d. IsDraftSound d in
     subst P (sym done.is) (record { board = sound.board; owner = record { formed = detailed.formed; place = place } })
 
@@ -83,7 +101,7 @@ does_sound draft op too_many added formed sound h =
     let Q : Owner → Type 0 = λ owner. OwnerSound draft.board owner in
     let before : MasterSound draft.board done.master = subst Q done.was sound.owner in
     let counted : operations_in (board_of draft).masters ≡ operations_in draft.board.masters + total tries_of done.master.ops =
-        owner_count draft.board draft.owner done.master done.was in
+    owner_count draft.board draft.owner done.master done.was in
     let limits = or_parts (nat_le 1024 (length done.master.ops)) (nat_lt 65536 (operations_in (board_of draft).masters + tries_of op)) put.few in
     let in_all = ltb-false 65536 (operations_in (board_of draft).masters + tries_of op) limits.1 in
     let parts = and_parts (nat_le (length done.master.ops) 1024) (list_all is_well_formed_op done.master.ops) before.formed in

@@ -40,15 +40,17 @@ mega_window : (base limit b l end : ℕ) → base ≡ 2 ^ 20 * b → limit ≡ 2
 mega_window base limit b l end based limited within =
     let P : Bool → Type 0 = λ test. nat_le base limit ≡ test → is_window (2 ^ 20) end (cond test (Some (record { base = base; limit = limit })) None) ≡ true in
     (elim (nat_le base limit) as P [
-      true ↦ λ ordered. and_from _ _ (and_from _ _ (and_from _ _ ordered (eq-eqb _ _ (omega arith))) (eq-eqb _ _ (omega arith))) (lt-ltb _ _ within)
-    | false ↦ λ _. refl ]) refl
+      | true ↦ λ ordered. and_from _ _ (and_from _ _ (and_from _ _ ordered (eq-eqb _ _ (omega arith))) (eq-eqb _ _ (omega arith))) (lt-ltb _ _ within)
+      | false ↦ λ _. refl
+    ]) refl
 
 kilo_window : (base limit b l end : ℕ) → base ≡ 2 ^ 12 * b → limit ≡ 2 ^ 12 * l + 0xfff → limit < end → is_window (2 ^ 12) end (window_between base limit) ≡ true
 kilo_window base limit b l end based limited within =
     let P : Bool → Type 0 = λ test. nat_le base limit ≡ test → is_window (2 ^ 12) end (cond test (Some (record { base = base; limit = limit })) None) ≡ true in
     (elim (nat_le base limit) as P [
-      true ↦ λ ordered. and_from _ _ (and_from _ _ (and_from _ _ ordered (eq-eqb _ _ (omega arith))) (eq-eqb _ _ (omega arith))) (lt-ltb _ _ within)
-    | false ↦ λ _. refl ]) refl
+      | true ↦ λ ordered. and_from _ _ (and_from _ _ (and_from _ _ ordered (eq-eqb _ _ (omega arith))) (eq-eqb _ _ (omega arith))) (lt-ltb _ _ within)
+      | false ↦ λ _. refl
+    ]) refl
 
 memory_whole : (base limit : ℕ) → is_window (2 ^ 20) (2 ^ 32) (window_between (2 ^ 20 * bits 4 12 base) (2 ^ 20 * bits 4 12 limit + 0xfffff)) ≡ true
 memory_whole base limit = mega_window _ _ (bits 4 12 base) (bits 4 12 limit) (2 ^ 32) refl refl (omega arith)

@@ -29,8 +29,15 @@ parts_of target formed =
     let p2 = and_parts _ _ p3.0 in
     let p1 = and_parts _ _ p2.0 in
     record {
-      device = p1.0; stalls = p1.1; burst = p2.1; ranges = p3.1; registers = p4.1; aborts = p5.1; few_aborts = p6.1;
-      openings = p7.1; few_openings = p8.1;
+      device = p1.0;
+      stalls = p1.1;
+      burst = p2.1;
+      ranges = p3.1;
+      registers = p4.1;
+      aborts = p5.1;
+      few_aborts = p6.1;
+      openings = p7.1;
+      few_openings = p8.1;
     }
 
 pub formed_by : (target : Target) → TargetParts target → is_well_formed_target target ≡ true

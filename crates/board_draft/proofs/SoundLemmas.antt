@@ -90,36 +90,53 @@ one_more : (on : ℕ → ℕ) (at bus : ℕ) → ((b : ℕ) → on b ≤ 8) → 
 one_more on at bus all room =
     let P : Bool → Type 0 = λ b. (at == bus) ≡ b → on bus + cond b 1 0 ≤ 8 in
     (elim (at == bus) as P [
-      true ↦ λ same. let there : on at ≡ on bus = ap on (eqb-true at bus same) in omega (arith, there, room)
-    | false ↦ λ _. let few = all bus in omega (arith, few) ]) refl
+      | true ↦ λ same. let there : on at ≡ on bus = ap on (eqb-true at bus same) in omega (arith, there, room)
+      | false ↦ λ _. let few = all bus in omega (arith, few)
+    ]) refl
 
 with_target : (board : Board) (target : Target) → IsSound board → TargetSound board target → IsSound (record board { targets = board.targets ++ target ∷ [] })
 with_target board target sound more = record {
-  few_bridges = sound.few_bridges; bridges = sound.bridges; numbered = sound.numbered; masters = sound.masters; children = sound.children;
-  masters_named = sound.masters_named; operations = sound.operations; few_discards = sound.few_discards; discards = sound.discards; few_drops = sound.few_drops; drops = sound.drops;
+  few_bridges = sound.few_bridges;
+  bridges = sound.bridges;
+  numbered = sound.numbered;
+  masters = sound.masters;
+  children = sound.children;
+  masters_named = sound.masters_named;
+  operations = sound.operations;
+  few_discards = sound.few_discards;
+  discards = sound.discards;
+  few_drops = sound.few_drops;
+  drops = sound.drops;
   targets = all-push is_well_formed_target board.targets target sound.targets more.formed;
   agents = λ bus.
-    let counted = count-push (λ (t : Target). t.bus == bus) board.targets target in
-    let few = one_more (agents_on board) target.bus bus sound.agents more.place.room in
-    omega (arith, counted, few);
+      let counted = count-push (λ (t : Target). t.bus == bus) board.targets target in
+      let few = one_more (agents_on board) target.bus bus sound.agents more.place.room in
+      omega (arith, counted, few);
   targets_named = targets-push board.masters board.targets target sound.targets_named more.place.targets more.place.masters;
 }
 
 with_master : (board : Board) (master : Master) → IsSound board → MasterSound board master → IsSound (record board { masters = board.masters ++ master ∷ [] })
 with_master board master sound more = record {
-  few_bridges = sound.few_bridges; bridges = sound.bridges; numbered = sound.numbered; targets = sound.targets; children = sound.children;
-  few_discards = sound.few_discards; discards = sound.discards; few_drops = sound.few_drops; drops = sound.drops;
+  few_bridges = sound.few_bridges;
+  bridges = sound.bridges;
+  numbered = sound.numbered;
+  targets = sound.targets;
+  children = sound.children;
+  few_discards = sound.few_discards;
+  discards = sound.discards;
+  few_drops = sound.few_drops;
+  drops = sound.drops;
   masters = all-push is_well_formed_master board.masters master sound.masters more.formed;
   agents = λ bus.
-    let counted = count-push (λ (m : Master). m.bus == bus) board.masters master in
-    let few = one_more (agents_on board) master.bus bus sound.agents more.place.room in
-    omega (arith, counted, few);
+      let counted = count-push (λ (m : Master). m.bus == bus) board.masters master in
+      let few = one_more (agents_on board) master.bus bus sound.agents more.place.room in
+      omega (arith, counted, few);
   targets_named = targets-beside board.masters master board.targets sound.targets_named more.place.targets;
   masters_named = masters-push board.masters master sound.masters_named more.place.masters;
   operations =
-    let counted = total-push (λ (m : Master). total tries_of m.ops) board.masters master in
-    let few = more.operations in
-    omega (arith, counted, few);
+      let counted = total-push (λ (m : Master). total tries_of m.ops) board.masters master in
+      let few = more.operations in
+      omega (arith, counted, few);
 }
 
 pub owner_closed : (board : Board) (owner : Owner) → IsSound board → OwnerSound board owner → IsSound (with_owner board owner)
@@ -130,37 +147,65 @@ owner_closed board (OfMaster master) sound more = with_master board master sound
 pub with_bridge : (board : Board) (bridge : Bridge) → IsSound board → is_well_formed_bridge bridge ≡ true → list_any (has_bus bridge.bus) board.bridges ≡ false → (nat_le 31 (length board.bridges) || nat_le 8 (children_on board bridge.parent)) ≡ false → IsSound (record board { bridges = board.bridges ++ bridge ∷ [] })
 with_bridge board bridge sound formed apart few = record {
   numbered = numbered-push board.bridges bridge sound.numbered apart;
-  targets = sound.targets; masters = sound.masters; agents = sound.agents; targets_named = sound.targets_named; masters_named = sound.masters_named; operations = sound.operations;
-  few_discards = sound.few_discards; discards = sound.discards; few_drops = sound.few_drops; drops = sound.drops;
+  targets = sound.targets;
+  masters = sound.masters;
+  agents = sound.agents;
+  targets_named = sound.targets_named;
+  masters_named = sound.masters_named;
+  operations = sound.operations;
+  few_discards = sound.few_discards;
+  discards = sound.discards;
+  few_drops = sound.few_drops;
+  drops = sound.drops;
   few_bridges =
-    let fewer = leb-false 31 (length board.bridges) (or_parts _ _ few).0 in
-    let counted = length-push board.bridges bridge in
-    omega (arith, fewer, counted);
+      let fewer = leb-false 31 (length board.bridges) (or_parts _ _ few).0 in
+      let counted = length-push board.bridges bridge in
+      omega (arith, fewer, counted);
   bridges = all-push is_well_formed_bridge board.bridges bridge sound.bridges formed;
   children = λ bus.
-    let counted = count-push (λ (b : Bridge). b.parent == bus) board.bridges bridge in
-    let fewer = one_more (children_on board) bridge.parent bus sound.children (leb-false _ _ (or_parts _ _ few).1) in
-    omega (arith, counted, fewer);
+      let counted = count-push (λ (b : Bridge). b.parent == bus) board.bridges bridge in
+      let fewer = one_more (children_on board) bridge.parent bus sound.children (leb-false _ _ (or_parts _ _ few).1) in
+      omega (arith, counted, fewer);
 }
 
 pub with_discard : (board : Board) (planned : Planned) → IsSound board → is_well_formed_plan planned ≡ true → nat_le 1024 (length board.discards) ≡ false → IsSound (record board { discards = board.discards ++ planned ∷ [] })
 with_discard board planned sound formed few = record {
-  few_bridges = sound.few_bridges; bridges = sound.bridges; numbered = sound.numbered; targets = sound.targets; masters = sound.masters; children = sound.children; agents = sound.agents;
-  targets_named = sound.targets_named; masters_named = sound.masters_named; operations = sound.operations; few_drops = sound.few_drops; drops = sound.drops;
+  few_bridges = sound.few_bridges;
+  bridges = sound.bridges;
+  numbered = sound.numbered;
+  targets = sound.targets;
+  masters = sound.masters;
+  children = sound.children;
+  agents = sound.agents;
+  targets_named = sound.targets_named;
+  masters_named = sound.masters_named;
+  operations = sound.operations;
+  few_drops = sound.few_drops;
+  drops = sound.drops;
   few_discards =
-    let fewer = leb-false 1024 (length board.discards) few in
-    let counted = length-push board.discards planned in
-    omega (arith, fewer, counted);
+      let fewer = leb-false 1024 (length board.discards) few in
+      let counted = length-push board.discards planned in
+      omega (arith, fewer, counted);
   discards = all-push is_well_formed_plan board.discards planned sound.discards formed;
 }
 
 pub with_drop : (board : Board) (planned : Planned) → IsSound board → is_well_formed_plan planned ≡ true → nat_le 1024 (length board.drops) ≡ false → IsSound (record board { drops = board.drops ++ planned ∷ [] })
 with_drop board planned sound formed few = record {
-  few_bridges = sound.few_bridges; bridges = sound.bridges; numbered = sound.numbered; targets = sound.targets; masters = sound.masters; children = sound.children; agents = sound.agents;
-  targets_named = sound.targets_named; masters_named = sound.masters_named; operations = sound.operations; few_discards = sound.few_discards; discards = sound.discards;
+  few_bridges = sound.few_bridges;
+  bridges = sound.bridges;
+  numbered = sound.numbered;
+  targets = sound.targets;
+  masters = sound.masters;
+  children = sound.children;
+  agents = sound.agents;
+  targets_named = sound.targets_named;
+  masters_named = sound.masters_named;
+  operations = sound.operations;
+  few_discards = sound.few_discards;
+  discards = sound.discards;
   few_drops =
-    let fewer = leb-false 1024 (length board.drops) few in
-    let counted = length-push board.drops planned in
-    omega (arith, fewer, counted);
+      let fewer = leb-false 1024 (length board.drops) few in
+      let counted = length-push board.drops planned in
+      omega (arith, fewer, counted);
   drops = all-push is_well_formed_plan board.drops planned sound.drops formed;
 }

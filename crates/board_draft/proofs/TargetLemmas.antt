@@ -52,14 +52,20 @@ range_detail wide range target changed named formed h =
     let parts = parts_of target formed in
     let P : Target → Type 0 = λ t. IsDetailed target t in
     let fewer : nat_le (total registers_of (target.ranges ++ range ∷ [])) 6 ≡ true =
-        ap (λ n. nat_le n 6) (total-push registers_of target.ranges range) ∙ total_few _ _ added.few in
+    ap (λ n. nat_le n 6) (total-push registers_of target.ranges range) ∙ total_few _ _ added.few in
     subst P (sym added.is) (record {
-      name = refl; bus = refl;
+      name = refl;
+      bus = refl;
       formed = formed_by (record target { ranges = target.ranges ++ range ∷ [] }) (record {
-        device = parts.device; stalls = parts.stalls; burst = parts.burst;
+        device = parts.device;
+        stalls = parts.stalls;
+        burst = parts.burst;
         ranges = all-push is_well_formed_range target.ranges range parts.ranges (range_formed wide range named added.fits);
         registers = fewer;
-        aborts = parts.aborts; few_aborts = parts.few_aborts; openings = parts.openings; few_openings = parts.few_openings;
+        aborts = parts.aborts;
+        few_aborts = parts.few_aborts;
+        openings = parts.openings;
+        few_openings = parts.few_openings;
       });
     })
 
@@ -69,14 +75,20 @@ abort_detail wide range target changed named formed h =
     let parts = parts_of target formed in
     let P : Target → Type 0 = λ t. IsDetailed target t in
     let fewer : nat_le (length (target.aborts ++ range ∷ [])) 6 ≡ true =
-        ap (λ n. nat_le n 6) (length-push target.aborts range) ∙ length_few 6 (length target.aborts) added.few in
+    ap (λ n. nat_le n 6) (length-push target.aborts range) ∙ length_few 6 (length target.aborts) added.few in
     subst P (sym added.is) (record {
-      name = refl; bus = refl;
+      name = refl;
+      bus = refl;
       formed = formed_by (record target { aborts = target.aborts ++ range ∷ [] }) (record {
-        device = parts.device; stalls = parts.stalls; burst = parts.burst; ranges = parts.ranges; registers = parts.registers;
+        device = parts.device;
+        stalls = parts.stalls;
+        burst = parts.burst;
+        ranges = parts.ranges;
+        registers = parts.registers;
         aborts = all-push is_well_formed_range target.aborts range parts.aborts (range_formed wide range named added.fits);
         few_aborts = fewer;
-        openings = parts.openings; few_openings = parts.few_openings;
+        openings = parts.openings;
+        few_openings = parts.few_openings;
       });
     })
 
@@ -91,12 +103,18 @@ opening_detail opening target changed named formed h =
     let parts = parts_of target formed in
     let P : Target → Type 0 = λ t. IsDetailed target t in
     let fewer : nat_le (length (target.openings ++ opening ∷ [])) 256 ≡ true =
-        ap (λ n. nat_le n 256) (length-push target.openings opening) ∙ length_few 256 (length target.openings) added.few in
+    ap (λ n. nat_le n 256) (length-push target.openings opening) ∙ length_few 256 (length target.openings) added.few in
     subst P (sym added.is) (record {
-      name = refl; bus = refl;
+      name = refl;
+      bus = refl;
       formed = formed_by (record target { openings = target.openings ++ opening ∷ [] }) (record {
-        device = parts.device; stalls = parts.stalls; burst = parts.burst; ranges = parts.ranges; registers = parts.registers;
-        aborts = parts.aborts; few_aborts = parts.few_aborts;
+        device = parts.device;
+        stalls = parts.stalls;
+        burst = parts.burst;
+        ranges = parts.ranges;
+        registers = parts.registers;
+        aborts = parts.aborts;
+        few_aborts = parts.few_aborts;
         openings = all-push is_well_formed_opening target.openings opening parts.openings (dword_by opening.space opening.address named (not-false _ added.aligned));
         few_openings = fewer;
       });
@@ -114,10 +132,18 @@ stalls_detail tokens target changed few formed h =
     let parts = parts_of target formed in
     let P : Target → Type 0 = λ t. IsDetailed target t in
     subst P (sym is) (record {
-      name = refl; bus = refl;
+      name = refl;
+      bus = refl;
       formed = formed_by (record target { stalls = tokens }) (record {
-        device = parts.device; stalls = few; burst = parts.burst; ranges = parts.ranges; registers = parts.registers;
-        aborts = parts.aborts; few_aborts = parts.few_aborts; openings = parts.openings; few_openings = parts.few_openings;
+        device = parts.device;
+        stalls = few;
+        burst = parts.burst;
+        ranges = parts.ranges;
+        registers = parts.registers;
+        aborts = parts.aborts;
+        few_aborts = parts.few_aborts;
+        openings = parts.openings;
+        few_openings = parts.few_openings;
       });
     })
 
@@ -127,9 +153,17 @@ burst_detail phases target changed few formed h =
     let parts = parts_of target formed in
     let P : Target → Type 0 = λ t. IsDetailed target t in
     subst P (sym is) (record {
-      name = refl; bus = refl;
+      name = refl;
+      bus = refl;
       formed = formed_by (record target { burst = phases }) (record {
-        device = parts.device; stalls = parts.stalls; burst = few; ranges = parts.ranges; registers = parts.registers;
-        aborts = parts.aborts; few_aborts = parts.few_aborts; openings = parts.openings; few_openings = parts.few_openings;
+        device = parts.device;
+        stalls = parts.stalls;
+        burst = few;
+        ranges = parts.ranges;
+        registers = parts.registers;
+        aborts = parts.aborts;
+        few_aborts = parts.few_aborts;
+        openings = parts.openings;
+        few_openings = parts.few_openings;
       });
     })

@@ -75,11 +75,7 @@ pub(crate) fn abort(alloc: Global, draft: Draft, range: Range) -> Result<Draft, 
     })
 }
 
-pub(crate) fn open_word(
-    alloc: Global,
-    draft: Draft,
-    opening: Opening,
-) -> Result<Draft, AddFault>
+pub(crate) fn open_word(alloc: Global, draft: Draft, opening: Opening) -> Result<Draft, AddFault>
     ensures { Answers result (on_target draft (add_opening opening)) }
 {
     let Draft { wide, board, owner } = draft;

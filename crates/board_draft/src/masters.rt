@@ -61,7 +61,9 @@ fn passes_block(op: &Op) -> bool
 {
     match op {
         Op::Write {
-            address, phases, ..
+            address,
+            phases,
+            ..
         } => *address % 64 + 4 * phases.len() as u64 > 64,
         Op::Read { .. } | Op::CfgRead { .. } | Op::CfgWrite { .. } | Op::Poll { .. } => false,
     }
@@ -83,7 +85,8 @@ pub(crate) fn add_op(
     if too_many || passes_block(&op) {
         return Err(AddFault::Fault(LineFault::PastItsBlock));
     }
-    if master.ops.as_slice().len() >= 1024 || u64::from(before) + u64::from(tries_of(&op)) > 65_536
+    if master.ops.as_slice().len() >= 1024
+        || u64::from(before) + u64::from(tries_of(&op)) > 65_536
     {
         return Err(AddFault::Fault(LineFault::OverLimit));
     }

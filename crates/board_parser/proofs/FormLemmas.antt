@@ -16,6 +16,7 @@ use Rattle.board_model.specs.WellFormed.{is_within, is_well_formed_phase, is_wel
 use Rattle.board_draft.specs.Formed.{ends_within, is_byte, is_target_space, is_address, is_formed_read, is_phase_count, is_formed_write, is_formed}
 use Rattle.line_forms.specs.declared.fault.LineFault.{LineFault}
 use Rattle.line_forms.specs.declared.statement.Statement.{Statement}
+use Rattle.line_forms.specs.declared.statement.Statement.TheVariants.{NewBridge}
 use Rattle.line_forms.specs.Words.{Reader, read_on, ◌>>=◌, ◌>>◌, give, with_rest, one_word, choice, optional, and_part, decimal, decimal_of, fixed, hex, hex_of, name, long, long_of, data_word, data_word_of, header_bytes, header_of}
 use Rattle.line_forms.specs.Bridges.{base_limit, window, depth, abort_mode, bridge_form, header_form}
 use Rattle.line_forms.specs.Targets.{is_wide_in, space_word, space_of_word, target_form, id_form, stall_form, burst_form, range_form, claim_form, abort_form, opening_form}
@@ -77,32 +78,66 @@ depth-within word =
 abbrev IsFormed : Statement → Type 0
 IsFormed statement = is_formed statement ≡ true
 
+-- the bridge that the last steps of its line give
+abbrev bridge_end : (bus parent device last : ℕ) (mem pref io : Option Window) → Reader Statement
+bridge_end bus parent device last mem pref io = do
+  posted ← depth (codes "posted")
+  delayed ← depth (codes "delayed")
+  mode ← abort_mode
+  give (NewBridge (record { bus = bus; parent = parent; device = device; last = last; mem = mem; pref = pref; io = io; posted = posted; delayed = delayed; mode = mode }))
+
+bridge_end-formed : (bus parent device last : ℕ) (mem pref io : Option Window) → nat_le 1 bus ≡ true → nat_le device 31 ≡ true → Ends (2 ^ 32) mem → Ends (2 ^ 64) pref → Ends (2 ^ 32) io → (words : Words) (read : Statement × Words) → bridge_end bus parent device last mem pref io words ≡ Ok read → IsFormed (read.0)
+bridge_end-formed bus parent device last mem pref io some in_range low high port words read h =
+    let posted = on-ok (depth (codes "posted") words) _ read h in
+    let delayed = on-ok (depth (codes "delayed") (posted.0.1)) _ read posted.1.1 in
+    let mode = on-ok (abort_mode (delayed.0.1)) _ read delayed.1.1 in
+    let is = give-ok (NewBridge (record { bus = bus; parent = parent; device = device; last = last; mem = mem; pref = pref; io = io; posted = posted.0.0; delayed = delayed.0.0; mode = mode.0.0 })) (mode.0.1) read mode.1.1 in
+    subst IsFormed is
+    (and_from _ _ (and_from _ _ (and_from _ _ (and_from _ _ (and_from _ _ (and_from _ _ some in_range)
+    ((depth-within (codes "posted")).at words posted.0 posted.1.0))
+    ((depth-within (codes "delayed")).at (posted.0.1) delayed.0 delayed.1.0)) low) high) port)
+
+abbrev bridge_windows : (wide : Bool) (bus parent device last : ℕ) → Reader Statement
+bridge_windows wide bus parent device last = do
+  mem ← window (codes "mem") false
+  pref ← window (codes "pref") wide
+  io ← window (codes "io") false
+  bridge_end bus parent device last mem pref io
+
+bridge_windows-formed : (wide : Bool) (bus parent device last : ℕ) → nat_le 1 bus ≡ true → nat_le device 31 ≡ true → (words : Words) (read : Statement × Words) → bridge_windows wide bus parent device last words ≡ Ok read → IsFormed (read.0)
+bridge_windows-formed wide bus parent device last some in_range words read h =
+    let mem = on-ok (window (codes "mem") false words) (λ mem. window (codes "pref") wide >>= (λ pref. window (codes "io") false >>= (λ io. bridge_end bus parent device last mem pref io))) read h in
+    let pref = on-ok (window (codes "pref") wide (mem.0.1)) (λ pref. window (codes "io") false >>= (λ io. bridge_end bus parent device last (mem.0.0) pref io)) read mem.1.1 in
+    let io = on-ok (window (codes "io") false (pref.0.1)) (λ io. bridge_end bus parent device last (mem.0.0) (pref.0.0) io) read pref.1.1 in
+    bridge_end-formed bus parent device last (mem.0.0) (pref.0.0) (io.0.0) some in_range
+    ((window-ends (codes "mem") false (2 ^ 32) narrow-below).at words mem.0 mem.1.0)
+    ((window-ends (codes "pref") wide (2 ^ 64) (long-below wide)).at (mem.0.1) pref.0 pref.1.0)
+    ((window-ends (codes "io") false (2 ^ 32) narrow-below).at (pref.0.1) io.0 io.1.0)
+    (io.0.1) read io.1.1
+
+abbrev bridge_place : (wide : Bool) (bus parent : ℕ) → Reader Statement
+bridge_place wide bus parent = do
+  fixed (codes "dev")
+  device ← decimal 0 31
+  fixed (codes "last")
+  last ← decimal 0 255
+  bridge_windows wide bus parent device last
+
+bridge_place-formed : (wide : Bool) (bus parent : ℕ) → nat_le 1 bus ≡ true → (words : Words) (read : Statement × Words) → bridge_place wide bus parent words ≡ Ok read → IsFormed (read.0)
+bridge_place-formed wide bus parent some words read h =
+    let dev = on-ok (fixed (codes "dev") words) (λ _. decimal 0 31 >>= (λ device. fixed (codes "last") >> (decimal 0 255 >>= (λ last. bridge_windows wide bus parent device last)))) read h in
+    let device = on-ok (decimal 0 31 (dev.0.1)) (λ device. fixed (codes "last") >> (decimal 0 255 >>= (λ last. bridge_windows wide bus parent device last))) read dev.1.1 in
+    let behind = on-ok (fixed (codes "last") (device.0.1)) (λ _. decimal 0 255 >>= (λ last. bridge_windows wide bus parent (device.0.0) last)) read device.1.1 in
+    let last = on-ok (decimal 0 255 (behind.0.1)) (λ last. bridge_windows wide bus parent (device.0.0) last) read behind.1.1 in
+    bridge_windows-formed wide bus parent (device.0.0) (last.0.0) some (most-read 0 31 (dev.0.1) device.0 device.1.0) (last.0.1) read last.1.1
+
 pub bridge-formed : (wide : Bool) (words : Words) (read : Statement × Words) → bridge_form wide words ≡ Ok read → IsFormed (read.0)
 unfolding bridge_form
 bridge-formed wide words read h =
-    let bus = on-ok (decimal 1 255 words) _ read h in
-    let on = on-ok (fixed (codes "on") (bus.0.1)) _ read bus.1.1 in
-    let parent = on-ok (decimal 0 255 (on.0.1)) _ read on.1.1 in
-    let dev = on-ok (fixed (codes "dev") (parent.0.1)) _ read parent.1.1 in
-    let device = on-ok (decimal 0 31 (dev.0.1)) _ read dev.1.1 in
-    let behind = on-ok (fixed (codes "last") (device.0.1)) _ read device.1.1 in
-    let last = on-ok (decimal 0 255 (behind.0.1)) _ read behind.1.1 in
-    let mem = on-ok (window (codes "mem") false (last.0.1)) _ read last.1.1 in
-    let pref = on-ok (window (codes "pref") wide (mem.0.1)) _ read mem.1.1 in
-    let io = on-ok (window (codes "io") false (pref.0.1)) _ read pref.1.1 in
-    let posted = on-ok (depth (codes "posted") (io.0.1)) _ read io.1.1 in
-    let delayed = on-ok (depth (codes "delayed") (posted.0.1)) _ read posted.1.1 in
-    let mode = on-ok (abort_mode (delayed.0.1)) _ read delayed.1.1 in
-    let is = give-ok _ (mode.0.1) read mode.1.1 in
-    subst IsFormed is
-    (and_from _ _ (and_from _ _ (and_from _ _ (and_from _ _ (and_from _ _ (and_from _ _
-    (least-read 1 255 words bus.0 bus.1.0)
-    (most-read 0 31 (dev.0.1) device.0 device.1.0))
-    ((depth-within (codes "posted")).at (io.0.1) posted.0 posted.1.0))
-    ((depth-within (codes "delayed")).at (posted.0.1) delayed.0 delayed.1.0))
-    ((window-ends (codes "mem") false (2 ^ 32) narrow-below).at (last.0.1) mem.0 mem.1.0))
-    ((window-ends (codes "pref") wide (2 ^ 64) (long-below wide)).at (mem.0.1) pref.0 pref.1.0))
-    ((window-ends (codes "io") false (2 ^ 32) narrow-below).at (pref.0.1) io.0 io.1.0))
+    let bus = on-ok (decimal 1 255 words) (λ bus. fixed (codes "on") >> (decimal 0 255 >>= (λ parent. bridge_place wide bus parent))) read h in
+    let on = on-ok (fixed (codes "on") (bus.0.1)) (λ _. decimal 0 255 >>= (λ parent. bridge_place wide (bus.0.0) parent)) read bus.1.1 in
+    let parent = on-ok (decimal 0 255 (on.0.1)) (λ parent. bridge_place wide (bus.0.0) parent) read on.1.1 in
+    bridge_place-formed wide (bus.0.0) (parent.0.0) (least-read 1 255 words bus.0 bus.1.0) (parent.0.1) read parent.1.1
 
 pub header-formed : (words : Words) (read : Statement × Words) → header_form words ≡ Ok read → IsFormed (read.0)
 unfolding header_form
@@ -271,7 +306,7 @@ pub record IsBurst (phases : List Phase) : Type 0 where
 
 burst-of : (first : Phase) (others : List Phase) → is_well_formed_phase first ≡ true → list_all is_well_formed_phase others ≡ true → IsBurst (take 8 (first ∷ others))
 burst-of first others one all = record {
-  count = let few = length-few 7 others in and_from _ _ (le-leb _ _ (omega (arith, few))) (le-leb _ _ (omega (arith, few)));
+  count = let few = length-few 7 others in and_from _ _ (le-leb 1 (suc (length (take 7 others))) (omega arith)) (le-leb (suc (length (take 7 others))) 8 (omega (arith, few)));
   formed = all-take 8 (first ∷ others) (and_from _ _ one all);
 }
 

@@ -1,11 +1,14 @@
 -- A statement that was read is one that its words saw to.
 use Rattle.std.proofs.Common.{subst, ◌≡◌, ℕ, Bool, true, false, cond, List, refl}
-use Rattle.std.specs.Prelude.{Result, Ok, Err}
-use Rattle.pci_command.specs.declared.command.Space.TheVariants.{Mem}
+use Rattle.std.specs.Prelude.{Result, Ok, Err, codes}
+use Rattle.std.specs.Str.{bytes_eq}
+use Rattle.pci_command.specs.declared.command.Command.TheVariants.{IoRead, MemRead, MemWrite, MemReadMultiple, MemReadLine, MemWriteInvalidate}
+use Rattle.pci_command.specs.declared.command.Space.TheVariants.{Mem, Io}
 use Rattle.pci_command.specs.Command.{space_of}
 use Rattle.board_model.specs.WellFormed.{read_space, write_space}
 use Rattle.board_draft.specs.Formed.{is_target_space, is_formed}
 use Rattle.line_forms.specs.declared.fault.LineFault.{LineFault}
+use Rattle.line_forms.specs.declared.fault.LineFault.TheVariants.{WrongWord}
 use Rattle.line_forms.specs.declared.keyword.Form.{Form}
 use Rattle.line_forms.specs.declared.keyword.Form.TheVariants.{Bridge, Header, Target, Id, Stall, Burst, Range, Abort, Word, Master, Reads, WritesBurst, WritesPort, ReadsRegister, WritesRegister, Polls, Discard, Drop}
 use Rattle.line_forms.specs.declared.statement.Statement.{Statement}
@@ -36,17 +39,47 @@ is_served (Polls space) = is_target_space space
 is_served Discard = true
 is_served Drop = true
 
-kept : (test : Bool) (form : Form) (later : Result Form LineFault) → is_served form ≡ true → ((found : Form) → later ≡ Ok found → is_served found ≡ true) → (found : Form) → cond test (Ok form) later ≡ Ok found → is_served found ≡ true
-kept true form later served each found h = let is : form ≡ found = cc in let P : Form → Type 0 = λ f. is_served f ≡ true in subst P is served
-kept false form later served each found h = each found h
+-- each form that the answer can be is served
+record AllServed (answer : Result Form LineFault) : Type 0 where
+  at : (found : Form) → answer ≡ Ok found → is_served found ≡ true
 
-form-served : (word : List ℕ) (found : Form) → form_of word ≡ Ok found → is_served found ≡ true
+case-served : (test : Bool) (form : Form) (later : Result Form LineFault) → is_served form ≡ true → AllServed later → (found : Form) → cond test (Ok form) later ≡ Ok found → is_served found ≡ true
+case-served true form later served others found h = let is : form ≡ found = cc in let P : Form → Type 0 = λ f. is_served f ≡ true in subst P is served
+case-served false form later served others found h = others.at found h
+
+kept : (test : Bool) (form : Form) (later : Result Form LineFault) → is_served form ≡ true → AllServed later → AllServed (cond test (Ok form) later)
+kept test form later served others = record { at = case-served test form later served others }
+
+none_served : (fault : LineFault) → AllServed (Err fault)
+none_served fault = record { at = λ found h. absurd (cc) }
+
+all-served : (word : List ℕ) → AllServed (form_of word)
 unfolding form_of
-form-served word =
-    kept _ _ _ refl (kept _ _ _ refl (kept _ _ _ refl (kept _ _ _ refl (kept _ _ _ refl (kept _ _ _ refl (kept _ _ _ refl (kept _ _ _ refl
-    (kept _ _ _ refl (kept _ _ _ refl (kept _ _ _ refl (kept _ _ _ refl (kept _ _ _ refl (kept _ _ _ refl (kept _ _ _ refl (kept _ _ _ refl
-    (kept _ _ _ refl (kept _ _ _ refl (kept _ _ _ refl (kept _ _ _ refl (kept _ _ _ refl (kept _ _ _ refl (kept _ _ _ refl
-    (λ found h. absurd (cc))))))))))))))))))))))))
+all-served word =
+    kept (bytes_eq word (codes "bridge")) Bridge _ refl (
+    kept (bytes_eq word (codes "header")) Header _ refl (
+    kept (bytes_eq word (codes "target")) Target _ refl (
+    kept (bytes_eq word (codes "id")) Id _ refl (
+    kept (bytes_eq word (codes "stall")) Stall _ refl (
+    kept (bytes_eq word (codes "burst")) Burst _ refl (
+    kept (bytes_eq word (codes "range")) Range _ refl (
+    kept (bytes_eq word (codes "abort")) Abort _ refl (
+    kept (bytes_eq word (codes "word")) Word _ refl (
+    kept (bytes_eq word (codes "master")) Master _ refl (
+    kept (bytes_eq word (codes "mr")) (Reads MemRead) _ refl (
+    kept (bytes_eq word (codes "mrl")) (Reads MemReadLine) _ refl (
+    kept (bytes_eq word (codes "mrm")) (Reads MemReadMultiple) _ refl (
+    kept (bytes_eq word (codes "ior")) (Reads IoRead) _ refl (
+    kept (bytes_eq word (codes "mw")) (WritesBurst MemWrite) _ refl (
+    kept (bytes_eq word (codes "mwi")) (WritesBurst MemWriteInvalidate) _ refl (
+    kept (bytes_eq word (codes "iow")) WritesPort _ refl (
+    kept (bytes_eq word (codes "cfr")) ReadsRegister _ refl (
+    kept (bytes_eq word (codes "cfw")) WritesRegister _ refl (
+    kept (bytes_eq word (codes "poll")) (Polls Mem) _ refl (
+    kept (bytes_eq word (codes "iopoll")) (Polls Io) _ refl (
+    kept (bytes_eq word (codes "discard")) Discard _ refl (
+    kept (bytes_eq word (codes "drop")) Drop _ refl (
+    none_served WrongWord)))))))))))))))))))))))
 
 behind-formed : (wide : Bool) (form : Form) → is_served form ≡ true → (words : List (List ℕ)) (read : Statement × List (List ℕ)) → behind_word wide form words ≡ Ok read → is_formed (read.0) ≡ true
 unfolding behind_word
@@ -73,7 +106,7 @@ line-formed : (wide : Bool) (words : List (List ℕ)) (read : Statement × List 
 unfolding statement_form
 line-formed wide words read h =
     let form = on-ok (one_word form_of words) _ read h in
-    behind-formed wide (form.0.0) (word-ok form_of (λ f. is_served f ≡ true) form-served words form.0 form.1.0) (form.0.1) read form.1.1
+    behind-formed wide (form.0.0) (word-ok form_of (λ f. is_served f ≡ true) (λ word. (all-served word).at) words form.0 form.1.0) (form.0.1) read form.1.1
 
 pub statement-formed : (wide : Bool) (words : List (List ℕ)) (statement : Statement) → statement_of wide words ≡ Ok statement → is_formed statement ≡ true
 unfolding statement_of

@@ -9,5 +9,5 @@ use Rattle.board_draft.proofs.bridges.add_header.Goals as goal
 pub returns : goal.returns
 returns c =
     let P : Result Windows HeaderFault → Type 0 =
-        λ reading. Answers c.put_header.result (put_header c.args.wide c.args.board c.args.device c.args.posted c.args.delayed reading)
+    λ reading. Answers c.put_header.result (put_header c.args.wide c.args.board c.args.device c.args.posted c.args.delayed reading)
     in subst P c.decode.ensures.reading c.put_header.ensures
