@@ -59,18 +59,11 @@ impl BridgeLanes {
         lanes
     }
 
-    /// The lane down to the secondary bus.
-    pub fn down(&self) -> &LaneTables
-        ensures { result.now ≡ self.now.here }
+    /// The lane in this direction.
+    pub fn lane(&self, up: bool) -> &LaneTables
+        ensures { result.now ≡ (turned up self.now).here }
     {
-        &self.down
-    }
-
-    /// The lane up to the primary bus.
-    pub fn up(&self) -> &LaneTables
-        ensures { result.now ≡ self.now.back }
-    {
-        &self.up
+        if up { &self.up } else { &self.down }
     }
 
     /// One more event happens, to the lanes of the bridge to this bus.

@@ -3,6 +3,7 @@ ghost use Rattle.std.specs.List.{find, list_any, position};
 ghost use Rattle.list_facts.specs.Lists.{less};
 ghost use Rattle.history_model.specs.Lanes.{is_of, is_done_for, has_number, asks_in, dones_in, lowest_free, lowest_free_from};
 
+use crate::standing::{place_of_completion, place_of_request};
 use arrayvec::ArrayVec;
 use history_model::{By, Carried, Slot};
 use pci_command::OpId;
@@ -147,7 +148,7 @@ impl LaneTables {
         ensures left { self.new ≡ record self.old { standing = less (is_done_for number) self.old.standing } }
         ensures no_more { length self.new.standing ≤ length self.old.standing }
     {
-        if let Some(place) = place_of_done(self.standing.as_slice(), number) {
+        if let Some(place) = place_of_completion(self.standing.as_slice(), number) {
             self.standing.remove(place);
         }
     }
@@ -158,7 +159,7 @@ impl LaneTables {
         ensures item { result ≡ find (is_of op) self.old.standing }
         ensures left { self.new ≡ record self.old { standing = less (is_of op) self.old.standing } }
     {
-        let place = place_of_item(self.standing.as_slice(), op)?;
+        let place = place_of_request(self.standing.as_slice(), op)?;
         Some(self.standing.remove(place))
     }
 
@@ -213,40 +214,6 @@ fn place_of_slot(held: &[Slot], number: u8) -> Option<usize>
     ensures { result ≡ position (has_number number) held.now }
 {
     held.iter().position(|slot| slot.number == number)
-}
-
-fn place_of_done(standing: &[Carried], number: u8) -> Option<usize>
-    ensures { result ≡ position (is_done_for number) standing.now }
-{
-    standing.iter().position(|item| is_done_for(*item, number))
-}
-
-fn place_of_item(standing: &[Carried], op: OpId) -> Option<usize>
-    ensures { result ≡ position (is_of op) standing.now }
-{
-    standing.iter().position(|item| is_of(*item, op))
-}
-
-/// Whether it is the completion for the slot.
-pub(crate) fn is_done_for(item: Carried, number: u8) -> bool
-    ensures { result ≡ is_done_for number item }
-{
-    match item {
-        Carried::Done { slot, .. } => slot == number,
-        Carried::Post { .. } | Carried::Ask { .. } | Carried::Room | Carried::Gone { .. } => false,
-    }
-}
-
-/// Whether it is a posted write or a delayed request of the operation.
-pub(crate) fn is_of(item: Carried, of: OpId) -> bool
-    ensures { result ≡ is_of of item }
-{
-    match item {
-        Carried::Post { op } | Carried::Ask { op, .. } => {
-            of.master == op.master && of.index == op.index && of.attempt == op.attempt
-        }
-        Carried::Done { .. } | Carried::Room | Carried::Gone { .. } => false,
-    }
 }
 
 /// The lowest number that no held slot has.

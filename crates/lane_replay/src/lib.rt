@@ -5,7 +5,9 @@
 mod bridge_lanes;
 mod lane_tables;
 mod requests;
+mod standing;
 
 pub use bridge_lanes::BridgeLanes;
 pub use lane_tables::LaneTables;
 pub use requests::{Presented, own_slot, reads, same_requests};
+pub use standing::{before_completion, before_request, standing_completion, standing_request};
