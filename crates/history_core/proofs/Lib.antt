@@ -1,2 +1,4 @@
 pub mod LimitLemmas
 pub mod ValueLemmas
+pub mod VerdictLemmas
+pub mod FaceLemmas

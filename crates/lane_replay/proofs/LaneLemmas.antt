@@ -1,5 +1,5 @@
 -- An event changes the lanes of a bridge by what is on them alone.
-use Rattle.std.proofs.Common.{◌≡◌, ℕ, Bool, true, false, ◌==◌, if◌then◌else◌, refl, ap, subst, ◌∙◌, arith, None, Some, Option}
+use Rattle.std.proofs.Common.{◌≡◌, ℕ, Bool, true, false, not, sym, ◌==◌, if◌then◌else◌, refl, ap, subst, ◌∙◌, arith, None, Some, Option}
 use Rattle.std.proofs.lemmas.Bool.Decides.{nat_tests}
 use Rattle.pci_command.specs.declared.op_id.OpId.{OpId}
 use Rattle.pci_command.specs.declared.op_id.Outcome.{Outcome}
@@ -13,7 +13,7 @@ use Rattle.history_model.specs.declared.event.Step.{Step}
 use Rattle.history_model.specs.declared.event.Event.{Event}
 use Rattle.history_model.specs.declared.event.Event.TheVariants.{Act, Arrive}
 use Rattle.history_model.specs.Lanes.{Both, item_ends, arrives}
-use Rattle.history_model.specs.World.{World, both, put, moved, enters, at_place, lane_outcome, leaves, at_initiator, after}
+use Rattle.history_model.specs.World.{World, lane_back, both, put, moved, enters, at_place, lane_outcome, leaves, at_initiator, after}
 use Rattle.lane_replay.specs.Bridge.{lanes_of, turned, moved_on, place_on, leaves_on, initiator_on, lanes_after}
 
 -- the same number, either way round
@@ -74,3 +74,13 @@ lanes_after_event board world (Act on by o step place) bus =
     lanes_at_initiator board by o step (at_place board on by o step place world) bus
     ∙ ap (initiator_on board by o step bus) (lanes_at_place board on by o step place world bus)
 lanes_after_event board world (Arrive lane mark) bus = lanes_moved (arrives mark) lane world bus
+
+-- a lane of a bridge, and the lane back, among both
+pub lane_there : (world : World) (lane : BridgeLane) (x : Both) → x ≡ both world (record { bus = lane.bus; up = false }) →
+    ((turned lane.up x).here ≡ world lane) × ((turned (not lane.up) x).here ≡ world (lane_back lane))
+lane_there world lane x is =
+    let y : Both = both world (record { bus = lane.bus; up = false }) in
+    let P : Bool → Type 0 = λ up.
+    ((turned up y).here ≡ world (record { bus = lane.bus; up = up })) × ((turned (not up) y).here ≡ world (record { bus = lane.bus; up = not up })) in
+    let Q : Both → Type 0 = λ z. ((turned lane.up z).here ≡ world lane) × ((turned (not lane.up) z).here ≡ world (lane_back lane)) in
+    subst Q (sym is) (elim lane.up as P [ true ↦ (refl, refl) | false ↦ (refl, refl) ])
