@@ -2,3 +2,4 @@ pub mod LimitLemmas
 pub mod ValueLemmas
 pub mod VerdictLemmas
 pub mod FaceLemmas
+pub mod IdleLemmas
