@@ -15,3 +15,6 @@ pub use completing::complete;
 pub use history_model::{
     Answer, By, Carried, Cause, Event, Lane, Mark, Place, Slot, Stamped, Step, Why,
 };
+
+#[cfg(test)]
+mod tests;
