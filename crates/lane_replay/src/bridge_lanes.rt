@@ -36,7 +36,7 @@ impl BridgeLanes {
     ghost use Rattle.lane_replay.specs.Room.{HaveRoom};
 
     /// Lanes with nothing on them.
-    pub fn new() -> BridgeLanes
+    fn new() -> BridgeLanes
         ensures { result ≡ record { here = empty_lane; back = empty_lane } }
     {
         BridgeLanes {
@@ -67,7 +67,7 @@ impl BridgeLanes {
     }
 
     /// One more event happens, to the lanes of the bridge to this bus.
-    pub(crate) fn happen(&mut self, board: &Board, event: &Event, bus: u8)
+    fn happen(&mut self, board: &Board, event: &Event, bus: u8)
         requires { HaveRoom 2 self.old }
         ensures { self.new ≡ lanes_after board.now event.now bus self.old }
     {

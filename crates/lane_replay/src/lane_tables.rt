@@ -33,7 +33,7 @@ impl LaneTables {
     ghost use Rattle.history_model.specs.Lanes.{empty_lane, came_off};
 
     /// A lane with nothing on it.
-    pub fn new() -> LaneTables
+    pub(crate) fn new() -> LaneTables
         ensures { result ≡ empty_lane }
     {
         LaneTables {
@@ -177,16 +177,6 @@ impl LaneTables {
         self.asks += u64::from(asks_in(item));
         self.dones += u64::from(dones_in(item));
         Some(item)
-    }
-}
-
-impl Default for LaneTables {
-    ghost use Rattle.history_model.specs.Lanes.{empty_lane};
-
-    ghost is_default = { λ tables. tables ≡ empty_lane };
-
-    fn default() -> LaneTables {
-        LaneTables::new()
     }
 }
 
