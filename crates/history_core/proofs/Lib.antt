@@ -1,2 +1,5 @@
 pub mod LimitLemmas
 pub mod ValueLemmas
+pub mod VerdictLemmas
+pub mod FaceLemmas
+pub mod IdleLemmas

@@ -1,1 +1,4 @@
 pub mod Values
+pub mod Whys
+pub mod Verdicts
+pub mod Faces

@@ -2,9 +2,19 @@
 //! allowed. It replays the events before, and takes no memory.
 #![tactic(auto)]
 
+mod allowing;
+mod answers;
+mod arrivals;
+mod completing;
+mod presenting;
 mod turns;
 mod words;
 
+pub use allowing::allowed;
+pub use completing::complete;
 pub use history_model::{
     Answer, By, Carried, Cause, Event, Lane, Mark, Place, Slot, Stamped, Step, Why,
 };
+
+#[cfg(test)]
+mod tests;

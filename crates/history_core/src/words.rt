@@ -79,7 +79,7 @@ pub(crate) fn value_of(
     before: &[Event],
     target: u16,
     space: Space,
-    address: u64,
+    address: u128,
 ) -> u32
     ensures { result ≡ value_of board.now (history_of before.now) (record { target = target; space = space; address = address }) }
 {
@@ -99,7 +99,7 @@ pub(crate) fn value_of(
 }
 
 /// What it opens as.
-fn opens_as(board: &Board, target: u16, space: Space, address: u64) -> u32
+fn opens_as(board: &Board, target: u16, space: Space, address: u128) -> u32
     ensures { result ≡ opens_as board.now (record { target = target; space = space; address = address }) }
 {
     match board.targets.as_slice().get(target as usize) {
@@ -108,7 +108,7 @@ fn opens_as(board: &Board, target: u16, space: Space, address: u64) -> u32
     }
 }
 
-fn opens_in(target: &Target, space: Space, address: u64) -> u32
+fn opens_in(target: &Target, space: Space, address: u128) -> u32
     ensures { result ≡ opens_in space address target.now }
 {
     match space {
@@ -118,7 +118,7 @@ fn opens_in(target: &Target, space: Space, address: u64) -> u32
 }
 
 /// A register of the target; those from 16 on are 0.
-fn opening_at(target: &Target, register: u64) -> u32
+fn opening_at(target: &Target, register: u128) -> u32
     ensures { result ≡ opening_of target.now register }
 {
     match u8::try_from(register) {
@@ -128,7 +128,7 @@ fn opening_at(target: &Target, register: u64) -> u32
 }
 
 /// The last of the opening words for the address, or 0.
-fn opening_word(openings: &[Opening], space: Space, address: u64) -> u32
+fn opening_word(openings: &[Opening], space: Space, address: u128) -> u32
     ensures { result ≡ opening_word space address 0 openings.now }
 {
     let mut value = 0;
@@ -138,10 +138,10 @@ fn opening_word(openings: &[Opening], space: Space, address: u64) -> u32
     value
 }
 
-fn word_or(word: &Opening, space: Space, address: u64, value: u32) -> u32
+fn word_or(word: &Opening, space: Space, address: u128, value: u32) -> u32
     ensures { result ≡ opening_word space address value (word.now ∷ []) }
 {
-    if word.space == space && word.address == address {
+    if word.space == space && u128::from(word.address) == address {
         word.value
     } else {
         value
@@ -155,7 +155,7 @@ fn value_after(
     event: &Event,
     target: u16,
     space: Space,
-    address: u64,
+    address: u128,
     value: u32,
 ) -> u32
     ensures { let word : Dword = record { target = target; space = space; address = address } in
@@ -183,7 +183,7 @@ fn value_landed(
     gone: u128,
     step: Step,
     space: Space,
-    address: u64,
+    address: u128,
     value: u32,
 ) -> u32
     requires { gone ≤ 2 ^ 100 }
@@ -199,7 +199,7 @@ fn value_landed(
 }
 
 /// Where in its space the first of the data phases goes.
-fn dword_address(space: Space, address: u128) -> u128
+pub(crate) fn dword_address(space: Space, address: u128) -> u128
     ensures { result ≡ address_in space address }
 {
     match space {
@@ -209,7 +209,7 @@ fn dword_address(space: Space, address: u128) -> u128
 }
 
 /// The data phases behind the first so many.
-fn left_of(phases: &[Phase], gone: u128) -> &[Phase]
+pub(crate) fn left_of(phases: &[Phase], gone: u128) -> &[Phase]
     ensures { result.now ≡ drop gone phases.now }
 {
     if gone < phases.len() as u128 {
@@ -243,7 +243,7 @@ fn first_of(phases: &[Phase], number: u8) -> &[Phase]
 }
 
 /// What data phases from `at` on make of the dword at the address.
-fn value_merged(phases: &[Phase], space: Space, address: u64, at: u128, value: u32) -> u32
+fn value_merged(phases: &[Phase], space: Space, address: u128, at: u128, value: u32) -> u32
     requires { at ≤ 2 ^ 120 }
     ensures { result ≡ value_merged space address at value phases.now }
 {
@@ -257,10 +257,10 @@ fn value_merged(phases: &[Phase], space: Space, address: u64, at: u128, value: u
     merged
 }
 
-fn merged_at(phase: &Phase, address: u64, at: u128, value: u32, mask: u32) -> u32
+fn merged_at(phase: &Phase, address: u128, at: u128, value: u32, mask: u32) -> u32
     ensures { result ≡ (if at == address then merge_of value phase.now mask else value) }
 {
-    if at == u128::from(address) {
+    if at == address {
         merge(value, phase, mask)
     } else {
         value
@@ -268,7 +268,7 @@ fn merged_at(phase: &Phase, address: u64, at: u128, value: u32, mask: u32) -> u3
 }
 
 /// Which of its bits a write changes.
-fn mask_of(space: Space, address: u64) -> u32
+fn mask_of(space: Space, address: u128) -> u32
     ensures { result ≡ mask_in space address }
 {
     match space {
@@ -277,7 +277,7 @@ fn mask_of(space: Space, address: u64) -> u32
     }
 }
 
-fn mask_at(register: u64) -> u32
+fn mask_at(register: u128) -> u32
     ensures { result ≡ write_mask_of register }
 {
     match u8::try_from(register) {

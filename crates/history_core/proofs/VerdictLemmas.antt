@@ -1,0 +1,164 @@
+-- No two of the causes hold of one event, and none where it is allowed.
+use Rattle.std.proofs.Common.{◌≡◌, ℕ, Bool, true, false, ◌↔◌, ◌⊎◌, inl, inr, List, Option, Some, None, Result, Ok, Err, IsOk, refl, sym, ap, subst, ◌∙◌}
+use Rattle.pci_command.specs.declared.op_id.OpId.{OpId}
+use Rattle.board_model.specs.declared.board.Board.{Board}
+use Rattle.board_model.specs.declared.bridge.Lane.{Lane as BridgeLane}
+use Rattle.board_model.specs.declared.bridge.Place.{Place}
+use Rattle.history_model.specs.declared.event.By.{By}
+use Rattle.history_model.specs.declared.event.Mark.{Mark}
+use Rattle.history_model.specs.declared.event.Step.{Step}
+use Rattle.history_model.specs.declared.event.Event.{Event}
+use Rattle.history_model.specs.declared.event.Event.TheVariants.{Act, Arrive}
+use Rattle.history_model.specs.declared.item.Answer.{Answer}
+use Rattle.history_model.specs.declared.item.Cause.{Cause}
+use Rattle.history_model.specs.declared.item.Answer.TheVariants.{Gives, Retry}
+use Rattle.history_model.specs.declared.why.Why.{Why}
+use Rattle.history_model.specs.declared.why.Why.TheVariants.{N1, N2, N3, N4, N5}
+use Rattle.history_model.specs.Answers.{wants, answer}
+use Rattle.history_model.specs.Runs.{Allowed, next_mark}
+use Rattle.history_core.specs.Whys.{IsNotPresented, IsAnsweredOtherwise, IsRetried, HasNothingInFlight, IsMarkedOtherwise}
+use Rattle.history_core.specs.Verdicts.{cause_in, Holds, HoldsOfAct, HoldsOfArrival}
+
+-- what is not presented has that cause alone
+unwanted : (answer : Answer) (step : Step) (place : Place) (w : Option Why) → HoldsOfAct false answer step place w → w ≡ Some N1
+unwanted answer step place None holds = let no : false ≡ true = holds.0 in cc
+unwanted answer step place (Some N1) holds = refl
+unwanted answer step place (Some N2) holds = let no : false ≡ true = holds.0 in cc
+unwanted answer step place (Some N3) holds = let no : false ≡ true = holds.0 in cc
+unwanted answer step place (Some N4) holds = absurd holds
+unwanted answer step place (Some N5) holds = absurd holds
+
+retried : (cause : Cause) (step : Step) (place : Place) (w : Option Why) → HoldsOfAct true (Retry cause) step place w → w ≡ Some N3
+retried cause step place None holds = let no = holds.1 in cc
+retried cause step place (Some N1) holds = cc
+retried cause step place (Some N2) holds = absurd holds.1
+retried cause step place (Some N3) holds = refl
+retried cause step place (Some N4) holds = absurd holds
+retried cause step place (Some N5) holds = absurd holds
+
+-- what is answered by an event has that event, or another one
+given : (step : Step) (place : Place) (other : Step) (from : Place) (w : Option Why) → HoldsOfAct true (Gives other from) step place w →
+    ((w ≡ None) × ((other ≡ step) × (from ≡ place))) ⊎ ((w ≡ Some N2) × (¬ ((other ≡ step) × (from ≡ place))))
+given step place other from None holds =
+    let same = holds.1 in let steps : other ≡ step = cc in let places : from ≡ place = cc in inl (refl, (steps, places))
+given step place other from (Some N1) holds = cc
+given step place other from (Some N2) holds = inr (refl, holds.1)
+given step place other from (Some N3) holds = absurd holds.1
+given step place other from (Some N4) holds = absurd holds
+given step place other from (Some N5) holds = absurd holds
+
+act_one : (wanted : Bool) (answer : Answer) (step : Step) (place : Place) (v w : Option Why) →
+    HoldsOfAct wanted answer step place v → HoldsOfAct wanted answer step place w → v ≡ w
+act_one false answer step place v w first second = unwanted answer step place v first ∙ sym (unwanted answer step place w second)
+act_one true (Retry cause) step place v w first second = retried cause step place v first ∙ sym (retried cause step place w second)
+act_one true (Gives other from) step place v w first second =
+    elim (given step place other from v first) as (λ _. v ≡ w) [
+      | inl one ↦ elim (given step place other from w second) as (λ _. v ≡ w) [
+        | inl two ↦ one.0 ∙ sym two.0
+        | inr two ↦ absurd (two.1 one.1)
+      ]
+      | inr one ↦ elim (given step place other from w second) as (λ _. v ≡ w) [
+        | inl two ↦ absurd (one.1 two.1)
+        | inr two ↦ one.0 ∙ sym two.0
+      ]
+    ]
+
+-- the same of arrivals
+none_flies : (mark : Mark) (w : Option Why) → HoldsOfArrival None mark w → w ≡ Some N4
+none_flies mark None holds = cc
+none_flies mark (Some N1) holds = absurd holds
+none_flies mark (Some N2) holds = absurd holds
+none_flies mark (Some N3) holds = absurd holds
+none_flies mark (Some N4) holds = refl
+none_flies mark (Some N5) holds = absurd holds
+
+marked : (mark other : Mark) (w : Option Why) → HoldsOfArrival (Some other) mark w →
+    ((w ≡ None) × (other ≡ mark)) ⊎ ((w ≡ Some N5) × (¬ (other ≡ mark)))
+marked mark other None holds = let same : other ≡ mark = cc in inl (refl, same)
+marked mark other (Some N1) holds = absurd holds
+marked mark other (Some N2) holds = absurd holds
+marked mark other (Some N3) holds = absurd holds
+marked mark other (Some N4) holds = cc
+marked mark other (Some N5) holds = inr (refl, holds)
+
+arrival_one : (next : Option Mark) (mark : Mark) (v w : Option Why) → HoldsOfArrival next mark v → HoldsOfArrival next mark w → v ≡ w
+arrival_one None mark v w first second = none_flies mark v first ∙ sym (none_flies mark w second)
+arrival_one (Some other) mark v w first second =
+    elim (marked mark other v first) as (λ _. v ≡ w) [
+      | inl one ↦ elim (marked mark other w second) as (λ _. v ≡ w) [
+        | inl two ↦ one.0 ∙ sym two.0
+        | inr two ↦ absurd (two.1 one.1)
+      ]
+      | inr one ↦ elim (marked mark other w second) as (λ _. v ≡ w) [
+        | inl two ↦ absurd (one.1 two.1)
+        | inr two ↦ one.0 ∙ sym two.0
+      ]
+    ]
+
+-- what holds of an act, and of an arrival, is what holds of the event
+pub of_act : (board : Board) (h : List Event) (on : ℕ) (by : By) (o : OpId) (step : Step) (place : Place) (w : Option Why) →
+    HoldsOfAct (wants board h on by o) (answer board h on by o) step place w → Holds board h (Act on by o step place) w
+of_act board h on by o step place None holds = holds
+of_act board h on by o step place (Some N1) holds = holds
+of_act board h on by o step place (Some N2) holds = holds
+of_act board h on by o step place (Some N3) holds = holds
+of_act board h on by o step place (Some N4) holds = holds
+of_act board h on by o step place (Some N5) holds = holds
+
+pub of_arrival : (board : Board) (h : List Event) (lane : BridgeLane) (mark : Mark) (w : Option Why) →
+    HoldsOfArrival (next_mark board h lane) mark w → Holds board h (Arrive lane mark) w
+of_arrival board h lane mark None holds = holds
+of_arrival board h lane mark (Some N1) holds = holds
+of_arrival board h lane mark (Some N2) holds = holds
+of_arrival board h lane mark (Some N3) holds = holds
+of_arrival board h lane mark (Some N4) holds = holds
+of_arrival board h lane mark (Some N5) holds = holds
+
+to_act : (board : Board) (h : List Event) (on : ℕ) (by : By) (o : OpId) (step : Step) (place : Place) (w : Option Why) →
+    Holds board h (Act on by o step place) w → HoldsOfAct (wants board h on by o) (answer board h on by o) step place w
+to_act board h on by o step place None holds = holds
+to_act board h on by o step place (Some N1) holds = holds
+to_act board h on by o step place (Some N2) holds = holds
+to_act board h on by o step place (Some N3) holds = holds
+to_act board h on by o step place (Some N4) holds = holds
+to_act board h on by o step place (Some N5) holds = holds
+
+to_arrival : (board : Board) (h : List Event) (lane : BridgeLane) (mark : Mark) (w : Option Why) →
+    Holds board h (Arrive lane mark) w → HoldsOfArrival (next_mark board h lane) mark w
+to_arrival board h lane mark None holds = holds
+to_arrival board h lane mark (Some N1) holds = holds
+to_arrival board h lane mark (Some N2) holds = holds
+to_arrival board h lane mark (Some N3) holds = holds
+to_arrival board h lane mark (Some N4) holds = holds
+to_arrival board h lane mark (Some N5) holds = holds
+
+holds_one : (board : Board) (h : List Event) (e : Event) (v w : Option Why) → Holds board h e v → Holds board h e w → v ≡ w
+holds_one board h (Act on by o step place) v w first second =
+    act_one (wants board h on by o) (answer board h on by o) step place v w (to_act board h on by o step place v first) (to_act board h on by o step place w second)
+holds_one board h (Arrive lane mark) v w first second =
+    arrival_one (next_mark board h lane) mark v w (to_arrival board h lane mark v first) (to_arrival board h lane mark w second)
+
+err_by_cause : (r : Result (Unit {0}) Why) (why : Why) → cause_in r ≡ Some why → r ≡ Err why
+err_by_cause (Ok value) why is = cc
+err_by_cause (Err other) why is = cc
+
+ok_by_cause : (r : Result (Unit {0}) Why) → cause_in r ≡ None → IsOk r
+ok_by_cause (Ok value) is = refl
+ok_by_cause (Err other) is = cc
+
+cause_of_ok : (r : Result (Unit {0}) Why) → IsOk r → cause_in r ≡ None
+cause_of_ok (Ok value) is = refl
+cause_of_ok (Err other) is = cc
+
+-- a result names a cause exactly where it holds, and none exactly where the event is allowed
+pub named_exactly : (board : Board) (h : List Event) (e : Event) (r : Result (Unit {0}) Why) (why : Why) → Holds board h e (cause_in r) →
+    (r ≡ Err why) ↔ Holds board h e (Some why)
+named_exactly board h e r why holds =
+    let P : Option Why → Type 0 = λ w. Holds board h e w in
+    let cause : Result (Unit {0}) Why → Option Why = λ s. cause_in s in
+    (λ is. subst P (ap cause is) holds, λ other. err_by_cause r why (holds_one board h e (cause_in r) (Some why) holds other))
+
+pub allowed_exactly : (board : Board) (h : List Event) (e : Event) (r : Result (Unit {0}) Why) → Holds board h e (cause_in r) → IsOk r ↔ Allowed board h e
+allowed_exactly board h e r holds =
+    let P : Option Why → Type 0 = λ w. Holds board h e w in
+    (λ is. subst P (cause_of_ok r is) holds, λ other. ok_by_cause r (holds_one board h e (cause_in r) None holds other))

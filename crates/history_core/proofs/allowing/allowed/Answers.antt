@@ -1,0 +1,47 @@
+use Rattle.std.proofs.Common.{◌≡◌, sym, subst}
+use Rattle.history_model.specs.declared.event.Event.{Event}
+use Rattle.history_model.specs.declared.event.Event.TheVariants.{Act, Arrive}
+use Rattle.history_model.specs.declared.event.Mark.{Mark}
+use Rattle.history_model.specs.declared.why.Why.TheVariants.{N1, N2, N3, N4, N5}
+use Rattle.history_model.specs.Runs.{history_of}
+use Rattle.std.proofs.Common.{Option}
+use Rattle.history_core.specs.Verdicts.{cause_in, Holds, HoldsOfArrival}
+use Rattle.history_core.proofs.VerdictLemmas.{of_act, of_arrival, named_exactly, allowed_exactly}
+use Rattle.history_core.proofs.allowing.allowed.Goals as goal
+
+pub returns-in-Act : goal.returns-in-Act
+returns-in-Act c =
+    let board = c.args.board.now in
+    let h = history_of c.args.before.now in
+    let e = c.args.event.now in
+    let r = c.act_allowed.result in
+    let P : Event → Type 0 = λ event. Holds board h event (cause_in r) in
+    let holds : Holds board h e (cause_in r) =
+    subst P (sym c.in-Act.is) (of_act board h c.in-Act.bus c.in-Act.by c.in-Act.op c.in-Act.step c.in-Act.place (cause_in r) c.act_allowed.ensures) in
+    record {
+      ok = allowed_exactly board h e r holds;
+      not_presented = named_exactly board h e r N1 holds;
+      answered_otherwise = named_exactly board h e r N2 holds;
+      retried = named_exactly board h e r N3 holds;
+      nothing_in_flight = named_exactly board h e r N4 holds;
+      marked_otherwise = named_exactly board h e r N5 holds;
+    }
+
+pub returns-in-Arrive : goal.returns-in-Arrive
+returns-in-Arrive c =
+    let board = c.args.board.now in
+    let h = history_of c.args.before.now in
+    let e = c.args.event.now in
+    let r = c.arrival_allowed.result in
+    let P : Event → Type 0 = λ event. Holds board h event (cause_in r) in
+    let Q : Option Mark → Type 0 = λ next. HoldsOfArrival next c.in-Arrive.mark (cause_in r) in
+    let holds : Holds board h e (cause_in r) =
+    subst P (sym c.in-Arrive.is) (of_arrival board h c.in-Arrive.lane c.in-Arrive.mark (cause_in r) (subst Q c.next_mark.ensures c.arrival_allowed.ensures)) in
+    record {
+      ok = allowed_exactly board h e r holds;
+      not_presented = named_exactly board h e r N1 holds;
+      answered_otherwise = named_exactly board h e r N2 holds;
+      retried = named_exactly board h e r N3 holds;
+      nothing_in_flight = named_exactly board h e r N4 holds;
+      marked_otherwise = named_exactly board h e r N5 holds;
+    }

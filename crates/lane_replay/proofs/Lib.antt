@@ -1,0 +1,5 @@
+pub mod SameLemmas
+pub mod LeaveLemmas
+pub mod FreeLemmas
+pub mod RoomLemmas
+pub mod LaneLemmas

@@ -1,0 +1,297 @@
+ghost use Rattle.std.specs.Prelude.{◌≡◌, ◌∷◌, ◌≤◌, ◌^◌, ◌+◌, ◌<◌, length, IsTrue, IfSome, Some, true, false};
+ghost use Rattle.std.specs.List.{find};
+ghost use Rattle.history_model.specs.Lanes.{Both, post_enters, ask_enters, item_ends, slot_taken, reply_to, arrives, takes_effect, effect_of};
+ghost use Rattle.history_model.specs.World.{enters, is_own, slot_found, lane_outcome, unclaimed, mode_of};
+ghost use Rattle.lane_replay.specs.Room.{HasRoom};
+
+use crate::lane_tables::LaneTables;
+use crate::requests::{Presented, own_slot, reads};
+use board_model::{Board, Lane, Place};
+use history_model::{By, Carried, Event, Mark, Slot, Step};
+use pci_command::{OpId, Outcome};
+use plain_claim::bridge_to;
+use std::marker::Model;
+
+/// The two lanes of a bridge.
+#[derive(Debug, Drop)]
+pub struct BridgeLanes {
+    down: LaneTables,
+    up: LaneTables,
+}
+
+impl Model for BridgeLanes {
+    ghost use Rattle.history_model.specs.Lanes.{Both};
+
+    ghost Value = { Both };
+
+    ghost view = { λ lanes. record { here = lanes.down; back = lanes.up } };
+}
+
+impl BridgeLanes {
+    ghost use Rattle.history_model.specs.Lanes.{Both, empty_lane, item_ends, arrives};
+    ghost use Rattle.board_model.specs.WellFormed.{is_well_formed};
+    ghost use Rattle.history_model.specs.World.{both, enters, world_of};
+    ghost use Rattle.history_model.specs.Runs.{Run, history_of};
+    ghost use Rattle.lane_replay.specs.Bridge.{lanes_of, turned, moved_on, place_on, leaves_on, initiator_on, lanes_after};
+    ghost use Rattle.lane_replay.specs.Room.{HaveRoom};
+
+    /// Lanes with nothing on them.
+    fn new() -> BridgeLanes
+        ensures { result ≡ record { here = empty_lane; back = empty_lane } }
+    {
+        BridgeLanes {
+            down: LaneTables::new(),
+            up: LaneTables::new(),
+        }
+    }
+
+    /// The lanes of the bridge to the bus after these events, the first event first. There is
+    /// nothing on those of no bridge.
+    pub fn after(board: &Board, before: &[Event], bus: u8) -> BridgeLanes
+        requires formed { IsTrue (is_well_formed board.now) }
+        requires run { Run board.now (history_of before.now) }
+        ensures { result ≡ both (world_of board.now (history_of before.now)) (record { bus = bus; up = false }) }
+    {
+        let mut lanes = BridgeLanes::new();
+        for event in before {
+            lanes.happen(board, event, bus);
+        }
+        lanes
+    }
+
+    /// The lane in this direction.
+    pub fn lane(&self, up: bool) -> &LaneTables
+        ensures { result.now ≡ (turned up self.now).here }
+    {
+        if up { &self.up } else { &self.down }
+    }
+
+    /// One more event happens, to the lanes of the bridge to this bus.
+    fn happen(&mut self, board: &Board, event: &Event, bus: u8)
+        requires { HaveRoom 2 self.old }
+        ensures { self.new ≡ lanes_after board.now event.now bus self.old }
+    {
+        match *event {
+            Event::Act {
+                bus: on,
+                by,
+                op,
+                step,
+                place,
+            } => {
+                let presented = Presented { bus: on, by, op };
+                self.at_place(board, presented, step, place, bus);
+                self.at_initiator(board, by, op, step, bus);
+            }
+            Event::Arrive { lane, mark } => self.arrive_on(lane, mark, bus),
+        }
+    }
+
+    fn at_place(&mut self, board: &Board, presented: Presented, step: Step, place: Place, bus: u8)
+        requires { HaveRoom 2 self.old }
+        ensures value { self.new ≡ place_on board.now presented.bus presented.by presented.op step place bus self.old }
+        ensures room { HaveRoom 1 self.new }
+    {
+        match place {
+            Place::Lane(lane) if lane.bus == bus => self.enter(board, presented, step, lane.up),
+            Place::Lane(_) | Place::Target(_) | Place::Header(_) | Place::Nobody => {}
+        }
+    }
+
+    fn enter(&mut self, board: &Board, presented: Presented, step: Step, up: bool)
+        requires { HaveRoom 2 self.old }
+        ensures value { self.new ≡ turned up (enters board.now presented.bus presented.by presented.op step (turned up self.old)) }
+        ensures room { HaveRoom 1 self.new }
+    {
+        if up {
+            enter(board, presented, step, &mut self.up, &mut self.down);
+        } else {
+            enter(board, presented, step, &mut self.down, &mut self.up);
+        }
+    }
+
+    fn at_initiator(&mut self, board: &Board, by: By, op: OpId, step: Step, bus: u8)
+        requires { HaveRoom 1 self.old }
+        ensures { self.new ≡ initiator_on board.now by op step bus self.old }
+    {
+        match by {
+            By::Lane(lane) if lane.bus == bus => match lane_outcome(board, lane, op, step) {
+                Some(outcome) => self.end(op, outcome, lane.up),
+                None => {}
+            },
+            By::Lane(_) | By::Master => {}
+        }
+    }
+
+    fn end(&mut self, op: OpId, outcome: Outcome, up: bool)
+        requires { HaveRoom 1 self.old }
+        ensures { self.new ≡ turned up (item_ends op outcome (turned up self.old)) }
+    {
+        if up {
+            end(op, outcome, &mut self.up, &mut self.down);
+        } else {
+            end(op, outcome, &mut self.down, &mut self.up);
+        }
+    }
+
+    fn arrive_on(&mut self, lane: Lane, mark: Mark, bus: u8)
+        requires { HaveRoom 1 self.old }
+        ensures { self.new ≡ moved_on (arrives mark) lane bus self.old }
+    {
+        if lane.bus == bus {
+            self.arrive(mark, lane.up);
+        }
+    }
+
+    fn arrive(&mut self, mark: Mark, up: bool)
+        requires { HaveRoom 1 self.old }
+        ensures { self.new ≡ turned up (arrives mark (turned up self.old)) }
+    {
+        if up {
+            arrive(mark, &mut self.up, &mut self.down);
+        } else {
+            arrive(mark, &mut self.down, &mut self.up);
+        }
+    }
+}
+
+/// What a step does at the lane that claimed.
+fn enter(
+    board: &Board,
+    presented: Presented,
+    step: Step,
+    here: &mut LaneTables,
+    back: &mut LaneTables,
+)
+    requires here { HasRoom 2 here.old }
+    requires back { HasRoom 2 back.old }
+    ensures value { let before : Both = record { here = here.old; back = back.old } in let after : Both = record { here = here.new; back = back.new } in
+        after ≡ enters board.now presented.bus presented.by presented.op step before }
+    ensures room_here { HasRoom 1 here.new }
+    ensures room_back { HasRoom 1 back.new }
+{
+    match step {
+        Step::Accept => accept(presented.op, here),
+        Step::Latch => latch(presented.by, presented.op, here),
+        Step::Take(_) => take(board, presented, here, back),
+        Step::Land
+        | Step::Part(_)
+        | Step::Read(_)
+        | Step::Stall
+        | Step::MasterAbort
+        | Step::TargetAbort => {}
+    }
+}
+
+/// A posted write is accepted: it is in flight, and owed.
+fn accept(op: OpId, here: &mut LaneTables)
+    requires { HasRoom 2 here.old }
+    ensures value { let before : Both = record { here = here.old; back = here.old } in here.new ≡ (post_enters op before).here }
+    ensures room { HasRoom 1 here.new }
+{
+    here.send(Carried::Post { op });
+    here.owe();
+}
+
+/// A delayed request is latched: the lowest free slot is held for it, and it is in flight.
+fn latch(by: By, op: OpId, here: &mut LaneTables)
+    requires { HasRoom 2 here.old }
+    ensures value { let before : Both = record { here = here.old; back = here.old } in here.new ≡ (ask_enters by op before).here }
+    ensures room { HasRoom 1 here.new }
+{
+    let slot = here.hold(by, op);
+    here.send(Carried::Ask { op, slot });
+}
+
+/// The completion for the own slot leaves, and the slot is free.
+fn take(board: &Board, presented: Presented, here: &mut LaneTables, back: &mut LaneTables)
+    requires here { HasRoom 2 here.old }
+    requires back { HasRoom 2 back.old }
+    ensures value { let before : Both = record { here = here.old; back = back.old } in let after : Both = record { here = here.new; back = back.new } in
+        after ≡ slot_found (find (is_own board.now presented.bus presented.by presented.op) here.old.held) before }
+    ensures room_here { HasRoom 1 here.new }
+    ensures room_back { HasRoom 1 back.new }
+{
+    if let Some(slot) = own_slot(board, presented, here.held()) {
+        here.free(slot.number);
+        back.leave_done(slot.number);
+    }
+}
+
+/// The oldest standing item of the operation ends: it leaves, and its answer goes back.
+fn end(op: OpId, outcome: Outcome, here: &mut LaneTables, back: &mut LaneTables)
+    requires { length back.old.flight < 34 }
+    ensures { let before : Both = record { here = here.old; back = back.old } in let after : Both = record { here = here.new; back = back.new } in
+        after ≡ item_ends op outcome before }
+{
+    match here.leave(op) {
+        Some(Carried::Post { .. }) => back.send(Carried::Room),
+        Some(Carried::Ask { op, slot }) => back.send(Carried::Done { op, slot, outcome }),
+        Some(Carried::Done { .. } | Carried::Room | Carried::Gone { .. }) | None => {}
+    }
+}
+
+/// The oldest item in flight arrives.
+fn arrive(mark: Mark, here: &mut LaneTables, back: &mut LaneTables)
+    requires here { HasRoom 1 here.old }
+    requires back { HasRoom 1 back.old }
+    ensures { let before : Both = record { here = here.old; back = back.old } in let after : Both = record { here = here.new; back = back.new } in
+        after ≡ arrives mark before }
+{
+    if let Some(item) = here.come_off() {
+        take_effect(mark, item, here, back);
+    }
+}
+
+/// What the arrival of the item does.
+fn take_effect(mark: Mark, item: Carried, here: &mut LaneTables, back: &mut LaneTables)
+    requires standing { length here.old.standing < 26 }
+    requires flight { length back.old.flight < 34 }
+    ensures { let before : Both = record { here = here.old; back = back.old } in let after : Both = record { here = here.new; back = back.new } in
+        after ≡ takes_effect (effect_of mark item) item before }
+{
+    match (mark, item) {
+        (_, Carried::Room) => back.credit(),
+        (_, Carried::Gone { slot }) | (Mark::Discard, Carried::Done { slot, .. }) => back.free(
+            slot,
+        ),
+        (Mark::Drop, Carried::Ask { slot, .. }) => back.send(Carried::Gone { slot }),
+        _ => here.stand(item),
+    }
+}
+
+/// How a step ends the item of a lane that presented it, if it does.
+fn lane_outcome(board: &Board, lane: Lane, op: OpId, step: Step) -> Option<Outcome>
+    ensures { result ≡ lane_outcome board.now lane op step }
+{
+    match step {
+        Step::Land | Step::Accept => Some(Outcome::Written),
+        Step::Read(value) => Some(Outcome::Value(value)),
+        Step::Take(outcome) => Some(outcome),
+        Step::MasterAbort => Some(unclaimed(mode_of(board, lane.bus), reads(board, op))),
+        Step::TargetAbort => Some(Outcome::Aborted),
+        Step::Part(_) | Step::Latch | Step::Stall => None,
+    }
+}
+
+/// How a bridge ends a delayed request that nobody claimed, by its master abort mode.
+fn unclaimed(mode: bool, reads: bool) -> Outcome
+    ensures { result ≡ unclaimed mode reads }
+{
+    if mode {
+        Outcome::Aborted
+    } else if reads {
+        Outcome::Value(0xffff_ffff)
+    } else {
+        Outcome::Written
+    }
+}
+
+fn mode_of(board: &Board, bus: u8) -> bool
+    ensures { result ≡ mode_of board.now bus }
+{
+    match bridge_to(board, bus) {
+        Some(bridge) => bridge.mode,
+        None => false,
+    }
+}
