@@ -5,6 +5,7 @@
 mod claims;
 mod hop;
 mod refusal;
+mod ways;
 
 pub use hop::Hop;
 pub use refusal::TreeRefusal;
