@@ -2,6 +2,7 @@
 //! most 500,000 events. PCI-to-PCI Bridge Architecture Specification 1.1, chapters 3 and 4.
 #![tactic(auto)]
 
+mod bound;
 mod claims;
 mod hop;
 mod refusal;
