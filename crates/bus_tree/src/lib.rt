@@ -5,8 +5,12 @@
 mod bound;
 mod claims;
 mod hop;
+mod hops;
 mod refusal;
+mod tree;
 mod ways;
 
 pub use hop::Hop;
+pub use hops::{next_hop, way_length};
 pub use refusal::TreeRefusal;
+pub use tree::{Tree, validate};
