@@ -1,5 +1,5 @@
 -- The bound of a decodable board is small.
-use Rattle.std.proofs.Common.{◌≡◌, ℕ, ◌+◌, ◌*◌, ◌/◌, ◌-◌, ◌%◌, ◌<◌, ◌≤◌, ◌^◌, zero, suc, max, Bool, true, false, cond, nat_le, ◌&&◌, ◌==◌, List, [], ◌∷◌, length, Option, Some, None, slice_get, refl, arith, lit≤, All, if◌then◌else◌}
+use Rattle.std.proofs.Common.{◌≡◌, ℕ, ◌+◌, ◌*◌, ◌-◌, ◌<◌, ◌≤◌, ◌^◌, zero, suc, true, false, nat_le, ◌==◌, List, [], ◌∷◌, length, Option, Some, None, slice_get, arith, if◌then◌else◌}
 use Rattle.std.specs.List.{list_all}
 use Rattle.std.proofs.Math.Nat.{mul-le-mul_left, mul-le-mul_right, div-zero, div-le_of_le-mul}
 use Rattle.std.proofs.lemmas.Bool.{eqb-true}
@@ -7,8 +7,6 @@ use Rattle.std.proofs.lemmas.Bool.Decides.{nat_tests}
 use Rattle.list_facts.specs.Lists.{total, greatest}
 use Rattle.pci_command.specs.declared.command.Command.{Command}
 use Rattle.pci_command.specs.declared.command.Command.TheVariants.{IoRead, IoWrite, MemRead, MemWrite, CfgRead as ConfigurationRead, CfgWrite as ConfigurationWrite, MemReadMultiple, MemReadLine, MemWriteInvalidate}
-use Rattle.pci_command.specs.declared.command.Space.{Space}
-use Rattle.pci_command.specs.declared.command.Space.TheVariants.{Mem, Io, Cfg}
 use Rattle.pci_command.specs.declared.phases.Phase.{Phase}
 use Rattle.pci_command.specs.declared.request.Request.{Request}
 use Rattle.board_model.specs.declared.agents.Target.{Target as TargetAgent}
@@ -19,12 +17,12 @@ use Rattle.board_model.specs.declared.bridge.Place.TheVariants.{Target, Header, 
 use Rattle.board_model.specs.declared.op.Op.{Op}
 use Rattle.board_model.specs.declared.op.Op.TheVariants.{Read, Write, CfgRead, CfgWrite, Poll}
 use Rattle.board_model.specs.declared.board.Board.{Board}
-use Rattle.board_model.specs.WellFormed.{is_within, is_dword_in, is_burst_in, is_well_formed_phase, write_space, is_well_formed_write, is_well_formed_op, is_well_formed_master, is_well_formed_target, operations_in, is_well_formed}
+use Rattle.board_model.specs.WellFormed.{write_space, is_well_formed_write, is_well_formed_op, is_well_formed_master, is_well_formed_target, operations_in, is_well_formed}
 use Rattle.board_model.specs.Requests.{phases_of, request_on, tries_of, is_posted}
 use Rattle.board_model.specs.Claims.{claim}
 use Rattle.board_model.specs.Ways.{Route, route_by, route_within, route_of, way, end_of, aborts_at, pieces_in, pieces_at, pieces_by, pieces_of, cost_of_try, cost_of, longest_way, bound_of}
 use Rattle.bus_tree.specs.Decodable.{IsDecodable}
-use Rattle.bus_tree.proofs.FormLemmas.{front, back, Form, Form-board}
+use Rattle.bus_tree.proofs.FormLemmas.{front, back, Form-board}
 
 at_most : (n most : ℕ) → nat_le n most ≡ true → n ≤ most
 at_most n most within = grind (arith, nat_tests)

@@ -1,5 +1,5 @@
 -- A board in form whose buses are there and are numbered as a tree is decodable.
-use Rattle.std.proofs.Common.{◌≡◌, ℕ, ◌<◌, ◌≤◌, Bool, true, false, nat_le, not, ◌||◌, List, [], ◌∷◌, length, refl, arith, IsTrue, All}
+use Rattle.std.proofs.Common.{◌≡◌, ℕ, ◌<◌, ◌≤◌, Bool, true, false, nat_le, not, ◌||◌, List, [], ◌∷◌, length, refl, arith, All}
 use Rattle.std.specs.List.{list_all, list_any}
 use Rattle.std.proofs.lemmas.Bool.{or_parts}
 use Rattle.std.proofs.lemmas.Bool.Decides.{nat_tests}
@@ -7,10 +7,10 @@ use Rattle.std.proofs.lemmas.List.Elements.{All-cons}
 use Rattle.board_model.specs.declared.agents.Target.{Target}
 use Rattle.board_model.specs.declared.bridge.Bridge.{Bridge}
 use Rattle.board_model.specs.declared.board.Board.{Board}
-use Rattle.board_model.specs.WellFormed.{is_within, is_well_formed_range, registers_of, is_well_formed_opening, is_well_formed_bridge, is_well_formed_target, is_well_formed}
-use Rattle.board_model.specs.Valid.{lacks_a_bus, is_numbered, is_nested, are_beside, some_two, is_no_tree, IsValid}
+use Rattle.board_model.specs.WellFormed.{is_well_formed_bridge, is_well_formed_target, is_well_formed}
+use Rattle.board_model.specs.Valid.{lacks_a_bus, is_numbered, is_nested, is_no_tree, IsValid}
 use Rattle.bus_tree.specs.Decodable.{IsReadBack, IsDecodable}
-use Rattle.bus_tree.proofs.FormLemmas.{front, back, Form, Form-board}
+use Rattle.bus_tree.proofs.FormLemmas.{front, back, Form-board}
 use Rattle.bus_tree.proofs.FewLemmas.{few_targets}
 
 numbered : (ordered nested : Bool) → (not ordered || not nested) ≡ false → ordered ≡ true

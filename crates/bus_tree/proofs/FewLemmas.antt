@@ -1,7 +1,7 @@
 -- There are at most eight targets on each of the buses that are there, so they are few.
-use Rattle.std.proofs.Common.{◌≡◌, ℕ, ◌+◌, ◌*◌, ◌≤◌, Bool, true, false, cond, eqb, leb, nat_le, not, ◌||◌, ◌==◌, List, [], ◌∷◌, length, count_by, refl, subst, arith}
+use Rattle.std.proofs.Common.{◌≡◌, ℕ, ◌+◌, ◌*◌, ◌≤◌, Bool, true, false, cond, eqb, nat_le, not, ◌||◌, ◌==◌, List, [], ◌∷◌, length, count_by, refl, subst, arith}
 use Rattle.std.specs.List.{list_all, list_any}
-use Rattle.std.proofs.lemmas.Bool.{and_parts, or_parts, eqb-true}
+use Rattle.std.proofs.lemmas.Bool.{or_parts, eqb-true}
 use Rattle.std.proofs.lemmas.Bool.Decides.{nat_tests}
 use Rattle.std.proofs.lemmas.List.Recursion.{is_count_by}
 use Rattle.list_facts.specs.Lists.{total}
@@ -10,7 +10,7 @@ use Rattle.board_model.specs.declared.agents.Target.{Target}
 use Rattle.board_model.specs.declared.bridge.Bridge.{Bridge}
 use Rattle.board_model.specs.declared.board.Board.{Board}
 use Rattle.board_model.specs.WellFormed.{has_bus, agents_on, are_few}
-use Rattle.board_model.specs.Valid.{is_bus, has_bridge_to, lacks_a_bus}
+use Rattle.board_model.specs.Valid.{is_bus, lacks_a_bus}
 use Rattle.bus_tree.proofs.FormLemmas.{front, back}
 
 abbrev one_if : Bool → ℕ
@@ -21,8 +21,8 @@ count-total : {X : Type 0} (p : X → Bool) (xs : List X) → total (λ x. one_i
 count-total p xs =
     is_count_by (total (λ x. one_if (p x))) p refl
     (λ x xs.
-      let n : ℕ = total (λ y. one_if (p y)) xs in
-      elim (p x) as (λ b. one_if b + n ≡ cond b (1 + n) n) [ true ↦ refl | false ↦ omega arith ])
+    let n : ℕ = total (λ y. one_if (p y)) xs in
+    elim (p x) as (λ b. one_if b + n ≡ cond b (1 + n) n) [ true ↦ refl | false ↦ omega arith ])
     xs
 
 -- the targets on a bus, as a sum
@@ -57,8 +57,8 @@ few_there board bus few =
     let P : Bool → Type 0 = λ b. list_any test board.targets ≡ b → on_bus bus board.targets ≤ 8 in
     (elim (list_any test board.targets) as P [
       | true ↦ λ some.
-        let all : agents_on board bus ≤ 8 = few_agents board bus board.targets (back _ _ (front _ _ few)) some in
-        omega (arith, all, count-total test board.targets)
+          let all : agents_on board bus ≤ 8 = few_agents board bus board.targets (back _ _ (front _ _ few)) some in
+          omega (arith, all, count-total test board.targets)
       | false ↦ λ none. omega (arith, none_there bus board.targets none)
     ]) refl
 
@@ -79,7 +79,7 @@ few_behind (bridge ∷ bridges) targets few =
     let here : Target → ℕ = λ target. one_if (target.bus == bridge.bus) in
     let later : Target → ℕ = λ target. one_if (list_any (has_bus target.bus) bridges) in
     let each : (target : Target) → one_if ((bridge.bus == target.bus) || list_any (has_bus target.bus) bridges) ≤ here target + later target =
-        λ target. or-le _ _ _ (eqb-sym bridge.bus target.bus) in
+    λ target. or-le _ _ _ (eqb-sym bridge.bus target.bus) in
     let sum = total-le (λ (target : Target). one_if (list_any (has_bus target.bus) (bridge ∷ bridges))) (λ target. here target + later target) each targets in
     omega (arith, sum, total-plus here later (λ target. here target + later target) (λ _. refl) targets, few bridge.bus, few_behind bridges targets few)
 

@@ -1,5 +1,5 @@
 -- The greatest weight, element by element.
-use Rattle.std.proofs.Common.{◌≡◌, ℕ, ◌+◌, ◌<◌, List, [], ◌∷◌, length, get_or, drop, max, add-one, arith}
+use Rattle.std.proofs.Common.{◌≡◌, ℕ, ◌+◌, ◌<◌, List, ◌∷◌, length, get_or, drop, max, add-one, arith}
 use Rattle.std.proofs.Math.Seq.{drop-cons}
 use Rattle.list_facts.specs.Lists.{greatest}
 

@@ -13,7 +13,7 @@ pub record IsReadBack (bridge : Bridge) : Type 0 where
 
 pub record IsDecodable (board : Board) : Type 0 where
   pub bridges : All IsReadBack board.bridges
-  -- there is at most one bridge above each bus but one, and there are at most eight targets on a bus
+  -- there are at most 32 buses, and eight targets on each
   pub few_bridges : length board.bridges ≤ 31
   pub few_targets : length board.targets ≤ 256
   -- each target takes a data phase at a time at least

@@ -3,7 +3,6 @@ use Rattle.std.specs.Prelude.{ℕ, length, Option, slice_get}
 use Rattle.std.specs.Option.{option_map, option_and_then}
 use Rattle.pci_command.specs.declared.op_id.OpId.{OpId}
 use Rattle.board_model.specs.declared.agents.Master.{Master}
-use Rattle.board_model.specs.declared.op.Op.{Op}
 use Rattle.board_model.specs.declared.board.Board.{Board}
 use Rattle.board_model.specs.Requests.{op_of}
 use Rattle.board_model.specs.Ways.{way}

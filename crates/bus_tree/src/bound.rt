@@ -116,7 +116,11 @@ fn pieces_at(targets: &[Target], place: u16, request: &Request, phases: u8) -> u
 fn aborts_at(target: &Target, request: &Request) -> bool
     ensures { result ≡ aborts_at target.now request.now }
 {
-    some_holds(target.aborts.as_slice(), request.command.space(), request.address)
+    some_holds(
+        target.aborts.as_slice(),
+        request.command.space(),
+        request.address,
+    )
 }
 
 fn pieces_in(burst: u8, phases: u8) -> u16

@@ -35,16 +35,17 @@ fn target_at(targets: &[Target], bus: u8, space: Space, address: u64) -> Option<
     ensures first { result ≡ position_from (λ target. target.bus == bus && list_any (range_holds space address) target.ranges) 0 targets.now }
     ensures within { IfSome result (λ place. place < length targets.now) }
 {
-    targets
-        .iter()
-        .position(|target| target.bus == bus && some_holds(target.ranges.as_slice(), space, address))
+    targets.iter().position(|target| target.bus == bus
+        && some_holds(target.ranges.as_slice(), space, address))
 }
 
 /// Whether one of the ranges holds the address.
 pub(crate) fn some_holds(ranges: &[Range], space: Space, address: u64) -> bool
     ensures { result ≡ list_any (range_holds space address) ranges.now }
 {
-    ranges.iter().any(|range| range_holds(range, space, address))
+    ranges
+        .iter()
+        .any(|range| range_holds(range, space, address))
 }
 
 fn range_holds(range: &Range, space: Space, address: u64) -> bool
@@ -74,10 +75,8 @@ fn child_at(bridges: &[Bridge], bus: u8, space: Space, address: u64) -> Option<B
     requires { All IsReadBack bridges.now }
     ensures { result ≡ find (decodes_down bus space address) bridges.now }
 {
-    bridges
-        .iter()
-        .copied()
-        .find(|bridge| bridge.parent == bus && claim_down(bridge, space, address))
+    bridges.iter().copied().find(|bridge| bridge.parent == bus
+        && claim_down(bridge, space, address))
 }
 
 fn claim_upwards(bridges: &[Bridge], bus: u8, space: Space, address: u64) -> Place

@@ -14,3 +14,6 @@ pub use hop::Hop;
 pub use hops::{next_hop, way_length};
 pub use refusal::TreeRefusal;
 pub use tree::{Tree, validate};
+
+#[cfg(test)]
+mod tests;

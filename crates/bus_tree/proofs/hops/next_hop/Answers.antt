@@ -1,5 +1,3 @@
-use Rattle.std.proofs.Common.{subst}
-use Rattle.bus_tree.specs.Decodable.{IsDecodable}
 use Rattle.bus_tree.proofs.DecodableLemmas.{IsDecodable-valid}
 use Rattle.bus_tree.proofs.hops.next_hop.Goals as goal
 

@@ -1,4 +1,4 @@
-use Rattle.std.proofs.Common.{◌≡◌, ◌≤◌, refl, sym, ◌∙◌}
+use Rattle.std.proofs.Common.{◌≤◌, refl, sym, ◌∙◌}
 use Rattle.board_model.specs.Ways.{bound_of}
 use Rattle.bus_tree.proofs.ValidLemmas.{IsDecodable-passed, IsValid-passed}
 use Rattle.bus_tree.proofs.BoundLemmas.{bound_of-small}
