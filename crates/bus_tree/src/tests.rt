@@ -1,6 +1,5 @@
 ghost use Rattle.std.specs.Prelude.{◌≡◌, ℕ};
 ghost use Rattle.board_model.specs.declared.op.Op.{Op as Operation};
-ghost use Rattle.board_model.specs.Claims.{claim};
 ghost use Rattle.board_laws.specs.WayEnds.{WayEnds};
 ghost use Rattle.board_laws.specs.Claimants.{OneClaimant, claimants, one_of};
 ghost use Rattle.bus_tree.specs.Hops.{hop_of};
@@ -8,7 +7,7 @@ ghost use Rattle.bus_tree.specs.Hops.{hop_of};
 use super::*;
 use board_forms::well_formed;
 use board_laws::{one_claimant, ways_end};
-use board_model::{Board, Bridge, Master, Name, Op, Range, Target, Window};
+use board_model::{Board, Bridge, Master, Name, Op, Range, Target, Window, op_of};
 use pci_command::{Command, List, OpId, Phase, Phases, Request, Space};
 use std::alloc::Global;
 use std::test::Fail;
@@ -171,7 +170,10 @@ fn requests_go_on(rt: HostRuntime) -> Result<(), Fail> {
         return Err("not well formed".into());
     }
     let tree = validate(board)?;
-    assert_eq!(rt; way_length(&tree, OpId::default()), 2);
+    let op = OpId::default();
+    let there = op_of(tree.board(), op).is_some();
+    assert!(rt; there);
+    assert_eq!(rt; way_length(&tree, op), 2);
     let rows = [
         (0, Command::MemRead, 0x8000_0020, Hop::Down(1)),
         (1, Command::MemRead, 0x8000_0020, Hop::Down(2)),
