@@ -2,8 +2,7 @@
 use Rattle.std.proofs.Common.{◌≡◌, ℕ, ◌+◌, ◌*◌, ◌-◌, ◌<◌, ◌≤◌, ◌^◌, zero, suc, true, false, nat_le, ◌==◌, List, [], ◌∷◌, length, Option, Some, None, slice_get, arith, if◌then◌else◌}
 use Rattle.std.specs.List.{list_all}
 use Rattle.std.proofs.Math.Nat.{mul-le-mul_left, mul-le-mul_right, div-zero, div-le_of_le-mul}
-use Rattle.std.proofs.lemmas.Bool.{eqb-true}
-use Rattle.std.proofs.lemmas.Bool.Decides.{nat_tests}
+use Rattle.std.proofs.lemmas.Bool.{eqb-true, and_parts}
 use Rattle.list_facts.specs.Lists.{total, greatest}
 use Rattle.pci_command.specs.declared.command.Command.{Command}
 use Rattle.pci_command.specs.declared.command.Command.TheVariants.{IoRead, IoWrite, MemRead, MemWrite, CfgRead as ConfigurationRead, CfgWrite as ConfigurationWrite, MemReadMultiple, MemReadLine, MemWriteInvalidate}
@@ -22,10 +21,7 @@ use Rattle.board_model.specs.Requests.{phases_of, request_on, tries_of, is_poste
 use Rattle.board_model.specs.Claims.{claim}
 use Rattle.board_model.specs.Ways.{Route, route_by, route_within, route_of, way, end_of, aborts_at, pieces_in, pieces_at, pieces_by, pieces_of, cost_of_try, cost_of, longest_way, bound_of}
 use Rattle.bus_tree.specs.Decodable.{IsDecodable}
-use Rattle.bus_tree.proofs.FormLemmas.{front, back, Form-board}
-
-at_most : (n most : ℕ) → nat_le n most ≡ true → n ≤ most
-at_most n most within = grind (arith, nat_tests)
+use Rattle.bus_tree.proofs.FormLemmas.{front, back, at_most, Form-board}
 
 -- A way takes at most as many lanes as the board has bridges.
 
@@ -46,10 +42,12 @@ way_short board op on decodable = omega (arith, lanes_within (length board.bridg
 
 -- A write reaches its target in at most one piece more than it has data phases.
 
+one_is_few : (n : ℕ) → (n == 1) ≡ true → n ≤ 8
+one_is_few n one = omega (arith, eqb-true n 1 one)
+
 write_phases : (command : Command) (address : ℕ) (phases : List Phase) → is_well_formed_write address phases (write_space command) ≡ true → length phases ≤ 8
 write_phases IoRead address phases formed = cc
-write_phases IoWrite address phases formed =
-    let one : (length phases == 1) ≡ true = back _ _ (front _ _ formed) in omega (arith, eqb-true (length phases) 1 one)
+write_phases IoWrite address phases formed = one_is_few (length phases) (back _ _ (front _ _ formed))
 write_phases MemRead address phases formed = cc
 write_phases MemWrite address phases formed = at_most (length phases) 8 (back _ _ (front _ _ (back _ _ (front _ _ formed))))
 write_phases ConfigurationRead address phases formed = cc
@@ -106,20 +104,26 @@ ops_small board on (op ∷ ops) decodable formed =
 abbrev cost_of_all : Board → List Master → ℕ
 cost_of_all board masters = total (λ (master : Master). total (cost_of board master.bus) master.ops) masters
 
+more_costs : (cost costs tries later : ℕ) → cost ≤ 125 * tries → costs ≤ 125 * later → cost + costs ≤ 125 * (tries + later)
+more_costs cost costs tries later here there = omega arith
+
 masters_small : (board : Board) (masters : List Master) → IsDecodable board → list_all is_well_formed_master masters ≡ true → cost_of_all board masters ≤ 125 * operations_in masters
 masters_small board [] decodable formed = omega arith
 masters_small board (master ∷ masters) decodable formed =
-    let here = ops_small board master.bus master.ops decodable (back _ _ (front _ _ formed)) in
-    omega (arith, here, masters_small board masters decodable (back _ _ formed))
+    more_costs _ _ (total tries_of master.ops) (operations_in masters) (ops_small board master.bus master.ops decodable (back _ _ (front _ _ formed)))
+    (masters_small board masters decodable (back _ _ formed))
 
 -- Stall tokens, and ways that are gone once more.
+
+few_stalls : (target : TargetAgent) → is_well_formed_target target ≡ true → nat_le target.stalls 1000000 ≡ true
+few_stalls target formed =
+    back _ _ (front _ _ (front _ _ (front _ _ (front _ _ (front _ _ (front _ _ (front _ _ formed)))))))
 
 stalls_small : (targets : List TargetAgent) → list_all is_well_formed_target targets ≡ true → total (λ (target : TargetAgent). target.stalls) targets ≤ 1000000 * length targets
 stalls_small [] formed = omega arith
 stalls_small (target ∷ targets) formed =
-    let two = front _ _ (front _ _ (front _ _ (front _ _ (front _ _ (front _ _ (front _ _ (front _ _ formed))))))) in
-    let few : nat_le target.stalls 1000000 ≡ true = back _ _ two in
-    omega (arith, at_most target.stalls 1000000 few, stalls_small targets (back _ _ formed))
+    let parts = and_parts (is_well_formed_target target) (list_all is_well_formed_target targets) formed in
+    omega (arith, at_most target.stalls 1000000 (few_stalls target parts.0), stalls_small targets parts.1)
 
 greatest_small : {X : Type 0} (weight : X → ℕ) (most : ℕ) → ((x : X) → weight x ≤ most) → (xs : List X) → greatest weight xs ≤ most
 greatest_small weight most small [] = omega arith

@@ -11,7 +11,7 @@ use Rattle.board_model.specs.declared.bridge.Bridge.{Bridge}
 use Rattle.board_model.specs.declared.board.Board.{Board}
 use Rattle.board_model.specs.WellFormed.{has_bus, agents_on, are_few}
 use Rattle.board_model.specs.Valid.{is_bus, lacks_a_bus}
-use Rattle.bus_tree.proofs.FormLemmas.{front, back}
+use Rattle.bus_tree.proofs.FormLemmas.{front, back, at_most}
 
 abbrev one_if : Bool → ℕ
 one_if test = cond test 1 0
@@ -28,9 +28,6 @@ count-total p xs =
 -- the targets on a bus, as a sum
 abbrev on_bus : ℕ → List Target → ℕ
 on_bus bus targets = total (λ (target : Target). one_if (target.bus == bus)) targets
-
-at_most : (n most : ℕ) → nat_le n most ≡ true → n ≤ most
-at_most n most within = grind (arith, nat_tests)
 
 -- on the bus of a target there are at most eight agents
 few_agents : (board : Board) (bus : ℕ) (targets : List Target) → list_all (λ (target : Target). nat_le (agents_on board target.bus) 8) targets ≡ true
@@ -51,13 +48,16 @@ none_there bus (target ∷ targets) none =
     let parts = or_parts (target.bus == bus) (list_any (λ (target : Target). target.bus == bus) targets) none in
     rw parts.0 (omega (arith, none_there bus targets parts.1))
 
+few_beside : (board : Board) → are_few board ≡ true → list_all (λ (target : Target). nat_le (agents_on board target.bus) 8) board.targets ≡ true
+few_beside board few = back _ _ (front _ _ few)
+
 few_there : (board : Board) (bus : ℕ) → are_few board ≡ true → on_bus bus board.targets ≤ 8
 few_there board bus few =
     let test : Target → Bool = λ target. target.bus == bus in
     let P : Bool → Type 0 = λ b. list_any test board.targets ≡ b → on_bus bus board.targets ≤ 8 in
     (elim (list_any test board.targets) as P [
       | true ↦ λ some.
-          let all : agents_on board bus ≤ 8 = few_agents board bus board.targets (back _ _ (front _ _ few)) some in
+          let all : agents_on board bus ≤ 8 = few_agents board bus board.targets (few_beside board few) some in
           omega (arith, all, count-total test board.targets)
       | false ↦ λ none. omega (arith, none_there bus board.targets none)
     ]) refl
@@ -96,7 +96,10 @@ all_there board (target ∷ targets) none =
     let parts = or_parts (not (is_bus board target.bus)) (list_any (λ (target : Target). not (is_bus board target.bus)) targets) none in
     omega (arith, one_of (target.bus == 0) (list_any (has_bus target.bus) board.bridges) parts.0, all_there board targets parts.1)
 
+none_astray : (board : Board) → lacks_a_bus board ≡ false → list_any (λ (target : Target). not (is_bus board target.bus)) board.targets ≡ false
+none_astray board buses = (or_parts _ _ (or_parts _ _ (or_parts _ _ (or_parts _ _ buses).0).0).0).1
+
 pub few_targets : (board : Board) → are_few board ≡ true → lacks_a_bus board ≡ false → length board.targets ≤ 8 + 8 * length board.bridges
 few_targets board few buses =
-    let none = (or_parts _ _ (or_parts _ _ (or_parts _ _ (or_parts _ _ buses).0).0).0).1 in
-    omega (arith, all_there board board.targets none, few_there board 0 few, few_behind board.bridges board.targets (λ bus. few_there board bus few))
+    omega
+    (arith, all_there board board.targets (none_astray board buses), few_there board 0 few, few_behind board.bridges board.targets (λ bus. few_there board bus few))

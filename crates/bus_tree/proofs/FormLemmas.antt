@@ -1,7 +1,8 @@
 -- The form of a board, part by part.
-use Rattle.std.proofs.Common.{◌≡◌, Bool, true, nat_le, ◌&&◌, length}
+use Rattle.std.proofs.Common.{◌≡◌, ℕ, ◌≤◌, Bool, true, nat_le, ◌&&◌, length, arith}
 use Rattle.std.specs.List.{list_all}
 use Rattle.std.proofs.lemmas.Bool.{and_parts}
+use Rattle.std.proofs.lemmas.Bool.Decides.{nat_tests}
 use Rattle.board_model.specs.declared.board.Board.{Board}
 use Rattle.board_model.specs.WellFormed.{is_well_formed_bridge, is_well_formed_target, is_well_formed_master, is_well_formed, are_few, operations_in}
 
@@ -10,6 +11,9 @@ front x y both = (and_parts x y both).0
 
 pub back : (x y : Bool) → (x && y) ≡ true → y ≡ true
 back x y both = (and_parts x y both).1
+
+pub at_most : (n most : ℕ) → nat_le n most ≡ true → n ≤ most
+at_most n most within = grind (arith, nat_tests)
 
 -- what is asked here of a board's form
 pub record Form (board : Board) : Type 0 where
