@@ -1,0 +1,7 @@
+pub mod FoundLemmas
+pub mod GreatestLemmas
+pub mod FormLemmas
+pub mod FewLemmas
+pub mod DecodableLemmas
+pub mod BoundLemmas
+pub mod ValidLemmas

@@ -1,0 +1,4 @@
+pub mod Decodable
+pub mod Hops
+pub mod Refusals
+pub mod Lengths

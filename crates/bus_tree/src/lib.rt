@@ -1,0 +1,19 @@
+//! The valid tree of buses: each address on a bus has one owner, every way ends, and a run has at
+//! most 500,000 events. PCI-to-PCI Bridge Architecture Specification 1.1, chapters 3 and 4.
+#![tactic(auto)]
+
+mod bound;
+mod claims;
+mod hop;
+mod hops;
+mod refusal;
+mod tree;
+mod ways;
+
+pub use hop::Hop;
+pub use hops::{next_hop, way_length};
+pub use refusal::TreeRefusal;
+pub use tree::{Tree, validate};
+
+#[cfg(test)]
+mod tests;

@@ -1,0 +1,74 @@
+ghost use Rattle.std.specs.Prelude.{◌≡◌, ◌≤◌, length};
+ghost use Rattle.board_model.specs.Ways.{end_of, route_within, route_of};
+ghost use Rattle.bus_tree.specs.Decodable.{IsDecodable};
+
+use crate::claims::{bridge_to, claim_on};
+use board_model::{Board, Lane, Op, Place, request_on};
+
+/// How many lanes the way of an operation takes, and the bus and the owner where it ends.
+#[derive(Clone, Copy)]
+pub(crate) struct Route {
+    pub(crate) lanes: u8,
+    pub(crate) bus: u8,
+    pub(crate) owner: Place,
+}
+
+/// The way of an operation from a bus on.
+pub(crate) fn route_of(board: &Board, op: &Op, on: u8) -> Route
+    requires { IsDecodable board.now }
+    ensures lanes { result.lanes ≡ length (route_of board.now op.now on).lanes }
+    ensures bus { result.bus ≡ (route_of board.now op.now on).bus }
+    ensures owner { result.owner ≡ (route_of board.now op.now on).owner }
+{
+    route_within(board, op, on, board.bridges.as_slice().len() as u8)
+}
+
+/// The same of at most so many lanes, by following claims.
+fn route_within(board: &Board, op: &Op, on: u8, most: u8) -> Route
+    requires { IsDecodable board.now }
+    ensures lanes { result.lanes ≡ length (route_within most board.now op.now on).lanes }
+    ensures bus { result.bus ≡ (route_within most board.now op.now on).bus }
+    ensures owner { result.owner ≡ (route_within most board.now op.now on).owner }
+    ensures short { result.lanes ≤ most }
+{
+    let owner = claim_on(board, on, &request_on(op, on));
+    if most == 0 {
+        return ends_at(on, owner);
+    }
+    match owner {
+        Place::Lane(lane) => {
+            let onwards = route_within(board, op, end_of(board, lane), most - 1);
+            Route {
+                lanes: onwards.lanes + 1,
+                bus: onwards.bus,
+                owner: onwards.owner,
+            }
+        }
+        Place::Target(_) => ends_at(on, owner),
+        Place::Header(_) => ends_at(on, owner),
+        Place::Nobody => ends_at(on, owner),
+    }
+}
+
+fn ends_at(bus: u8, owner: Place) -> Route
+    ensures { result ≡ record { lanes = 0; bus = bus; owner = owner } }
+{
+    Route {
+        lanes: 0,
+        bus,
+        owner,
+    }
+}
+
+/// The bus on which what the lane carries arrives.
+fn end_of(board: &Board, lane: Lane) -> u8
+    ensures { result ≡ end_of board.now lane }
+{
+    if !lane.up {
+        return lane.bus;
+    }
+    match bridge_to(board.bridges.as_slice(), lane.bus) {
+        None => 0,
+        Some(bridge) => bridge.parent,
+    }
+}
