@@ -40,10 +40,11 @@ is_well_formed_bridge bridge =
 
 -- Targets.
 
--- in whole units, not empty, and within the space
+-- in whole units, not empty, within the space and not all of it, since its size is written as an address
 abbrev pub is_block : ℕ → ℕ → Range → Bool
 is_block unit end range =
-    range.base % unit == 0 && range.size % unit == 0 && nat_lt 0 range.size && nat_le (range.base + range.size) end
+    range.base % unit == 0 && range.size % unit == 0 && nat_lt 0 range.size && nat_lt range.size end
+    && nat_le (range.base + range.size) end
 
 -- memory in units of 64 bytes, I/O in units of 4
 abbrev pub is_range_in : Space → Range → Bool
