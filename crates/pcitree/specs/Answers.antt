@@ -1,37 +1,63 @@
--- What is written for an input: the trace of a run of the board whose text it is.
-use Rattle.std.specs.Prelude.{ℕ, ◌≡◌, ◌≤◌, List, length, IsTrue}
-use Rattle.board_model.specs.declared.board.Board.{Board}
-use Rattle.board_model.specs.Ways.{bound_of}
-use Rattle.history_model.specs.declared.event.Event.{Event}
-use Rattle.history_model.specs.Runs.{Run, Complete, history_of}
-use Rattle.board_printer.specs.Boards.{board_text}
-use Rattle.trace_text.specs.Traces.{trace_of}
-use Rattle.plain_board.specs.Plain.{is_plain}
+-- What each form of the words asks for: how an input is answered, and with which status it is refused.
+use Rattle.std.specs.Prelude.{◌≡◌, ℕ, ◌^◌, ◌≤◌, ◌<◌, List, length, Option, None}
+use Rattle.board_answers.specs.Refusals.{board_refusal, run_refusal}
+use Rattle.board_answers.specs.Answers.{AnswersRun, AnswersHeaders, RefusesRun, RefusesHeaders}
+use Rattle.program_status.specs.declared.status.Status.{Status}
+use Rattle.program_status.specs.declared.status.Status.TheVariants.{Done, NoMemory, Usage, ReadFault, WriteFault, TooLong, BadBoard, BadTrace, NotRun, Incomplete}
+use Rattle.pcitree.specs.declared.words.Form.{Form}
+use Rattle.pcitree.specs.declared.words.Form.TheVariants.{RunSteady, Headers}
 
--- the input is the canonical text of a plain board
-pub record IsServed (input : List ℕ) : Type 0 where
-  pub board : Board
-  pub plain : IsTrue (is_plain board)
-  pub text : board_text board ≡ input
+-- an input may have 1 MiB
+abbrev pub limit_of : Form → ℕ
+limit_of RunSteady = 2 ^ 20
+limit_of Headers = 2 ^ 20
 
--- these events of the board, the first one first, are a run to the end of all programs, with at most as many
--- events as the board's bound
-pub record Runs (board : Board) (events : List Event) : Type 0 where
-  pub run : Run board (history_of events)
-  pub complete : Complete board (history_of events)
-  pub bound : length events ≤ bound_of board
+-- the text that answers an input
+abbrev pub AnswersTo : Form → List ℕ → List ℕ → Type 0
+AnswersTo RunSteady input text = AnswersRun input text
+AnswersTo Headers input text = AnswersHeaders input text
 
--- the input is the canonical text of one plain board, and the trace that of this board and such a run
-pub record Answers (input trace : List ℕ) : Type 0 where
-  pub board : Board
-  pub events : List Event
-  pub plain : IsTrue (is_plain board)
-  pub text : board_text board ≡ input
-  pub runs : Runs board events
-  pub written : trace ≡ trace_of board events
+-- the status that refuses an input
+abbrev pub Refuses : Form → List ℕ → Status → Type 0
+Refuses RunSteady input status = RefusesRun input status
+Refuses Headers input status = RefusesHeaders input status
 
--- the trace is that of a run of the board
-pub record IsAnsweredBy (board : Board) (trace : List ℕ) : Type 0 where
-  pub events : List Event
-  pub runs : Runs board events
-  pub written : trace ≡ trace_of board events
+abbrev pub refusal_of : Form → List ℕ → Option Status
+refusal_of RunSteady input = run_refusal input
+refusal_of Headers input = board_refusal input
+
+-- an input that is not too long and not refused
+abbrev pub IsServed : Form → List ℕ → Type 0
+IsServed form input = (length input ≤ limit_of form) × (refusal_of form input ≡ None)
+
+-- a text answers the input
+pub record IsAnswered (form : Form) (input : List ℕ) : Type 0 where
+  pub within : length input ≤ limit_of form
+  pub text : List ℕ
+  pub answers : AnswersTo form input text
+
+-- the cause that an input gives for each answer: memory and ports have their own
+abbrev pub Causes : Form → List ℕ → Status → Type 0
+Causes form input Done = IsAnswered form input
+Causes form input NoMemory = Unit {0}
+Causes form input (Usage word) = ⊥
+Causes form input ReadFault = Unit {0}
+Causes form input WriteFault = IsAnswered form input
+Causes form input TooLong = limit_of form < length input
+Causes form input (BadBoard line fault) = (length input ≤ limit_of form) × Refuses form input (BadBoard line fault)
+Causes form input (BadTrace line code) = ⊥
+Causes form input (NotRun event why) = ⊥
+Causes form input (Incomplete left) = ⊥
+
+-- the answers to an input that is served
+abbrev pub Serves : Status → Type 0
+Serves Done = Unit {0}
+Serves NoMemory = Unit {0}
+Serves (Usage word) = ⊥
+Serves ReadFault = Unit {0}
+Serves WriteFault = Unit {0}
+Serves TooLong = ⊥
+Serves (BadBoard line fault) = ⊥
+Serves (BadTrace line code) = ⊥
+Serves (NotRun event why) = ⊥
+Serves (Incomplete left) = ⊥

@@ -1,34 +1,45 @@
 -- How a call of the program ends, seen at its words, its source and its sink.
-use Rattle.std.specs.Prelude.{ℕ, ◌≡◌, List, Option}
+use Rattle.std.specs.Prelude.{ℕ, ◌≡◌, ◌≤◌, ◌<◌, List, length, Option, IfSome}
 use Rattle.std.specs.Io.KnownBytes.{Consumes, IsAtEnd, Appends}
-use Rattle.pcitree.specs.Answers.{Answers}
+use Rattle.program_status.specs.declared.status.Status.{Status}
+use Rattle.program_status.specs.declared.status.Status.TheVariants.{Done, NoMemory, Usage, ReadFault, WriteFault, TooLong, BadBoard, BadTrace, NotRun, Incomplete}
+use Rattle.pcitree.specs.declared.words.Form.{Form}
+use Rattle.pcitree.specs.Answers.{limit_of, AnswersTo, Refuses}
 use Rattle.pcitree.specs.Writing.{WritesFront}
-use Rattle.pcitree.specs.declared.status.Status.{Status}
-use Rattle.pcitree.specs.declared.status.Status.TheVariants.{Done, NoMemory, Usage, ReadFault, WriteFault, TooLong, BadBoard, BadTrace, NotRun, Incomplete}
-use Rattle.pcitree.specs.declared.status.BoardFault.TheVariants.{P}
 
 -- the source gave this input to its end: all that it held, where it tells it
-pub record ReadsInput (held left : Option (List ℕ)) (input : List ℕ) : Type 0 where
+pub record ReadsInput (form : Form) (held left : Option (List ℕ)) (input : List ℕ) : Type 0 where
   pub read : Consumes held left input
   pub at_end : IsAtEnd left
+  pub within : length input ≤ limit_of form
 
--- the source gave an input to its end, and this trace answers it
-pub record AnswersInput (held left : Option (List ℕ)) (trace : List ℕ) : Type 0 where
+-- the source held more than an input may have, where it tells it
+abbrev pub HoldsTooMuch : Form → Option (List ℕ) → Type 0
+HoldsTooMuch form held = IfSome held (λ input. limit_of form < length input)
+
+-- the source gave an input to its end, and this text answers it
+pub record AnswersInput (form : Form) (held left : Option (List ℕ)) (text : List ℕ) : Type 0 where
   pub input : List ℕ
-  pub reads : ReadsInput held left input
-  pub answers : Answers input trace
+  pub reads : ReadsInput form held left input
+  pub answers : AnswersTo form input text
 
--- the sink took the whole trace that answers the input
-pub record Finishes (held left before after : Option (List ℕ)) : Type 0 where
-  pub trace : List ℕ
-  pub answers : AnswersInput held left trace
-  pub written : Appends before after trace
+-- the source gave an input to its end, and this status refuses it
+pub record RefusesInput (form : Form) (held left : Option (List ℕ)) (status : Status) : Type 0 where
+  pub input : List ℕ
+  pub reads : ReadsInput form held left input
+  pub refuses : Refuses form input status
 
--- the sink took a front of the trace that answers the input
-pub record StopsInTrace (held left before after : Option (List ℕ)) : Type 0 where
-  pub trace : List ℕ
-  pub answers : AnswersInput held left trace
-  pub front : WritesFront before after trace
+-- the sink took the whole text that answers the input
+pub record Finishes (form : Form) (held left before after : Option (List ℕ)) : Type 0 where
+  pub text : List ℕ
+  pub answers : AnswersInput form held left text
+  pub written : Appends before after text
+
+-- the sink took a front of the text that answers the input
+pub record StopsInText (form : Form) (held left before after : Option (List ℕ)) : Type 0 where
+  pub text : List ℕ
+  pub answers : AnswersInput form held left text
+  pub front : WritesFront before after text
 
 -- the statuses that come
 abbrev pub MayCome : Status → Type 0
@@ -37,8 +48,8 @@ MayCome NoMemory = Unit {0}
 MayCome (Usage _) = Unit {0}
 MayCome ReadFault = Unit {0}
 MayCome WriteFault = Unit {0}
-MayCome (BadBoard line fault) = (line ≡ 0) × (fault ≡ P 15)
-MayCome TooLong = ⊥
+MayCome TooLong = Unit {0}
+MayCome (BadBoard line fault) = Unit {0}
 MayCome (BadTrace _ _) = ⊥
 MayCome (NotRun _ _) = ⊥
 MayCome (Incomplete _) = ⊥
@@ -46,6 +57,11 @@ MayCome (Incomplete _) = ⊥
 abbrev pub IsUsage : Status → Type 0
 IsUsage (Usage _) = Unit {0}
 IsUsage _ = ⊥
+
+-- the statuses that tell of the input
+abbrev pub IsRefusal : Status → Type 0
+IsRefusal (BadBoard _ _) = Unit {0}
+IsRefusal _ = ⊥
 
 -- the statuses with which nothing was written
 abbrev pub IsBeforeWriting : Status → Type 0

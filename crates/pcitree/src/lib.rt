@@ -4,12 +4,11 @@
 mod answering;
 mod program;
 mod reading;
-mod status;
 mod words;
 mod writing;
 
 pub use program::pcitree;
-pub use status::{BoardFault, Status};
+pub use program_status::{BoardFault, Status};
 pub use words::file_word;
 
 #[cfg(test)]

@@ -1,24 +1,22 @@
-ghost use Rattle.std.specs.Prelude.{◌≡◌, ◌↔◌, ℕ, None, map, string_bytes, IsSome, IsSomeAnd, OnOk, IfOk, IfErr};
+ghost use Rattle.std.specs.Prelude.{◌≡◌, ◌↔◌, ℕ, List, Some, None, map, string_bytes, IsSome, OnOk, IfOk, IfErr, IfSome};
 ghost use Rattle.io_ports.specs.Faults.{Rose};
+ghost use Rattle.pcitree.specs.declared.words.Form.{Form as WordForm};
 ghost use Rattle.pcitree.specs.Words.{form_of, misfit};
-ghost use Rattle.pcitree.specs.Answers.{IsServed};
-ghost use Rattle.pcitree.specs.Ends.{MayCome, IsUsage, IsBeforeWriting, ReadsInput, AnswersInput, Finishes, StopsInTrace};
-ghost use Rattle.pcitree.specs.Stops.{StopsReading, StopsServing, StopsRunning};
+ghost use Rattle.pcitree.specs.Answers.{IsServed, Causes, Serves};
+ghost use Rattle.pcitree.specs.Ends.{MayCome, IsUsage, IsRefusal, IsBeforeWriting, ReadsInput, HoldsTooMuch, AnswersInput, RefusesInput, Finishes, StopsInText};
+ghost use Rattle.pcitree.specs.Stops.{StopsReading, StopsAnswering, StopsServing, StopsRunning};
 
-use crate::answering::{answer, not_served};
+use crate::answering::{answer, limit_of};
 use crate::reading::{ReadError, read_all};
-use crate::status::Status;
 use crate::words::{Form, form_of, misfit};
 use crate::writing::write_all;
 use io_ports::{Sink, Source};
+use program_status::Status;
 use std::alloc::Global;
 
-/// An input may have at most so many bytes.
-const LIMIT: usize = 4_096;
-
 /// Does what the words say: reads the source to its end, and writes the text that answers it to
-/// the sink. The first of these that holds is the answer: `Usage`, `ReadFault`, `BadBoard`,
-/// `WriteFault`; `NoMemory` may come at any moment.
+/// the sink. The first of these that holds is the answer: `Usage`, `ReadFault`, `TooLong`,
+/// `BadBoard`, `WriteFault`; `NoMemory` may come at any moment.
 pub fn pcitree<S: Source, K: Sink>(
     alloc: Global,
     words: &[String],
@@ -39,16 +37,23 @@ pub fn pcitree<S: Source, K: Sink>(
     ensures write_fault { result ≡ Status.WriteFault
         → Rose (K.faults sink.old) (K.faults sink.new) }
 
-    // An input that is not the canonical text of a plain board is never answered.
-    ensures unserved { IsSomeAnd (S.held source.old) (λ input. ¬ IsServed input)
-        → IsBeforeWriting result }
-
     // What the sink has.
     ensures unwritten { IsBeforeWriting result → sink.new ≡ sink.old }
-    ensures front { result ≡ Status.WriteFault → StopsInTrace
-        (S.held source.old) (S.held source.new) (K.taken sink.old) (K.taken sink.new) }
-    ensures done { result ≡ Status.Done → Finishes
-        (S.held source.old) (S.held source.new) (K.taken sink.old) (K.taken sink.new) }
+    ensures front { result ≡ Status.WriteFault → IfSome (form_of (map string_bytes words.now)) (λ form.
+        StopsInText form (S.held source.old) (S.held source.new) (K.taken sink.old) (K.taken sink.new)) }
+    ensures done { result ≡ Status.Done → IfSome (form_of (map string_bytes words.now)) (λ form.
+        Finishes form (S.held source.old) (S.held source.new) (K.taken sink.old) (K.taken sink.new)) }
+
+    // What was read.
+    ensures refused { IsRefusal result → IfSome (form_of (map string_bytes words.now)) (λ form.
+        RefusesInput form (S.held source.old) (S.held source.new) result) }
+
+    // Where the source tells what it holds, each answer has its cause in that, and an input that is
+    // served is answered, unless a port fails or there is no memory.
+    ensures cause { (form : WordForm) (input : List ℕ) → form_of (map string_bytes words.now) ≡ Some form
+        → S.held source.old ≡ Some input → Causes form input result }
+    ensures served { (form : WordForm) (input : List ℕ) → form_of (map string_bytes words.now) ≡ Some form
+        → S.held source.old ≡ Some input → IsServed form input → Serves result }
 {
     match run(alloc, words, source, sink) {
         Ok(()) => Status::Done,
@@ -63,51 +68,63 @@ fn run<S: Source, K: Sink>(
     sink: &mut K,
 ) -> Result<(), Status>
     ensures form { OnOk result (IsSome (form_of (map string_bytes words.now))) }
-    ensures done { OnOk result (Finishes
-        (S.held source.old) (S.held source.new) (K.taken sink.old) (K.taken sink.new)) }
+    ensures done { OnOk result (IfSome (form_of (map string_bytes words.now)) (λ form. Finishes form
+        (S.held source.old) (S.held source.new) (K.taken sink.old) (K.taken sink.new))) }
+    ensures misfit { (word : ℕ) → result ≡ Err (Status.Usage word) → word ≡ misfit (map string_bytes words.now) }
     ensures stopped { IfErr result (StopsRunning S K S.held S.faults K.taken K.faults
-        (map string_bytes words.now) source.old source.new sink.old sink.new) }
+        (form_of (map string_bytes words.now)) source.old source.new sink.old sink.new) }
 {
     match form_of(words) {
         None => Err(Status::Usage {
             word: misfit(words),
         }),
-        Some(Form::RunSteady) => serve(alloc, source, sink),
+        Some(form) => serve(alloc, form, source, sink),
     }
 }
 
-/// Reads a board, and writes the trace of its run.
-fn serve<S: Source, K: Sink>(alloc: Global, source: &mut S, sink: &mut K) -> Result<(), Status>
-    ensures done { OnOk result (Finishes
+/// Reads an input, and writes the text that answers it.
+fn serve<S: Source, K: Sink>(
+    alloc: Global,
+    form: Form,
+    source: &mut S,
+    sink: &mut K,
+) -> Result<(), Status>
+    ensures done { OnOk result (Finishes form
         (S.held source.old) (S.held source.new) (K.taken sink.old) (K.taken sink.new)) }
     ensures stopped { IfErr result (StopsServing S K S.held S.faults K.taken K.faults
-        source.old source.new sink.old sink.new) }
+        form source.old source.new sink.old sink.new) }
 {
-    let trace = read_and_answer(alloc, source)?;
-    match write_all(sink, &trace) {
+    let text = read_and_answer(alloc, form, source)?;
+    match write_all(sink, &text) {
         Ok(()) => Ok(()),
         Err(_) => Err(Status::WriteFault),
     }
 }
 
-/// Reads a board, and makes the trace of its run.
-fn read_and_answer<S: Source>(alloc: Global, source: &mut S) -> Result<Vec<u8>, Status>
-    ensures ok { IfOk result (λ trace. AnswersInput (S.held source.old) (S.held source.new) trace.items) }
-    ensures stopped { IfErr result (StopsReading (S.faults source.old) (S.faults source.new)) }
+/// Reads an input, and makes the text that answers it.
+fn read_and_answer<S: Source>(
+    alloc: Global,
+    form: Form,
+    source: &mut S,
+) -> Result<Vec<u8>, Status>
+    ensures ok { IfOk result (λ text. AnswersInput form (S.held source.old) (S.held source.new) text.items) }
+    ensures stopped { IfErr result (StopsAnswering form
+        (S.held source.old) (S.held source.new) (S.faults source.old) (S.faults source.new)) }
 {
-    let input = read_input(alloc, source)?;
-    answer(alloc, &input)
+    let input = read_input(alloc, form, source)?;
+    answer(alloc, form, &input)
 }
 
 /// Reads an input to its end.
-fn read_input<S: Source>(alloc: Global, source: &mut S) -> Result<Vec<u8>, Status>
-    ensures ok { IfOk result (λ input. ReadsInput (S.held source.old) (S.held source.new) input.items) }
-    ensures stopped { IfErr result (StopsReading (S.faults source.old) (S.faults source.new)) }
+fn read_input<S: Source>(alloc: Global, form: Form, source: &mut S) -> Result<Vec<u8>, Status>
+    ensures ok { IfOk result (λ input. ReadsInput form (S.held source.old) (S.held source.new) input.items) }
+    ensures stopped { IfErr result (StopsReading form
+        (S.held source.old) (S.faults source.old) (S.faults source.new)) }
 {
-    match read_all(alloc, source, LIMIT) {
+    match read_all(alloc, source, limit_of(form)) {
         Ok(input) => Ok(input),
         Err(ReadError::NoMemory) => Err(Status::NoMemory),
         Err(ReadError::Failed) => Err(Status::ReadFault),
-        Err(ReadError::TooLong) => Err(not_served()),
+        Err(ReadError::TooLong) => Err(Status::TooLong),
     }
 }

@@ -8,6 +8,8 @@ pub(crate) enum Part {
     Run,
     /// `--steady`
     Steady,
+    /// `headers`
+    HeadersWord,
     /// A word that is not empty and does not begin with `-`.
     File,
 }
@@ -17,10 +19,12 @@ pub(crate) enum Part {
 pub(crate) enum Form {
     /// `run --steady FILE`
     RunSteady,
+    /// `headers FILE`
+    Headers,
 }
 
 /// The forms.
-const FORMS: [Form; 1] = [Form::RunSteady];
+const FORMS: [Form; 2] = [Form::RunSteady, Form::Headers];
 
 impl Part {
     fn fits(self, word: &str) -> bool
@@ -29,6 +33,7 @@ impl Part {
         match self {
             Part::Run => word == "run",
             Part::Steady => word == "--steady",
+            Part::HeadersWord => word == "headers",
             Part::File => names_file(word.as_bytes()),
         }
     }
@@ -50,6 +55,7 @@ impl Form {
     {
         match self {
             Form::RunSteady => &[Part::Run, Part::Steady, Part::File],
+            Form::Headers => &[Part::HeadersWord, Part::File],
         }
     }
 }
