@@ -102,11 +102,7 @@ fn serve<S: Source, K: Sink>(
 }
 
 /// Reads an input, and makes the text that answers it.
-fn read_and_answer<S: Source>(
-    alloc: Global,
-    form: Form,
-    source: &mut S,
-) -> Result<Vec<u8>, Status>
+fn read_and_answer<S: Source>(alloc: Global, form: Form, source: &mut S) -> Result<Vec<u8>, Status>
     ensures ok { IfOk result (λ text. AnswersInput form (S.held source.old) (S.held source.new) text.items) }
     ensures stopped { IfErr result (StopsAnswering form
         (S.held source.old) (S.held source.new) (S.faults source.old) (S.faults source.new)) }

@@ -1,5 +1,4 @@
 use crate::{BoardFault, Status, file_word, pcitree};
-use history_model::Why;
 use io_ports::{MemorySink, MemorySource};
 use pci_command::List;
 use std::alloc::Global;
@@ -32,10 +31,21 @@ events
 end 2
 ";
 
-const NOT_SERVED: Status = Status::BadBoard {
-    line: 0,
-    fault: BoardFault::P(15),
-};
+const TWO_AT_ONE_PLACE: &str = "pciboard 1\ntarget a on 0 dev 1\ntarget b on 0 dev 1\n";
+
+const BRIDGE: &str = "pciboard 1\nbridge 1 on 0 dev 1 last 2 mem 80000000 801fffff\n";
+
+const BRIDGE_HEADERS: &str = "\
+bridge 1
+00: 34 12 00 01 07 00 00 00 00 00 04 06 00 00 01 00
+10: 00 00 00 00 00 00 00 00 00 01 02 00 f1 01 00 00
+20: 00 80 10 80 f0 ff 00 00 00 00 00 00 00 00 00 00
+30: 00 00 00 00 00 00 00 00 00 00 00 00 00 00 00 00
+";
+
+fn at_line(line: u32, fault: BoardFault) -> Status {
+    Status::BadBoard { line, fault }
+}
 
 fn split(alloc: Global, text: &str) -> Result<Vec<String>, Fail> {
     let mut words = Vec::new(alloc);
@@ -53,7 +63,7 @@ fn source(alloc: Global, text: &str, failing: u32) -> Result<MemorySource, Fail>
 
 fn sink(alloc: Global, failing: u32) -> Result<MemorySink, Fail> {
     let failing = List::from_vec(vec![in alloc; failing]?);
-    Ok(MemorySink::new(alloc, 8, failing, 256)?)
+    Ok(MemorySink::new(alloc, 8, failing, 1024)?)
 }
 
 #[test]
@@ -66,8 +76,17 @@ fn a_board_is_answered_and_faults_are_told(rt: HostRuntime) -> Result<(), Fail> 
         (BOARD, 0, 2, Status::WriteFault, "pcitrace"),
         (BOARD, 1, 0, Status::ReadFault, ""),
         (BOARD, 3, 1, Status::ReadFault, ""),
-        ("pciboard 1", 0, 0, NOT_SERVED, ""),
-        ("", 0, 1, NOT_SERVED, ""),
+        ("pciboard 1 # a board", 0, 0, Status::Done, TRACE),
+        ("", 0, 1, at_line(1, BoardFault::P(1)), ""),
+        ("pciboard 1\nfrob", 0, 1, at_line(2, BoardFault::P(2)), ""),
+        (TWO_AT_ONE_PLACE, 0, 1, at_line(0, BoardFault::V(7)), ""),
+        (
+            "pciboard 1\nmaster a on 0\nior 0",
+            0,
+            1,
+            at_line(0, BoardFault::P(15)),
+            "",
+        ),
     ] {
         let mut source = source(alloc, input, failing_read)?;
         let mut sink = sink(alloc, failing_write)?;
@@ -79,14 +98,26 @@ fn a_board_is_answered_and_faults_are_told(rt: HostRuntime) -> Result<(), Fail> 
 }
 
 #[test]
-fn more_than_the_limit_is_not_served(rt: HostRuntime) -> Result<(), Fail> {
+fn headers_of_a_board(rt: HostRuntime) -> Result<(), Fail> {
+    let alloc = rt.alloc();
+    let words = split(alloc, "headers f")?;
+    let mut source = source(alloc, BRIDGE, 0)?;
+    let mut sink = sink(alloc, 0)?;
+    let answer = pcitree(alloc, words.as_slice(), &mut source, &mut sink);
+    assert_eq!(rt; answer, Status::Done);
+    assert_eq!(rt; sink.bytes(), BRIDGE_HEADERS.as_bytes());
+    Ok(())
+}
+
+#[test]
+fn more_than_the_limit_is_too_long(rt: HostRuntime) -> Result<(), Fail> {
     let alloc = rt.alloc();
     let words = split(alloc, "run --steady f")?;
-    let bytes = List::from_vec(vec![in alloc; b' '; 4_097]?);
+    let bytes = List::from_vec(vec![in alloc; b' '; 1_048_577]?);
     let mut source = MemorySource::new(bytes, 100_000, List::from_vec(Vec::new(alloc)));
     let mut sink = sink(alloc, 0)?;
     let answer = pcitree(alloc, words.as_slice(), &mut source, &mut sink);
-    assert_eq!(rt; answer, NOT_SERVED);
+    assert_eq!(rt; answer, Status::TooLong);
     Ok(())
 }
 
@@ -101,6 +132,8 @@ fn words_of_no_form_are_told_by_place(rt: HostRuntime) -> Result<(), Fail> {
         ("run --steady -f", 2),
         ("run --steady f g", 3),
         ("run a b", 1),
+        ("headers", 1),
+        ("headers f g", 2),
         ("walk f", 0),
     ] {
         let words = split(alloc, text)?;
@@ -110,59 +143,9 @@ fn words_of_no_form_are_told_by_place(rt: HostRuntime) -> Result<(), Fail> {
         assert_eq!(rt; answer, Status::Usage { word }, "of {text}");
         assert_eq!(rt; file_word(words.as_slice()), None);
     }
-    let words = split(alloc, "run --steady f")?;
-    assert_eq!(rt; file_word(words.as_slice()), Some(2));
-    Ok(())
-}
-
-#[test]
-fn statuses_are_printed(rt: HostRuntime) -> Result<(), Fail> {
-    let bound = BoardFault::Bound(500_001);
-    for (status, number, line) in [
-        (Status::Done, 0, ""),
-        (Status::NoMemory, 1, "pcitree: no memory"),
-        (Status::Usage { word: 1 }, 2, "pcitree: usage, word 1"),
-        (Status::ReadFault, 3, "pcitree: read failed"),
-        (Status::WriteFault, 4, "pcitree: write failed"),
-        (Status::TooLong, 5, "pcitree: input too long"),
-        (
-            Status::BadBoard {
-                line: 3,
-                fault: BoardFault::P(6),
-            },
-            6,
-            "pcitree: board line 3 fault P6",
-        ),
-        (
-            Status::BadBoard {
-                line: 0,
-                fault: bound,
-            },
-            6,
-            "pcitree: board line 0 fault V9 bound 500001",
-        ),
-        (
-            Status::BadTrace { line: 11, code: 7 },
-            7,
-            "pcitree: trace line 11 fault X7",
-        ),
-        (
-            Status::NotRun {
-                event: 16,
-                why: Why::N1,
-            },
-            8,
-            "pcitree: event 16 is not allowed: N1",
-        ),
-        (
-            Status::Incomplete { left: 1 },
-            9,
-            "pcitree: incomplete, at most 1 events left",
-        ),
-    ] {
-        assert_eq!(rt; status.number(), number);
-        let printed = status.to_string(rt.alloc())?;
-        assert_eq!(rt; printed.as_str(), line);
+    for (text, place) in [("run --steady f", 2), ("headers f", 1)] {
+        let words = split(alloc, text)?;
+        assert_eq!(rt; file_word(words.as_slice()), Some(place));
     }
     Ok(())
 }
