@@ -22,7 +22,8 @@ pub(crate) fn claim_on(board: &Board, bus: u8, request: &Request) -> Place
 fn claim_by_address(board: &Board, bus: u8, space: Space, address: u64) -> Place
     requires decodable { IsDecodable board.now }
     requires by_address { space ≢ Space.Cfg }
-    ensures { result ≡ claim_by_address board.now bus space address (position_from (λ target. target.bus == bus && list_any (range_holds space address) target.ranges) 0 board.now.targets) }
+    ensures { result ≡ claim_by_address board.now bus space address
+        (position_from (λ target. target.bus == bus && list_any (range_holds space address) target.ranges) 0 board.now.targets) }
 {
     match target_at(board.targets.as_slice(), bus, space, address) {
         Some(target) => Place::Target(target as u16),
@@ -58,7 +59,8 @@ fn range_holds(range: &Range, space: Space, address: u64) -> bool
 fn claim_by_bridge(board: &Board, bus: u8, space: Space, address: u64) -> Place
     requires decodable { IsDecodable board.now }
     requires by_address { space ≢ Space.Cfg }
-    ensures { result ≡ claim_by_bridge board.now bus space address (find (decodes_down bus space address) board.now.bridges) }
+    ensures { result ≡ claim_by_bridge board.now bus space address
+        (find (decodes_down bus space address) board.now.bridges) }
 {
     let bridges = board.bridges.as_slice();
     match child_at(bridges, bus, space, address) {
@@ -82,7 +84,8 @@ fn child_at(bridges: &[Bridge], bus: u8, space: Space, address: u64) -> Option<B
 fn claim_upwards(bridges: &[Bridge], bus: u8, space: Space, address: u64) -> Place
     requires decodable { All IsReadBack bridges.now }
     requires by_address { space ≢ Space.Cfg }
-    ensures { result ≡ claim_upwards bus space address (find (λ bridge. bridge.bus == bus) bridges.now) }
+    ensures { result ≡ claim_upwards bus space address
+        (find (λ bridge. bridge.bus == bus) bridges.now) }
 {
     match bridge_to(bridges, bus) {
         Some(own) if claim_up(&own, space, address) => Place::Lane(Lane { bus, up: true }),
@@ -122,7 +125,8 @@ fn device_in(address: u64) -> u8
 
 fn claim_by_device(board: &Board, bus: u8, device: u8) -> Place
     requires { IsDecodable board.now }
-    ensures { result ≡ claim_by_device board.now bus device (position_from (λ target. target.bus == bus && target.device == device) 0 board.now.targets) }
+    ensures { result ≡ claim_by_device board.now bus device
+        (position_from (λ target. target.bus == bus && target.device == device) 0 board.now.targets) }
 {
     match target_device(board.targets.as_slice(), bus, device) {
         Some(target) => Place::Target(target as u16),
@@ -157,7 +161,9 @@ fn bridge_device(bridges: &[Bridge], bus: u8, device: u8) -> Option<Bridge>
 /// names.
 fn child_to(bridges: &[Bridge], bus: u8, address: u64) -> Option<Bridge>
     requires { All IsReadBack bridges.now }
-    ensures { result ≡ find (λ bridge. bridge.parent == bus && nat_le bridge.bus (bus_in address) && nat_le (bus_in address) bridge.last) bridges.now }
+    ensures { result ≡ find
+        (λ bridge. bridge.parent == bus && nat_le bridge.bus (bus_in address) && nat_le (bus_in address) bridge.last)
+        bridges.now }
 {
     bridges
         .iter()
@@ -167,7 +173,8 @@ fn child_to(bridges: &[Bridge], bus: u8, address: u64) -> Option<Bridge>
 
 fn leads_on(bridge: &Bridge, bus: u8, address: u64) -> bool
     requires { IsReadBack bridge.now }
-    ensures { result ≡ (bridge.now.parent == bus && nat_le bridge.now.bus (bus_in address) && nat_le (bus_in address) bridge.now.last) }
+    ensures { result
+        ≡ (bridge.now.parent == bus && nat_le bridge.now.bus (bus_in address) && nat_le (bus_in address) bridge.now.last) }
 {
     decoding_is_claim();
     if bridge.parent != bus {
