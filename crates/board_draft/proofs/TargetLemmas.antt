@@ -1,8 +1,7 @@
 -- A target stays well formed by each detail.
-use Rattle.std.proofs.Common.{subst, sym, ap, ◌∙◌, ◌≡◌, ℕ, ◌+◌, ◌*◌, ◌%◌, ◌^◌, ◌≤◌, ◌<◌, Bool, true, false, not, ◌&&◌, ◌||◌, List, [], ◌∷◌, ◌++◌, length, Result, Ok, Err, refl, arith}
+use Rattle.std.proofs.Common.{subst, sym, ap, ◌∙◌, ◌≡◌, ℕ, ◌+◌, ◌%◌, ◌^◌, Bool, true, false, not, [], ◌∷◌, ◌++◌, length, Ok, refl, arith}
 use Rattle.std.specs.Prelude.{◌==◌, nat_le, nat_lt}
-use Rattle.std.specs.List.{list_all}
-use Rattle.std.proofs.lemmas.Bool.{and_parts, and_from, not-false, not-true, ltb-false, leb-false, le-leb}
+use Rattle.std.proofs.lemmas.Bool.{and_from, not-false, ltb-false, leb-false, le-leb}
 use Rattle.std.proofs.lemmas.Bool.Decides.{nat_tests}
 use Rattle.list_facts.specs.Lists.{total}
 use Rattle.list_facts.proofs.TotalLemmas.{total-push}
@@ -11,12 +10,12 @@ use Rattle.pci_command.specs.declared.command.Space.TheVariants.{Mem, Io, Cfg}
 use Rattle.board_model.specs.declared.agents.Range.{Range}
 use Rattle.board_model.specs.declared.agents.Opening.{Opening}
 use Rattle.board_model.specs.declared.agents.Target.{Target}
-use Rattle.board_model.specs.WellFormed.{is_within, is_block, is_range_in, is_well_formed_range, is_dword_in, is_well_formed_opening, registers_of, is_well_formed_target}
+use Rattle.board_model.specs.WellFormed.{is_within, is_range_in, is_well_formed_range, is_dword_in, is_well_formed_opening, registers_of, is_well_formed_target}
 use Rattle.board_draft.specs.Targets.{unit_of, end_of, is_in_units, set_identity, set_stalls, set_burst, add_range, add_abort, add_opening}
-use Rattle.board_draft.specs.Formed.{is_target_space, is_address}
-use Rattle.board_draft.proofs.AddedLemmas.{RangeFits, RangeAdded, add_range-ok, AbortAdded, add_abort-ok, OpeningAdded, add_opening-ok}
+use Rattle.board_draft.specs.Formed.{is_size, is_address}
+use Rattle.board_draft.proofs.AddedLemmas.{RangeFits, add_range-ok, add_abort-ok, add_opening-ok}
 use Rattle.board_draft.proofs.PushLemmas.{all-push, length-push}
-use Rattle.board_draft.proofs.PartLemmas.{TargetParts, parts_of, formed_by}
+use Rattle.board_draft.proofs.PartLemmas.{parts_of, formed_by}
 
 -- the target as before, with its name and bus, and well formed
 pub record IsDetailed (target changed : Target) : Type 0 where
@@ -24,21 +23,18 @@ pub record IsDetailed (target changed : Target) : Type 0 where
   pub bus : changed.bus ≡ target.bus
   pub formed : is_well_formed_target changed ≡ true
 
-within_space : (wide : Bool) (space : Space) (past : ℕ) → is_target_space space ≡ true → nat_lt (end_of wide space) past ≡ false → nat_le past (2 ^ 64) ≡ true
-within_space true Mem past named within = grind (arith, nat_tests)
-within_space false Mem past named within = grind (arith, nat_tests)
-within_space true Io past named within = grind (arith, nat_tests)
-within_space false Io past named within = grind (arith, nat_tests)
-within_space wide Cfg past named within = absurd (cc)
+within_memory : (wide : Bool) (past : ℕ) → nat_lt (end_of wide Mem) past ≡ false → nat_le past (2 ^ 64) ≡ true
+within_memory true past within = grind (arith, nat_tests)
+within_memory false past within = grind (arith, nat_tests)
 
-range_by : (wide : Bool) (space : Space) (base size : ℕ) → is_target_space space ≡ true → not (is_in_units (unit_of space) (record { space = space; base = base; size = size })) ≡ false → nat_lt (end_of wide space) (base + size) ≡ false → is_range_in space (record { space = space; base = base; size = size }) ≡ true
-range_by wide Mem base size named units within = and_from _ _ (not-false _ units) (within_space wide Mem (base + size) named within)
-range_by true Io base size named units within = and_from _ _ (not-false _ units) (le-leb _ _ (ltb-false _ _ within))
-range_by false Io base size named units within = and_from _ _ (not-false _ units) (le-leb _ _ (ltb-false _ _ within))
-range_by wide Cfg base size named units within = absurd (cc)
+range_by : (wide : Bool) (space : Space) (base size : ℕ) → is_size space size ≡ true → not (is_in_units (unit_of space) (record { space = space; base = base; size = size })) ≡ false → nat_lt (end_of wide space) (base + size) ≡ false → is_range_in space (record { space = space; base = base; size = size }) ≡ true
+range_by wide Mem base size small units within = and_from _ _ (and_from _ _ (not-false _ units) small) (within_memory wide (base + size) within)
+range_by true Io base size small units within = and_from _ _ (and_from _ _ (not-false _ units) small) (le-leb _ _ (ltb-false _ _ within))
+range_by false Io base size small units within = and_from _ _ (and_from _ _ (not-false _ units) small) (le-leb _ _ (ltb-false _ _ within))
+range_by wide Cfg base size small units within = absurd (cc)
 
-range_formed : (wide : Bool) (range : Range) → is_target_space range.space ≡ true → RangeFits wide range → is_well_formed_range range ≡ true
-range_formed wide range named fits = range_by wide range.space range.base range.size named fits.units fits.within
+range_formed : (wide : Bool) (range : Range) → is_size range.space range.size ≡ true → RangeFits wide range → is_well_formed_range range ≡ true
+range_formed wide range small fits = range_by wide range.space range.base range.size small fits.units fits.within
 
 total_few : (n more : ℕ) → nat_lt 6 (n + more) ≡ false → nat_le (n + more) 6 ≡ true
 total_few n more few = le-leb _ _ (ltb-false _ _ few)
@@ -46,8 +42,8 @@ total_few n more few = le-leb _ _ (ltb-false _ _ few)
 length_few : (most n : ℕ) → nat_le most n ≡ false → nat_le (n + 1) most ≡ true
 length_few most n few = let fewer = leb-false most n few in le-leb _ _ (omega arith)
 
-pub range_detail : (wide : Bool) (range : Range) (target changed : Target) → is_target_space range.space ≡ true → is_well_formed_target target ≡ true → add_range wide range target ≡ Ok changed → IsDetailed target changed
-range_detail wide range target changed named formed h =
+pub range_detail : (wide : Bool) (range : Range) (target changed : Target) → is_size range.space range.size ≡ true → is_well_formed_target target ≡ true → add_range wide range target ≡ Ok changed → IsDetailed target changed
+range_detail wide range target changed small formed h =
     let added = add_range-ok wide range target changed h in
     let parts = parts_of target formed in
     let P : Target → Type 0 = λ t. IsDetailed target t in
@@ -60,7 +56,7 @@ range_detail wide range target changed named formed h =
         device = parts.device;
         stalls = parts.stalls;
         burst = parts.burst;
-        ranges = all-push is_well_formed_range target.ranges range parts.ranges (range_formed wide range named added.fits);
+        ranges = all-push is_well_formed_range target.ranges range parts.ranges (range_formed wide range small added.fits);
         registers = fewer;
         aborts = parts.aborts;
         few_aborts = parts.few_aborts;
@@ -69,8 +65,8 @@ range_detail wide range target changed named formed h =
       });
     })
 
-pub abort_detail : (wide : Bool) (range : Range) (target changed : Target) → is_target_space range.space ≡ true → is_well_formed_target target ≡ true → add_abort wide range target ≡ Ok changed → IsDetailed target changed
-abort_detail wide range target changed named formed h =
+pub abort_detail : (wide : Bool) (range : Range) (target changed : Target) → is_size range.space range.size ≡ true → is_well_formed_target target ≡ true → add_abort wide range target ≡ Ok changed → IsDetailed target changed
+abort_detail wide range target changed small formed h =
     let added = add_abort-ok wide range target changed h in
     let parts = parts_of target formed in
     let P : Target → Type 0 = λ t. IsDetailed target t in
@@ -85,7 +81,7 @@ abort_detail wide range target changed named formed h =
         burst = parts.burst;
         ranges = parts.ranges;
         registers = parts.registers;
-        aborts = all-push is_well_formed_range target.aborts range parts.aborts (range_formed wide range named added.fits);
+        aborts = all-push is_well_formed_range target.aborts range parts.aborts (range_formed wide range small added.fits);
         few_aborts = fewer;
         openings = parts.openings;
         few_openings = parts.few_openings;

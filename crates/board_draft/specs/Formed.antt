@@ -37,6 +37,12 @@ is_address Mem address = true
 is_address Io address = nat_lt address (2 ^ 32)
 is_address Cfg address = false
 
+-- a range of I/O has less than 2^32 bytes, one of memory less than 2^64
+abbrev pub is_size : Space → ℕ → Bool
+is_size Mem size = nat_lt size (2 ^ 64)
+is_size Io size = nat_lt size (2 ^ 32)
+is_size Cfg size = false
+
 abbrev pub is_formed_read : ℕ → Option Space → Bool
 is_formed_read address None = false
 is_formed_read address (Some space) = is_address space address
@@ -67,8 +73,8 @@ is_formed (NewTarget name bus device) = nat_le device 31
 is_formed (Identifies vendor model) = true
 is_formed (Stalls tokens) = nat_le tokens 1000000
 is_formed (Bursts phases) = is_within 1 8 phases
-is_formed (Claims range) = is_target_space range.space
-is_formed (Aborts range) = is_target_space range.space
+is_formed (Claims range) = is_size range.space range.size
+is_formed (Aborts range) = is_size range.space range.size
 is_formed (Opens opening) = is_address opening.space opening.address
 is_formed (NewMaster name bus) = true
 is_formed (Does op too_many) = is_formed_op op

@@ -1,10 +1,9 @@
 -- What each form of a line sees to.
-use Rattle.std.proofs.Common.{subst, sym, ap, ◌∙◌, ◌≡◌, ℕ, zero, suc, ◌+◌, ◌^◌, ◌<◌, ◌≤◌, Bool, true, false, cond, ◌&&◌, List, [], ◌∷◌, length, take, refl, arith}
-use Rattle.std.specs.Prelude.{Option, Some, None, Result, Ok, Err, ◌==◌, nat_le, nat_lt, codes}
+use Rattle.std.proofs.Common.{subst, ◌≡◌, ℕ, zero, suc, ◌^◌, ◌<◌, ◌≤◌, Bool, true, false, List, [], ◌∷◌, length, take, refl, arith}
+use Rattle.std.specs.Prelude.{Option, Some, None, Ok, nat_le, codes}
 use Rattle.std.specs.List.{list_all}
-use Rattle.std.proofs.lemmas.Bool.{and_parts, and_from, ltb-true, lt-ltb, le-leb, leb-true}
+use Rattle.std.proofs.lemmas.Bool.{and_parts, and_from, lt-ltb, le-leb}
 use Rattle.pci_command.specs.declared.command.Command.{Command}
-use Rattle.pci_command.specs.declared.command.Command.TheVariants.{IoWrite}
 use Rattle.pci_command.specs.declared.command.Space.{Space}
 use Rattle.pci_command.specs.declared.command.Space.TheVariants.{Mem, Io, Cfg}
 use Rattle.pci_command.specs.declared.phases.Phase.{Phase}
@@ -13,15 +12,14 @@ use Rattle.board_model.specs.declared.bridge.Window.{Window}
 use Rattle.board_model.specs.declared.agents.Range.{Range}
 use Rattle.board_model.specs.declared.board.Planned.{Planned}
 use Rattle.board_model.specs.WellFormed.{is_within, is_well_formed_phase, is_well_formed_plan, read_space, write_space}
-use Rattle.board_draft.specs.Formed.{ends_within, is_byte, is_target_space, is_address, is_formed_read, is_phase_count, is_formed_write, is_formed}
-use Rattle.line_forms.specs.declared.fault.LineFault.{LineFault}
+use Rattle.board_draft.specs.Formed.{ends_within, is_byte, is_target_space, is_address, is_size, is_formed_read, is_formed_write, is_formed}
 use Rattle.line_forms.specs.declared.statement.Statement.{Statement}
 use Rattle.line_forms.specs.declared.statement.Statement.TheVariants.{NewBridge}
-use Rattle.line_forms.specs.Words.{Reader, read_on, ◌>>=◌, ◌>>◌, give, with_rest, one_word, choice, optional, and_part, decimal, decimal_of, fixed, hex, hex_of, name, long, long_of, data_word, data_word_of, header_bytes, header_of}
+use Rattle.line_forms.specs.Words.{Reader, ◌>>=◌, ◌>>◌, give, one_word, choice, decimal, decimal_of, fixed, hex, hex_of, name, long, long_of, data_word, data_word_of, header_bytes, header_of}
 use Rattle.line_forms.specs.Bridges.{base_limit, window, depth, abort_mode, bridge_form, header_form}
 use Rattle.line_forms.specs.Targets.{is_wide_in, space_word, space_of_word, target_form, id_form, stall_form, burst_form, range_form, claim_form, abort_form, opening_form}
 use Rattle.line_forms.specs.Masters.{master_form, read_form, data_words, other_words, at_most_eight, burst_words, burst_write_form, port_write_form, register_read_form, register_write_form, poll_form, direction_of_word, planned_form, discard_form, drop_form}
-use Rattle.board_parser.proofs.ReaderLemmas.{Yields, on-ok, rest-ok, word-ok, give-ok, yields-bind, yields-give, yields-word, yields-any, yields-choice, yields-optional}
+use Rattle.board_parser.proofs.ReaderLemmas.{Yields, on-ok, rest-ok, word-ok, give-ok, yields-give, yields-word, yields-choice, yields-optional}
 use Rattle.board_parser.proofs.WordKindLemmas.{part-ok, hex-below, narrow-below, long-below, decimal-within, decimal-most, phase-formed, header-bytes, space-of-target}
 
 -- Words of a line.
@@ -189,15 +187,22 @@ burst-formed words read h =
     let is = give-ok _ (phases.0.1) read phases.1.1 in
     subst IsFormed is (decimal-read 1 8 words phases.0 phases.1.0)
 
-range-formed : (wide : Bool) (words : Words) (read : Range × Words) → range_form wide words ≡ Ok read → is_target_space read.0.space ≡ true
+-- a number of the space is the size of a range there
+size-by : (wide : Bool) (space : Space) → is_target_space space ≡ true → (word : List ℕ) (n : ℕ) → long_of (is_wide_in wide space) word ≡ Ok n → is_size space n ≡ true
+size-by wide Mem named word n h = lt-ltb _ _ (long-below (is_wide_in wide Mem) word n h)
+size-by wide Io named word n h = lt-ltb _ _ (narrow-below word n h)
+size-by wide Cfg named word n h = absurd (cc)
+
+range-formed : (wide : Bool) (words : Words) (read : Range × Words) → range_form wide words ≡ Ok read → is_size read.0.space read.0.size ≡ true
 unfolding range_form
 range-formed wide words read h =
     let space = on-ok (space_word words) _ read h in
     let base = on-ok (long (is_wide_in wide (space.0.0)) (space.0.1)) _ read space.1.1 in
     let size = on-ok (long (is_wide_in wide (space.0.0)) (base.0.1)) _ read base.1.1 in
     let is = give-ok _ (size.0.1) read size.1.1 in
-    let P : Range → Type 0 = λ r. is_target_space r.space ≡ true in
-    subst P is (space-read words space.0 space.1.0)
+    let P : Range → Type 0 = λ r. is_size r.space r.size ≡ true in
+    let named = space-read words space.0 space.1.0 in
+    subst P is (word-ok (long_of (is_wide_in wide (space.0.0))) (λ n. is_size (space.0.0) n ≡ true) (size-by wide (space.0.0) named) (base.0.1) size.0 size.1.0)
 
 pub claim-formed : (wide : Bool) (words : Words) (read : Statement × Words) → claim_form wide words ≡ Ok read → IsFormed (read.0)
 unfolding claim_form

@@ -65,20 +65,21 @@ port_hex_is_read n below = rw (lt-ltb n (2 ^ 32) below) (word_is_read n below)
 abbrev range_so : Range → Result (Range × List (List ℕ)) LineFault
 range_so range = Ok (range, [])
 
-parts_are_read : (wide : Bool) (space : Space) (base size : ℕ) → base < 2 ^ 64 → size < 2 ^ 64 → (space ≡ Io → size < 2 ^ 32) → is_range_in space (record { space = space; base = base; size = size }) ≡ true
+parts_are_read : (wide : Bool) (space : Space) (base size : ℕ) → base < 2 ^ 64 → size < 2 ^ 64 → is_range_in space (record { space = space; base = base; size = size }) ≡ true
     → (wide || is_short base) ≡ true → (wide || is_short size) ≡ true → range_form wide (space_word space ∷ address_text base ∷ address_text size ∷ []) ≡ range_so (record { space = space; base = base; size = size })
 unfolding range_form space_of_word
-parts_are_read wide Mem base size of_base of_size port formed may_base may_size = rw (address_is_read wide base of_base may_base, address_is_read wide size of_size may_size) refl
-parts_are_read wide Io base size of_base of_size port formed may_base may_size =
+parts_are_read wide Mem base size of_base of_size formed may_base may_size = rw (address_is_read wide base of_base may_base, address_is_read wide size of_size may_size) refl
+parts_are_read wide Io base size of_base of_size formed may_base may_size =
     let below : base < 2 ^ 32 = grind (arith, nat_tests) in
-    rw (port_is_read base below, port_is_read size (port refl)) refl
-parts_are_read wide Cfg base size of_base of_size port formed may_base may_size = absurd (let apart : false ≡ true = formed in cc)
+    let few : size < 2 ^ 32 = grind (arith, nat_tests) in
+    rw (port_is_read base below, port_is_read size few) refl
+parts_are_read wide Cfg base size of_base of_size formed may_base may_size = absurd (let apart : false ≡ true = formed in cc)
 
 range_is_read : (wide : Bool) (range : Range) → RangeFits range → is_well_formed_range range ≡ true → (wide || is_short_range range) ≡ true
     → range_form wide (space_word range.space ∷ address_text range.base ∷ address_text range.size ∷ []) ≡ range_so range
 range_is_read wide range fits formed may =
     let rest = second_may wide (is_short range.base) _ may in
-    parts_are_read wide range.space range.base range.size fits.base fits.size fits.port_size formed (first_may wide (is_short range.base) _ may) (first_may wide (is_short range.size) _ rest)
+    parts_are_read wide range.space range.base range.size fits.base fits.size formed (first_may wide (is_short range.base) _ may) (first_may wide (is_short range.size) _ rest)
 
 pub claim_is_read : (wide : Bool) (range : Range) → RangeFits range → is_well_formed_range range ≡ true → (wide || is_short_range range) ≡ true
     → statement_of wide (range_line (codes "range") range) ≡ Ok (Claims range)

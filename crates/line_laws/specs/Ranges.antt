@@ -1,7 +1,6 @@
 -- What a line can be of: numbers are as wide as their fields, and lie within the space that they are of.
 use Rattle.std.specs.Prelude.{◌≡◌, true, ◌^◌, ◌<◌}
 use Rattle.std.specs.List.{AllByRecursion}
-use Rattle.pci_command.specs.declared.command.Space.TheVariants.{Io}
 use Rattle.pci_command.specs.declared.phases.Phase.{Phase}
 use Rattle.board_model.specs.Names.{is_name}
 use Rattle.board_model.specs.declared.bridge.Bridge.{Bridge}
@@ -26,11 +25,9 @@ pub record MasterFits (master : Master) : Type 0 where
   pub name : is_name master.name ≡ true
   pub bus : master.bus < 2 ^ 8
 
--- all of the I/O space has no size that can be written
 pub record RangeFits (range : Range) : Type 0 where
   pub base : range.base < 2 ^ 64
   pub size : range.size < 2 ^ 64
-  pub port_size : range.space ≡ Io → range.size < 2 ^ 32
 
 pub record OpeningFits (opening : Opening) : Type 0 where
   pub address : opening.address < 2 ^ 64
