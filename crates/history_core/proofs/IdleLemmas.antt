@@ -1,5 +1,5 @@
 -- Lanes on which nothing is, bridge by bridge.
-use Rattle.std.proofs.Common.{◌≡◌, ℕ, true, false, ◌+◌, ◌<◌, ◌≤◌, ◌↔◌, List, [], ◌∷◌, length, drop, get_or, subst, sym}
+use Rattle.std.proofs.Common.{ℕ, true, false, ◌+◌, ◌<◌, ◌↔◌, List, length, drop, get_or, subst, sym}
 use Rattle.std.specs.List.{AllByRecursion}
 use Rattle.std.proofs.lemmas.List.{drop_more}
 use Rattle.board_model.specs.declared.bridge.Bridge.{Bridge}

@@ -16,7 +16,6 @@ use Rattle.history_model.specs.declared.why.Why.{Why}
 use Rattle.history_model.specs.declared.why.Why.TheVariants.{N1, N2, N3, N4, N5}
 use Rattle.history_model.specs.Answers.{wants, answer}
 use Rattle.history_model.specs.Runs.{Allowed, next_mark}
-use Rattle.history_core.specs.Whys.{IsNotPresented, IsAnsweredOtherwise, IsRetried, HasNothingInFlight, IsMarkedOtherwise}
 use Rattle.history_core.specs.Verdicts.{cause_in, Holds, HoldsOfAct, HoldsOfArrival}
 
 -- what is not presented has that cause alone

@@ -1,8 +1,6 @@
 use Rattle.std.proofs.Common.{drop, ◌↔◌}
 use Rattle.std.specs.List.{AllByRecursion}
-use Rattle.board_model.specs.declared.bridge.Bridge.{Bridge}
-use Rattle.history_model.specs.World.{world_of}
-use Rattle.history_model.specs.Runs.{IsIdle, history_of}
+use Rattle.history_model.specs.Runs.{history_of}
 use Rattle.history_core.proofs.IdleLemmas.{IsIdleAt}
 use Rattle.history_core.proofs.completing.are_idle.Given as goal
 
