@@ -1,6 +1,5 @@
 -- What is written for an input, and with which status it is refused.
 use Rattle.std.specs.Prelude.{ℕ, ◌≡◌, ◌≤◌, List, length, IsTrue, Some, None, Ok, ◌==◌, if◌then◌else◌}
-use Rattle.std.specs.Option.{option_map}
 use Rattle.board_model.specs.declared.board.Board.{Board}
 use Rattle.board_model.specs.Ways.{bound_of}
 use Rattle.board_model.specs.Valid.{IsValid}
@@ -11,6 +10,8 @@ use Rattle.board_parser.specs.Boards.{board_read}
 use Rattle.trace_text.specs.Traces.{trace_of}
 use Rattle.header_text.specs.Headers.{headers_text}
 use Rattle.plain_board.specs.Plain.{is_plain}
+use Rattle.bus_tree.specs.declared.refusal.TreeRefusal.{TreeRefusal}
+use Rattle.bus_tree.specs.declared.refusal.TreeRefusal.TheVariants.{Fault}
 use Rattle.board_answers.specs.Refusals.{tree_fault, board_refusal, run_refusal}
 use Rattle.program_status.specs.declared.status.BoardFault.{BoardFault}
 use Rattle.program_status.specs.declared.status.BoardFault.TheVariants.{V, Bound}
@@ -83,10 +84,15 @@ pub record IsTreeOf (board tree : Board) : Type 0 where
   pub valid : IsValid board
   pub faultless : tree_fault board ≡ None
 
--- the fault of a tree, by its number and its bound
+-- how a refusal is told: by its number, V9 by its bound
 abbrev pub tree_fault_told : ℕ → ℕ → BoardFault
 tree_fault_told code bound = if code == 9 then Bound bound else V code
 
--- a board is refused as a tree by this fault
-abbrev pub RefusesTree : Board → Status → Type 0
-RefusesTree board status = option_map (BadBoard 0) (tree_fault board) ≡ Some status
+abbrev pub refusal_told : TreeRefusal → Status
+refusal_told (Fault code bound board) = BadBoard 0 (tree_fault_told code bound)
+
+-- a board is refused as a tree, with line 0
+pub record RefusesTree (board : Board) (status : Status) : Type 0 where
+  pub fault : BoardFault
+  pub fault_is : tree_fault board ≡ Some fault
+  pub told : status ≡ BadBoard 0 fault

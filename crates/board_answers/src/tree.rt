@@ -1,7 +1,7 @@
 ghost use Rattle.std.specs.Prelude.{◌≡◌, ◌<◌, ◌^◌, length, IsTrue, IfOk, IfErr, None};
 ghost use Rattle.board_model.specs.WellFormed.{is_well_formed};
 ghost use Rattle.board_answers.specs.Refusals.{line_fault, tree_fault, board_refusal};
-ghost use Rattle.board_answers.specs.Answers.{ReadsBoard, RefusesHeaders, RefusesTree, IsTreeOf, tree_fault_told};
+ghost use Rattle.board_answers.specs.Answers.{ReadsBoard, RefusesHeaders, RefusesTree, IsTreeOf, tree_fault_told, refusal_told};
 
 use board_model::Board;
 use board_parser::{ParseFault, parse, read_is_well_formed};
@@ -47,10 +47,22 @@ pub fn tree_of(board: Board) -> Result<Tree, Status>
 {
     match validate(board) {
         Ok(tree) => Ok(tree),
-        Err(TreeRefusal::Fault { code, bound, .. }) => Err(Status::BadBoard {
-            line: 0,
-            fault: tree_fault(code, bound),
-        }),
+        Err(refusal) => Err(told(refusal)),
+    }
+}
+
+/// How a refusal is told.
+fn told(refusal: TreeRefusal) -> Status
+    ensures { result ≡ refusal_told refusal }
+{
+    let TreeRefusal::Fault {
+        code,
+        bound,
+        board: _,
+    } = refusal;
+    Status::BadBoard {
+        line: 0,
+        fault: tree_fault(code, bound),
     }
 }
 
