@@ -136,5 +136,5 @@ leads-line wide line statement P Q reads adds draft holds number text =
       draft = added.next;
       holds = added.holds;
       is = ap (read_lines (Some draft) number) (behind_first line [] text none)
-      ∙ ap (λ (r : Result (Option Draft) LineFault). then_lines number r (λ next. read_lines next (number + 1) (lines_of text))) read;
+          ∙ ap (λ (r : Result (Option Draft) LineFault). then_lines number r (λ next. read_lines next (number + 1) (lines_of text))) read;
     }
