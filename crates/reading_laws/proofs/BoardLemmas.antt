@@ -1,10 +1,9 @@
 -- The canonical text of a well-formed board is read as that board.
-use Rattle.std.proofs.Common.{◌≡◌, ℕ, ◌+◌, Bool, true, false, cond, ltb, not, ◌&&◌, ◌||◌, List, [], ◌∷◌, ◌++◌, length, map, Option, Some, None, Result, Ok, Err, refl, sym, ap, ◌∙◌, arith}
+use Rattle.std.proofs.Common.{◌≡◌, ℕ, ◌+◌, Bool, true, false, cond, ltb, not, ◌||◌, List, [], ◌∷◌, ◌++◌, length, map, Option, Some, None, Result, Ok, refl, sym, ap, ◌∙◌, arith}
 use Rattle.std.specs.Prelude.{codes}
 use Rattle.std.specs.List.{list_all, flat_map}
 use Rattle.std.proofs.lemmas.Bool.{lt-ltb}
 use Rattle.std.proofs.lemmas.List.{append-nil}
-use Rattle.board_model.specs.declared.agents.Master.{Master}
 use Rattle.board_model.specs.declared.board.Board.{Board}
 use Rattle.board_model.specs.WellFormed.{is_well_formed}
 use Rattle.board_text.specs.Lines.{line_fault, lines_of}
@@ -13,7 +12,7 @@ use Rattle.board_printer.specs.Lines.{Line, text_of}
 use Rattle.board_printer.specs.Bridges.{bridge_line}
 use Rattle.board_printer.specs.Targets.{target_lines}
 use Rattle.board_printer.specs.Masters.{master_lines}
-use Rattle.board_printer.specs.Boards.{is_short_bridge, is_short_target, is_short_op, is_short_board, first_line, planned_line, board_lines, board_text}
+use Rattle.board_printer.specs.Boards.{is_short_bridge, is_short_target, is_short_board, first_line, planned_line, board_text}
 use Rattle.text_laws.specs.Printed.{joined}
 use Rattle.text_laws.proofs.WordLemmas.{line_is}
 use Rattle.line_forms.specs.declared.fault.LineFault.{LineFault}
@@ -21,7 +20,7 @@ use Rattle.line_forms.specs.Statements.{first_line_of}
 use Rattle.line_laws.proofs.TargetTexts.{first_may, second_may}
 use Rattle.line_laws.proofs.Laws.{first_law, first_allowed}
 use Rattle.board_draft.specs.declared.draft.Draft.{Draft}
-use Rattle.board_draft.specs.Drafts.{board_of, first_draft}
+use Rattle.board_draft.specs.Drafts.{first_draft}
 use Rattle.board_parser.specs.OneLine.{begin, read_words, read_more, read_unless, read_line}
 use Rattle.board_parser.specs.Boards.{then_lines, read_lines, ended, board_read}
 use Rattle.reading_laws.specs.Fits.{BoardFits}

@@ -1,5 +1,5 @@
 -- The lines of bridges lead from no bridge to all of them.
-use Rattle.std.proofs.Common.{◌≡◌, ℕ, ◌+◌, ◌^◌, ◌≤◌, Bool, true, false, cond, ◌||◌, List, [], ◌∷◌, ◌++◌, length, Option, Some, None, Result, Ok, Err, refl, sym, ap, ◌∙◌, arith}
+use Rattle.std.proofs.Common.{◌≡◌, ℕ, ◌+◌, ◌^◌, ◌≤◌, Bool, true, false, ◌||◌, [], ◌∷◌, ◌++◌, length, Option, Some, None, Ok, refl, ap, ◌∙◌, arith}
 use Rattle.std.specs.Prelude.{◌==◌, nat_le}
 use Rattle.std.specs.List.{list_all, list_any, AllByRecursion}
 use Rattle.std.proofs.lemmas.Bool.{and_parts, and_from, or_from, not_from_true, lt-leb, leb-true, eq-eqb}
@@ -13,10 +13,9 @@ use Rattle.line_forms.specs.declared.statement.Statement.TheVariants.{NewBridge}
 use Rattle.line_laws.specs.Ranges.{BridgeFits}
 use Rattle.line_laws.proofs.BridgeTexts.{formed_of}
 use Rattle.line_laws.proofs.Laws.{bridge_law}
-use Rattle.board_draft.specs.declared.draft.Draft.{Draft}
 use Rattle.board_draft.specs.Drafts.{board_of, draft_of}
 use Rattle.board_draft.specs.Bridges.{is_whole, are_windows_whole, is_ordered, are_windows_ordered, add_bridge}
-use Rattle.reading_laws.proofs.LeadLemmas.{Leads, Steps, leads-line}
+use Rattle.reading_laws.proofs.LeadLemmas.{Steps, leads-line}
 use Rattle.reading_laws.proofs.PlaceLemmas.{each_of, all_of, may_of, length_of, count_of, numbered_of}
 use Rattle.reading_laws.proofs.StateLemmas.{so_far, Of, skip, BoardParts}
 

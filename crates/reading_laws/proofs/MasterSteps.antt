@@ -1,7 +1,7 @@
 -- The lines of masters lead from no master to all of them.
-use Rattle.std.proofs.Common.{◌≡◌, ℕ, ◌+◌, ◌≤◌, Bool, true, false, cond, ◌&&◌, ◌||◌, List, [], ◌∷◌, ◌++◌, length, map, Option, Some, None, Result, Ok, Err, refl, sym, ap, ◌∙◌, arith}
+use Rattle.std.proofs.Common.{◌≡◌, ◌+◌, ◌≤◌, Bool, true, false, ◌||◌, List, [], ◌∷◌, ◌++◌, length, map, Option, None, Result, Ok, refl, ap, ◌∙◌, arith}
 use Rattle.std.specs.Prelude.{◌==◌, nat_le}
-use Rattle.std.specs.List.{list_all, list_any, AllByRecursion}
+use Rattle.std.specs.List.{list_all, AllByRecursion}
 use Rattle.std.proofs.lemmas.Bool.{and_parts, leb-true, eq-eqb}
 use Rattle.list_facts.specs.Lists.{total}
 use Rattle.list_facts.proofs.TotalLemmas.{total-push}
@@ -21,7 +21,7 @@ use Rattle.board_draft.specs.declared.draft.Owner.TheVariants.{OfMaster}
 use Rattle.board_draft.specs.Steps.{◌>>=◌}
 use Rattle.board_draft.specs.Drafts.{board_of}
 use Rattle.board_draft.specs.Targets.{agent_fault, unless}
-use Rattle.board_draft.specs.Masters.{on_master, add_op, add_master, does}
+use Rattle.board_draft.specs.Masters.{add_op, add_master, does}
 use Rattle.board_draft.specs.Add.{add}
 use Rattle.reading_laws.specs.Fits.{ProgramFits}
 use Rattle.reading_laws.proofs.LeadLemmas.{Leads, Steps, leads-append, leads-to, leads-map, leads-line}

@@ -1,10 +1,9 @@
 -- The lines of discards and drops.
-use Rattle.std.proofs.Common.{◌≡◌, ℕ, ◌+◌, ◌≤◌, Bool, true, false, List, [], ◌∷◌, ◌++◌, length, Result, Ok, Err, refl, ap, ◌∙◌, arith}
+use Rattle.std.proofs.Common.{◌≡◌, Bool, false, [], ◌∷◌, ◌++◌, length, Ok, refl, ap, ◌∙◌, arith}
 use Rattle.std.specs.Prelude.{codes, nat_le}
 use Rattle.std.specs.List.{AllByRecursion}
 use Rattle.std.proofs.lemmas.Bool.{lt-leb}
 use Rattle.board_model.specs.declared.board.Board.{Board}
-use Rattle.board_model.specs.declared.board.Planned.{Planned}
 use Rattle.board_model.specs.WellFormed.{is_well_formed_plan}
 use Rattle.board_printer.specs.Boards.{planned_line}
 use Rattle.line_forms.specs.declared.statement.Statement.TheVariants.{Discards, Drops}
@@ -12,7 +11,7 @@ use Rattle.line_laws.specs.Ranges.{PlannedFits}
 use Rattle.line_laws.proofs.Laws.{discard_law, drop_law}
 use Rattle.board_draft.specs.Drafts.{board_of, draft_of}
 use Rattle.board_draft.specs.Plans.{add_discard, add_drop}
-use Rattle.reading_laws.proofs.LeadLemmas.{Leads, Steps, leads-line}
+use Rattle.reading_laws.proofs.LeadLemmas.{Steps, leads-line}
 use Rattle.reading_laws.proofs.PlaceLemmas.{each_of, all_of, length_of}
 use Rattle.reading_laws.proofs.StateLemmas.{so_far, Of, skip, BoardParts}
 

@@ -1,15 +1,13 @@
 -- The lines of targets lead from no target to all of them.
-use Rattle.std.proofs.Common.{◌≡◌, ℕ, ◌+◌, ◌≤◌, Bool, true, false, cond, ◌&&◌, ◌||◌, List, [], ◌∷◌, ◌++◌, length, map, Option, Some, None, Result, Ok, Err, refl, sym, ap, ◌∙◌, arith}
+use Rattle.std.proofs.Common.{◌≡◌, ℕ, ◌+◌, ◌≤◌, Bool, true, false, cond, ◌||◌, List, [], ◌∷◌, ◌++◌, map, Option, Some, None, refl, ap, ◌∙◌, arith}
 use Rattle.std.specs.Prelude.{codes, ◌==◌, nat_le}
 use Rattle.std.specs.List.{list_all, list_any, AllByRecursion}
-use Rattle.std.proofs.lemmas.Bool.{and_parts, or_from, lt-leb, leb-true, eq-eqb}
-use Rattle.board_model.specs.declared.agents.Opening.{Opening}
+use Rattle.std.proofs.lemmas.Bool.{or_from, lt-leb, leb-true, eq-eqb}
 use Rattle.board_model.specs.declared.agents.Target.{Target}
 use Rattle.board_model.specs.declared.board.Board.{Board}
 use Rattle.board_model.specs.WellFormed.{is_well_formed_target, is_target_named, is_master_named, agents_on}
-use Rattle.board_printer.specs.Lines.{Line}
 use Rattle.board_printer.specs.Targets.{target_line, id_lines, stall_lines, burst_lines, range_line, opening_line, target_lines}
-use Rattle.board_printer.specs.Boards.{is_short, is_short_range, is_short_target}
+use Rattle.board_printer.specs.Boards.{is_short_range, is_short_target}
 use Rattle.line_forms.specs.declared.fault.LineFault.{LineFault}
 use Rattle.line_forms.specs.declared.statement.Statement.TheVariants.{NewTarget}
 use Rattle.line_laws.proofs.TargetTexts.{first_may, second_may}
@@ -18,11 +16,11 @@ use Rattle.board_draft.specs.declared.draft.Draft.{Draft}
 use Rattle.board_draft.specs.declared.draft.Owner.TheVariants.{OfTarget}
 use Rattle.board_draft.specs.Drafts.{board_of}
 use Rattle.board_draft.specs.Targets.{is_name_used, agent_fault, unless, new_target, add_target}
-use Rattle.board_draft.proofs.PartLemmas.{TargetParts, parts_of}
+use Rattle.board_draft.proofs.PartLemmas.{parts_of}
 use Rattle.reading_laws.specs.Fits.{DetailsFit}
-use Rattle.reading_laws.proofs.LeadLemmas.{Leads, Steps, leads-append, leads-to, leads-each, leads-map, leads-line}
+use Rattle.reading_laws.proofs.LeadLemmas.{Leads, Steps, leads-append, leads-to, leads-map, leads-line}
 use Rattle.reading_laws.proofs.PlaceLemmas.{each_of, all_of, may_of, count_of, targets_of}
-use Rattle.reading_laws.proofs.StateLemmas.{so_far, Of, holding, Is, BoardParts}
+use Rattle.reading_laws.proofs.StateLemmas.{so_far, Of, holding, BoardParts}
 use Rattle.reading_laws.proofs.DetailSteps.{part_of, Has, id_leads, stall_leads, burst_leads, range_step, abort_step, opening_step}
 
 pass : (test : Bool) (fault : LineFault) (step : Option LineFault) → test ≡ false → cond test (Some fault) step ≡ step
