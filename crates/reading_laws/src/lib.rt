@@ -1,5 +1,6 @@
-//! What is printed of a board is read as the same board. Each law is the contract of a function that
-//! does nothing.
+//! What is printed of a board is read as the same board. The law is the contract of a function that
+//! does nothing. A board of the program meets it: this is the contract of functions that look at its
+//! fields and change nothing.
 #![tactic(auto)]
 
 mod fits;
