@@ -27,7 +27,7 @@ count-push test xs x =
     let more = sum_by-append (λ y. cond (test y) 1 0) xs (x ∷ []) in
     omega (arith, more)
 
-eq-swap : (a b : ℕ) → (a == b) ≡ false → (b == a) ≡ false
+pub eq-swap : (a b : ℕ) → (a == b) ≡ false → (b == a) ≡ false
 eq-swap a b differ = ne_eqb b a (λ same. eqb-false a b differ (sym same))
 
 pub bytes-swap : (a b : List ℕ) → bytes_eq a b ≡ false → bytes_eq b a ≡ false

@@ -27,7 +27,7 @@ use Rattle.line_forms.specs.declared.statement.Statement.{Statement}
 use Rattle.line_forms.specs.declared.statement.Statement.TheVariants.{NewBridge, NewTarget, Identifies, Stalls, Bursts, Claims, Aborts, Opens, NewMaster, Does, Discards, Drops}
 use Rattle.line_forms.specs.Statements.{statement_of, first_line_of}
 use Rattle.line_laws.specs.Ranges.{BridgeFits, TargetFits, MasterFits, RangeFits, OpeningFits, OpFits, PlannedFits}
-use Rattle.line_laws.specs.PlainWords.{is_plain_word}
+use Rattle.text_laws.specs.Printed.{is_word}
 use Rattle.line_laws.specs.ReadsAs.{IsReadAs}
 use Rattle.line_laws.proofs.BridgeTexts.{formed_of, bridge_is_read}
 use Rattle.line_laws.proofs.TargetTexts.{target_is_read, id_is_read, stall_is_read, burst_is_read, claim_is_read, abort_is_read, opening_is_read}
@@ -40,7 +40,7 @@ use Rattle.line_laws.proofs.PlainTexts.{DecimalsFit, half_plain, decimal_plain, 
 abbrev statement_so : Statement → Result Statement LineFault
 statement_so statement = Ok statement
 
-reads_as : (wide : Bool) (words : Line) (statement : Statement) → list_all is_plain_word words ≡ true → width words ≤ 257 → statement_of wide words ≡ statement_so statement → IsReadAs wide words statement
+reads_as : (wide : Bool) (words : Line) (statement : Statement) → list_all is_word words ≡ true → width words ≤ 257 → statement_of wide words ≡ statement_so statement → IsReadAs wide words statement
 reads_as wide words statement plain short read = record {
   words = read;
   text = λ line printed. ap (statement_of wide) (words_are_read words line plain printed) ∙ read;
@@ -89,7 +89,7 @@ decimals_fit (Poll space address mask value tries) fits formed = grind (arith, n
 pub op_law : (wide : Bool) (op : Op) → OpFits op → is_well_formed_op op ≡ true → (wide || is_short_op op) ≡ true → IsReadAs wide (op_line op) (Does op false)
 op_law wide op fits formed may = reads_as wide (op_line op) (Does op false) (op_plain op (decimals_fit op fits formed)) (op_width op (decimals_fit op fits formed) formed) (op_is_read wide op fits formed may)
 
-plan_of : (word : List ℕ) (planned : Planned) → is_plain_word word ≡ true → PlannedFits planned → is_well_formed_plan planned ≡ true → list_all is_plain_word (planned_line word planned) ≡ true
+plan_of : (word : List ℕ) (planned : Planned) → is_word word ≡ true → PlannedFits planned → is_well_formed_plan planned ≡ true → list_all is_word (planned_line word planned) ≡ true
 plan_of word planned plain fits formed =
     let few : planned.count ≤ 1000000 = grind (arith, nat_tests) in
     plan_plain word planned plain (omega arith) (omega arith)
@@ -109,7 +109,7 @@ drop_law wide planned fits formed = reads_as wide (planned_line (codes "drop") p
 abbrev told_so : Bool → Option Bool
 told_so wide = Some wide
 
-version_words : (short : Bool) → (list_all is_plain_word (codes "pciboard" ∷ (cond short (codes "1") (codes "2")) ∷ []) ≡ true) × (first_line_of (codes "pciboard" ∷ (cond short (codes "1") (codes "2")) ∷ []) ≡ told_so (not short)) × (width (codes "pciboard" ∷ (cond short (codes "1") (codes "2")) ∷ []) ≤ 257)
+version_words : (short : Bool) → (list_all is_word (codes "pciboard" ∷ (cond short (codes "1") (codes "2")) ∷ []) ≡ true) × (first_line_of (codes "pciboard" ∷ (cond short (codes "1") (codes "2")) ∷ []) ≡ told_so (not short)) × (width (codes "pciboard" ∷ (cond short (codes "1") (codes "2")) ∷ []) ≤ 257)
 unfolding first_line_of
 version_words true = (refl, refl, omega arith)
 version_words false = (refl, refl, omega arith)

@@ -4,7 +4,6 @@
 #![tactic(auto)]
 
 ghost use Rattle.std.specs.Prelude.{◌≡◌, ◌<◌, ◌≤◌, ◌^◌, ◌++◌, ℕ, List, [], ◌∷◌, Some, None, true, false, Bool, not, ◌||◌, codes};
-ghost use Rattle.std.specs.List.{list_all};
 ghost use Rattle.std.specs.Fmt.{decimal};
 ghost use Rattle.board_text.specs.Lines.{line_fault};
 ghost use Rattle.board_text.specs.Tokens.{words_of};
@@ -26,13 +25,13 @@ ghost use Rattle.board_printer.specs.Boards.{is_short, is_short_bridge, is_short
 ghost use Rattle.line_forms.specs.declared.statement.Statement.TheVariants.{NewBridge, NewTarget, Identifies, Stalls, Bursts, Claims, Aborts, Opens, NewMaster, Does, Discards, Drops};
 ghost use Rattle.line_forms.specs.Statements.{first_line_of};
 ghost use Rattle.line_laws.specs.Ranges.{BridgeFits, TargetFits, MasterFits, RangeFits, OpeningFits, OpFits, PlannedFits};
-ghost use Rattle.line_laws.specs.PlainWords.{is_plain_word};
+ghost use Rattle.text_laws.specs.Printed.{has_words_alone};
 ghost use Rattle.line_laws.specs.ReadsAs.{IsReadAs};
 
 /// The words of a line that was printed are the words that were printed. A line ends before its
 /// newline.
 pub fn words_are_read()
-    ensures { (words : List (List ℕ)) (line : List ℕ) → list_all is_plain_word words ≡ true → line_text words ≡ line ++ 10 ∷ [] → words_of line ≡ words }
+    ensures { (words : List (List ℕ)) (line : List ℕ) → has_words_alone words ≡ true → line_text words ≡ line ++ 10 ∷ [] → words_of line ≡ words }
 {}
 
 /// The first line tells whether an address, a size, a limit or the last address of a range needs 64

@@ -136,7 +136,7 @@ spaced_end : (words : Line) (rest : List ℕ) → spaced words rest ≡ spaced w
 spaced_end [] rest = refl
 spaced_end (word ∷ words) rest = let later = spaced_end words rest in let whole = append_assoc word (spaced words []) rest in cc
 
-line_is : (words : Line) → line_text words ≡ joined words ++ 10 ∷ []
+pub line_is : (words : Line) → line_text words ≡ joined words ++ 10 ∷ []
 line_is [] = refl
 line_is (word ∷ words) = let later = spaced_end words (10 ∷ []) in let whole = append_assoc word (spaced words []) (10 ∷ []) in cc
 

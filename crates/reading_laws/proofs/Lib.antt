@@ -1,0 +1,10 @@
+pub mod LeadLemmas
+pub mod PlaceLemmas
+pub mod StateLemmas
+pub mod BridgeSteps
+pub mod PlanSteps
+pub mod DetailSteps
+pub mod TargetSteps
+pub mod OpSteps
+pub mod MasterSteps
+pub mod BoardLemmas
