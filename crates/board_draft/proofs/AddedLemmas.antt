@@ -1,5 +1,5 @@
 -- What is known where a statement was added: that no test refused it, and the draft that came of it.
-use Rattle.std.proofs.Common.{subst, ◌≡◌, ℕ, Bool, true, false, List, [], ◌∷◌, ◌++◌, length, Option, Some, None, Result, Ok, Err, refl}
+use Rattle.std.proofs.Common.{subst, ◌≡◌, ℕ, Bool, false, [], ◌∷◌, ◌++◌, length, Option, Some, None, Result, Ok, Err, refl}
 use Rattle.std.specs.Prelude.{◌||◌, not, nat_le, nat_lt, ◌+◌, ◌==◌, ◌%◌}
 use Rattle.std.specs.List.{list_any}
 use Rattle.list_facts.specs.Lists.{total}
@@ -12,7 +12,7 @@ use Rattle.board_model.specs.declared.op.Op.{Op}
 use Rattle.board_model.specs.declared.board.Board.{Board}
 use Rattle.board_model.specs.declared.board.Planned.{Planned}
 use Rattle.board_model.specs.Requests.{tries_of}
-use Rattle.board_model.specs.WellFormed.{has_bus, children_on, registers_of, operations_in}
+use Rattle.board_model.specs.WellFormed.{has_bus, children_on, registers_of}
 use Rattle.bridge_header.specs.declared.windows.Windows.{Windows}
 use Rattle.bridge_header.specs.declared.fault.HeaderFault.{HeaderFault}
 use Rattle.line_forms.specs.declared.fault.LineFault.{LineFault}
@@ -20,10 +20,10 @@ use Rattle.board_draft.specs.declared.draft.Draft.{Draft}
 use Rattle.board_draft.specs.declared.draft.Owner.{Owner}
 use Rattle.board_draft.specs.declared.draft.Owner.TheVariants.{Nobody, OfTarget, OfMaster}
 use Rattle.board_draft.specs.Steps.{◌>>=◌}
-use Rattle.board_draft.specs.Drafts.{board_of, draft_of, with_owner}
-use Rattle.board_draft.specs.Bridges.{are_windows_whole, are_windows_ordered, put_bridge, add_bridge, is_too_wide, bridge_of, put_header}
-use Rattle.board_draft.specs.Targets.{agent_fault, unless, target_in, on_target, unit_of, end_of, is_in_units, fits, put_range, put_abort, add_range, add_abort, add_opening}
-use Rattle.board_draft.specs.Masters.{master_in, on_master, is_aligned, passes_block, add_op, does}
+use Rattle.board_draft.specs.Drafts.{draft_of}
+use Rattle.board_draft.specs.Bridges.{are_windows_whole, are_windows_ordered, put_bridge, add_bridge, bridge_of, put_header}
+use Rattle.board_draft.specs.Targets.{unless, target_in, on_target, unit_of, end_of, is_in_units, fits, put_range, put_abort, add_range, add_abort, add_opening}
+use Rattle.board_draft.specs.Masters.{master_in, on_master, is_aligned, passes_block, add_op}
 use Rattle.board_draft.specs.Plans.{add_discard, add_drop}
 use Rattle.board_draft.proofs.StepLemmas.{if-ok, step-ok}
 

@@ -1,14 +1,12 @@
 -- The names that a draft uses, and how many agents are on each bus, after a statement was added.
 use Rattle.std.proofs.Common.{subst, zero, suc, get_or, set, get_or-set_same, get_or-set_other, ◌≢◌, replicate, sym, ap, ◌∙◌, ◌≡◌, ℕ, ◌+◌, ◌≤◌, ◌<◌, Bool, true, false, cond, ◌||◌, List, [], ◌∷◌, ◌++◌, length, refl, arith}
-use Rattle.std.specs.Prelude.{Option, Some, None, Result, Ok, Err, ◌==◌, nat_le, count_by, slice_index, slice_set}
+use Rattle.std.specs.Prelude.{Option, Some, None, Result, Ok, ◌==◌, nat_le, slice_index, slice_set}
 use Rattle.std.specs.List.{list_any}
 use Rattle.std.specs.Str.{bytes_eq}
 use Rattle.std.specs.HashSet.{contains_text}
 use Rattle.std.proofs.lemmas.List.Folds.{list_any-append}
 use Rattle.std.proofs.lemmas.Bool.{eqb-true, eqb-false}
 use Rattle.board_model.specs.declared.bridge.Bridge.{Bridge}
-use Rattle.board_model.specs.declared.agents.Range.{Range}
-use Rattle.board_model.specs.declared.agents.Opening.{Opening}
 use Rattle.board_model.specs.declared.agents.Target.{Target}
 use Rattle.board_model.specs.declared.agents.Master.{Master}
 use Rattle.board_model.specs.declared.board.Board.{Board}
@@ -21,17 +19,17 @@ use Rattle.line_forms.specs.declared.statement.Statement.TheVariants.{NewBridge,
 use Rattle.board_draft.specs.declared.counts.Counts.{Counts}
 use Rattle.board_draft.specs.declared.draft.Draft.{Draft}
 use Rattle.board_draft.specs.declared.draft.Owner.{Owner}
-use Rattle.board_draft.specs.declared.draft.Owner.TheVariants.{Nobody, OfTarget, OfMaster}
+use Rattle.board_draft.specs.declared.draft.Owner.TheVariants.{OfTarget, OfMaster}
 use Rattle.board_draft.specs.Drafts.{board_of, draft_of, with_owner}
 use Rattle.board_draft.specs.Bridges.{bridge_of}
 use Rattle.board_draft.specs.Targets.{is_name_used, agent_fault, new_target, on_target, set_identity, set_stalls, set_burst, add_range, add_abort, add_opening}
 use Rattle.board_draft.specs.Masters.{add_op, does}
 use Rattle.board_draft.specs.Add.{add, tries_in}
 use Rattle.board_draft.specs.Counts.{IsCountOf, fault_in, agent_in, used_with, more_on, IsGrown}
-use Rattle.board_draft.proofs.AddedLemmas.{BridgePut, add_bridge-ok, put_header-ok, unless-ok, TargetChanged, on_target-ok, MasterChanged, on_master-ok, OpAdded, add_op-ok, add_range-ok, add_abort-ok, add_opening-ok, add_discard-ok, add_drop-ok}
-use Rattle.board_draft.proofs.CountLemmas.{Counted, operations-add}
+use Rattle.board_draft.proofs.AddedLemmas.{BridgePut, add_bridge-ok, put_header-ok, unless-ok, on_target-ok, on_master-ok, add_op-ok, add_range-ok, add_abort-ok, add_opening-ok, add_discard-ok, add_drop-ok}
+use Rattle.board_draft.proofs.CountLemmas.{operations-add}
 use Rattle.board_draft.proofs.PushLemmas.{count-push}
-use Rattle.board_draft.proofs.SoundLemmas.{HasPlace, place_by, one_more}
+use Rattle.board_draft.proofs.SoundLemmas.{place_by, one_more}
 
 -- one board has that agent more than another
 pub record HasMore (before after : Board) (agent : Option (List ℕ × ℕ)) : Type 0 where

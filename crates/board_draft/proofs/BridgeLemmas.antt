@@ -1,16 +1,12 @@
 -- A bridge that is added is well formed.
-use Rattle.std.proofs.Common.{subst, sym, ap, ◌∙◌, ◌≡◌, ℕ, ◌+◌, ◌*◌, ◌/◌, ◌%◌, ◌^◌, ◌≤◌, ◌<◌, Bool, true, false, not, ◌&&◌, ◌||◌, List, length, refl, arith}
-use Rattle.std.specs.Prelude.{Option, Some, None, Result, Ok, Err, ◌==◌, nat_le, nat_lt, slice_index}
-use Rattle.std.specs.List.{list_all}
-use Rattle.std.proofs.lemmas.Bool.{and_parts, and_from, not-false, not-true}
+use Rattle.std.proofs.Common.{◌≡◌, ℕ, ◌^◌, true, false, not, refl}
+use Rattle.std.specs.Prelude.{Option, Some, None}
+use Rattle.std.proofs.lemmas.Bool.{and_parts, and_from, not-false}
 use Rattle.board_model.specs.declared.bridge.Window.{Window}
 use Rattle.board_model.specs.declared.bridge.Bridge.{Bridge}
-use Rattle.board_model.specs.WellFormed.{is_within, is_window, is_well_formed_bridge}
-use Rattle.bridge_header.specs.declared.windows.Windows.{Windows}
-use Rattle.bridge_header.specs.Windows.{reading_of, windows_of, is_type_1, is_enabled, has_refused_control, has_ordered_buses, has_whole_windows}
-use Rattle.board_draft.specs.Bridges.{is_whole, are_windows_whole, is_ordered, are_windows_ordered, bridge_of}
+use Rattle.board_model.specs.WellFormed.{is_window, is_well_formed_bridge}
+use Rattle.board_draft.specs.Bridges.{is_whole, are_windows_whole, is_ordered, are_windows_ordered}
 use Rattle.board_draft.specs.Formed.{ends_within, is_formed_bridge}
-use Rattle.board_draft.proofs.StepLemmas.{if-ok}
 
 window_by : (unit end : ℕ) (window : Option Window) → is_whole unit window ≡ true → is_ordered window ≡ true → ends_within end window ≡ true → is_window unit end window ≡ true
 window_by unit end None whole ordered within = refl

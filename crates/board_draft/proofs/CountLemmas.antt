@@ -1,5 +1,5 @@
 -- How many operations a draft has after a statement was added.
-use Rattle.std.proofs.Common.{subst, sym, ap, ◌∙◌, ◌≡◌, ℕ, ◌+◌, ◌≤◌, Bool, true, false, List, [], ◌∷◌, ◌++◌, length, Result, Ok, Err, refl, arith}
+use Rattle.std.proofs.Common.{subst, sym, ap, ◌∙◌, ◌≡◌, ℕ, ◌+◌, ◌≤◌, Bool, false, List, [], ◌∷◌, ◌++◌, Result, Ok, refl, arith}
 use Rattle.std.specs.Prelude.{◌||◌, nat_le, nat_lt}
 use Rattle.std.proofs.lemmas.Bool.Decides.{nat_tests}
 use Rattle.list_facts.specs.Lists.{total}
@@ -17,13 +17,13 @@ use Rattle.line_forms.specs.declared.statement.Statement.{Statement}
 use Rattle.line_forms.specs.declared.statement.Statement.TheVariants.{NewBridge, NewHeader, NewTarget, Identifies, Stalls, Bursts, Claims, Aborts, Opens, NewMaster, Does, Discards, Drops}
 use Rattle.board_draft.specs.declared.draft.Draft.{Draft}
 use Rattle.board_draft.specs.declared.draft.Owner.{Owner}
-use Rattle.board_draft.specs.declared.draft.Owner.TheVariants.{Nobody, OfTarget, OfMaster}
-use Rattle.board_draft.specs.Drafts.{board_of, draft_of, with_owner}
+use Rattle.board_draft.specs.declared.draft.Owner.TheVariants.{OfMaster}
+use Rattle.board_draft.specs.Drafts.{board_of, with_owner}
 use Rattle.board_draft.specs.Bridges.{bridge_of}
 use Rattle.board_draft.specs.Targets.{on_target, set_identity, set_stalls, set_burst, add_range, add_abort, add_opening}
 use Rattle.board_draft.specs.Masters.{add_op, does}
 use Rattle.board_draft.specs.Add.{add, tries_in}
-use Rattle.board_draft.proofs.AddedLemmas.{BridgePut, add_bridge-ok, put_header-ok, unless-ok, TargetChanged, on_target-ok, MasterChanged, on_master-ok, OpAdded, add_op-ok, add_discard-ok, add_drop-ok}
+use Rattle.board_draft.proofs.AddedLemmas.{BridgePut, add_bridge-ok, put_header-ok, unless-ok, on_target-ok, on_master-ok, add_op-ok, add_discard-ok, add_drop-ok}
 
 abbrev pub operations_of : Draft → ℕ
 operations_of draft = operations_in (board_of draft).masters

@@ -1,7 +1,7 @@
 -- A statement that its words saw to, added to a sound draft, leaves a sound draft.
-use Rattle.std.proofs.Common.{subst, sym, ap, ◌∙◌, ◌≡◌, ℕ, ◌+◌, ◌≤◌, ◌<◌, Bool, true, false, not, ◌&&◌, ◌||◌, List, [], ◌∷◌, ◌++◌, length, refl, arith}
-use Rattle.std.specs.Prelude.{Option, Some, None, Result, Ok, Err, ◌==◌, nat_le, nat_lt}
-use Rattle.std.specs.List.{list_all, list_any}
+use Rattle.std.proofs.Common.{subst, sym, ◌≡◌, ℕ, ◌+◌, Bool, true, List, length, refl, arith}
+use Rattle.std.specs.Prelude.{Result, Ok, nat_le, nat_lt}
+use Rattle.std.specs.List.{list_all}
 use Rattle.std.proofs.lemmas.Bool.{and_from, and_parts, or_parts, not-false, leb-false, ltb-false, le-leb}
 use Rattle.list_facts.specs.Lists.{total}
 use Rattle.list_facts.proofs.TotalLemmas.{total-push}
@@ -11,21 +11,20 @@ use Rattle.board_model.specs.declared.agents.Master.{Master}
 use Rattle.board_model.specs.declared.board.Board.{Board}
 use Rattle.board_model.specs.declared.op.Op.{Op}
 use Rattle.board_model.specs.Requests.{tries_of}
-use Rattle.board_model.specs.WellFormed.{is_well_formed, is_well_formed_bridge, is_well_formed_target, is_well_formed_master, is_well_formed_op, operations_in}
+use Rattle.board_model.specs.WellFormed.{is_well_formed_bridge, is_well_formed_target, is_well_formed_op, operations_in}
 use Rattle.bridge_header.specs.Windows.{reading_of}
 use Rattle.line_forms.specs.declared.fault.LineFault.{LineFault}
 use Rattle.line_forms.specs.declared.statement.Statement.{Statement}
 use Rattle.line_forms.specs.declared.statement.Statement.TheVariants.{NewBridge, NewHeader, NewTarget, Identifies, Stalls, Bursts, Claims, Aborts, Opens, NewMaster, Does, Discards, Drops}
 use Rattle.board_draft.specs.declared.draft.Draft.{Draft}
 use Rattle.board_draft.specs.declared.draft.Owner.{Owner}
-use Rattle.board_draft.specs.declared.draft.Owner.TheVariants.{Nobody, OfTarget, OfMaster}
-use Rattle.board_draft.specs.Drafts.{board_of, draft_of, first_draft}
+use Rattle.board_draft.specs.Drafts.{board_of, first_draft}
 use Rattle.board_draft.specs.Bridges.{bridge_of}
 use Rattle.board_draft.specs.Targets.{new_target, on_target, set_identity, set_stalls, set_burst, add_range, add_abort, add_opening}
 use Rattle.board_draft.specs.Masters.{add_op, does}
 use Rattle.board_draft.specs.Add.{add}
 use Rattle.board_draft.specs.Formed.{is_formed, is_formed_op}
-use Rattle.board_draft.proofs.AddedLemmas.{BridgePut, add_bridge-ok, put_header-ok, unless-ok, TargetChanged, on_target-ok, MasterChanged, on_master-ok, OpAdded, add_op-ok, add_discard-ok, add_drop-ok}
+use Rattle.board_draft.proofs.AddedLemmas.{BridgePut, add_bridge-ok, put_header-ok, unless-ok, on_target-ok, on_master-ok, add_op-ok, add_discard-ok, add_drop-ok}
 use Rattle.board_draft.proofs.CountLemmas.{owner_count}
 use Rattle.board_draft.proofs.PushLemmas.{all-push, length-push}
 use Rattle.board_draft.proofs.BridgeLemmas.{bridge_formed}
@@ -33,7 +32,7 @@ use Rattle.board_draft.proofs.HeaderLemmas.{header_formed}
 use Rattle.board_draft.proofs.PartLemmas.{formed_by}
 use Rattle.board_draft.proofs.TargetLemmas.{IsDetailed, range_detail, abort_detail, opening_detail, identity_detail, stalls_detail, burst_detail}
 use Rattle.board_draft.proofs.OpLemmas.{op_formed}
-use Rattle.board_draft.proofs.SoundLemmas.{IsSound, well_formed_by, HasPlace, place_by, TargetSound, MasterSound, OwnerSound, owner_closed, with_bridge, with_discard, with_drop}
+use Rattle.board_draft.proofs.SoundLemmas.{IsSound, HasPlace, place_by, TargetSound, MasterSound, OwnerSound, owner_closed, with_bridge, with_discard, with_drop}
 
 pub record IsDraftSound (draft : Draft) : Type 0 where
   pub board : IsSound draft.board

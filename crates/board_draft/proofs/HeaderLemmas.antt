@@ -1,16 +1,12 @@
 -- The windows that a header says are in whole units, and its buses are numbered.
-use Rattle.std.proofs.Common.{subst, zero, suc, sym, ap, ◌∙◌, ◌≡◌, ℕ, ◌+◌, ◌-◌, ◌*◌, ◌/◌, ◌%◌, ◌^◌, ◌≤◌, ◌<◌, Bool, true, false, cond, not, ◌&&◌, ◌||◌, List, [], ◌∷◌, length, refl, arith}
-use Rattle.std.specs.Prelude.{Option, Some, None, Result, Ok, Err, ◌==◌, nat_le, nat_lt, slice_index}
+use Rattle.std.proofs.Common.{subst, zero, suc, ◌≡◌, ℕ, ◌+◌, ◌*◌, ◌^◌, ◌<◌, Bool, true, false, cond, not, ◌||◌, List, [], ◌∷◌, refl, arith}
+use Rattle.std.specs.Prelude.{Some, None, Ok, ◌==◌, nat_le, nat_lt, slice_index}
 use Rattle.std.specs.List.{list_all}
-use Rattle.std.proofs.lemmas.Bool.{and_parts, and_from, not-false, not-true, ltb-true, lt-ltb, le-leb, leb-true, eq-eqb}
-use Rattle.std.proofs.lemmas.Bool.Decides.{nat_tests}
-use Rattle.board_model.specs.declared.bridge.Window.{Window}
-use Rattle.board_model.specs.declared.bridge.Bridge.{Bridge}
+use Rattle.std.proofs.lemmas.Bool.{and_parts, and_from, not-false, ltb-true, lt-ltb, le-leb, eq-eqb}
 use Rattle.board_model.specs.WellFormed.{is_within, is_window, is_well_formed_bridge}
 use Rattle.bridge_header.specs.declared.windows.Windows.{Windows}
-use Rattle.bridge_header.specs.declared.fault.HeaderFault.{HeaderFault}
 use Rattle.bridge_header.specs.HeaderBytes.{bits, register_2, register_4}
-use Rattle.bridge_header.specs.Windows.{window_between, memory_window, prefetchable_upper, prefetchable_window, io_upper, io_window, reading_of, windows_of, is_type_1, is_enabled, has_refused_control, has_ordered_buses, has_whole_windows}
+use Rattle.bridge_header.specs.Windows.{window_between, prefetchable_upper, io_upper, reading_of, windows_of, is_type_1, is_enabled, has_refused_control, has_ordered_buses, has_whole_windows}
 use Rattle.board_draft.specs.Bridges.{bridge_of}
 use Rattle.board_draft.specs.Formed.{is_byte}
 use Rattle.board_draft.proofs.StepLemmas.{if-ok}

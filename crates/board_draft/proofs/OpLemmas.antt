@@ -1,16 +1,15 @@
 -- An operation that is added is well formed.
-use Rattle.std.proofs.Common.{◌≡◌, ℕ, ◌+◌, ◌*◌, ◌%◌, ◌≤◌, ◌<◌, Bool, true, false, not, ◌&&◌, ◌||◌, List, length, refl, arith}
-use Rattle.std.specs.Prelude.{Option, Some, None, ◌==◌, nat_le, nat_lt}
-use Rattle.std.specs.List.{list_all}
-use Rattle.std.proofs.lemmas.Bool.{and_parts, and_from, or_parts, not-false, ltb-false, le-leb}
+use Rattle.std.proofs.Common.{◌≡◌, ℕ, ◌+◌, ◌*◌, ◌%◌, true, false, List, length}
+use Rattle.std.specs.Prelude.{Option, Some, None, ◌==◌, nat_lt}
+use Rattle.std.proofs.lemmas.Bool.{and_parts, and_from, ltb-false, le-leb}
 use Rattle.pci_command.specs.declared.command.Space.{Space}
 use Rattle.pci_command.specs.declared.command.Space.TheVariants.{Mem, Io, Cfg}
 use Rattle.pci_command.specs.declared.phases.Phase.{Phase}
 use Rattle.board_model.specs.declared.op.Op.{Op}
 use Rattle.board_model.specs.declared.op.Op.TheVariants.{Read, Write, CfgRead, CfgWrite, Poll}
-use Rattle.board_model.specs.WellFormed.{is_dword_in, is_burst_in, is_well_formed_read, is_well_formed_write, is_well_formed_op, is_well_formed_phase, read_space, write_space}
+use Rattle.board_model.specs.WellFormed.{is_burst_in, is_well_formed_read, is_well_formed_write, is_well_formed_op, read_space, write_space}
 use Rattle.board_draft.specs.Masters.{is_aligned, passes_block}
-use Rattle.board_draft.specs.Formed.{is_address, is_phase_count, is_formed_read, is_formed_write, is_formed_op}
+use Rattle.board_draft.specs.Formed.{is_phase_count, is_formed_read, is_formed_write, is_formed_op}
 use Rattle.board_draft.proofs.TargetLemmas.{dword_by}
 
 read_formed : (address : ℕ) (space : Option Space) → is_formed_read address space ≡ true → (address % 4 == 0) ≡ true → is_well_formed_read address space ≡ true

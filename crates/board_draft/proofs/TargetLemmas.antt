@@ -1,8 +1,7 @@
 -- A target stays well formed by each detail.
-use Rattle.std.proofs.Common.{subst, sym, ap, ◌∙◌, ◌≡◌, ℕ, ◌+◌, ◌*◌, ◌%◌, ◌^◌, ◌≤◌, ◌<◌, Bool, true, false, not, ◌&&◌, ◌||◌, List, [], ◌∷◌, ◌++◌, length, Result, Ok, Err, refl, arith}
+use Rattle.std.proofs.Common.{subst, sym, ap, ◌∙◌, ◌≡◌, ℕ, ◌+◌, ◌%◌, ◌^◌, Bool, true, false, not, [], ◌∷◌, ◌++◌, length, Ok, refl, arith}
 use Rattle.std.specs.Prelude.{◌==◌, nat_le, nat_lt}
-use Rattle.std.specs.List.{list_all}
-use Rattle.std.proofs.lemmas.Bool.{and_parts, and_from, not-false, not-true, ltb-false, leb-false, le-leb}
+use Rattle.std.proofs.lemmas.Bool.{and_from, not-false, ltb-false, leb-false, le-leb}
 use Rattle.std.proofs.lemmas.Bool.Decides.{nat_tests}
 use Rattle.list_facts.specs.Lists.{total}
 use Rattle.list_facts.proofs.TotalLemmas.{total-push}
@@ -11,12 +10,12 @@ use Rattle.pci_command.specs.declared.command.Space.TheVariants.{Mem, Io, Cfg}
 use Rattle.board_model.specs.declared.agents.Range.{Range}
 use Rattle.board_model.specs.declared.agents.Opening.{Opening}
 use Rattle.board_model.specs.declared.agents.Target.{Target}
-use Rattle.board_model.specs.WellFormed.{is_within, is_block, is_range_in, is_well_formed_range, is_dword_in, is_well_formed_opening, registers_of, is_well_formed_target}
+use Rattle.board_model.specs.WellFormed.{is_within, is_range_in, is_well_formed_range, is_dword_in, is_well_formed_opening, registers_of, is_well_formed_target}
 use Rattle.board_draft.specs.Targets.{unit_of, end_of, is_in_units, set_identity, set_stalls, set_burst, add_range, add_abort, add_opening}
 use Rattle.board_draft.specs.Formed.{is_target_space, is_address}
-use Rattle.board_draft.proofs.AddedLemmas.{RangeFits, RangeAdded, add_range-ok, AbortAdded, add_abort-ok, OpeningAdded, add_opening-ok}
+use Rattle.board_draft.proofs.AddedLemmas.{RangeFits, add_range-ok, add_abort-ok, add_opening-ok}
 use Rattle.board_draft.proofs.PushLemmas.{all-push, length-push}
-use Rattle.board_draft.proofs.PartLemmas.{TargetParts, parts_of, formed_by}
+use Rattle.board_draft.proofs.PartLemmas.{parts_of, formed_by}
 
 -- the target as before, with its name and bus, and well formed
 pub record IsDetailed (target changed : Target) : Type 0 where

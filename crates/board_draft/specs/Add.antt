@@ -9,7 +9,6 @@ use Rattle.board_draft.specs.Bridges.{add_bridge, add_header}
 use Rattle.board_draft.specs.Targets.{add_target, on_target, set_identity, set_stalls, set_burst, add_range, add_abort, add_opening}
 use Rattle.board_draft.specs.Masters.{add_master, does}
 use Rattle.board_draft.specs.Plans.{add_discard, add_drop}
-use Rattle.board_model.specs.declared.op.Op.{Op}
 use Rattle.board_model.specs.Requests.{tries_of}
 
 abbrev pub add : Draft → Statement → Result Draft LineFault

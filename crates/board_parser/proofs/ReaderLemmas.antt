@@ -1,5 +1,5 @@
 -- What holds of the values that readers of words give.
-use Rattle.std.proofs.Common.{subst, sym, ap, ◌≡◌, ℕ, Bool, true, false, cond, List, [], ◌∷◌, length, refl}
+use Rattle.std.proofs.Common.{subst, ap, ◌≡◌, ℕ, Bool, true, false, cond, List, [], ◌∷◌, length, refl}
 use Rattle.std.specs.Prelude.{Result, Ok, Err, ◌==◌}
 use Rattle.line_forms.specs.declared.fault.LineFault.{LineFault}
 use Rattle.line_forms.specs.Words.{Reader, read_on, ◌>>=◌, ◌>>◌, give, with_rest, one_word, begins_with, behind_first, choice, optional, whole}

@@ -13,7 +13,7 @@ use Rattle.board_draft.specs.Add.{add}
 use Rattle.board_draft.proofs.StepLemmas.{step-ok}
 use Rattle.board_draft.proofs.SoundLemmas.{well_formed_by}
 use Rattle.board_draft.proofs.DraftLemmas.{IsDraftSound, closed_sound, first_sound, add_sound}
-use Rattle.board_parser.specs.OneLine.{begin, some_of, read_words, read_more, read_unless, read_line}
+use Rattle.board_parser.specs.OneLine.{begin, some_of, read_words, read_unless, read_line}
 use Rattle.board_parser.specs.Boards.{then_lines, read_lines, ended, board_read}
 use Rattle.board_parser.proofs.StatementLemmas.{statement-formed}
 

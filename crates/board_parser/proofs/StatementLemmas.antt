@@ -12,7 +12,7 @@ use Rattle.line_forms.specs.declared.fault.LineFault.TheVariants.{WrongWord}
 use Rattle.line_forms.specs.declared.keyword.Form.{Form}
 use Rattle.line_forms.specs.declared.keyword.Form.TheVariants.{Bridge, Header, Target, Id, Stall, Burst, Range, Abort, Word, Master, Reads, WritesBurst, WritesPort, ReadsRegister, WritesRegister, Polls, Discard, Drop}
 use Rattle.line_forms.specs.declared.statement.Statement.{Statement}
-use Rattle.line_forms.specs.Words.{one_word, whole}
+use Rattle.line_forms.specs.Words.{one_word}
 use Rattle.line_forms.specs.Keywords.{form_of}
 use Rattle.line_forms.specs.Statements.{behind_word, statement_form, statement_of}
 use Rattle.board_parser.proofs.ReaderLemmas.{on-ok, word-ok, yields-whole}
