@@ -9,3 +9,4 @@ pub mod OpLemmas
 pub mod SoundLemmas
 pub mod HeaderLemmas
 pub mod DraftLemmas
+pub mod AgentLemmas

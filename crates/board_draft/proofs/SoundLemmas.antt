@@ -85,7 +85,7 @@ OwnerSound board Nobody = Unit {0}
 OwnerSound board (OfTarget target) = TargetSound board target
 OwnerSound board (OfMaster master) = MasterSound board master
 
-one_more : (on : ℕ → ℕ) (at bus : ℕ) → ((b : ℕ) → on b ≤ 8) → on at < 8 → on bus + cond (at == bus) 1 0 ≤ 8
+pub one_more : (on : ℕ → ℕ) (at bus : ℕ) → ((b : ℕ) → on b ≤ 8) → on at < 8 → on bus + cond (at == bus) 1 0 ≤ 8
 one_more on at bus all room =
     let P : Bool → Type 0 = λ b. (at == bus) ≡ b → on bus + cond b 1 0 ≤ 8 in
     (elim (at == bus) as P [

@@ -18,6 +18,9 @@ board_of draft = with_owner draft.board draft.owner
 abbrev pub draft_of : Bool → Board → Draft
 draft_of wide board = record { wide = wide; board = board; owner = Nobody }
 
+abbrev pub empty_board : Board
+empty_board = record { bridges = []; targets = []; masters = []; discards = []; drops = [] }
+
 -- a draft before its second line
 abbrev pub first_draft : Bool → Draft
-first_draft wide = draft_of wide (record { bridges = []; targets = []; masters = []; discards = []; drops = [] })
+first_draft wide = draft_of wide empty_board

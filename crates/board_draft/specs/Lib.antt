@@ -6,3 +6,4 @@ pub mod Masters
 pub mod Plans
 pub mod Add
 pub mod Formed
+pub mod Counts

@@ -1,10 +1,11 @@
 ghost use Rattle.std.specs.Prelude.{◌≡◌, ◌<◌, ◌≤◌, IfOk};
-ghost use Rattle.board_model.specs.WellFormed.{operations_in};
 ghost use Rattle.board_draft.specs.Steps.{Answers};
 ghost use Rattle.board_draft.specs.Drafts.{board_of};
 ghost use Rattle.board_draft.specs.Add.{add, tries_in};
+ghost use Rattle.board_draft.specs.Counts.{IsCountOf};
 
 use crate::bridges::{add_bridge, add_header};
+use crate::counts::Counts;
 use crate::details::{abort, burst, claim, identify, open_word, operate, stall};
 use crate::lists::push;
 use crate::masters::add_master;
@@ -33,14 +34,14 @@ pub(crate) fn board_of(alloc: Global, draft: Draft) -> Result<Board, NoMemory>
     Ok(board)
 }
 
-/// One more statement of a draft that has so many operations, each poll counted by its tries.
+/// One more statement of a draft that has these counts.
 pub(crate) fn add(
     alloc: Global,
     draft: Draft,
-    operations: u32,
+    counts: &Counts,
     statement: Statement,
 ) -> Result<Draft, AddFault>
-    requires { operations ≡ operations_in (board_of draft).masters }
+    requires { IsCountOf counts.now (board_of draft) }
     ensures { Answers result (add draft statement) }
 {
     let wide = draft.wide;
@@ -61,7 +62,9 @@ pub(crate) fn add(
             delayed,
         ),
         Statement::NewTarget { name, bus, device } => {
-            add_target(alloc, wide, board_of(alloc, draft)?, name, bus, device)
+            let fault = counts.agent_fault(&name, bus);
+            let board = board_of(alloc, draft)?;
+            add_target(alloc, wide, board, fault, name, bus, device)
         }
         Statement::Identifies { vendor, model } => identify(draft, vendor, model),
         Statement::Stalls(tokens) => stall(draft, tokens),
@@ -70,9 +73,11 @@ pub(crate) fn add(
         Statement::Aborts(range) => abort(alloc, draft, range),
         Statement::Opens(opening) => open_word(alloc, draft, opening),
         Statement::NewMaster { name, bus } => {
-            add_master(alloc, wide, board_of(alloc, draft)?, name, bus)
+            let fault = counts.agent_fault(&name, bus);
+            let board = board_of(alloc, draft)?;
+            add_master(alloc, wide, board, fault, name, bus)
         }
-        Statement::Does { op, too_many } => operate(alloc, draft, operations, op, too_many),
+        Statement::Does { op, too_many } => operate(alloc, draft, counts.operations, op, too_many),
         Statement::Discards(planned) => {
             add_discard(alloc, wide, board_of(alloc, draft)?, planned)
         }

@@ -4,6 +4,7 @@
 
 mod add;
 mod bridges;
+mod counts;
 mod details;
 mod draft;
 mod fault;

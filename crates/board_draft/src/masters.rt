@@ -1,25 +1,28 @@
 ghost use Rattle.std.specs.Prelude.{◌≡◌, ◌+◌, ◌≤◌, ◌||◌};
 ghost use Rattle.board_model.specs.Requests.{tries_of};
 ghost use Rattle.board_draft.specs.Steps.{Answers};
+ghost use Rattle.board_draft.specs.Targets.{agent_fault};
 ghost use Rattle.board_draft.specs.Masters.{add_master, master_in, is_aligned, passes_block, add_op};
 
 use crate::lists::{empty, push};
-use crate::targets::agent_fault;
 use crate::{AddFault, Draft, Owner};
 use board_model::{Board, Master, Name, Op, tries_of};
 use line_forms::LineFault;
 use std::alloc::Global;
 
+/// A master, unless a name or a limit forbids it by that fault.
 pub(crate) fn add_master(
     alloc: Global,
     wide: bool,
     board: Board,
+    fault: Option<LineFault>,
     name: Name,
     bus: u8,
 ) -> Result<Draft, AddFault>
+    requires { fault ≡ agent_fault board name bus }
     ensures { Answers result (add_master wide board name bus) }
 {
-    if let Some(fault) = agent_fault(&board, &name, bus) {
+    if let Some(fault) = fault {
         return Err(AddFault::Fault(fault));
     }
     let master = Master {

@@ -1,4 +1,5 @@
 use crate::add::{add, board_of, tries_in};
+use crate::counts::{Agent, Counts};
 use crate::lists::empty;
 use crate::{AddFault, Draft, Owner};
 use board_model::Board;
@@ -7,30 +8,28 @@ use pci_command::NoMemory;
 use std::alloc::Global;
 use std::marker::Model;
 
-/// A draft with the number of its operations, each poll counted by its tries, so that no line
-/// counts them again. Contracts see the draft.
-#[derive(Debug, Drop)]
+/// A draft with counts of what it has, so that no line looks through all of it again. Contracts see
+/// the draft.
+#[derive(Drop)]
 pub struct Sheet {
     draft: Draft,
-    operations: u32,
+    counts: Counts,
 }
 
 impl Model for Sheet {
-    ghost use Rattle.std.specs.Prelude.{◌≡◌, ◌≤◌};
-    ghost use Rattle.board_model.specs.WellFormed.{operations_in};
     ghost use Rattle.board_draft.specs.declared.draft.Draft.{Draft};
     ghost use Rattle.board_draft.specs.Drafts.{board_of};
+    ghost use Rattle.board_draft.specs.Counts.{IsCountOf};
 
     ghost Value = { Draft };
 
     ghost view = { λ sheet. sheet.draft };
 
-    ghost invariant = { λ sheet. (sheet.operations ≡ operations_in (board_of sheet.draft).masters) × (sheet.operations ≤ 65536) };
+    ghost invariant = { λ sheet. IsCountOf sheet.counts (board_of sheet.draft) };
 }
 
 impl Sheet {
     ghost use Rattle.std.specs.Prelude.{◌≡◌, ◌≤◌, IfOk};
-    ghost use Rattle.board_model.specs.WellFormed.{operations_in};
     ghost use Rattle.board_draft.specs.Steps.{Answers};
     ghost use Rattle.board_draft.specs.Drafts.{board_of, first_draft};
     ghost use Rattle.board_draft.specs.Add.{add};
@@ -53,7 +52,7 @@ impl Sheet {
                 board,
                 owner: Owner::Nobody,
             },
-            operations: 0,
+            counts: Counts::new(alloc),
         }
     }
 
@@ -68,23 +67,19 @@ impl Sheet {
     pub fn add(self, alloc: Global, statement: Statement) -> Result<Sheet, AddFault>
         ensures { Answers result (add self statement) }
     {
-        let Sheet { draft, operations } = self;
+        let Sheet { draft, counts } = self;
         let tries = tries_in(&statement);
-        let draft = add(alloc, draft, operations, statement)?;
-        Ok(Sheet {
-            draft,
-            operations: operations + tries,
-        })
+        let agent = Agent::of(alloc, &statement)?;
+        let draft = add(alloc, draft, &counts, statement)?;
+        let counts = counts.grown(agent, tries)?;
+        Ok(Sheet { draft, counts })
     }
 
     /// The board of the draft.
     pub fn into_board(self, alloc: Global) -> Result<Board, NoMemory>
         ensures { IfOk result (λ board. board ≡ board_of self) }
     {
-        let Sheet {
-            draft,
-            operations: _,
-        } = self;
+        let Sheet { draft, counts: _ } = self;
         board_of(alloc, draft)
     }
 }

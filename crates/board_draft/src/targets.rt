@@ -1,9 +1,8 @@
 ghost use Rattle.std.specs.Prelude.{◌≡◌, ◌+◌, ◌*◌, ◌<◌, ◌≤◌, ◌||◌, ◌^◌, nat_le, nat_lt, length};
-ghost use Rattle.std.specs.List.{list_any};
 ghost use Rattle.list_facts.specs.Lists.{total};
-ghost use Rattle.board_model.specs.WellFormed.{registers_of, is_target_named, is_master_named, agents_on};
+ghost use Rattle.board_model.specs.WellFormed.{registers_of};
 ghost use Rattle.board_draft.specs.Steps.{Answers};
-ghost use Rattle.board_draft.specs.Targets.{is_name_used, agent_fault, new_target, add_target, target_in, unit_of, end_of, is_in_units, fits, put_range, put_abort, add_range, add_abort, add_opening, on_target};
+ghost use Rattle.board_draft.specs.Targets.{agent_fault, new_target, add_target, target_in, unit_of, end_of, is_in_units, fits, put_range, put_abort, add_range, add_abort, add_opening, on_target};
 
 use crate::lists::{empty, push};
 use crate::{AddFault, Draft, Owner};
@@ -12,17 +11,20 @@ use line_forms::LineFault;
 use pci_command::Space;
 use std::alloc::Global;
 
+/// A target, unless a name or a limit forbids it by that fault.
 pub(crate) fn add_target(
     alloc: Global,
     wide: bool,
     board: Board,
+    fault: Option<LineFault>,
     name: Name,
     bus: u8,
     device: u8,
 ) -> Result<Draft, AddFault>
+    requires { fault ≡ agent_fault board name bus }
     ensures { Answers result (add_target wide board name bus device) }
 {
-    if let Some(fault) = agent_fault(&board, &name, bus) {
+    if let Some(fault) = fault {
         return Err(AddFault::Fault(fault));
     }
     let target = new_target(alloc, name, bus, device);
@@ -31,65 +33,6 @@ pub(crate) fn add_target(
         board,
         owner: Owner::OfTarget(target),
     })
-}
-
-/// Why no target or master of this name may be added on that bus.
-pub(crate) fn agent_fault(board: &Board, name: &Name, bus: u8) -> Option<LineFault>
-    ensures { result ≡ agent_fault board.now name.now bus }
-{
-    if is_name_used(board, name) {
-        return Some(LineFault::NameUsed);
-    }
-    if has_eight_agents(board, bus) {
-        return Some(LineFault::OverLimit);
-    }
-    None
-}
-
-fn is_name_used(board: &Board, name: &Name) -> bool
-    ensures { result ≡ is_name_used board.now name.now }
-{
-    is_of_a_target(board, name) || is_of_a_master(board, name)
-}
-
-fn is_of_a_target(board: &Board, name: &Name) -> bool
-    ensures { result ≡ list_any (is_target_named name.now) board.now.targets }
-{
-    let name = name.as_str();
-    board
-        .targets
-        .as_slice()
-        .iter()
-        .any(|target| target.name.as_str() == name)
-}
-
-fn is_of_a_master(board: &Board, name: &Name) -> bool
-    ensures { result ≡ list_any (is_master_named name.now) board.now.masters }
-{
-    let name = name.as_str();
-    board
-        .masters
-        .as_slice()
-        .iter()
-        .any(|master| master.name.as_str() == name)
-}
-
-fn has_eight_agents(board: &Board, bus: u8) -> bool
-    ensures { result ≡ nat_le 8 (agents_on board.now bus) }
-{
-    let targets = board
-        .targets
-        .as_slice()
-        .iter()
-        .filter(|target| target.bus == bus)
-        .count();
-    let masters = board
-        .masters
-        .as_slice()
-        .iter()
-        .filter(|master| master.bus == bus)
-        .count();
-    targets >= 8 || masters >= 8 - targets
 }
 
 fn new_target(alloc: Global, name: Name, bus: u8, device: u8) -> Target

@@ -1,0 +1,101 @@
+use board_model::Name;
+use indexmap::IndexSet;
+use line_forms::{LineFault, Statement};
+use pci_command::NoMemory;
+use std::alloc::{AllocError, Global};
+
+/// A target or master by its name and its bus.
+#[derive(Drop)]
+pub(crate) struct Agent {
+    name: String,
+    bus: u8,
+}
+
+/// What a draft has, counted as it grows, so that no line looks through all of it again.
+#[derive(Drop)]
+pub(crate) struct Counts {
+    /// The names of its targets and masters.
+    names: IndexSet<String>,
+    /// How many of these are on each bus.
+    agents: [u8; 256],
+    /// Its operations, each poll counted by its tries.
+    pub(crate) operations: u32,
+}
+
+impl Agent {
+    ghost use Rattle.std.specs.Prelude.{◌≡◌, Some, IfOk};
+    ghost use Rattle.board_draft.specs.Counts.{agent_in, name_and_bus};
+
+    /// The target or master that a statement adds.
+    pub(crate) fn of(alloc: Global, statement: &Statement) -> Result<Option<Agent>, NoMemory>
+        ensures { IfOk result (λ agent. name_and_bus agent ≡ agent_in statement.now) }
+    {
+        match statement {
+            Statement::NewTarget { name, bus, .. } | Statement::NewMaster { name, bus } => {
+                Ok(Some(Agent::named(alloc, name, *bus)?))
+            }
+            _ => Ok(None),
+        }
+    }
+
+    fn named(alloc: Global, name: &Name, bus: u8) -> Result<Agent, AllocError>
+        ensures { IfOk result (λ agent. name_and_bus (Some agent) ≡ Some (name.now, bus)) }
+    {
+        let name = String::from_str(alloc, name.as_str())?;
+        Ok(Agent { name, bus })
+    }
+}
+
+impl Counts {
+    ghost use Rattle.std.specs.Prelude.{◌≡◌, ℕ, ◌+◌, ◌<◌, ◌≤◌, IfOk, Some, slice_index, string_bytes};
+    ghost use Rattle.board_draft.specs.Drafts.{empty_board};
+    ghost use Rattle.board_draft.specs.Counts.{IsCountOf, IsGrown, fault_in, name_and_bus};
+
+    /// Those of a board that has nothing.
+    pub(crate) fn new(alloc: Global) -> Counts
+        ensures { IsCountOf result empty_board }
+    {
+        Counts {
+            names: IndexSet::new(alloc),
+            agents: [0; 256],
+            operations: 0,
+        }
+    }
+
+    /// Why no target or master of this name may be added on that bus.
+    pub(crate) fn agent_fault(&self, name: &Name, bus: u8) -> Option<LineFault>
+        ensures { result ≡ fault_in self.now name.now bus }
+    {
+        if self.names.contains(name.as_str()) {
+            return Some(LineFault::NameUsed);
+        }
+        if self.agents[usize::from(bus)] >= 8 {
+            return Some(LineFault::OverLimit);
+        }
+        None
+    }
+
+    /// With that target or master, and with so many operations more.
+    pub(crate) fn grown(self, agent: Option<Agent>, tries: u32) -> Result<Counts, NoMemory>
+        requires agents { (bus : ℕ) → bus < 256 → slice_index self.agents bus ≤ 8 }
+        requires operations { self.operations + tries ≤ 65536 }
+        ensures { IfOk result (λ counts. IsGrown self counts (name_and_bus agent) tries) }
+    {
+        let mut counts = match agent {
+            None => self,
+            Some(agent) => self.with_agent(agent)?,
+        };
+        counts.operations += tries;
+        Ok(counts)
+    }
+
+    fn with_agent(mut self, agent: Agent) -> Result<Counts, NoMemory>
+        requires { slice_index self.agents agent.bus ≤ 8 }
+        ensures { IfOk result (λ counts. IsGrown self counts (name_and_bus (Some agent)) 0) }
+    {
+        let Agent { name, bus } = agent;
+        self.agents[usize::from(bus)] += 1;
+        self.names.insert(name)?;
+        Ok(self)
+    }
+}
