@@ -52,11 +52,7 @@ fn is_block(range: &Range, unit: u64, end: u128) -> bool
 {
     let past = u128::from(range.base) + u128::from(range.size);
     let size = u128::from(range.size);
-    range.base % unit == 0
-        && range.size % unit == 0
-        && range.size > 0
-        && size < end
-        && past <= end
+    range.base % unit == 0 && range.size % unit == 0 && range.size > 0 && size < end && past <= end
 }
 
 fn registers_fit(ranges: &[Range], most: u8) -> bool

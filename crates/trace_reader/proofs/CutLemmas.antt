@@ -85,10 +85,10 @@ pub one_more : (text rest : List ℕ) → IsWhole text → 0 < length rest → l
 one_more text rest whole some =
     let here = whole (take (first_size rest) rest) in
     let last : lines_of (take (first_size rest) rest) ≡ take (position_or_len is_newline rest) rest ∷ [] =
-        elim (cases_lt (position_or_len is_newline rest) (length rest)) [
-          | inl inside ↦ (line_is_whole rest inside).0
-          | inr all ↦ last_line rest some all
-        ] in
+    elim (cases_lt (position_or_len is_newline rest) (length rest)) [
+      | inl inside ↦ (line_is_whole rest inside).0
+      | inr all ↦ last_line rest some all
+    ] in
     cc
 
 pub stays_whole : (text rest : List ℕ) → IsWhole text → position_or_len is_newline rest < length rest → IsWhole (text ++ take (first_size rest) rest)
@@ -132,7 +132,7 @@ one_line_more text line from at next order inside whole lines is =
     let rest = length-drop at text in
     let size : next ≡ at + first_size (drop at text) = omega (arith, place) in
     let part : slice_range text from next ≡ slice_range text from at ++ take (first_size (drop at text)) (drop at text) =
-        ap (slice_range text from) size ∙ slice_more text from at (first_size (drop at text)) order (omega arith) in
+    ap (slice_range text from) size ∙ slice_more text from at (first_size (drop at text)) order (omega arith) in
     let more = one_more (slice_range text from at) (drop at text) (whole (omega arith)) (omega (arith, rest)) in
     let all : lines_of (slice_range text from next) ≡ lines_of (slice_range text from at) ++ line ∷ [] = cc in
     (all, λ within. subst IsWhole (sym part) (stays_whole (slice_range text from at) (drop at text) (whole (omega arith)) (omega (arith, rest, place))))

@@ -1,0 +1,82 @@
+-- What a status says where a call stopped with it: that nothing was written, and its cause in the input.
+use Rattle.std.proofs.Common.{◌≡◌, ℕ, ◌^◌, ◌<◌, ◌≤◌, List, [], ◌++◌, append-nil, length, Option, Some, None, IfSome, refl, sym, subst, ap, ◌∙◌}
+use Rattle.std.specs.Io.KnownBytes.{Consumes, IsAtEnd}
+use Rattle.program_status.specs.declared.status.Status.{Status}
+use Rattle.program_status.specs.declared.status.Status.TheVariants.{Done, NoMemory, Usage, ReadFault, WriteFault, TooLong, BadBoard, BadTrace, NotRun, Incomplete}
+use Rattle.pcitree.specs.declared.words.Form.{Form}
+use Rattle.pcitree.specs.Answers.{limit_of, AnswersTo, Refuses, IsAnswered, Causes}
+use Rattle.pcitree.specs.Ends.{ReadsInput, HoldsTooMuch, AnswersInput, RefusesInput, Finishes, StopsInText, IsBeforeWriting}
+use Rattle.pcitree.specs.Stops.{StopsReading, StopsAnswering, StopsServing, StopsRunning}
+
+-- what was read to the end of a source is all that it held
+all_of : (held left : Option (List ℕ)) (input taken : List ℕ) → held ≡ Some input → Consumes held left taken → IsAtEnd left → input ≡ taken
+all_of None left input taken is read end = cc
+all_of (Some bytes) None input taken is read end = absurd read
+all_of (Some bytes) (Some rest) input taken is read end =
+    let same : bytes ≡ input = cc in
+    let last : taken ++ rest ≡ taken = ap (λ (l : List ℕ). taken ++ l) end ∙ append-nil taken in
+    sym same ∙ read ∙ last
+
+-- an input that was answered
+pub answered : (form : Form) (held left : Option (List ℕ)) (input text : List ℕ) → held ≡ Some input → AnswersInput form held left text → IsAnswered form input
+answered form held left input text is answers =
+    let same = all_of held left input answers.input is answers.reads.read answers.reads.at_end in
+    record {
+      within = subst (λ (l : List ℕ). length l ≤ limit_of form) (sym same) answers.reads.within;
+      text = text;
+      answers = subst (λ (l : List ℕ). AnswersTo form l text) (sym same) answers.answers;
+    }
+
+-- an input that was refused
+refused : (form : Form) (held left : Option (List ℕ)) (input : List ℕ) (status : Status) → held ≡ Some input → RefusesInput form held left status → (length input ≤ limit_of form) × Refuses form input status
+refused form held left input status is refuses =
+    let same = all_of held left input refuses.input is refuses.reads.read refuses.reads.at_end in
+    (subst (λ (l : List ℕ). length l ≤ limit_of form) (sym same) refuses.reads.within, subst (λ (l : List ℕ). Refuses form l status) (sym same) refuses.refuses)
+
+too_much : (form : Form) (held : Option (List ℕ)) (input : List ℕ) → held ≡ Some input → HoldsTooMuch form held → limit_of form < length input
+too_much form None input is holds = cc
+too_much form (Some bytes) input is holds = let same : bytes ≡ input = cc in subst (λ (l : List ℕ). limit_of form < length l) same holds
+
+module _ (S K : Type 0) (held : S → Option (List ℕ)) (read_faults : S → ℕ) (taken : K → Option (List ℕ)) (write_faults : K → ℕ) where
+  serving_unwritten : (form : Form) (s t : S) (k l : K) (status : Status) → StopsServing S K held read_faults taken write_faults form s t k l status → IsBeforeWriting status → l ≡ k
+  serving_unwritten form s t k l Done stops before = absurd before
+  serving_unwritten form s t k l NoMemory stops before = stops.1
+  serving_unwritten form s t k l (Usage word) stops before = stops.1
+  serving_unwritten form s t k l ReadFault stops before = stops.1
+  serving_unwritten form s t k l WriteFault stops before = absurd before
+  serving_unwritten form s t k l TooLong stops before = stops.1
+  serving_unwritten form s t k l (BadBoard line fault) stops before = stops.1
+  serving_unwritten form s t k l (BadTrace line code) stops before = stops.1
+  serving_unwritten form s t k l (NotRun event why) stops before = stops.1
+  serving_unwritten form s t k l (Incomplete left) stops before = stops.1
+
+  pub unwritten : (form : Option Form) (s t : S) (k l : K) (status : Status) → StopsRunning S K held read_faults taken write_faults form s t k l status → IsBeforeWriting status → l ≡ k
+  unwritten None s t k l Done stops before = absurd stops
+  unwritten None s t k l NoMemory stops before = absurd stops
+  unwritten None s t k l (Usage word) stops before = stops.1
+  unwritten None s t k l ReadFault stops before = absurd stops
+  unwritten None s t k l WriteFault stops before = absurd stops
+  unwritten None s t k l TooLong stops before = absurd stops
+  unwritten None s t k l (BadBoard line fault) stops before = absurd stops
+  unwritten None s t k l (BadTrace line code) stops before = absurd stops
+  unwritten None s t k l (NotRun event why) stops before = absurd stops
+  unwritten None s t k l (Incomplete left) stops before = absurd stops
+  unwritten (Some form) s t k l status stops before = serving_unwritten form s t k l status stops before
+
+  pub caused : (form : Form) (s t : S) (k l : K) (status : Status) (input : List ℕ) → held s ≡ Some input → StopsServing S K held read_faults taken write_faults form s t k l status → Causes form input status
+  caused form s t k l Done input is stops = absurd stops.0
+  caused form s t k l NoMemory input is stops = tt
+  caused form s t k l (Usage word) input is stops = stops.0
+  caused form s t k l ReadFault input is stops = tt
+  caused form s t k l WriteFault input is stops = answered form (held s) (held t) input stops.1.text is stops.1.answers
+  caused form s t k l TooLong input is stops = too_much form (held s) input is stops.0
+  caused form s t k l (BadBoard line fault) input is stops = refused form (held s) (held t) input (BadBoard line fault) is stops.0
+  caused form s t k l (BadTrace line code) input is stops = stops.0
+  caused form s t k l (NotRun event why) input is stops = stops.0
+  caused form s t k l (Incomplete left) input is stops = stops.0
+
+  pub caused_by : (known : Option Form) (form : Form) (s t : S) (k l : K) (status : Status) (input : List ℕ) → known ≡ Some form → held s ≡ Some input → StopsRunning S K held read_faults taken write_faults known s t k l status → Causes form input status
+  caused_by None form s t k l status input there is stops = cc
+  caused_by (Some other) form s t k l status input there is stops =
+      let same : other ≡ form = cc in
+      subst (λ (f : Form). Causes f input status) same (caused other s t k l status input is stops)

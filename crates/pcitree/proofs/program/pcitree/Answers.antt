@@ -1,0 +1,9 @@
+use Rattle.std.proofs.Common.{◌≡◌, rules}
+use Rattle.pcitree.proofs.StopLemmas.{unwritten, caused_by}
+use Rattle.pcitree.proofs.program.pcitree.Goals as goal
+
+pub returns-in-Err-clause-unwritten : goal.returns-in-Err-clause-unwritten
+returns-in-Err-clause-unwritten g c = λ before. unwritten _ _ _ _ _ _ _ _ _ _ _ _ c.in-Err.ensures.stopped before
+
+pub returns-in-Err-clause-cause : goal.returns-in-Err-clause-cause
+returns-in-Err-clause-cause g c = λ form input there is. caused_by _ _ _ _ _ _ _ form _ _ _ _ _ input there is c.in-Err.ensures.stopped
