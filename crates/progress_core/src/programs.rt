@@ -1,4 +1,4 @@
-ghost use Rattle.std.specs.Prelude.{◌≡◌, ◌+◌, ◌*◌, ◌-◌, ◌^◌, ◌≤◌, drop};
+ghost use Rattle.std.specs.Prelude.{◌≡◌, ◌+◌, ◌*◌, ◌-◌, ◌^◌, ◌<◌, ◌≤◌, drop};
 ghost use Rattle.list_facts.specs.Lists.{total};
 ghost use Rattle.board_model.specs.Requests.{op_of, tries_of};
 ghost use Rattle.board_model.specs.Ways.{cost_of, cost_of_try};
@@ -17,7 +17,6 @@ use history_model::Event;
 use pci_command::OpId;
 
 /// What the programs have left: the operation that is each master's turn, and those behind it.
-#[tactic(auto, using(plain_claim::proofs::FewLemmas::few_masters_before, plain_claim::proofs::FewLemmas::master_more))]
 pub(crate) fn programs_left(board: &Board, events: &[Event]) -> u64
     requires { IsRunning board.now (history_of events.now) }
     ensures value { result ≡ programs_left board.now (history_of events.now) 0 board.now.masters }
@@ -25,8 +24,6 @@ pub(crate) fn programs_left(board: &Board, events: &[Event]) -> u64
 {
     let mut left = 0;
     for (index, master) in board.masters.as_slice().iter().enumerate() {
-        // It is one of 256 buses, with eight masters at most on each.
-        let _bus = master.bus;
         left += program_left(board, events, index as u16, master);
     }
     left
@@ -37,12 +34,14 @@ fn program_left(board: &Board, events: &[Event], index: u16, master: &Master) ->
     requires short { total (cost_of board.now master.now.bus) master.now.ops ≤ 500000 }
     ensures value { result ≡ program_left board.now (history_of events.now) master.now (turn_of board.now (history_of events.now) index) }
     ensures fits { result ≤ 2 ^ 50 }
+    ensures on_a_bus { master.now.bus < 256 }
 {
+    let bus = master.bus;
     match turn_of(board, events, index) {
         None => 0,
         Some(turn) => {
-            turn_left(board, events, master.bus, turn)
-                + behind_left(board, master.bus, master.ops.as_slice(), turn.index)
+            turn_left(board, events, bus, turn)
+                + behind_left(board, bus, master.ops.as_slice(), turn.index)
         }
     }
 }

@@ -1,4 +1,4 @@
-ghost use Rattle.std.specs.Prelude.{◌≡◌, ◌+◌, ◌*◌, ◌-◌, ◌≤◌, length};
+ghost use Rattle.std.specs.Prelude.{◌≡◌, ◌+◌, ◌*◌, ◌-◌, ◌≤◌, length, Some, None};
 ghost use Rattle.std.specs.Option.{option_copied};
 ghost use Rattle.std.specs.List.{find, list_any};
 ghost use Rattle.board_model.specs.Ways.{way, route_within};
@@ -57,7 +57,9 @@ fn reach_of(board: &Board, events: &[Event], on: u8, op: OpId, found: &Op, most:
                 last: Some(lane_or(onwards.last, lane)),
             }
         }
-        Place::Target(_) | Place::Header(_) | Place::Nobody => reaches_none(),
+        Place::Target(_) => reaches_none(),
+        Place::Header(_) => reaches_none(),
+        Place::Nobody => reaches_none(),
     }
 }
 
@@ -155,18 +157,17 @@ fn slot_left(
 {
     match slot {
         None => 4 * u32::from(long) + 1,
-        Some(slot) => {
-            item_left(u32::from(long), u32::from(far), here, back, slot.number)
-        }
+        Some(slot) => item_left(u32::from(long), u32::from(far), here, back, slot),
     }
 }
 
-fn item_left(long: u32, far: u32, here: &LaneTables, back: &LaneTables, number: u8) -> u32
+fn item_left(long: u32, far: u32, here: &LaneTables, back: &LaneTables, slot: Slot) -> u32
     requires long { long ≤ 255 }
     requires far { far ≤ 255 }
-    ensures value { (slot : SlotOf) → slot.number ≡ number → result ≡ slot_left long far here.now back.now (Some slot) }
+    ensures value { result ≡ slot_left long far here.now back.now (Some slot) }
     ensures fits { result ≤ 2000 }
 {
+    let number = slot.number;
     let onwards = 4 * long.saturating_sub(far);
     if some_ask(here.flight(), number) {
         onwards + 2 * far + 2
