@@ -55,9 +55,9 @@ first_try : (board : Board) (on : ℕ) (o : OpId) (op : Op) → o.attempt ≡ 0 
 first_try board on o op first tried =
     let long : ℕ = length (way board op on) in
     let P : Bool → Type 0 = λ b. is_posted (request_on op on) ≡ b →
-        (if b then 3 * long + pieces_of board op on (length (phases_of op) - 0)
-        else delayed_left (world_of board []) o (way board op on) + (tries_of op - (o.attempt + 1)) * (if b then 3 * long + pieces_of board op on (length (phases_of op)) else 4 * long + 1))
-        ≡ tries_of op * (if b then 3 * long + pieces_of board op on (length (phases_of op)) else 4 * long + 1) in
+    (if b then 3 * long + pieces_of board op on (length (phases_of op) - 0)
+    else delayed_left (world_of board []) o (way board op on) + (tries_of op - (o.attempt + 1)) * (if b then 3 * long + pieces_of board op on (length (phases_of op)) else 4 * long + 1))
+    ≡ tries_of op * (if b then 3 * long + pieces_of board op on (length (phases_of op)) else 4 * long + 1) in
     (elim (is_posted (request_on op on)) as P [
       | true ↦ λ posted. rw (less_none (length (phases_of op))) (one_of (tries_of op) (3 * long + pieces_of board op on (length (phases_of op))) (posted_once op on posted))
       | false ↦ λ delayed. rw (none_held board o (way board op on), first) (all_tries (tries_of op) (4 * long + 1) tried)
@@ -89,7 +89,7 @@ programs_begin board index (master ∷ masters) there tried =
     let here : index + 0 ≡ index = omega arith in
     let first : slice_get board.masters index ≡ Some master = rw here at (there 0) in
     let behind : (k : ℕ) → slice_get board.masters ((index + 1) + k) ≡ slice_get masters k = λ k.
-        let e : (index + 1) + k ≡ index + suc k = omega arith in rw e (there (suc k)) in
+    let e : (index + 1) + k ≡ index + suc k = omega arith in rw e (there (suc k)) in
     omega (arith, program_begins board master index master.ops first refl tried.0, programs_begin board (index + 1) masters behind tried.1)
 
 -- Stall tokens, discards and drops.
@@ -114,9 +114,14 @@ drops_begin board (planned ∷ lines) counted = omega (arith, counts planned.cou
 
 pub left-begins : (board : Board) → Begins board → left_of board [] ≡ bound_of board
 left-begins board begins =
-    omega
-    (arith, programs_begin board 0 board.masters (λ k. let e : 0 + k ≡ k = omega arith in rw e refl) begins.tried, total-zero (bridge_left board []) (λ _. refl) board.bridges,
-    stalls_begin 0 board.targets, discards_begin board board.discards begins.discards, drops_begin board board.drops begins.drops)
+    omega (
+      arith,
+      programs_begin board 0 board.masters (λ k. let e : 0 + k ≡ k = omega arith in rw e refl) begins.tried,
+      total-zero (bridge_left board []) (λ _. refl) board.bridges,
+      stalls_begin 0 board.targets,
+      discards_begin board board.discards begins.discards,
+      drops_begin board board.drops begins.drops,
+    )
 
 -- A well-formed board begins so.
 

@@ -123,13 +123,7 @@ fn post_left(board: &Board, events: &[Event], lane: Lane, op: OpId) -> u32
 }
 
 /// What a posted write has left from the bus on: its way, and the pieces that are left of it.
-pub(crate) fn posted_left(
-    board: &Board,
-    events: &[Event],
-    on: u8,
-    op: OpId,
-    found: &Op,
-) -> u32
+pub(crate) fn posted_left(board: &Board, events: &[Event], on: u8, op: OpId, found: &Op) -> u32
     requires { IsRunning board.now (history_of events.now) }
     ensures value { result ≡
         3 * length (way board.now found.now on) + pieces_of board.now found.now on (length (phases_of found.now) - through (history_of events.now) op) }

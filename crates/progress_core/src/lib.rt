@@ -51,3 +51,5 @@ pub fn left_at_first()
     ensures well_formed { (board : BoardOf) → is_well_formed board ≡ true → left_of board [] ≡ bound_of board }
 {}
 
+#[cfg(test)]
+mod tests;

@@ -145,13 +145,7 @@ fn first_slot(held: &[Slot], op: OpId) -> Option<&Slot>
 /// On a way of `long` lanes, with the slot at lane number `far`: an Ask has the rest of its way and
 /// its way back before it, a completion the way back, and a request that was dropped all of its
 /// way again.
-fn slot_left(
-    long: u8,
-    far: u8,
-    here: &LaneTables,
-    back: &LaneTables,
-    slot: Option<Slot>,
-) -> u32
+fn slot_left(long: u8, far: u8, here: &LaneTables, back: &LaneTables, slot: Option<Slot>) -> u32
     ensures value { result ≡ slot_left long far here.now back.now slot }
     ensures fits { result ≤ 2000 }
 {
