@@ -12,11 +12,11 @@ mod words;
 
 pub use allowing::allowed;
 pub use completing::complete;
-pub use turns::turn_of;
-pub use words::{is_same_op, stalls_used, through};
 pub use history_model::{
     Answer, By, Carried, Cause, Event, Lane, Mark, Place, Slot, Stamped, Step, Why,
 };
+pub use turns::turn_of;
+pub use words::{is_same_op, stalls_used, through};
 
 #[cfg(test)]
 mod tests;

@@ -1,5 +1,5 @@
 -- Before the first event everything is left.
-use Rattle.std.proofs.Common.{◌≡◌, ℕ, ◌+◌, ◌*◌, ◌-◌, ◌<◌, ◌≤◌, zero, suc, Bool, true, false, nat_le, nat_lt, List, [], ◌∷◌, length, drop, Option, Some, None, slice_get, refl, arith, if◌then◌else◌}
+use Rattle.std.proofs.Common.{◌≡◌, ℕ, ◌+◌, ◌*◌, ◌-◌, ◌<◌, zero, suc, Bool, true, false, nat_lt, List, [], ◌∷◌, length, Some, None, slice_get, refl, arith, if◌then◌else◌}
 use Rattle.std.specs.List.{list_all, AllByRecursion}
 use Rattle.std.proofs.lemmas.Bool.Decides.{nat_tests}
 use Rattle.list_facts.specs.Lists.{total}
@@ -16,7 +16,7 @@ use Rattle.board_model.specs.declared.board.Board.{Board}
 use Rattle.board_model.specs.declared.board.Planned.{Planned}
 use Rattle.board_model.specs.WellFormed.{is_well_formed, is_well_formed_op, is_well_formed_master, is_well_formed_plan}
 use Rattle.board_model.specs.Requests.{op_of, phases_of, request_on, tries_of, is_posted}
-use Rattle.board_model.specs.Ways.{way, pieces_of, cost_of_try, cost_of, longest_way, bound_of}
+use Rattle.board_model.specs.Ways.{way, pieces_of, cost_of, longest_way, bound_of}
 use Rattle.bus_tree.proofs.FormLemmas.{front, back, at_most, Form-board}
 use Rattle.history_model.specs.World.{world_of}
 use Rattle.history_model.specs.Program.{turn_of}

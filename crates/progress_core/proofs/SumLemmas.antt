@@ -1,5 +1,5 @@
 -- Sums of what is left of a list.
-use Rattle.std.proofs.Common.{◌≡◌, ℕ, ◌+◌, ◌<◌, ◌≤◌, zero, suc, List, [], ◌∷◌, length, get_or, drop, refl, add-one, arith}
+use Rattle.std.proofs.Common.{◌≡◌, ℕ, ◌+◌, ◌<◌, ◌≤◌, zero, suc, List, [], ◌∷◌, length, get_or, drop, add-one, arith}
 use Rattle.std.proofs.Math.Seq.{drop-cons}
 use Rattle.list_facts.specs.Lists.{total}
 

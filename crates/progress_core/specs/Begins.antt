@@ -1,5 +1,5 @@
 -- What makes a board begin with all its events before it.
-use Rattle.std.specs.Prelude.{ℕ, ◌<◌, List, [], ◌∷◌}
+use Rattle.std.specs.Prelude.{◌<◌, List, [], ◌∷◌}
 use Rattle.std.specs.List.{AllByRecursion}
 use Rattle.board_model.specs.declared.agents.Master.{Master}
 use Rattle.board_model.specs.declared.op.Op.{Op}

@@ -1,5 +1,4 @@
-use Rattle.std.proofs.Common.{◌+◌, ◌≤◌, drop, arith}
-use Rattle.list_facts.specs.Lists.{total}
+use Rattle.std.proofs.Common.{◌+◌, arith}
 use Rattle.board_model.specs.Ways.{cost_of}
 use Rattle.progress_core.proofs.SumLemmas.{total_drop}
 use Rattle.progress_core.proofs.programs.behind_left.Goals as goal
