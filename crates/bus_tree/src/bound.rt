@@ -45,7 +45,8 @@ fn cost_of_programs(board: &Board, masters: &[Master]) -> u64
     costs
 }
 
-fn cost_of_program(board: &Board, bus: u8, ops: &[Op]) -> u64
+/// What operations of a master on the bus cost.
+pub fn cost_of_program(board: &Board, bus: u8, ops: &[Op]) -> u64
     requires decodable { IsDecodable board.now }
     requires fits { total (cost_of board.now bus) ops.now < 2 ^ 64 }
     ensures { result ≡ total (cost_of board.now bus) ops.now }
@@ -67,9 +68,11 @@ fn cost_of(board: &Board, bus: u8, op: &Op) -> u64
     tries * cost
 }
 
-fn cost_of_try(board: &Board, bus: u8, op: &Op) -> u32
+/// How many events one try of an operation costs at most, from the bus on.
+pub fn cost_of_try(board: &Board, bus: u8, op: &Op) -> u32
     requires { IsDecodable board.now }
-    ensures { result ≡ cost_of_try board.now bus op.now }
+    ensures value { result ≡ cost_of_try board.now bus op.now }
+    ensures fits { result ≤ 66300 }
 {
     let request = request_on(op, bus);
     let route = route_of(board, op, bus);
@@ -83,14 +86,15 @@ fn cost_of_try(board: &Board, bus: u8, op: &Op) -> u32
     }
 }
 
-fn is_posted(request: &Request) -> bool
+/// Whether a request is a posted write: every other one is delayed.
+pub fn is_posted(request: &Request) -> bool
     ensures { result ≡ is_posted request.now }
 {
     request.command.code() == Command::MemWrite.code()
 }
 
 /// In how many pieces a write of so many data phases reaches the end of its way.
-fn pieces_by(board: &Board, request: &Request, phases: u8, owner: Place) -> u16
+pub fn pieces_by(board: &Board, request: &Request, phases: u8, owner: Place) -> u16
     requires { All (λ target. 0 < target.burst) board.now.targets }
     ensures { result ≡ pieces_by board.now request.now phases owner }
 {
@@ -143,7 +147,7 @@ fn stalls_of(targets: &[Target]) -> u64
 }
 
 /// The greatest length of the way of an operation.
-fn longest_way(board: &Board, masters: &[Master]) -> u8
+pub fn longest_way(board: &Board, masters: &[Master]) -> u8
     requires { IsDecodable board.now }
     ensures { result ≡ greatest (λ master. greatest (λ op. length (way board.now op master.bus)) master.ops) masters.now }
 {

@@ -8,7 +8,7 @@ use board_model::{Board, Bridge, Lane, Place, Range, Target};
 use pci_command::{Request, Space};
 
 /// Who claims the request on the bus: targets by their ranges, bridges by their headers.
-pub(crate) fn claim_on(board: &Board, bus: u8, request: &Request) -> Place
+pub fn claim_on(board: &Board, bus: u8, request: &Request) -> Place
     requires { IsDecodable board.now }
     ensures { result ≡ claim board.now bus request.now }
 {

@@ -7,14 +7,14 @@ use board_model::{Board, Lane, Op, Place, request_on};
 
 /// How many lanes the way of an operation takes, and the bus and the owner where it ends.
 #[derive(Clone, Copy)]
-pub(crate) struct Route {
-    pub(crate) lanes: u8,
-    pub(crate) bus: u8,
-    pub(crate) owner: Place,
+pub struct Route {
+    pub lanes: u8,
+    pub bus: u8,
+    pub owner: Place,
 }
 
 /// The way of an operation from a bus on.
-pub(crate) fn route_of(board: &Board, op: &Op, on: u8) -> Route
+pub fn route_of(board: &Board, op: &Op, on: u8) -> Route
     requires { IsDecodable board.now }
     ensures lanes { result.lanes ≡ length (route_of board.now op.now on).lanes }
     ensures bus { result.bus ≡ (route_of board.now op.now on).bus }
@@ -61,7 +61,7 @@ fn ends_at(bus: u8, owner: Place) -> Route
 }
 
 /// The bus on which what the lane carries arrives.
-fn end_of(board: &Board, lane: Lane) -> u8
+pub fn end_of(board: &Board, lane: Lane) -> u8
     ensures { result ≡ end_of board.now lane }
 {
     if !lane.up {

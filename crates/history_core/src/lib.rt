@@ -15,6 +15,8 @@ pub use completing::complete;
 pub use history_model::{
     Answer, By, Carried, Cause, Event, Lane, Mark, Place, Slot, Stamped, Step, Why,
 };
+pub use turns::turn_of;
+pub use words::{is_same_op, stalls_used, through};
 
 #[cfg(test)]
 mod tests;

@@ -34,7 +34,7 @@ fn meets(mask: u32, wanted: u32, outcome: Outcome) -> bool
 
 /// The operation that is the master's turn after these events, the first event first; none where
 /// its program ended.
-pub(crate) fn turn_of(board: &Board, before: &[Event], master: u16) -> Option<OpId>
+pub fn turn_of(board: &Board, before: &[Event], master: u16) -> Option<OpId>
     requires { IsTrue (is_well_formed board.now) }
     ensures { result ≡ turn_of board.now (history_of before.now) master }
 {

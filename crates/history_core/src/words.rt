@@ -15,8 +15,8 @@ use device_header::{merge, opening, write_mask};
 use history_model::{Event, Step};
 use pci_command::{OpId, Phase, Request, Space};
 
-/// How many data phases of the write went through in these events.
-pub(crate) fn through(before: &[Event], op: OpId) -> u128
+/// How many data phases of the write went through in these events, the first event first.
+pub fn through(before: &[Event], op: OpId) -> u128
     ensures value { result ≡ through (history_of before.now) op }
     ensures fits { result ≤ 255 * length before.now }
 {
@@ -41,14 +41,14 @@ fn parted_by(event: &Event, of: OpId) -> u8
 }
 
 /// Whether two names are of one operation.
-pub(crate) fn is_same_op(a: OpId, b: OpId) -> bool
+pub fn is_same_op(a: OpId, b: OpId) -> bool
     ensures { result ≡ same_op a b }
 {
     a.master == b.master && a.index == b.index && a.attempt == b.attempt
 }
 
-/// How many stall tokens of the target were used in these events.
-pub(crate) fn stalls_used(before: &[Event], target: u16) -> u64
+/// How many stall tokens of the target were used in these events, the first event first.
+pub fn stalls_used(before: &[Event], target: u16) -> u64
     ensures value { result ≡ stalls_used (history_of before.now) target }
     ensures fits { result ≤ length before.now }
 {

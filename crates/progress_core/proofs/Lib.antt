@@ -1,0 +1,4 @@
+pub mod SumLemmas
+pub mod ProgramLemmas
+pub mod RunningLemmas
+pub mod BeginsLemmas
