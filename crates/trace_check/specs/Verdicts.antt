@@ -1,0 +1,40 @@
+-- What a list of events of a board is, the first event first.
+use Rattle.std.specs.Prelude.{◌≡◌, ℕ, ◌+◌, List, [], ◌∷◌, ◌++◌, length, Some}
+use Rattle.board_model.specs.declared.board.Board.{Board}
+use Rattle.history_model.specs.declared.event.Event.{Event}
+use Rattle.history_model.specs.declared.why.Why.{Why}
+use Rattle.history_model.specs.Runs.{Run, Complete, history_of}
+use Rattle.history_model.specs.Local.{Matched}
+use Rattle.history_model.specs.Left.{left_of}
+use Rattle.history_core.specs.Verdicts.{Holds}
+use Rattle.trace_check.specs.declared.verdict.Verdict.{Verdict as Judgement}
+use Rattle.trace_check.specs.declared.verdict.Verdict.TheVariants.{Complete as IsComplete, Incomplete, NotRun}
+
+-- the event of this number, from 1, is the first that is not allowed after those before it, and this is why
+pub record FirstRefused (board : Board) (events : List Event) (number : ℕ) (why : Why) : Type 0 where
+  pub before : List Event
+  pub event : Event
+  pub after : List Event
+  pub split : events ≡ before ++ event ∷ after
+  pub number_is : number ≡ length before + 1
+  pub run : Run board (history_of before)
+  pub cause : Holds board (history_of before) event (Some why)
+
+-- a run, in which each completion is taken by the operation that it was made for, to the end of all programs
+pub record CompleteRun (board : Board) (events : List Event) : Type 0 where
+  pub run : Run board (history_of events)
+  pub complete : Complete board (history_of events)
+  pub matched : Matched board (history_of events)
+
+-- such a run that is not complete, and how many events can follow it at most
+pub record IncompleteRun (board : Board) (events : List Event) (left : ℕ) : Type 0 where
+  pub run : Run board (history_of events)
+  pub incomplete : ¬ Complete board (history_of events)
+  pub matched : Matched board (history_of events)
+  pub left_is : left ≡ left_of board (history_of events)
+
+-- the verdict that is right
+abbrev pub Judges : Board → List Event → Judgement → Type 0
+Judges board events IsComplete = CompleteRun board events
+Judges board events (Incomplete left) = IncompleteRun board events left
+Judges board events (NotRun number why) = FirstRefused board events number why
