@@ -1,0 +1,3 @@
+pub mod PostLemmas
+pub mod OrderLemmas
+pub mod OrderRunLemmas

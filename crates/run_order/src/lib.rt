@@ -1,0 +1,18 @@
+//! The order of what is on the lanes of bridges, in every run of every board. Each law is the
+//! contract of a function that does nothing.
+#![tactic(auto)]
+
+ghost use Rattle.std.specs.Prelude.{◌≡◌, ◌++◌, List};
+ghost use Rattle.board_model.specs.declared.board.Board.{Board};
+ghost use Rattle.board_model.specs.declared.bridge.Lane.{Lane as BridgeLane};
+ghost use Rattle.history_model.specs.declared.event.Event.{Event};
+ghost use Rattle.history_model.specs.World.{world_of};
+ghost use Rattle.history_model.specs.Runs.{Run};
+ghost use Rattle.run_order.specs.Order.{posts, entered, left};
+
+/// Posted writes keep their order on every lane: those that were accepted at it, in that order, are
+/// those that left it, in the order in which they left, then those that stand at its end, and then
+/// those in flight.
+pub fn posts_keep_their_order()
+    ensures { (board : Board) (h : List Event) (lane : BridgeLane) → Run board h → entered lane h ≡ left board lane h ++ posts (world_of board h lane).standing ++ posts (world_of board h lane).flight }
+{}
