@@ -1,3 +1,5 @@
 pub mod PostLemmas
 pub mod OrderLemmas
 pub mod OrderRunLemmas
+pub mod MovedLemmas
+pub mod SentLemmas

@@ -2,17 +2,25 @@
 //! contract of a function that does nothing.
 #![tactic(auto)]
 
-ghost use Rattle.std.specs.Prelude.{◌≡◌, ◌++◌, List};
+ghost use Rattle.std.specs.Prelude.{◌≡◌, ◌++◌, ◌+◌, List, length};
 ghost use Rattle.board_model.specs.declared.board.Board.{Board};
 ghost use Rattle.board_model.specs.declared.bridge.Lane.{Lane as BridgeLane};
 ghost use Rattle.history_model.specs.declared.event.Event.{Event};
 ghost use Rattle.history_model.specs.World.{world_of};
 ghost use Rattle.history_model.specs.Runs.{Run};
 ghost use Rattle.run_order.specs.Order.{posts, entered, left};
+ghost use Rattle.run_order.specs.Sent.{sent, arrivals, came};
 
 /// Posted writes keep their order on every lane: those that were accepted at it, in that order, are
 /// those that left it, in the order in which they left, then those that stand at its end, and then
 /// those in flight.
 pub fn posts_keep_their_order()
     ensures { (board : Board) (h : List Event) (lane : BridgeLane) → Run board h → entered lane h ≡ left board lane h ++ posts (world_of board h lane).standing ++ posts (world_of board h lane).flight }
+{}
+
+/// What was sent on a lane is what came on it, in the order of sending, and then what is in flight:
+/// what came are the first items that were sent, as many as arrived.
+pub fn sent_is_received()
+    ensures items { (board : Board) (h : List Event) (lane : BridgeLane) → Run board h → sent board lane h ≡ came board lane h ++ (world_of board h lane).flight }
+    ensures many { (board : Board) (h : List Event) (lane : BridgeLane) → Run board h → length (sent board lane h) ≡ arrivals lane h + length (world_of board h lane).flight }
 {}
