@@ -3,3 +3,5 @@ pub mod OrderLemmas
 pub mod OrderRunLemmas
 pub mod MovedLemmas
 pub mod SentLemmas
+pub mod CreditCounts
+pub mod SlotCounts

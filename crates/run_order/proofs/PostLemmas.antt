@@ -55,7 +55,7 @@ kind_is : (board : Board) (posted : Bool) (o : OpId) → NamesOp board posted o 
 kind_is board posted o named = ap is_posted_in named.is_op ∙ named.is_posted
 
 -- an item of an operation that is no write in memory is no posted write
-other_no_post : (board : Board) (o : OpId) → is_posted_op board o ≡ false → (item : Carried) → RightKind board item → is_of o item ≡ true → post_in item ≡ []
+pub other_no_post : (board : Board) (o : OpId) → is_posted_op board o ≡ false → (item : Carried) → RightKind board item → is_of o item ≡ true → post_in item ≡ []
 other_no_post board o other (Post op) right passes =
     let same : o ≡ op = same_op_true o op passes in
     let posted : is_posted_op board op ≡ true = kind_is board true op right in
@@ -72,7 +72,7 @@ posts-less_other board o xs other right =
     posts-less (is_of o) xs (Each-weaker (RightKind board) (λ x. is_of o x ≡ true → post_in x ≡ []) (other_no_post board o other) xs right)
 
 -- the item of a write in memory is its posted write
-post_of : (board : Board) (o : OpId) → is_posted_op board o ≡ true → (item : Carried) → RightKind board item → is_of o item ≡ true → item ≡ Post o
+pub post_of : (board : Board) (o : OpId) → is_posted_op board o ≡ true → (item : Carried) → RightKind board item → is_of o item ≡ true → item ≡ Post o
 post_of board o posted (Post op) right passes = ap Post (sym (same_op_true o op passes))
 post_of board o posted (Ask op slot) right passes =
     let same : o ≡ op = same_op_true o op passes in

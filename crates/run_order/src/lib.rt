@@ -3,13 +3,16 @@
 #![tactic(auto)]
 
 ghost use Rattle.std.specs.Prelude.{◌≡◌, ◌++◌, ◌+◌, List, length};
+ghost use Rattle.list_facts.specs.Lists.{total};
 ghost use Rattle.board_model.specs.declared.board.Board.{Board};
 ghost use Rattle.board_model.specs.declared.bridge.Lane.{Lane as BridgeLane};
 ghost use Rattle.history_model.specs.declared.event.Event.{Event};
-ghost use Rattle.history_model.specs.World.{world_of};
+ghost use Rattle.history_model.specs.World.{lane_back, world_of};
 ghost use Rattle.history_model.specs.Runs.{Run};
+ghost use Rattle.run_slots.specs.Credits.{room_count};
 ghost use Rattle.run_order.specs.Order.{posts, entered, left};
 ghost use Rattle.run_order.specs.Sent.{sent, arrivals, came};
+ghost use Rattle.run_order.specs.Counts.{latched, freed};
 
 /// Posted writes keep their order on every lane: those that were accepted at it, in that order, are
 /// those that left it, in the order in which they left, then those that stand at its end, and then
@@ -23,4 +26,12 @@ pub fn posts_keep_their_order()
 pub fn sent_is_received()
     ensures items { (board : Board) (h : List Event) (lane : BridgeLane) → Run board h → sent board lane h ≡ came board lane h ++ (world_of board h lane).flight }
     ensures many { (board : Board) (h : List Event) (lane : BridgeLane) → Run board h → length (sent board lane h) ≡ arrivals lane h + length (world_of board h lane).flight }
+{}
+
+/// What a lane owes is the number of posted writes that were accepted at it, less the credits that
+/// came on the lane back; and of the delayed requests that were latched at it, those hold a slot of
+/// which no completion was taken or discarded and no word came that they were dropped.
+pub fn owed_and_held()
+    ensures owed { (board : Board) (h : List Event) (lane : BridgeLane) → Run board h → (world_of board h lane).owed + total room_count (came board (lane_back lane) h) ≡ length (entered lane h) }
+    ensures held { (board : Board) (h : List Event) (lane : BridgeLane) → Run board h → length (world_of board h lane).held + freed board lane h ≡ latched lane h }
 {}
