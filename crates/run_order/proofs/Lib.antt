@@ -5,3 +5,4 @@ pub mod MovedLemmas
 pub mod SentLemmas
 pub mod CreditCounts
 pub mod SlotCounts
+pub mod MasterLemmas

@@ -3,6 +3,7 @@
 #![tactic(auto)]
 
 ghost use Rattle.std.specs.Prelude.{◌≡◌, ◌++◌, ◌+◌, List, length};
+ghost use Rattle.std.specs.List.{AllByRecursion};
 ghost use Rattle.list_facts.specs.Lists.{total};
 ghost use Rattle.board_model.specs.declared.board.Board.{Board};
 ghost use Rattle.board_model.specs.declared.bridge.Lane.{Lane as BridgeLane};
@@ -13,6 +14,7 @@ ghost use Rattle.run_slots.specs.Credits.{room_count};
 ghost use Rattle.run_order.specs.Order.{posts, entered, left};
 ghost use Rattle.run_order.specs.Sent.{sent, arrivals, came};
 ghost use Rattle.run_order.specs.Counts.{latched, freed};
+ghost use Rattle.run_order.specs.Masters.{MastersWrite};
 
 /// Posted writes keep their order on every lane: those that were accepted at it, in that order, are
 /// those that left it, in the order in which they left, then those that stand at its end, and then
@@ -34,4 +36,12 @@ pub fn sent_is_received()
 pub fn owed_and_held()
     ensures owed { (board : Board) (h : List Event) (lane : BridgeLane) → Run board h → (world_of board h lane).owed + total room_count (came board (lane_back lane) h) ≡ length (entered lane h) }
     ensures held { (board : Board) (h : List Event) (lane : BridgeLane) → Run board h → length (world_of board h lane).held + freed board lane h ≡ latched lane h }
+{}
+
+/// A posted write in flight or standing on a lane, as every one that was accepted at it, is a write
+/// in memory that its master ended when a bridge accepted it.
+pub fn posted_writes_are_masters()
+    ensures accepted { (board : Board) (h : List Event) (lane : BridgeLane) → Run board h → AllByRecursion (MastersWrite board h) (entered lane h) }
+    ensures stands { (board : Board) (h : List Event) (lane : BridgeLane) → Run board h → AllByRecursion (MastersWrite board h) (posts (world_of board h lane).standing) }
+    ensures flying { (board : Board) (h : List Event) (lane : BridgeLane) → Run board h → AllByRecursion (MastersWrite board h) (posts (world_of board h lane).flight) }
 {}
