@@ -6,3 +6,4 @@ pub mod SentLemmas
 pub mod CreditCounts
 pub mod SlotCounts
 pub mod MasterLemmas
+pub mod OnceLemmas

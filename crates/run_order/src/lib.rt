@@ -2,19 +2,22 @@
 //! contract of a function that does nothing.
 #![tactic(auto)]
 
-ghost use Rattle.std.specs.Prelude.{◌≡◌, ◌++◌, ◌+◌, List, length};
+ghost use Rattle.std.specs.Prelude.{◌≡◌, ◌++◌, ◌+◌, ◌≤◌, List, Some, length};
 ghost use Rattle.std.specs.List.{AllByRecursion};
 ghost use Rattle.list_facts.specs.Lists.{total};
+ghost use Rattle.pci_command.specs.declared.op_id.OpId.{OpId};
 ghost use Rattle.board_model.specs.declared.board.Board.{Board};
 ghost use Rattle.board_model.specs.declared.bridge.Lane.{Lane as BridgeLane};
 ghost use Rattle.history_model.specs.declared.event.Event.{Event};
 ghost use Rattle.history_model.specs.World.{lane_back, world_of};
+ghost use Rattle.history_model.specs.Program.{turn_of};
 ghost use Rattle.history_model.specs.Runs.{Run};
 ghost use Rattle.run_slots.specs.Credits.{room_count};
 ghost use Rattle.run_order.specs.Order.{posts, entered, left};
 ghost use Rattle.run_order.specs.Sent.{sent, arrivals, came};
 ghost use Rattle.run_order.specs.Counts.{latched, freed};
 ghost use Rattle.run_order.specs.Masters.{MastersWrite};
+ghost use Rattle.run_order.specs.One.{times, ends_at_master};
 
 /// Posted writes keep their order on every lane: those that were accepted at it, in that order, are
 /// those that left it, in the order in which they left, then those that stand at its end, and then
@@ -44,4 +47,11 @@ pub fn posted_writes_are_masters()
     ensures accepted { (board : Board) (h : List Event) (lane : BridgeLane) → Run board h → AllByRecursion (MastersWrite board h) (entered lane h) }
     ensures stands { (board : Board) (h : List Event) (lane : BridgeLane) → Run board h → AllByRecursion (MastersWrite board h) (posts (world_of board h lane).standing) }
     ensures flying { (board : Board) (h : List Event) (lane : BridgeLane) → Run board h → AllByRecursion (MastersWrite board h) (posts (world_of board h lane).flight) }
+{}
+
+/// A master ends each of its operations at most once, and an operation that is its turn did not end
+/// before.
+pub fn operations_end_once()
+    ensures once { (board : Board) (h : List Event) (o : OpId) → Run board h → times (ends_at_master o) h ≤ 1 }
+    ensures turn { (board : Board) (h : List Event) (o : OpId) → Run board h → turn_of board h o.master ≡ Some o → times (ends_at_master o) h ≡ 0 }
 {}
