@@ -7,3 +7,6 @@ pub mod CreditCounts
 pub mod SlotCounts
 pub mod MasterLemmas
 pub mod OnceLemmas
+pub mod PostedLemmas
+pub mod LaneSums
+pub mod BalanceLemmas

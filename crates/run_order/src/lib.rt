@@ -2,7 +2,7 @@
 //! contract of a function that does nothing.
 #![tactic(auto)]
 
-ghost use Rattle.std.specs.Prelude.{◌≡◌, ◌++◌, ◌+◌, ◌≤◌, List, Some, length};
+ghost use Rattle.std.specs.Prelude.{◌≡◌, ◌++◌, ◌+◌, ◌≤◌, List, Some, true, length};
 ghost use Rattle.std.specs.List.{AllByRecursion};
 ghost use Rattle.list_facts.specs.Lists.{total};
 ghost use Rattle.pci_command.specs.declared.op_id.OpId.{OpId};
@@ -13,11 +13,12 @@ ghost use Rattle.history_model.specs.World.{lane_back, world_of};
 ghost use Rattle.history_model.specs.Program.{turn_of};
 ghost use Rattle.history_model.specs.Runs.{Run};
 ghost use Rattle.run_slots.specs.Credits.{room_count};
-ghost use Rattle.run_order.specs.Order.{posts, entered, left};
+ghost use Rattle.run_slots.specs.Depths.{DifferentNumbers};
+ghost use Rattle.run_order.specs.Order.{posts, is_posted_op, entered, left};
 ghost use Rattle.run_order.specs.Sent.{sent, arrivals, came};
 ghost use Rattle.run_order.specs.Counts.{latched, freed};
 ghost use Rattle.run_order.specs.Masters.{MastersWrite};
-ghost use Rattle.run_order.specs.One.{times, ends_at_master};
+ghost use Rattle.run_order.specs.One.{times, ends_at_master, OnePost};
 
 /// Posted writes keep their order on every lane: those that were accepted at it, in that order, are
 /// those that left it, in the order in which they left, then those that stand at its end, and then
@@ -54,4 +55,12 @@ pub fn posted_writes_are_masters()
 pub fn operations_end_once()
     ensures once { (board : Board) (h : List Event) (o : OpId) → Run board h → times (ends_at_master o) h ≤ 1 }
     ensures turn { (board : Board) (h : List Event) (o : OpId) → Run board h → turn_of board h o.master ≡ Some o → times (ends_at_master o) h ≡ 0 }
+{}
+
+/// A write in memory that a bridge accepted from its master landed once, or was lost once (nobody
+/// claimed it as a bridge presented it, or its target aborted it), or is one posted write on one
+/// lane of the board, and only one of these. Of no other write in memory is there a posted write,
+/// and none was lost so; and it landed only, and once, as its master presented it.
+pub fn posts_are_one()
+    ensures { (board : Board) (h : List Event) (o : OpId) → DifferentNumbers board → is_posted_op board o ≡ true → Run board h → OnePost board h o }
 {}
