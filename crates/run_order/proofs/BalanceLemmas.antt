@@ -50,12 +50,12 @@ abbrev bit : Bool → ℕ
 bit b = cond b 1 0
 
 -- a write in memory has a request, which is posted
-record PostedRequest (board : Board) (on : ℕ) (o : OpId) : Type 0 where
-  request : Request
-  is_request : request_of board o on ≡ Some request
-  posted : is_posted request ≡ true
+pub record PostedRequest (board : Board) (on : ℕ) (o : OpId) : Type 0 where
+  pub request : Request
+  pub is_request : request_of board o on ≡ Some request
+  pub posted : is_posted request ≡ true
 
-posted_request : (board : Board) (on : ℕ) (o : OpId) → is_posted_op board o ≡ true → PostedRequest board on o
+pub posted_request : (board : Board) (on : ℕ) (o : OpId) → is_posted_op board o ≡ true → PostedRequest board on o
 posted_request board on o is =
     let P : Option Op → Type 0 = λ found. op_of board o ≡ found → is_posted_in found ≡ true → PostedRequest board on o in
     (elim (op_of board o) as P [

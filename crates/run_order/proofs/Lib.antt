@@ -10,3 +10,5 @@ pub mod OnceLemmas
 pub mod PostedLemmas
 pub mod LaneSums
 pub mod BalanceLemmas
+pub mod LandLemmas
+pub mod OnWayLemmas

@@ -40,19 +40,19 @@ Each-first P [] ys each = tt
 Each-first P (x ∷ xs) ys each = (each.0, Each-first P xs ys each.1)
 
 -- what entered is masters' writes; so is what stands and what is in flight
-stands_owned : (board : Board) (h : List Event) (l : BridgeLane) (P : OpId → Type 0) → Run board h → AllByRecursion P (entered l h) → AllByRecursion P (posts (world_of board h l).standing)
+pub stands_owned : (board : Board) (h : List Event) (l : BridgeLane) (P : OpId → Type 0) → Run board h → AllByRecursion P (entered l h) → AllByRecursion P (posts (world_of board h l).standing)
 stands_owned board h l P run each =
     let here = subst (AllByRecursion P) (InOrder-run board h run l) each in
     let gone : List OpId = left board l h in
     let st : List OpId = posts (world_of board h l).standing in
     Each-second P gone st (Each-first P (gone ++ st) (posts (world_of board h l).flight) here)
 
-flies_owned : (board : Board) (h : List Event) (l : BridgeLane) (P : OpId → Type 0) → Run board h → AllByRecursion P (entered l h) → AllByRecursion P (posts (world_of board h l).flight)
+pub flies_owned : (board : Board) (h : List Event) (l : BridgeLane) (P : OpId → Type 0) → Run board h → AllByRecursion P (entered l h) → AllByRecursion P (posts (world_of board h l).flight)
 flies_owned board h l P run each =
     let here = subst (AllByRecursion P) (InOrder-run board h run l) each in
     Each-second P (left board l h ++ posts (world_of board h l).standing) (posts (world_of board h l).flight) here
 
-or_true : (a b : Bool) → b ≡ true → (a || b) ≡ true
+pub or_true : (a b : Bool) → b ≡ true → (a || b) ≡ true
 or_true true b is = refl
 or_true false b is = is
 

@@ -54,7 +54,7 @@ PostedAt Stall place = IsTarget place
 PostedAt MasterAbort place = Unit {0}
 PostedAt TargetAbort place = IsTarget place
 
-write_not_read : (command : Command) → same_command command MemWrite ≡ true → (is_read command ≡ false) × (space_of command ≡ Mem)
+pub write_not_read : (command : Command) → same_command command MemWrite ≡ true → (is_read command ≡ false) × (space_of command ≡ Mem)
 write_not_read IoRead same = cc
 write_not_read IoWrite same = cc
 write_not_read MemRead same = cc
@@ -81,7 +81,7 @@ by_address_no_header : (board : Board) (bus : ℕ) (space : Space) (address : �
 by_address_no_header board bus space address (Some target) number is = cc
 by_address_no_header board bus space address None number is = by_bridge_no_header board bus space address (find (decodes_down bus space address) board.bridges) number is
 
-memory_no_header : (board : Board) (bus : ℕ) (request : Request) (number : ℕ) → space_of request.command ≡ Mem → claim board bus request ≡ Header number → ⊥
+pub memory_no_header : (board : Board) (bus : ℕ) (request : Request) (number : ℕ) → space_of request.command ≡ Mem → claim board bus request ≡ Header number → ⊥
 memory_no_header board bus request number is_memory is =
     let F : Space → Type 0 = λ space. claim_in_space board bus space request.address ≡ Header number in
     let address : ℕ = request.address in

@@ -8,6 +8,7 @@ ghost use Rattle.list_facts.specs.Lists.{total};
 ghost use Rattle.pci_command.specs.declared.op_id.OpId.{OpId};
 ghost use Rattle.board_model.specs.declared.board.Board.{Board};
 ghost use Rattle.board_model.specs.declared.bridge.Lane.{Lane as BridgeLane};
+ghost use Rattle.board_laws.specs.Trees.{IsTree};
 ghost use Rattle.history_model.specs.declared.event.Event.{Event};
 ghost use Rattle.history_model.specs.World.{lane_back, world_of};
 ghost use Rattle.history_model.specs.Program.{turn_of};
@@ -18,6 +19,7 @@ ghost use Rattle.run_order.specs.Order.{posts, is_posted_op, entered, left};
 ghost use Rattle.run_order.specs.Sent.{sent, arrivals, came};
 ghost use Rattle.run_order.specs.Counts.{latched, freed};
 ghost use Rattle.run_order.specs.Masters.{MastersWrite};
+ghost use Rattle.run_order.specs.OnWay.{WritesHaveOneClaimant, OnWay};
 ghost use Rattle.run_order.specs.One.{times, ends_at_master, OnePost};
 
 /// Posted writes keep their order on every lane: those that were accepted at it, in that order, are
@@ -63,4 +65,13 @@ pub fn operations_end_once()
 /// and none was lost so; and it landed only, and once, as its master presented it.
 pub fn posts_are_one()
     ensures { (board : Board) (h : List Event) (o : OpId) → DifferentNumbers board → is_posted_op board o ≡ true → Run board h → OnePost board h o }
+{}
+
+/// Each posted write in flight or standing, as every one that was accepted, is on a lane of its
+/// way from its master's bus. It needs no more than a tree of buses, and that all data phases of
+/// a write are claimed by whom the first one is.
+pub fn posts_are_on_their_way()
+    ensures accepted { (board : Board) (h : List Event) (lane : BridgeLane) → IsTree board → WritesHaveOneClaimant board → Run board h → AllByRecursion (OnWay board lane) (entered lane h) }
+    ensures stands { (board : Board) (h : List Event) (lane : BridgeLane) → IsTree board → WritesHaveOneClaimant board → Run board h → AllByRecursion (OnWay board lane) (posts (world_of board h lane).standing) }
+    ensures flying { (board : Board) (h : List Event) (lane : BridgeLane) → IsTree board → WritesHaveOneClaimant board → Run board h → AllByRecursion (OnWay board lane) (posts (world_of board h lane).flight) }
 {}
