@@ -12,3 +12,5 @@ pub mod LaneSums
 pub mod BalanceLemmas
 pub mod LandLemmas
 pub mod OnWayLemmas
+pub mod BlockLemmas
+pub mod BurstLemmas

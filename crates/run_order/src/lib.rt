@@ -8,6 +8,7 @@ ghost use Rattle.list_facts.specs.Lists.{total};
 ghost use Rattle.pci_command.specs.declared.op_id.OpId.{OpId};
 ghost use Rattle.board_model.specs.declared.board.Board.{Board};
 ghost use Rattle.board_model.specs.declared.bridge.Lane.{Lane as BridgeLane};
+ghost use Rattle.board_model.specs.WellFormed.{is_well_formed};
 ghost use Rattle.board_laws.specs.Trees.{IsTree};
 ghost use Rattle.history_model.specs.declared.event.Event.{Event};
 ghost use Rattle.history_model.specs.World.{lane_back, world_of};
@@ -69,9 +70,10 @@ pub fn posts_are_one()
 
 /// Each posted write in flight or standing, as every one that was accepted, is on a lane of its
 /// way from its master's bus. It needs no more than a tree of buses, and that all data phases of
-/// a write are claimed by whom the first one is.
+/// a write are claimed by whom the first one is, which holds on every well-formed board.
 pub fn posts_are_on_their_way()
     ensures accepted { (board : Board) (h : List Event) (lane : BridgeLane) → IsTree board → WritesHaveOneClaimant board → Run board h → AllByRecursion (OnWay board lane) (entered lane h) }
     ensures stands { (board : Board) (h : List Event) (lane : BridgeLane) → IsTree board → WritesHaveOneClaimant board → Run board h → AllByRecursion (OnWay board lane) (posts (world_of board h lane).standing) }
     ensures flying { (board : Board) (h : List Event) (lane : BridgeLane) → IsTree board → WritesHaveOneClaimant board → Run board h → AllByRecursion (OnWay board lane) (posts (world_of board h lane).flight) }
+    ensures well_formed { (board : Board) → is_well_formed board ≡ true → WritesHaveOneClaimant board }
 {}

@@ -1,4 +1,5 @@
 use Rattle.run_order.proofs.OnWayLemmas.{OnWay-run, OnWay-stands, OnWay-flies}
+use Rattle.run_order.proofs.BurstLemmas.{OneClaimant-formed}
 use Rattle.run_order.proofs.posts_are_on_their_way.Goals as goal
 
 pub returns : goal.returns
@@ -7,4 +8,5 @@ returns c =
       accepted = λ board h lane tree one run. OnWay-run board tree one h run lane;
       stands = λ board h lane tree one run. OnWay-stands board tree one h lane run;
       flying = λ board h lane tree one run. OnWay-flies board tree one h lane run;
+      well_formed = OneClaimant-formed;
     }
