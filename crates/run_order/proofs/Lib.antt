@@ -14,3 +14,4 @@ pub mod LandLemmas
 pub mod OnWayLemmas
 pub mod BlockLemmas
 pub mod BurstLemmas
+pub mod DirectLemmas

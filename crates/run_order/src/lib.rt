@@ -2,12 +2,16 @@
 //! contract of a function that does nothing.
 #![tactic(auto)]
 
-ghost use Rattle.std.specs.Prelude.{◌≡◌, ◌++◌, ◌+◌, ◌≤◌, List, Some, true, length};
+ghost use Rattle.std.specs.Prelude.{◌≡◌, ◌++◌, ◌+◌, ◌≤◌, List, [], Some, true, length, slice_get};
 ghost use Rattle.std.specs.List.{AllByRecursion};
 ghost use Rattle.list_facts.specs.Lists.{total};
 ghost use Rattle.pci_command.specs.declared.op_id.OpId.{OpId};
 ghost use Rattle.board_model.specs.declared.board.Board.{Board};
 ghost use Rattle.board_model.specs.declared.bridge.Lane.{Lane as BridgeLane};
+ghost use Rattle.board_model.specs.declared.agents.Master.{Master};
+ghost use Rattle.board_model.specs.declared.op.Op.{Op};
+ghost use Rattle.board_model.specs.Requests.{op_of};
+ghost use Rattle.board_model.specs.Ways.{way};
 ghost use Rattle.board_model.specs.WellFormed.{is_well_formed};
 ghost use Rattle.board_laws.specs.Trees.{IsTree};
 ghost use Rattle.history_model.specs.declared.event.Event.{Event};
@@ -21,7 +25,7 @@ ghost use Rattle.run_order.specs.Sent.{sent, arrivals, came};
 ghost use Rattle.run_order.specs.Counts.{latched, freed};
 ghost use Rattle.run_order.specs.Masters.{MastersWrite};
 ghost use Rattle.run_order.specs.OnWay.{WritesHaveOneClaimant, OnWay};
-ghost use Rattle.run_order.specs.One.{times, ends_at_master, OnePost};
+ghost use Rattle.run_order.specs.One.{times, ends_at_master, lands_from_master, OnePost};
 
 /// Posted writes keep their order on every lane: those that were accepted at it, in that order, are
 /// those that left it, in the order in which they left, then those that stand at its end, and then
@@ -69,11 +73,13 @@ pub fn posts_are_one()
 {}
 
 /// Each posted write in flight or standing, as every one that was accepted, is on a lane of its
-/// way from its master's bus. It needs no more than a tree of buses, and that all data phases of
+/// way from its master's bus, and only a write whose way is empty lands as its master presents
+/// it. It needs no more than a tree of buses, and that all data phases of
 /// a write are claimed by whom the first one is, which holds on every well-formed board.
 pub fn posts_are_on_their_way()
     ensures accepted { (board : Board) (h : List Event) (lane : BridgeLane) → IsTree board → WritesHaveOneClaimant board → Run board h → AllByRecursion (OnWay board lane) (entered lane h) }
     ensures stands { (board : Board) (h : List Event) (lane : BridgeLane) → IsTree board → WritesHaveOneClaimant board → Run board h → AllByRecursion (OnWay board lane) (posts (world_of board h lane).standing) }
     ensures flying { (board : Board) (h : List Event) (lane : BridgeLane) → IsTree board → WritesHaveOneClaimant board → Run board h → AllByRecursion (OnWay board lane) (posts (world_of board h lane).flight) }
+    ensures direct { (board : Board) (h : List Event) (o : OpId) (op : Op) (master : Master) → IsTree board → WritesHaveOneClaimant board → op_of board o ≡ Some op → slice_get board.masters o.master ≡ Some master → is_posted_op board o ≡ true → Run board h → 1 ≤ times (lands_from_master o) h → way board op master.bus ≡ [] }
     ensures well_formed { (board : Board) → is_well_formed board ≡ true → WritesHaveOneClaimant board }
 {}
