@@ -75,7 +75,7 @@ target_claims board h place request None step at gives = gives_lands (length req
 target_claims board h place request (Some target) step at gives =
     gives_lands (length request.phases) (target_step board h place request target) step (Target place) at (Target place) gives (target_lands board h place request target)
 
-lane_claims : (board : Board) (world : World) (on : ℕ) (by : By) (o : OpId) (request : Request) (lane : BridgeLane) (found : Option Bridge) (step : Step) (at : Place) → is_posted request ≡ true
+pub lane_claims : (board : Board) (world : World) (on : ℕ) (by : By) (o : OpId) (request : Request) (lane : BridgeLane) (found : Option Bridge) (step : Step) (at : Place) → is_posted request ≡ true
     → lane_answer board world on by o request lane found ≡ Gives step at → LandsAt (length request.phases) step (Lane lane)
 lane_claims board world on by o request lane None step at posted gives = gives_lands (length request.phases) MasterAbort step Nobody at (Lane lane) gives tt
 lane_claims board world on by o request lane (Some bridge) step at posted gives =

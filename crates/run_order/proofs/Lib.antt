@@ -15,3 +15,4 @@ pub mod OnWayLemmas
 pub mod BlockLemmas
 pub mod BurstLemmas
 pub mod DirectLemmas
+pub mod WordLemmas
