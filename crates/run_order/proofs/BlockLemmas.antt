@@ -148,6 +148,15 @@ target_alike bus target a b same formed =
     (Each-list_all is_well_formed_range target.ranges ranges) in
     ap (λ x. target.bus == bus && x) (any_alike (range_holds Mem a) (range_holds Mem b) target.ranges each)
 
+-- the abort ranges of a target
+pub aborts_alike : (target : TargetAgent) (a b : ℕ) → SameBlock a b → is_well_formed_target target ≡ true → list_any (range_holds Mem a) target.aborts ≡ list_any (range_holds Mem b) target.aborts
+aborts_alike target a b same formed =
+    let six = (and_parts _ _ (and_parts _ _ (and_parts _ _ formed).0).0).0 in
+    let aborts : list_all is_well_formed_range target.aborts ≡ true = (and_parts _ _ six).1 in
+    any_alike (range_holds Mem a) (range_holds Mem b) target.aborts
+    (Each-weaker (λ (r : Range). is_well_formed_range r ≡ true) (λ (r : Range). range_holds Mem a r ≡ range_holds Mem b r) (λ r well. range_alike r a b same well) target.aborts
+    (Each-list_all is_well_formed_range target.aborts aborts))
+
 module _ (board : Board) (bridges : list_all is_well_formed_bridge board.bridges ≡ true) (targets : list_all is_well_formed_target board.targets ≡ true) (bus a b : ℕ) (same : SameBlock a b) where
   formed_bridges : AllByRecursion (λ (bridge : Bridge). is_well_formed_bridge bridge ≡ true) board.bridges
   formed_bridges = Each-list_all is_well_formed_bridge board.bridges bridges

@@ -1,6 +1,6 @@
 -- All data phases of a write in memory have one claimant, on a well-formed board.
 use Rattle.std.proofs.Common.{◌≡◌, ℕ, ◌+◌, ◌*◌, ◌/◌, ◌%◌, ◌<◌, ◌≤◌, Bool, true, false, ◌&&◌, cond, nat_le, nat_lt, List, [], ◌∷◌, length, Option, Some, None, refl, sym, ap, subst, ◌∙◌, arith, slice_get}
-use Rattle.std.specs.List.{list_all, AllByRecursion}
+use Rattle.std.specs.List.{list_all, list_any, AllByRecursion}
 use Rattle.std.specs.Option.{option_map, option_and_then}
 use Rattle.std.proofs.lemmas.Option.{cond_some}
 use Rattle.std.proofs.lemmas.Bool.Decides.{nat_tests}
@@ -16,17 +16,20 @@ use Rattle.pci_command.specs.declared.op_id.OpId.{OpId}
 use Rattle.pci_command.specs.Command.{plain_of, space_of}
 use Rattle.pci_command.specs.Same.{same_command}
 use Rattle.board_model.specs.declared.agents.Master.{Master}
+use Rattle.board_model.specs.declared.agents.Target.{Target as TargetAgent}
+use Rattle.board_model.specs.Ways.{aborts_at}
 use Rattle.board_model.specs.declared.op.Op.{Op}
 use Rattle.board_model.specs.declared.op.Op.TheVariants.{Read, Write, CfgRead, CfgWrite, Poll}
 use Rattle.board_model.specs.declared.board.Board.{Board}
 use Rattle.board_model.specs.Requests.{tries_of, op_of, command_of, address_on, phases_of, request_on, request_of, is_posted}
-use Rattle.board_model.specs.Claims.{claim_in_space, claim}
+use Rattle.board_model.specs.Claims.{range_holds, claim_in_space, claim}
 use Rattle.board_model.specs.WellFormed.{is_within, read_space, write_space, is_well_formed_bridge, is_well_formed_target, is_well_formed_read, is_well_formed_write, is_well_formed_op, is_well_formed_master, is_well_formed}
 use Rattle.history_model.specs.Words.{without}
 use Rattle.run_slots.proofs.RequestLemmas.{Each-slice_get, request_is_of}
 use Rattle.run_order.specs.OnWay.{WritesHaveOneClaimant}
+use Rattle.run_order.specs.Parts.{WritesAbortWhole}
 use Rattle.run_order.proofs.PostedLemmas.{write_not_read}
-use Rattle.run_order.proofs.BlockLemmas.{SameBlock, le_true, Each-list_all, claim_alike}
+use Rattle.run_order.proofs.BlockLemmas.{SameBlock, le_true, Each-list_all, aborts_alike, claim_alike}
 
 -- the data phases of a write stay in the block of the first
 abbrev StaysInBlock : ℕ → List Phase → Type 0
@@ -109,22 +112,46 @@ masters_formed board formed =
     Each-weaker (λ (master : Master). is_well_formed_master master ≡ true) (λ (master : Master). AllByRecursion (λ (p : Op). is_well_formed_op p ≡ true) master.ops)
     (λ master well. Each-list_all is_well_formed_op master.ops (and_parts _ _ well).1) board.masters (Each-list_all is_well_formed_master board.masters (parts board formed).masters)
 
-op_claimed : (board : Board) (op : Op) (on phase : ℕ) → is_well_formed board ≡ true → is_well_formed_op op ≡ true → same_command (command_of op) MemWrite ≡ true → phase < length (phases_of op)
-    → claim board on (without phase (request_on op on)) ≡ claim board on (request_on op on)
-op_claimed board op on phase formed well posted within =
+-- all its data phases are in one block
+same_block : (op : Op) (on phase : ℕ) → is_well_formed_op op ≡ true → same_command (command_of op) MemWrite ≡ true → phase < length (phases_of op) → SameBlock (address_on op on + 4 * phase) (address_on op on)
+same_block op on phase well posted within =
     let address : ℕ = address_on op on in
     let stays : StaysInBlock address (phases_of op) = op_block op on well posted in
-    let same : SameBlock (address + 4 * phase) address = record {
+    record {
       block = address / 64;
       a_from = omega arith;
       a_to = omega (arith, stays, within);
       b_from = omega arith;
       b_to = omega arith;
-    } in
+    }
+
+op_claimed : (board : Board) (op : Op) (on phase : ℕ) → is_well_formed board ≡ true → is_well_formed_op op ≡ true → same_command (command_of op) MemWrite ≡ true → phase < length (phases_of op)
+    → claim board on (without phase (request_on op on)) ≡ claim board on (request_on op on)
+op_claimed board op on phase formed well posted within =
+    let address : ℕ = address_on op on in
     let p = parts board formed in
     let space : space_of (command_of op) ≡ Mem = (write_not_read (command_of op) posted).1 in
     let F : Space → Type 0 = λ s. claim_in_space board on s (address + 4 * phase) ≡ claim_in_space board on s address in
-    subst F (sym space) (claim_alike board p.bridges p.targets on (address + 4 * phase) address same)
+    subst F (sym space) (claim_alike board p.bridges p.targets on (address + 4 * phase) address (same_block op on phase well posted within))
+
+op_aborted : (target : TargetAgent) (op : Op) (on phase : ℕ) → is_well_formed_target target ≡ true → is_well_formed_op op ≡ true → same_command (command_of op) MemWrite ≡ true → phase < length (phases_of op)
+    → aborts_at target (without phase (request_on op on)) ≡ aborts_at target (request_on op on)
+op_aborted target op on phase formed well posted within =
+    let address : ℕ = address_on op on in
+    let space : space_of (command_of op) ≡ Mem = (write_not_read (command_of op) posted).1 in
+    let F : Space → Type 0 = λ s. list_any (range_holds s (address + 4 * phase)) target.aborts ≡ list_any (range_holds s address) target.aborts in
+    subst F (sym space) (aborts_alike target (address + 4 * phase) address (same_block op on phase well posted within) formed)
+
+pub AbortWhole-formed : (board : Board) → is_well_formed board ≡ true → WritesAbortWhole board
+AbortWhole-formed board formed o on request phase place target is_request posted within is_target =
+    let of_op = request_is_of board o on request is_request in
+    let op : Op = of_op.op in
+    let well : is_well_formed_op op ≡ true = op_formed board o op (masters_formed board formed) of_op.is_op in
+    let targets = Each-list_all is_well_formed_target board.targets (parts board formed).targets in
+    let target_formed : is_well_formed_target target ≡ true = Each-slice_get (λ (t : TargetAgent). is_well_formed_target t ≡ true) board.targets place target targets is_target in
+    let F : Request → Type 0 = λ r. is_posted r ≡ true → phase < length r.phases → aborts_at target (without phase r) ≡ aborts_at target r in
+    let here : F (request_on op on) = λ write below. op_aborted target op on phase target_formed well write below in
+    subst F (sym of_op.is_request) here posted within
 
 pub OneClaimant-formed : (board : Board) → is_well_formed board ≡ true → WritesHaveOneClaimant board
 OneClaimant-formed board formed o on request phase is_request posted within =

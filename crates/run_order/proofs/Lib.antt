@@ -16,3 +16,4 @@ pub mod BlockLemmas
 pub mod BurstLemmas
 pub mod DirectLemmas
 pub mod WordLemmas
+pub mod PartsLemmas

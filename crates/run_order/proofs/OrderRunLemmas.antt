@@ -5,6 +5,7 @@ use Rattle.list_facts.specs.Lists.{less}
 use Rattle.pci_command.specs.declared.op_id.OpId.{OpId}
 use Rattle.pci_command.specs.declared.op_id.Outcome.{Outcome}
 use Rattle.board_model.specs.declared.bridge.Lane.{Lane as BridgeLane}
+use Rattle.board_model.specs.declared.bridge.Place.{Place}
 use Rattle.board_model.specs.declared.board.Board.{Board}
 use Rattle.board_model.specs.Ways.{end_of}
 use Rattle.history_model.specs.declared.event.By.{By}
@@ -187,3 +188,13 @@ event_orders board h (Arrive lane mark) run allowed old l =
 pub InOrder-run : (board : Board) (h : List Event) → Run board h → (l : BridgeLane) → InOrder board h l
 InOrder-run board [] run l = refl
 InOrder-run board (e ∷ h) run l = event_orders board h e run.1 run.0 (InOrder-run board h run.1) l
+
+-- what stands of the posted writes after an act is what stood, less the oldest where it left
+pub act_stands : (board : Board) (h : List Event) (on : ℕ) (by : By) (o : OpId) (step : Step) (place : Place) → Run board h → Allowed board h (Act on by o step place)
+    → (l : BridgeLane) → posts (world_of board h l).standing ≡ leaves_by board l by o step ++ posts (world_of board (Act on by o step place ∷ h) l).standing
+act_stands board h on by o step place run allowed l =
+    let e : Event = Act on by o step place in
+    let world : World = at_place board on by o step place (world_of board h) in
+    let placed = place_places board h run on by o step place allowed.1 in
+    let gone = initiator_departs board h on by o step (λ l. entering l e) world allowed.0 placed l in
+    sym (placed l).stands ∙ gone.stands

@@ -17,6 +17,7 @@ ghost use Rattle.board_laws.specs.Trees.{IsTree};
 ghost use Rattle.history_model.specs.declared.event.Event.{Event};
 ghost use Rattle.history_model.specs.World.{lane_back, world_of};
 ghost use Rattle.history_model.specs.Program.{turn_of};
+ghost use Rattle.history_model.specs.Words.{through};
 ghost use Rattle.history_model.specs.Runs.{Run};
 ghost use Rattle.run_slots.specs.Credits.{room_count};
 ghost use Rattle.run_slots.specs.Depths.{DifferentNumbers};
@@ -25,6 +26,7 @@ ghost use Rattle.run_order.specs.Sent.{sent, arrivals, came};
 ghost use Rattle.run_order.specs.Counts.{latched, freed};
 ghost use Rattle.run_order.specs.Masters.{MastersWrite};
 ghost use Rattle.run_order.specs.OnWay.{WritesHaveOneClaimant, OnWay};
+ghost use Rattle.run_order.specs.Parts.{WritesAbortWhole, PartsAt};
 ghost use Rattle.run_order.specs.One.{times, ends_at_master, lands_from_master, OnePost};
 
 /// Posted writes keep their order on every lane: those that were accepted at it, in that order, are
@@ -82,4 +84,13 @@ pub fn posts_are_on_their_way()
     ensures flying { (board : Board) (h : List Event) (lane : BridgeLane) → IsTree board → WritesHaveOneClaimant board → Run board h → AllByRecursion (OnWay board lane) (posts (world_of board h lane).flight) }
     ensures direct { (board : Board) (h : List Event) (o : OpId) (op : Op) (master : Master) → IsTree board → WritesHaveOneClaimant board → op_of board o ≡ Some op → slice_get board.masters o.master ≡ Some master → is_posted_op board o ≡ true → Run board h → 1 ≤ times (lands_from_master o) h → way board op master.bus ≡ [] }
     ensures well_formed { (board : Board) → is_well_formed board ≡ true → WritesHaveOneClaimant board }
+{}
+
+/// The rest of a write in memory of which a target took a part waits at its master, whose turn it
+/// is, or at the end of a lane as the oldest posted write that stands there, and there a target
+/// claims it and does not abort it; or it landed. This needs that all data phases of a write are
+/// claimed by whom the first one is, and aborted as it is, which holds on every well-formed board.
+pub fn parts_wait_for_the_rest()
+    ensures waits { (board : Board) (h : List Event) (o : OpId) (op : Op) (master : Master) → WritesHaveOneClaimant board → WritesAbortWhole board → op_of board o ≡ Some op → slice_get board.masters o.master ≡ Some master → is_posted_op board o ≡ true → Run board h → 1 ≤ through h o → PartsAt board h o op master.bus }
+    ensures well_formed { (board : Board) → is_well_formed board ≡ true → WritesAbortWhole board }
 {}
