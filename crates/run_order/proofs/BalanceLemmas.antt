@@ -4,7 +4,6 @@ use Rattle.list_facts.specs.Lists.{total}
 use Rattle.list_facts.proofs.TotalLemmas.{total-append}
 use Rattle.pci_command.specs.declared.request.Request.{Request}
 use Rattle.pci_command.specs.declared.op_id.OpId.{OpId}
-use Rattle.pci_command.specs.declared.op_id.Outcome.{Outcome}
 use Rattle.pci_command.specs.declared.op_id.Outcome.TheVariants.{Written}
 use Rattle.pci_command.specs.Same.{same_op}
 use Rattle.board_model.specs.declared.op.Op.{Op}
@@ -17,7 +16,6 @@ use Rattle.board_model.specs.Requests.{op_of, request_on, request_of, is_posted}
 use Rattle.board_model.specs.Ways.{end_of}
 use Rattle.history_model.specs.declared.event.By.{By}
 use Rattle.history_model.specs.declared.event.By.TheVariants.{Master, Lane as ByLane}
-use Rattle.history_model.specs.declared.event.Mark.{Mark}
 use Rattle.history_model.specs.declared.event.Step.{Step}
 use Rattle.history_model.specs.declared.event.Step.TheVariants.{Land, Part, Read, Accept, Latch, Take, Stall, MasterAbort, TargetAbort}
 use Rattle.history_model.specs.declared.event.Event.{Event}
@@ -32,7 +30,7 @@ use Rattle.run_slots.specs.Depths.{DifferentNumbers}
 use Rattle.run_slots.proofs.AnswerLemmas.{answered_at}
 use Rattle.run_slots.proofs.QuietLemmas.{Quiet-empty, run_no_bridge}
 use Rattle.run_slots.proofs.RequestLemmas.{same_op_true}
-use Rattle.run_order.specs.Order.{posts, is_posted_in, is_posted_op, accepted_at, enters_by, entering, entered, leaves_by, leaving, left}
+use Rattle.run_order.specs.Order.{posts, is_posted_in, is_posted_op, accepted_at, entering, entered, leaves_by, leaving, left}
 use Rattle.run_order.specs.Masters.{is_accept, is_master, accepts_from_master}
 use Rattle.run_order.specs.One.{times, ends_at_master, is_land, is_abort, lands_from_master, lands_from_lane, lost_from_lane, one_of, on_lane, over_lanes, on_lanes, OnePost}
 use Rattle.run_order.proofs.PostLemmas.{split_true}

@@ -1,9 +1,8 @@
 -- All data phases of a write in memory have one claimant, on a well-formed board.
-use Rattle.std.proofs.Common.{◌≡◌, ℕ, ◌+◌, ◌*◌, ◌/◌, ◌%◌, ◌<◌, ◌≤◌, Bool, true, false, ◌&&◌, cond, nat_le, nat_lt, List, [], ◌∷◌, length, Option, Some, None, refl, sym, ap, subst, ◌∙◌, arith, slice_get}
+use Rattle.std.proofs.Common.{◌≡◌, ℕ, ◌+◌, ◌*◌, ◌/◌, ◌%◌, ◌<◌, ◌≤◌, Bool, true, ◌&&◌, cond, nat_le, nat_lt, List, length, Option, Some, None, refl, sym, subst, arith, slice_get}
 use Rattle.std.specs.List.{list_all, list_any, AllByRecursion}
-use Rattle.std.specs.Option.{option_map, option_and_then}
+use Rattle.std.specs.Option.{option_and_then}
 use Rattle.std.proofs.lemmas.Option.{cond_some}
-use Rattle.std.proofs.lemmas.Bool.Decides.{nat_tests}
 use Rattle.std.proofs.lemmas.Bool.{and_parts}
 use Rattle.list_facts.proofs.EachLemmas.{Each-weaker}
 use Rattle.pci_command.specs.declared.command.Command.{Command}
@@ -21,9 +20,9 @@ use Rattle.board_model.specs.Ways.{aborts_at}
 use Rattle.board_model.specs.declared.op.Op.{Op}
 use Rattle.board_model.specs.declared.op.Op.TheVariants.{Read, Write, CfgRead, CfgWrite, Poll}
 use Rattle.board_model.specs.declared.board.Board.{Board}
-use Rattle.board_model.specs.Requests.{tries_of, op_of, command_of, address_on, phases_of, request_on, request_of, is_posted}
+use Rattle.board_model.specs.Requests.{tries_of, op_of, command_of, address_on, phases_of, request_on, is_posted}
 use Rattle.board_model.specs.Claims.{range_holds, claim_in_space, claim}
-use Rattle.board_model.specs.WellFormed.{is_within, read_space, write_space, is_well_formed_bridge, is_well_formed_target, is_well_formed_read, is_well_formed_write, is_well_formed_op, is_well_formed_master, is_well_formed}
+use Rattle.board_model.specs.WellFormed.{read_space, write_space, is_well_formed_bridge, is_well_formed_target, is_well_formed_read, is_well_formed_write, is_well_formed_op, is_well_formed_master, is_well_formed}
 use Rattle.history_model.specs.Words.{without}
 use Rattle.run_slots.proofs.RequestLemmas.{Each-slice_get, request_is_of}
 use Rattle.run_order.specs.OnWay.{WritesHaveOneClaimant}

@@ -23,11 +23,11 @@ use Rattle.history_model.specs.declared.item.Carried.{Carried}
 use Rattle.history_model.specs.declared.item.Carried.TheVariants.{Post, Ask, Done, Room, Gone}
 use Rattle.history_model.specs.declared.item.Slot.{Slot}
 use Rattle.history_model.specs.Lanes.{is_of, reply_to, Effect, Stands, Credits as CreditsBack, Frees, Drops, effect_of}
-use Rattle.history_model.specs.World.{World, lane_back, same_lane, both, lane_outcome, world_of}
+use Rattle.history_model.specs.World.{World, lane_back, same_lane, lane_outcome, world_of}
 use Rattle.history_model.specs.Answers.{wants, presents, presents_item}
 use Rattle.history_model.specs.Runs.{Allowed, Run}
 use Rattle.run_slots.specs.Kinds.{RightKind}
-use Rattle.run_slots.specs.Credits.{post_count, room_count, Credits}
+use Rattle.run_slots.specs.Credits.{post_count, room_count}
 use Rattle.run_slots.proofs.BridgeLemmas.{lane_back_back, same_lane_flip}
 use Rattle.run_slots.proofs.KindLemmas.{RightKind-run}
 use Rattle.run_slots.proofs.CreditsLemmas.{Credits-run}

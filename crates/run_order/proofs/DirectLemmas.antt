@@ -1,8 +1,6 @@
 -- A write in memory that lands as its master presents it has no lane on its way.
-use Rattle.std.proofs.Common.{◌≡◌, ℕ, ◌+◌, ◌≤◌, Bool, true, false, not, ◌&&◌, cond, List, [], ◌∷◌, Option, Some, None, refl, sym, ap, subst, ◌∙◌, arith, slice_get, eqb-true}
-use Rattle.pci_command.specs.declared.request.Request.{Request}
+use Rattle.std.proofs.Common.{◌≡◌, ℕ, ◌+◌, ◌≤◌, Bool, true, false, cond, List, [], ◌∷◌, Option, Some, None, refl, sym, ap, subst, ◌∙◌, arith, slice_get, eqb-true}
 use Rattle.pci_command.specs.declared.op_id.OpId.{OpId}
-use Rattle.pci_command.specs.declared.op_id.Outcome.{Outcome}
 use Rattle.pci_command.specs.Same.{same_op}
 use Rattle.board_model.specs.declared.agents.Master.{Master as MasterAgent}
 use Rattle.board_model.specs.declared.bridge.Lane.{Lane as BridgeLane}
@@ -10,15 +8,12 @@ use Rattle.board_model.specs.declared.bridge.Place.{Place}
 use Rattle.board_model.specs.declared.bridge.Place.TheVariants.{Target, Header, Lane, Nobody}
 use Rattle.board_model.specs.declared.board.Board.{Board}
 use Rattle.board_model.specs.declared.op.Op.{Op}
-use Rattle.board_model.specs.Requests.{op_of, phases_of, request_on, request_of, is_posted}
+use Rattle.board_model.specs.Requests.{op_of, request_on, request_of, is_posted}
 use Rattle.board_model.specs.Claims.{claim}
 use Rattle.board_model.specs.Ways.{end_of, Route, route_by, route_of, way}
 use Rattle.board_laws.specs.Trees.{IsTree}
 use Rattle.board_laws.proofs.EndLemmas.{WayEnds-tree}
-use Rattle.history_model.specs.declared.event.By.{By}
 use Rattle.history_model.specs.declared.event.By.TheVariants.{Master, Lane as ByLane}
-use Rattle.history_model.specs.declared.event.Mark.{Mark}
-use Rattle.history_model.specs.declared.event.Step.{Step}
 use Rattle.history_model.specs.declared.event.Step.TheVariants.{Land, Part, Read, Accept, Latch, Take, Stall, MasterAbort, TargetAbort}
 use Rattle.history_model.specs.declared.event.Event.{Event}
 use Rattle.history_model.specs.declared.event.Event.TheVariants.{Act, Arrive}
@@ -32,7 +27,7 @@ use Rattle.run_order.specs.Order.{is_posted_in, is_posted_op}
 use Rattle.run_order.specs.One.{times, lands_from_master}
 use Rattle.run_order.specs.OnWay.{WritesHaveOneClaimant}
 use Rattle.run_order.proofs.PostedLemmas.{IsTarget}
-use Rattle.run_order.proofs.LandLemmas.{LandsAt, write_lands, rest_claimed}
+use Rattle.run_order.proofs.LandLemmas.{write_lands, rest_claimed}
 
 -- where a target claims, the way is empty
 no_lanes : (onwards : BridgeLane → Route) (on : ℕ) (place : Place) → IsTarget place → (route_by onwards on place).lanes ≡ []

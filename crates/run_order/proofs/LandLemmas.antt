@@ -1,12 +1,11 @@
 -- Who claims a write in memory that lands, and how much of it is left.
-use Rattle.std.proofs.Common.{◌≡◌, ℕ, zero, suc, ◌+◌, ◌*◌, ◌<◌, ◌≤◌, Bool, true, false, ◌&&◌, ◌==◌, cond, nat_lt, List, [], ◌∷◌, length, drop, Option, Some, None, refl, sym, ap, subst, ◌∙◌, arith, slice_get}
+use Rattle.std.proofs.Common.{◌≡◌, ℕ, zero, suc, ◌+◌, ◌*◌, ◌<◌, ◌≤◌, Bool, true, false, cond, nat_lt, List, [], ◌∷◌, length, drop, Option, Some, None, refl, sym, ap, subst, ◌∙◌, arith, slice_get}
 use Rattle.std.specs.List.{find}
 use Rattle.std.proofs.lemmas.List.{length-drop}
 use Rattle.std.proofs.lemmas.Bool.Decides.{nat_tests}
 use Rattle.pci_command.specs.declared.phases.Phase.{Phase}
 use Rattle.pci_command.specs.declared.request.Request.{Request}
 use Rattle.pci_command.specs.declared.op_id.OpId.{OpId}
-use Rattle.pci_command.specs.declared.op_id.Outcome.{Outcome}
 use Rattle.pci_command.specs.Command.{is_read, space_of}
 use Rattle.pci_command.specs.Same.{same_op}
 use Rattle.board_model.specs.declared.agents.Target.{Target as TargetAgent}
@@ -20,7 +19,6 @@ use Rattle.board_model.specs.Requests.{op_of, phases_of, request_on, request_of,
 use Rattle.board_model.specs.Claims.{claim_in_space, claim}
 use Rattle.board_model.specs.Ways.{aborts_at, address_in}
 use Rattle.history_model.specs.declared.event.By.{By}
-use Rattle.history_model.specs.declared.event.Mark.{Mark}
 use Rattle.history_model.specs.declared.event.Step.{Step}
 use Rattle.history_model.specs.declared.event.Step.TheVariants.{Land, Part, Read, Accept, Latch, Take, Stall, MasterAbort, TargetAbort}
 use Rattle.history_model.specs.declared.event.Event.{Event}
@@ -36,7 +34,6 @@ use Rattle.run_slots.proofs.RequestLemmas.{same_op_true}
 use Rattle.run_order.specs.Order.{is_posted_in, is_posted_op}
 use Rattle.run_order.specs.OnWay.{WritesHaveOneClaimant}
 use Rattle.run_order.proofs.PostedLemmas.{IsTarget, write_not_read, memory_no_header}
-use Rattle.run_order.proofs.BalanceLemmas.{PostedRequest, posted_request}
 
 -- a write lands, whole or in part, only where a target claims it, and a part leaves something
 abbrev pub LandsAt : ℕ → Step → Place → Type 0

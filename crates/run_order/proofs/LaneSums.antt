@@ -1,5 +1,5 @@
 -- Sums over the lanes of a board.
-use Rattle.std.proofs.Common.{◌≡◌, ℕ, ◌+◌, Bool, true, false, not, ◌&&◌, ◌==◌, cond, eqb, List, [], ◌∷◌, Some, refl, sym, subst, ◌∙◌, arith}
+use Rattle.std.proofs.Common.{◌≡◌, ℕ, ◌+◌, Bool, true, false, ◌&&◌, ◌==◌, cond, eqb, List, [], ◌∷◌, Some, refl, sym, subst, ◌∙◌, arith}
 use Rattle.std.specs.List.{find, AllByRecursion, IsDistinct}
 use Rattle.std.proofs.lemmas.Bool.Decides.{nat_tests}
 use Rattle.std.proofs.lemmas.Map.Keys.{IsDistinct-head, IsDistinct-tail}
@@ -30,7 +30,6 @@ over-plus f g h board both =
 
 pub over-zero : (f : BridgeLane → ℕ) (board : Board) → ((l : BridgeLane) → f l ≡ 0) → over_lanes f board ≡ 0
 over-zero f board none =
-    let Z : List Bridge → Type 0 = λ bridges. total (both_lanes f) bridges ≡ 0 in
     zero_all f none board.bridges
   where
     zero_all : (f : BridgeLane → ℕ) → ((l : BridgeLane) → f l ≡ 0) → (bridges : List Bridge) → total (both_lanes f) bridges ≡ 0

@@ -1,5 +1,5 @@
 -- Each operation ends at most once at its master: the turn goes on and never comes back.
-use Rattle.std.proofs.Common.{◌≡◌, ℕ, zero, suc, ◌+◌, ◌<◌, ◌≤◌, Bool, true, false, ◌&&◌, cond, eqb, List, [], ◌∷◌, Option, Some, None, is_some, refl, sym, ap, subst, ◌∙◌, arith, bit_and}
+use Rattle.std.proofs.Common.{◌≡◌, ℕ, zero, suc, ◌+◌, ◌<◌, ◌≤◌, Bool, true, false, cond, eqb, List, [], ◌∷◌, Option, Some, None, is_some, refl, sym, ap, subst, ◌∙◌, arith}
 use Rattle.std.proofs.lemmas.Bool.Decides.{nat_tests}
 use Rattle.pci_command.specs.declared.op_id.OpId.{OpId}
 use Rattle.pci_command.specs.declared.op_id.Outcome.{Outcome}
@@ -8,15 +8,13 @@ use Rattle.board_model.specs.declared.op.Op.{Op}
 use Rattle.board_model.specs.declared.op.Op.TheVariants.{Read as ReadOp, Write, CfgRead, CfgWrite, Poll}
 use Rattle.board_model.specs.declared.board.Board.{Board}
 use Rattle.board_model.specs.Requests.{op_of}
-use Rattle.history_model.specs.declared.event.By.{By}
 use Rattle.history_model.specs.declared.event.By.TheVariants.{Master, Lane as ByLane}
-use Rattle.history_model.specs.declared.event.Step.{Step}
 use Rattle.history_model.specs.declared.event.Event.{Event}
 use Rattle.history_model.specs.declared.event.Event.TheVariants.{Act, Arrive}
-use Rattle.history_model.specs.Program.{Ending, ending_of, ended, master_outcome, present, next_op, next_try, meets, follows_op, follows_in, follows, turn_after, turn_of}
-use Rattle.history_model.specs.Knowledge.{outcome_in, ends_as}
-use Rattle.history_model.specs.Runs.{Allowed, Run}
-use Rattle.run_slots.proofs.RequestLemmas.{same_op_true, same_op_self}
+use Rattle.history_model.specs.Program.{ending_of, master_outcome, present, next_op, next_try, meets, follows_op, follows_in, follows, turn_after, turn_of}
+use Rattle.history_model.specs.Knowledge.{outcome_in}
+use Rattle.history_model.specs.Runs.{Run}
+use Rattle.run_slots.proofs.RequestLemmas.{same_op_true}
 use Rattle.run_slots.proofs.OwnersLatchLemmas.{wants-turn}
 use Rattle.run_order.specs.One.{times, ends_at_master}
 

@@ -1,5 +1,5 @@
 -- Where the rest of a write in memory waits that went through in part, in every run.
-use Rattle.std.proofs.Common.{◌≡◌, ℕ, zero, suc, ◌+◌, ◌≤◌, Bool, true, false, not, ◌&&◌, ◌==◌, cond, eqb, List, [], ◌∷◌, ◌++◌, Option, Some, None, is_some, refl, sym, ap, subst, ◌∙◌, arith, slice_get, append-nil}
+use Rattle.std.proofs.Common.{◌≡◌, ℕ, zero, suc, ◌+◌, ◌≤◌, Bool, true, false, ◌&&◌, ◌==◌, cond, eqb, List, [], ◌∷◌, ◌++◌, Option, Some, None, is_some, refl, sym, ap, subst, ◌∙◌, arith, slice_get, append-nil}
 use Rattle.std.proofs.lemmas.Bool.Decides.{nat_tests}
 use Rattle.std.proofs.lemmas.Bool.{and_parts}
 use Rattle.list_facts.specs.Lists.{less}
@@ -9,7 +9,6 @@ use Rattle.pci_command.specs.Same.{same_op}
 use Rattle.board_model.specs.declared.agents.Master.{Master as MasterAgent}
 use Rattle.board_model.specs.declared.bridge.Lane.{Lane as BridgeLane}
 use Rattle.board_model.specs.declared.bridge.Place.{Place}
-use Rattle.board_model.specs.declared.bridge.Place.TheVariants.{Target, Header, Lane, Nobody}
 use Rattle.board_model.specs.declared.board.Board.{Board}
 use Rattle.board_model.specs.declared.op.Op.{Op}
 use Rattle.board_model.specs.Requests.{op_of, request_on}
@@ -23,18 +22,18 @@ use Rattle.history_model.specs.declared.event.Event.{Event}
 use Rattle.history_model.specs.declared.event.Event.TheVariants.{Act, Arrive}
 use Rattle.history_model.specs.declared.item.Carried.{Carried}
 use Rattle.history_model.specs.declared.item.Answer.TheVariants.{Gives}
-use Rattle.history_model.specs.Lanes.{LaneState, Both, is_of, Effect, Stands, Credits, Frees, Drops, effect_of, takes_effect, came_off, arrives_first, arrives}
-use Rattle.history_model.specs.World.{World, lane_back, same_lane, both, lane_outcome, moved, world_of}
-use Rattle.history_model.specs.Program.{turn_of, ending_of, master_outcome, follows, turn_after}
+use Rattle.history_model.specs.Lanes.{Both, is_of, Effect, Stands, Credits, Frees, Drops, effect_of, takes_effect, came_off, arrives_first, arrives}
+use Rattle.history_model.specs.World.{World, same_lane, both, lane_outcome, moved, world_of}
+use Rattle.history_model.specs.Program.{turn_of, ending_of, master_outcome, turn_after}
 use Rattle.history_model.specs.Words.{phases_parted, parted_by, through}
-use Rattle.history_model.specs.Answers.{is_on, wants, answer, presents}
+use Rattle.history_model.specs.Answers.{wants, answer, presents}
 use Rattle.history_model.specs.Runs.{Allowed, Run}
 use Rattle.run_slots.proofs.BridgeLemmas.{same_lane_true}
 use Rattle.run_slots.proofs.KindLemmas.{RightKind-run}
 use Rattle.run_slots.proofs.LatchedLemmas.{wants-at}
 use Rattle.run_slots.proofs.OwnersLatchLemmas.{wants-turn}
 use Rattle.run_slots.proofs.RequestLemmas.{same_op_true, same_op_self}
-use Rattle.run_order.specs.Order.{post_in, posts, is_posted_op, leaves_by}
+use Rattle.run_order.specs.Order.{posts, is_posted_op, leaves_by}
 use Rattle.run_order.specs.One.{times, lands_from_master, lands_from_lane}
 use Rattle.run_order.specs.OnWay.{WritesHaveOneClaimant}
 use Rattle.run_order.specs.Parts.{WritesAbortWhole, HasWord, PartsAt, at_master, at_lane, landed}

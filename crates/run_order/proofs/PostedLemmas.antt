@@ -1,13 +1,12 @@
 -- How a write in memory is answered, and where.
-use Rattle.std.proofs.Common.{◌≡◌, ℕ, Bool, true, false, ◌&&◌, ◌==◌, cond, nat_lt, List, [], ◌∷◌, length, Option, Some, None, refl, sym, ap, subst, ◌∙◌, slice_get}
+use Rattle.std.proofs.Common.{◌≡◌, ℕ, Bool, true, false, ◌&&◌, ◌==◌, cond, nat_lt, List, length, Option, Some, None, refl, sym, subst, slice_get}
 use Rattle.std.specs.List.{find, list_any, position_from}
 use Rattle.pci_command.specs.declared.command.Command.{Command}
 use Rattle.pci_command.specs.declared.command.Command.TheVariants.{IoRead, IoWrite, MemRead, MemWrite, CfgRead, CfgWrite, MemReadMultiple, MemReadLine, MemWriteInvalidate}
 use Rattle.pci_command.specs.declared.command.Space.{Space}
-use Rattle.pci_command.specs.declared.command.Space.TheVariants.{Mem, Io, Cfg}
+use Rattle.pci_command.specs.declared.command.Space.TheVariants.{Mem}
 use Rattle.pci_command.specs.declared.request.Request.{Request}
 use Rattle.pci_command.specs.declared.op_id.OpId.{OpId}
-use Rattle.pci_command.specs.declared.op_id.Outcome.{Outcome}
 use Rattle.pci_command.specs.Command.{is_read, space_of}
 use Rattle.pci_command.specs.Same.{same_command}
 use Rattle.board_model.specs.declared.agents.Target.{Target as TargetAgent}
@@ -28,7 +27,7 @@ use Rattle.history_model.specs.declared.item.Answer.TheVariants.{Gives, Retry}
 use Rattle.history_model.specs.declared.item.Cause.TheVariants.{Full}
 use Rattle.history_model.specs.World.{World, lane_back, is_own, world_of}
 use Rattle.history_model.specs.Words.{through, without, value_of}
-use Rattle.history_model.specs.Answers.{stalls_used, target_step, target_answer, header_answer, delayed_answer, posted_answer, lane_answer, bridge_to, answer_by, answer_to, answer}
+use Rattle.history_model.specs.Answers.{stalls_used, target_step, target_answer, delayed_answer, posted_answer, lane_answer, bridge_to, answer_by, answer_to, answer}
 
 abbrev pub IsTarget : Place → Type 0
 IsTarget (Target target) = Unit {0}

@@ -2,7 +2,6 @@
 use Rattle.std.proofs.Common.{◌≡◌, ℕ, ◌+◌, Bool, true, false, cond, List, [], ◌∷◌, ◌++◌, length, take, Option, Some, None, refl, sym, ap, subst, ◌∙◌, append_assoc, append-nil, length-append, arith}
 use Rattle.std.proofs.Math.Seq.{take-append_seam}
 use Rattle.std.specs.List.{find}
-use Rattle.list_facts.specs.Lists.{less}
 use Rattle.list_facts.proofs.FindLemmas.{find-less_other}
 use Rattle.pci_command.specs.declared.op_id.OpId.{OpId}
 use Rattle.pci_command.specs.declared.op_id.Outcome.{Outcome}
@@ -21,9 +20,9 @@ use Rattle.history_model.specs.declared.item.Carried.{Carried}
 use Rattle.history_model.specs.declared.item.Carried.TheVariants.{Post, Ask, Done, Room, Gone}
 use Rattle.history_model.specs.declared.item.Slot.{Slot}
 use Rattle.history_model.specs.declared.item.Answer.TheVariants.{Gives}
-use Rattle.history_model.specs.Lanes.{LaneState, Both, lowest_free, is_of, is_done_for, reply_to, item_ends, Effect, Stands, Credits, Frees, Drops, effect_of, takes_effect, came_off, arrives_first, arrives}
+use Rattle.history_model.specs.Lanes.{LaneState, Both, is_of, is_done_for, reply_to, item_ends, Effect, Stands, Credits, Frees, Drops, effect_of, takes_effect, came_off, arrives_first, arrives}
 use Rattle.history_model.specs.World.{World, lane_back, same_lane, both, slot_found, enters, at_place, lane_outcome, leaves, at_initiator, moved, world_of}
-use Rattle.history_model.specs.Answers.{wants, answer}
+use Rattle.history_model.specs.Answers.{answer}
 use Rattle.history_model.specs.Runs.{mark_of_first, Allowed, Run}
 use Rattle.run_slots.proofs.BridgeLemmas.{same_lane_self, same_lane_back, same_lane_symm}
 use Rattle.run_slots.proofs.AnswerLemmas.{AtLane, answered_at}

@@ -1,5 +1,5 @@
 -- The held slots are those latched and not freed, in every run.
-use Rattle.std.proofs.Common.{◌≡◌, ℕ, ◌+◌, Bool, true, false, cond, List, [], ◌∷◌, ◌++◌, length, Option, Some, None, is_some, eqb, refl, sym, ap, subst, ◌∙◌, length-append, arith}
+use Rattle.std.proofs.Common.{◌≡◌, ℕ, ◌+◌, Bool, true, false, cond, List, [], ◌∷◌, length, Option, Some, None, is_some, refl, sym, ap, subst, ◌∙◌, length-append, arith}
 use Rattle.std.specs.List.{find, AllByRecursion}
 use Rattle.std.proofs.lemmas.Bool.Decides.{nat_tests}
 use Rattle.list_facts.specs.Lists.{less}
@@ -23,7 +23,7 @@ use Rattle.history_model.specs.declared.item.Carried.TheVariants.{Post, Ask, Don
 use Rattle.history_model.specs.declared.item.Slot.{Slot}
 use Rattle.history_model.specs.declared.item.Answer.TheVariants.{Gives}
 use Rattle.history_model.specs.Lanes.{LaneState, Both, has_number, lowest_free, item_ends, Effect, Stands, Credits, Frees, Drops, effect_on_ask, effect_on_done, effect_of, takes_effect, came_off, arrives_first, arrives}
-use Rattle.history_model.specs.World.{World, lane_back, same_lane, both, is_own, slot_found, enters, at_place, lane_outcome, leaves, at_initiator, moved, world_of}
+use Rattle.history_model.specs.World.{World, lane_back, same_lane, both, is_own, slot_found, enters, at_place, lane_outcome, leaves, at_initiator, world_of}
 use Rattle.history_model.specs.Answers.{answer}
 use Rattle.history_model.specs.Runs.{Allowed, Run}
 use Rattle.run_slots.specs.Slots.{DoneNamed, GoneHeld}

@@ -69,15 +69,15 @@ pub fn operations_end_once()
 /// A write in memory that a bridge accepted from its master landed once, or was lost once (nobody
 /// claimed it as a bridge presented it, or its target aborted it), or is one posted write on one
 /// lane of the board, and only one of these. Of no other write in memory is there a posted write,
-/// and none was lost so; and it landed only, and once, as its master presented it.
+/// and none was lost so; such a write lands at most once, as its master presents it.
 pub fn posts_are_one()
     ensures { (board : Board) (h : List Event) (o : OpId) → DifferentNumbers board → is_posted_op board o ≡ true → Run board h → OnePost board h o }
 {}
 
 /// Each posted write in flight or standing, as every one that was accepted, is on a lane of its
-/// way from its master's bus, and only a write whose way is empty lands as its master presents
-/// it. It needs no more than a tree of buses, and that all data phases of
-/// a write are claimed by whom the first one is, which holds on every well-formed board.
+/// way from its master's bus, and only a write whose way is empty lands as its master presents it.
+/// It needs no more than a tree of buses, and that all data phases of a write are claimed by whom
+/// the first one is, which holds on every well-formed board.
 pub fn posts_are_on_their_way()
     ensures accepted { (board : Board) (h : List Event) (lane : BridgeLane) → IsTree board → WritesHaveOneClaimant board → Run board h → AllByRecursion (OnWay board lane) (entered lane h) }
     ensures stands { (board : Board) (h : List Event) (lane : BridgeLane) → IsTree board → WritesHaveOneClaimant board → Run board h → AllByRecursion (OnWay board lane) (posts (world_of board h lane).standing) }
