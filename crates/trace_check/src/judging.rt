@@ -9,6 +9,7 @@ use bus_tree::Tree;
 use history_core::{allowed, complete};
 use history_model::Event;
 use progress_core::left;
+use run_slots::{matched, well_formed_boards};
 
 /// What these events of a valid board are, the first event first. There are fewer than 2^32. Each
 /// is looked at after all before it, so that the time grows with the square of their number.
@@ -29,12 +30,12 @@ fn first_refused(board: &Board, events: &[Event]) -> Option<Verdict>
     requires few { length events.now < 2 ^ 32 }
     ensures { MatchOption result (Run board.now (history_of events.now)) (Judges board.now events.now) }
 {
-    let mut number = 0;
-    for event in events {
-        let (before, _after) = events.split_at(number as usize);
-        number += 1;
-        if let Err(why) = allowed(board, before, event) {
-            return Some(Verdict::NotRun { event: number, why });
+    for (index, event) in events.iter().enumerate() {
+        if let Err(why) = allowed(board, &events[..index], event) {
+            return Some(Verdict::NotRun {
+                event: index as u32 + 1,
+                why,
+            });
         }
     }
     None
@@ -44,6 +45,8 @@ fn verdict_of_run(tree: &Tree, events: &[Event]) -> Verdict
     requires { Run tree.now (history_of events.now) }
     ensures { Judges tree.now events.now result }
 {
+    matched();
+    well_formed_boards();
     if complete(tree.board(), events) {
         Verdict::Complete
     } else {
