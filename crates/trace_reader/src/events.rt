@@ -1,4 +1,4 @@
-ghost use Rattle.std.specs.Prelude.{◌+◌, ◌-◌, ◌<◌, ◌≤◌, ◌^◌, [], length, drop};
+ghost use Rattle.std.specs.Prelude.{◌+◌, ◌-◌, ◌<◌, ◌≤◌, ◌^◌, [], length, drop, IfOk};
 ghost use Rattle.board_text.specs.Lines.{lines_of};
 ghost use Rattle.trace_reader.specs.Traces.{nothing_behind, at_end, events_read, Tells};
 
@@ -22,7 +22,8 @@ pub(crate) fn read_events(
     requires short { length bytes.now < 2 ^ 31 }
     requires within { from ≤ length bytes.now + 1 }
     requires small { first ≤ from + 1 }
-    ensures { Tells result (events_read board.now first [] (lines_of (drop from bytes.now))) }
+    ensures read { Tells result (events_read board.now first [] (lines_of (drop from bytes.now))) }
+    ensures few { IfOk result (λ events. length events < 2 ^ 32) }
 {
     let mut events = Vec::new(alloc);
     let mut number = first;
@@ -61,7 +62,8 @@ fn ended(
     events: List<Event>,
 ) -> Result<List<Event>, TraceFault>
     requires { number < 2 ^ 32 - 1 }
-    ensures { Tells result (at_end number events count (lines_of (drop behind bytes.now))) }
+    ensures read { Tells result (at_end number events count (lines_of (drop behind bytes.now))) }
+    ensures few { IfOk result (λ events. length events < 2 ^ 32) }
 {
     if count as usize != events.as_slice().len() {
         return Err(TraceFault::Trace {

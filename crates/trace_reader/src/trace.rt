@@ -1,4 +1,5 @@
-ghost use Rattle.std.specs.Prelude.{◌<◌, ◌^◌, length};
+ghost use Rattle.std.specs.Prelude.{◌<◌, ◌^◌, length, IfOk, IsTrue};
+ghost use Rattle.board_model.specs.WellFormed.{is_well_formed};
 ghost use Rattle.board_parser.specs.Boards.{board_read};
 ghost use Rattle.trace_reader.specs.Traces.{trace_read, Tells};
 ghost use Rattle.trace_reader.specs.Parts.{TellsBoard};
@@ -7,7 +8,7 @@ use crate::TraceFault;
 use crate::events::read_events;
 use crate::parts::{behind_first_line, find_events};
 use board_model::Board;
-use board_parser::{ParseFault, parse};
+use board_parser::{ParseFault, parse, read_is_well_formed};
 use history_model::Event;
 use pci_command::List;
 use std::alloc::Global;
@@ -17,7 +18,9 @@ use std::alloc::Global;
 /// bytes.
 pub fn read_trace(alloc: Global, bytes: &[u8]) -> Result<(Board, List<Event>), TraceFault>
     requires { length bytes.now < 2 ^ 31 }
-    ensures { Tells result (trace_read bytes.now) }
+    ensures read { Tells result (trace_read bytes.now) }
+    ensures formed { IfOk result (λ read. IsTrue (is_well_formed read.0)) }
+    ensures few { IfOk result (λ read. length read.1 < 2 ^ 32) }
 {
     let at = behind_first_line(bytes)?;
     let found = find_events(bytes, at)?;
@@ -29,8 +32,10 @@ pub fn read_trace(alloc: Global, bytes: &[u8]) -> Result<(Board, List<Event>), T
 /// The board of this part of a text, in which it begins at the second line.
 fn read_board(alloc: Global, part: &[u8]) -> Result<Board, TraceFault>
     requires { length part.now < 2 ^ 31 }
-    ensures { TellsBoard result (board_read part.now) }
+    ensures read { TellsBoard result (board_read part.now) }
+    ensures formed { IfOk result (λ board. IsTrue (is_well_formed board)) }
 {
+    read_is_well_formed();
     match parse(alloc, part) {
         Ok(board) => Ok(board),
         Err(ParseFault::Fault { line, family, code }) => Err(TraceFault::Board {

@@ -1,0 +1,7 @@
+//! What the program writes for a trace text, or why it refuses it.
+#![tactic(auto)]
+
+mod answer;
+mod read;
+
+pub use answer::answer_check;
