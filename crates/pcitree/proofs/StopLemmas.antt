@@ -1,10 +1,12 @@
 -- What a status says where a call stopped with it: that nothing was written, and its cause in the input.
-use Rattle.std.proofs.Common.{◌≡◌, ℕ, ◌^◌, ◌<◌, ◌≤◌, List, [], ◌++◌, append-nil, length, Option, Some, None, IfSome, refl, sym, subst, ap, ◌∙◌}
+use Rattle.std.proofs.Common.{◌≡◌, ℕ, ◌^◌, ◌<◌, ◌≤◌, List, [], ◌++◌, append-nil, length, Option, Some, None, IfSome, refl, sym, subst, ap, ◌∙◌, arith}
 use Rattle.std.specs.Io.KnownBytes.{Consumes, IsAtEnd}
 use Rattle.program_status.specs.declared.status.Status.{Status}
 use Rattle.program_status.specs.declared.status.Status.TheVariants.{Done, NoMemory, Usage, ReadFault, WriteFault, TooLong, BadBoard, BadTrace, NotRun, Incomplete}
 use Rattle.pcitree.specs.declared.words.Form.{Form}
-use Rattle.pcitree.specs.Answers.{limit_of, AnswersTo, Refuses, IsAnswered, Causes}
+use Rattle.pcitree.specs.declared.words.Form.TheVariants.{RunSteady, Headers, Check}
+use Rattle.trace_answers.proofs.ServedLemmas.{complete_is_answered}
+use Rattle.pcitree.specs.Answers.{limit_of, AnswersTo, Refuses, IsFaultless, IsServed, IsAnswered, Causes, Serves}
 use Rattle.pcitree.specs.Ends.{ReadsInput, HoldsTooMuch, AnswersInput, RefusesInput, Finishes, StopsInText, IsBeforeWriting}
 use Rattle.pcitree.specs.Stops.{StopsReading, StopsAnswering, StopsServing, StopsRunning}
 
@@ -36,6 +38,43 @@ refused form held left input status is refuses =
 too_much : (form : Form) (held : Option (List ℕ)) (input : List ℕ) → held ≡ Some input → HoldsTooMuch form held → limit_of form < length input
 too_much form None input is holds = cc
 too_much form (Some bytes) input is holds = let same : bytes ≡ input = cc in subst (λ (l : List ℕ). limit_of form < length l) same holds
+
+-- a faultless input is not refused
+faultless : (form : Form) (input : List ℕ) (status : Status) → IsFaultless form input → Refuses form input status → status ≡ NoMemory
+faultless RunSteady input NoMemory none refuses = refl
+faultless RunSteady input (BadBoard line fault) none refuses = absurd cc
+faultless RunSteady input Done none refuses = absurd refuses
+faultless RunSteady input (Usage word) none refuses = absurd refuses
+faultless RunSteady input ReadFault none refuses = absurd refuses
+faultless RunSteady input WriteFault none refuses = absurd refuses
+faultless RunSteady input TooLong none refuses = absurd refuses
+faultless RunSteady input (BadTrace line code) none refuses = absurd refuses
+faultless RunSteady input (NotRun event why) none refuses = absurd refuses
+faultless RunSteady input (Incomplete left) none refuses = absurd refuses
+faultless Headers input NoMemory none refuses = refl
+faultless Headers input (BadBoard line fault) none refuses = absurd cc
+faultless Headers input Done none refuses = absurd refuses
+faultless Headers input (Usage word) none refuses = absurd refuses
+faultless Headers input ReadFault none refuses = absurd refuses
+faultless Headers input WriteFault none refuses = absurd refuses
+faultless Headers input TooLong none refuses = absurd refuses
+faultless Headers input (BadTrace line code) none refuses = absurd refuses
+faultless Headers input (NotRun event why) none refuses = absurd refuses
+faultless Headers input (Incomplete left) none refuses = absurd refuses
+faultless Check input status trace refuses = complete_is_answered input status trace refuses
+
+-- an input that is served is answered, but for want of memory and the faults of ports
+pub served_by : (form : Form) (input : List ℕ) (status : Status) → IsServed form input → Causes form input status → Serves status
+served_by form input Done served cause = tt
+served_by form input NoMemory served cause = tt
+served_by form input (Usage word) served cause = cause
+served_by form input ReadFault served cause = tt
+served_by form input WriteFault served cause = tt
+served_by form input TooLong served cause = absurd (omega (arith, served.0, cause))
+served_by form input (BadBoard line fault) served cause = let none = faultless form input (BadBoard line fault) served.1 cause.1 in absurd cc
+served_by form input (BadTrace line code) served cause = let none = faultless form input (BadTrace line code) served.1 cause.1 in absurd cc
+served_by form input (NotRun event why) served cause = let none = faultless form input (NotRun event why) served.1 cause.1 in absurd cc
+served_by form input (Incomplete left) served cause = let none = faultless form input (Incomplete left) served.1 cause.1 in absurd cc
 
 module _ (S K : Type 0) (held : S → Option (List ℕ)) (read_faults : S → ℕ) (taken : K → Option (List ℕ)) (write_faults : K → ℕ) where
   serving_unwritten : (form : Form) (s t : S) (k l : K) (status : Status) → StopsServing S K held read_faults taken write_faults form s t k l status → IsBeforeWriting status → l ≡ k
@@ -71,9 +110,9 @@ module _ (S K : Type 0) (held : S → Option (List ℕ)) (read_faults : S → �
   caused form s t k l WriteFault input is stops = answered form (held s) (held t) input stops.1.text is stops.1.answers
   caused form s t k l TooLong input is stops = too_much form (held s) input is stops.0
   caused form s t k l (BadBoard line fault) input is stops = refused form (held s) (held t) input (BadBoard line fault) is stops.0
-  caused form s t k l (BadTrace line code) input is stops = stops.0
-  caused form s t k l (NotRun event why) input is stops = stops.0
-  caused form s t k l (Incomplete left) input is stops = stops.0
+  caused form s t k l (BadTrace line code) input is stops = refused form (held s) (held t) input (BadTrace line code) is stops.0
+  caused form s t k l (NotRun event why) input is stops = refused form (held s) (held t) input (NotRun event why) is stops.0
+  caused form s t k l (Incomplete left) input is stops = refused form (held s) (held t) input (Incomplete left) is stops.0
 
   pub caused_by : (known : Option Form) (form : Form) (s t : S) (k l : K) (status : Status) (input : List ℕ) → known ≡ Some form → held s ≡ Some input → StopsRunning S K held read_faults taken write_faults known s t k l status → Causes form input status
   caused_by None form s t k l status input there is stops = cc

@@ -1,34 +1,40 @@
 -- What each form of the words asks for: how an input is answered, and with which status it is refused.
-use Rattle.std.specs.Prelude.{◌≡◌, ℕ, ◌^◌, ◌≤◌, ◌<◌, List, length, Option, None}
+use Rattle.std.specs.Prelude.{◌≡◌, ℕ, ◌^◌, ◌≤◌, ◌<◌, List, length, None}
 use Rattle.board_answers.specs.Refusals.{board_refusal, run_refusal}
 use Rattle.board_answers.specs.Answers.{AnswersRun, AnswersHeaders, RefusesRun, RefusesHeaders}
+use Rattle.trace_answers.specs.Traces.{AnswersCheck, RefusesCheck, IsCompleteTrace}
 use Rattle.program_status.specs.declared.status.Status.{Status}
 use Rattle.program_status.specs.declared.status.Status.TheVariants.{Done, NoMemory, Usage, ReadFault, WriteFault, TooLong, BadBoard, BadTrace, NotRun, Incomplete}
 use Rattle.pcitree.specs.declared.words.Form.{Form}
-use Rattle.pcitree.specs.declared.words.Form.TheVariants.{RunSteady, Headers}
+use Rattle.pcitree.specs.declared.words.Form.TheVariants.{RunSteady, Headers, Check}
 
--- an input may have 1 MiB
+-- a board text may have 1 MiB, a trace text 64 MiB
 abbrev pub limit_of : Form → ℕ
 limit_of RunSteady = 2 ^ 20
 limit_of Headers = 2 ^ 20
+limit_of Check = 2 ^ 26
 
 -- the text that answers an input
 abbrev pub AnswersTo : Form → List ℕ → List ℕ → Type 0
 AnswersTo RunSteady input text = AnswersRun input text
 AnswersTo Headers input text = AnswersHeaders input text
+AnswersTo Check input text = AnswersCheck input text
 
 -- the status that refuses an input
 abbrev pub Refuses : Form → List ℕ → Status → Type 0
 Refuses RunSteady input status = RefusesRun input status
 Refuses Headers input status = RefusesHeaders input status
+Refuses Check input status = RefusesCheck input status
 
-abbrev pub refusal_of : Form → List ℕ → Option Status
-refusal_of RunSteady input = run_refusal input
-refusal_of Headers input = board_refusal input
+-- an input that is within its limit and has no fault: a board text, for `run` of a plain board, or the text of a
+-- valid board and of a complete run of it
+abbrev pub IsFaultless : Form → List ℕ → Type 0
+IsFaultless RunSteady input = run_refusal input ≡ None
+IsFaultless Headers input = board_refusal input ≡ None
+IsFaultless Check input = IsCompleteTrace input
 
--- an input that is not too long and not refused
 abbrev pub IsServed : Form → List ℕ → Type 0
-IsServed form input = (length input ≤ limit_of form) × (refusal_of form input ≡ None)
+IsServed form input = (length input ≤ limit_of form) × IsFaultless form input
 
 -- a text answers the input
 pub record IsAnswered (form : Form) (input : List ℕ) : Type 0 where
@@ -45,9 +51,9 @@ Causes form input ReadFault = Unit {0}
 Causes form input WriteFault = IsAnswered form input
 Causes form input TooLong = limit_of form < length input
 Causes form input (BadBoard line fault) = (length input ≤ limit_of form) × Refuses form input (BadBoard line fault)
-Causes form input (BadTrace line code) = ⊥
-Causes form input (NotRun event why) = ⊥
-Causes form input (Incomplete left) = ⊥
+Causes form input (BadTrace line code) = (length input ≤ limit_of form) × Refuses form input (BadTrace line code)
+Causes form input (NotRun event why) = (length input ≤ limit_of form) × Refuses form input (NotRun event why)
+Causes form input (Incomplete left) = (length input ≤ limit_of form) × Refuses form input (Incomplete left)
 
 -- the answers to an input that is served
 abbrev pub Serves : Status → Type 0

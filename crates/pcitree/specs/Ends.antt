@@ -41,19 +41,6 @@ pub record StopsInText (form : Form) (held left before after : Option (List ℕ)
   pub answers : AnswersInput form held left text
   pub front : WritesFront before after text
 
--- the statuses that come
-abbrev pub MayCome : Status → Type 0
-MayCome Done = Unit {0}
-MayCome NoMemory = Unit {0}
-MayCome (Usage _) = Unit {0}
-MayCome ReadFault = Unit {0}
-MayCome WriteFault = Unit {0}
-MayCome TooLong = Unit {0}
-MayCome (BadBoard line fault) = Unit {0}
-MayCome (BadTrace _ _) = ⊥
-MayCome (NotRun _ _) = ⊥
-MayCome (Incomplete _) = ⊥
-
 abbrev pub IsUsage : Status → Type 0
 IsUsage (Usage _) = Unit {0}
 IsUsage _ = ⊥
@@ -61,6 +48,9 @@ IsUsage _ = ⊥
 -- the statuses that tell of the input
 abbrev pub IsRefusal : Status → Type 0
 IsRefusal (BadBoard _ _) = Unit {0}
+IsRefusal (BadTrace _ _) = Unit {0}
+IsRefusal (NotRun _ _) = Unit {0}
+IsRefusal (Incomplete _) = Unit {0}
 IsRefusal _ = ⊥
 
 -- the statuses with which nothing was written

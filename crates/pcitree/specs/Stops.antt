@@ -2,7 +2,7 @@
 use Rattle.std.specs.Prelude.{ℕ, ◌≡◌, List, Option, Some, None}
 use Rattle.io_ports.specs.Faults.{Rose}
 use Rattle.program_status.specs.declared.status.Status.{Status}
-use Rattle.program_status.specs.declared.status.Status.TheVariants.{NoMemory, Usage, ReadFault, WriteFault, TooLong, BadBoard}
+use Rattle.program_status.specs.declared.status.Status.TheVariants.{NoMemory, Usage, ReadFault, WriteFault, TooLong, BadBoard, BadTrace, NotRun, Incomplete}
 use Rattle.pcitree.specs.declared.words.Form.{Form}
 use Rattle.pcitree.specs.Words.{form_of, misfit}
 use Rattle.pcitree.specs.Ends.{HoldsTooMuch, RefusesInput, StopsInText}
@@ -17,6 +17,9 @@ StopsReading form held before now _ = ⊥
 -- an input is not read, or not answered
 abbrev pub StopsAnswering : Form → Option (List ℕ) → Option (List ℕ) → ℕ → ℕ → Status → Type 0
 StopsAnswering form held left before now (BadBoard line fault) = RefusesInput form held left (BadBoard line fault)
+StopsAnswering form held left before now (BadTrace line code) = RefusesInput form held left (BadTrace line code)
+StopsAnswering form held left before now (NotRun event why) = RefusesInput form held left (NotRun event why)
+StopsAnswering form held left before now (Incomplete count) = RefusesInput form held left (Incomplete count)
 StopsAnswering form held left before now status = StopsReading form held before now status
 
 module _ (S K : Type 0) (held : S → Option (List ℕ)) (read_faults : S → ℕ) (taken : K → Option (List ℕ)) (write_faults : K → ℕ) where

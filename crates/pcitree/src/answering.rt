@@ -5,6 +5,7 @@ use crate::words::Form;
 use board_answers::{answer_headers, answer_run};
 use program_status::Status;
 use std::alloc::Global;
+use trace_answers::answer_check;
 
 /// How many bytes an input may have.
 pub(crate) fn limit_of(form: Form) -> usize
@@ -13,6 +14,7 @@ pub(crate) fn limit_of(form: Form) -> usize
 {
     match form {
         Form::RunSteady | Form::Headers => 0x10_0000,
+        Form::Check => 0x400_0000,
     }
 }
 
@@ -25,5 +27,6 @@ pub(crate) fn answer(alloc: Global, form: Form, input: &[u8]) -> Result<Vec<u8>,
     match form {
         Form::RunSteady => answer_run(alloc, input),
         Form::Headers => answer_headers(alloc, input),
+        Form::Check => answer_check(alloc, input),
     }
 }

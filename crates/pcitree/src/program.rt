@@ -3,7 +3,7 @@ ghost use Rattle.io_ports.specs.Faults.{Rose};
 ghost use Rattle.pcitree.specs.declared.words.Form.{Form as WordForm};
 ghost use Rattle.pcitree.specs.Words.{form_of, misfit};
 ghost use Rattle.pcitree.specs.Answers.{IsServed, Causes, Serves};
-ghost use Rattle.pcitree.specs.Ends.{MayCome, IsUsage, IsRefusal, IsBeforeWriting, ReadsInput, HoldsTooMuch, AnswersInput, RefusesInput, Finishes, StopsInText};
+ghost use Rattle.pcitree.specs.Ends.{IsUsage, IsRefusal, IsBeforeWriting, ReadsInput, HoldsTooMuch, AnswersInput, RefusesInput, Finishes, StopsInText};
 ghost use Rattle.pcitree.specs.Stops.{StopsReading, StopsAnswering, StopsServing, StopsRunning};
 
 use crate::answering::{answer, limit_of};
@@ -16,15 +16,14 @@ use std::alloc::Global;
 
 /// Does what the words say: reads the source to its end, and writes the text that answers it to
 /// the sink. The first of these that holds is the answer: `Usage`, `ReadFault`, `TooLong`,
-/// `BadBoard`, `WriteFault`; `NoMemory` may come at any moment.
+/// `BadTrace` or `BadBoard`, `NotRun`, `Incomplete`, `WriteFault`; `NoMemory` may come at any
+/// moment.
 pub fn pcitree<S: Source, K: Sink>(
     alloc: Global,
     words: &[String],
     source: &mut S,
     sink: &mut K,
 ) -> Status
-    ensures comes { MayCome result }
-
     // Usage, exactly where the words are of no form. Then nothing was read.
     ensures usage { IsUsage result ↔ (form_of (map string_bytes words.now) ≡ None) }
     ensures misfit { (word : ℕ) → result ≡ Status.Usage word

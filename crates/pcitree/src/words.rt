@@ -10,6 +10,8 @@ pub(crate) enum Part {
     Steady,
     /// `headers`
     HeadersWord,
+    /// `check`
+    CheckWord,
     /// A word that is not empty and does not begin with `-`.
     File,
 }
@@ -21,10 +23,12 @@ pub(crate) enum Form {
     RunSteady,
     /// `headers FILE`
     Headers,
+    /// `check FILE`
+    Check,
 }
 
 /// The forms.
-const FORMS: [Form; 2] = [Form::RunSteady, Form::Headers];
+const FORMS: [Form; 3] = [Form::RunSteady, Form::Headers, Form::Check];
 
 impl Part {
     fn fits(self, word: &str) -> bool
@@ -34,6 +38,7 @@ impl Part {
             Part::Run => word == "run",
             Part::Steady => word == "--steady",
             Part::HeadersWord => word == "headers",
+            Part::CheckWord => word == "check",
             Part::File => names_file(word.as_bytes()),
         }
     }
@@ -56,6 +61,7 @@ impl Form {
         match self {
             Form::RunSteady => &[Part::Run, Part::Steady, Part::File],
             Form::Headers => &[Part::HeadersWord, Part::File],
+            Form::Check => &[Part::CheckWord, Part::File],
         }
     }
 }

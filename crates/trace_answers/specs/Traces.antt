@@ -7,6 +7,7 @@ use Rattle.board_model.specs.Ways.{bound_of}
 use Rattle.board_model.specs.Valid.{IsValid}
 use Rattle.history_model.specs.declared.event.Event.{Event}
 use Rattle.history_model.specs.declared.why.Why.{Why}
+use Rattle.history_model.specs.Runs.{Run, Complete, history_of}
 use Rattle.trace_reader.specs.declared.fault.TraceFault.{TraceFault}
 use Rattle.trace_reader.specs.declared.fault.TraceFault.TheVariants.{Trace, Board as OfBoard, NoMemory as NoMemoryThere}
 use Rattle.trace_reader.specs.Traces.{trace_read}
@@ -70,6 +71,14 @@ RefusesCheck input (Usage word) = ⊥
 RefusesCheck input ReadFault = ⊥
 RefusesCheck input WriteFault = ⊥
 RefusesCheck input TooLong = ⊥
+
+-- the input is the text of a valid board and of a complete run of it
+pub record IsCompleteTrace (input : List ℕ) : Type 0 where
+  pub board : Board
+  pub events : List Event
+  pub reads : ReadsTrace input board events
+  pub run : Run board (history_of events)
+  pub complete : Complete board (history_of events)
 
 -- what was read of a trace text: a valid board, and fewer than 2^32 events
 pub record ReadsTree (input : List ℕ) (read : TreeTrace) : Type 0 where
