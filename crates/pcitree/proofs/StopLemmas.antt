@@ -7,7 +7,7 @@ use Rattle.pcitree.specs.declared.words.Form.{Form}
 use Rattle.pcitree.specs.declared.words.Form.TheVariants.{RunSteady, Headers, Check}
 use Rattle.trace_answers.proofs.ServedLemmas.{complete_is_answered}
 use Rattle.pcitree.specs.Answers.{limit_of, AnswersTo, Refuses, IsFaultless, IsServed, IsAnswered, Causes, Serves}
-use Rattle.pcitree.specs.Ends.{ReadsInput, HoldsTooMuch, AnswersInput, RefusesInput, Finishes, StopsInText, IsBeforeWriting}
+use Rattle.pcitree.specs.Ends.{ReadsInput, HoldsTooMuch, AnswersInput, RefusesInput, Finishes, StopsInText, IsBeforeWriting, IsRefusal}
 use Rattle.pcitree.specs.Stops.{StopsReading, StopsAnswering, StopsServing, StopsRunning}
 
 -- what was read to the end of a source is all that it held
@@ -119,3 +119,28 @@ module _ (S K : Type 0) (held : S → Option (List ℕ)) (read_faults : S → �
   caused_by (Some other) form s t k l status input there is stops =
       let same : other ≡ form = cc in
       subst (λ (f : Form). Causes f input status) same (caused other s t k l status input is stops)
+
+  serving_refused : (form : Form) (s t : S) (k l : K) (status : Status) → StopsServing S K held read_faults taken write_faults form s t k l status → IsRefusal status → RefusesInput form (held s) (held t) status
+  serving_refused form s t k l Done stops refusal = absurd refusal
+  serving_refused form s t k l NoMemory stops refusal = absurd refusal
+  serving_refused form s t k l (Usage word) stops refusal = absurd refusal
+  serving_refused form s t k l ReadFault stops refusal = absurd refusal
+  serving_refused form s t k l WriteFault stops refusal = absurd refusal
+  serving_refused form s t k l TooLong stops refusal = absurd refusal
+  serving_refused form s t k l (BadBoard line fault) stops refusal = stops.0
+  serving_refused form s t k l (BadTrace line code) stops refusal = stops.0
+  serving_refused form s t k l (NotRun event why) stops refusal = stops.0
+  serving_refused form s t k l (Incomplete left) stops refusal = stops.0
+
+  pub refused_in : (known : Option Form) (s t : S) (k l : K) (status : Status) → StopsRunning S K held read_faults taken write_faults known s t k l status → IsRefusal status → IfSome known (λ form. RefusesInput form (held s) (held t) status)
+  refused_in None s t k l Done stops refusal = absurd refusal
+  refused_in None s t k l NoMemory stops refusal = absurd refusal
+  refused_in None s t k l (Usage word) stops refusal = absurd refusal
+  refused_in None s t k l ReadFault stops refusal = absurd refusal
+  refused_in None s t k l WriteFault stops refusal = absurd refusal
+  refused_in None s t k l TooLong stops refusal = absurd refusal
+  refused_in None s t k l (BadBoard line fault) stops refusal = absurd stops
+  refused_in None s t k l (BadTrace line code) stops refusal = absurd stops
+  refused_in None s t k l (NotRun event why) stops refusal = absurd stops
+  refused_in None s t k l (Incomplete left) stops refusal = absurd stops
+  refused_in (Some form) s t k l status stops refusal = serving_refused form s t k l status stops refusal

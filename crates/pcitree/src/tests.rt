@@ -1,4 +1,5 @@
 use crate::{BoardFault, Status, file_word, pcitree};
+use history_model::Why;
 use io_ports::{MemorySink, MemorySource};
 use pci_command::List;
 use std::alloc::Global;
@@ -110,6 +111,46 @@ fn headers_of_a_board(rt: HostRuntime) -> Result<(), Fail> {
 }
 
 #[test]
+fn traces_are_checked(rt: HostRuntime) -> Result<(), Fail> {
+    let alloc = rt.alloc();
+    let words = split(alloc, "check f")?;
+    let cut = "pcitrace 1\npciboard 1\ntarget t on 0 dev 1\nmaster m on 0\nmr 0\nevents\n";
+    for (input, tail, status, taken) in [
+        (
+            ONE_WORD_TRACE,
+            "",
+            Status::Done,
+            "complete run of 2 events, bound 2\n",
+        ),
+        (cut, "end 0", Status::Incomplete { left: 1 }, ""),
+        (cut, "end 1", Status::BadTrace { line: 7, code: 7 }, ""),
+        (
+            cut,
+            "0 nobody m m.0\nend 1",
+            Status::Done,
+            "complete run of 1 events, bound 1\n",
+        ),
+        (
+            cut,
+            "0 stall m m.0 t\nend 1",
+            Status::NotRun {
+                event: 1,
+                why: Why::N2,
+            },
+            "",
+        ),
+    ] {
+        let text = format!(in alloc; "{input}{tail}")?;
+        let mut source = source(alloc, text.as_str(), 0)?;
+        let mut sink = sink(alloc, 0)?;
+        let answer = pcitree(alloc, words.as_slice(), &mut source, &mut sink);
+        assert_eq!(rt; answer, status);
+        assert_eq!(rt; sink.bytes(), taken.as_bytes());
+    }
+    Ok(())
+}
+
+#[test]
 fn more_than_the_limit_is_too_long(rt: HostRuntime) -> Result<(), Fail> {
     let alloc = rt.alloc();
     let words = split(alloc, "run --steady f")?;
@@ -134,6 +175,7 @@ fn words_of_no_form_are_told_by_place(rt: HostRuntime) -> Result<(), Fail> {
         ("run a b", 1),
         ("headers", 1),
         ("headers f g", 2),
+        ("check", 1),
         ("walk f", 0),
     ] {
         let words = split(alloc, text)?;
@@ -143,7 +185,7 @@ fn words_of_no_form_are_told_by_place(rt: HostRuntime) -> Result<(), Fail> {
         assert_eq!(rt; answer, Status::Usage { word }, "of {text}");
         assert_eq!(rt; file_word(words.as_slice()), None);
     }
-    for (text, place) in [("run --steady f", 2), ("headers f", 1)] {
+    for (text, place) in [("run --steady f", 2), ("headers f", 1), ("check f", 1)] {
         let words = split(alloc, text)?;
         assert_eq!(rt; file_word(words.as_slice()), Some(place));
     }

@@ -1,5 +1,5 @@
 use Rattle.std.proofs.Common.{◌≡◌, rules}
-use Rattle.pcitree.proofs.StopLemmas.{unwritten, caused_by, served_by}
+use Rattle.pcitree.proofs.StopLemmas.{unwritten, refused_in, caused_by, served_by}
 use Rattle.pcitree.proofs.program.pcitree.Goals as goal
 
 pub returns-in-Err-clause-unwritten : goal.returns-in-Err-clause-unwritten
@@ -10,3 +10,6 @@ returns-in-Err-clause-cause g c = λ form input there is. caused_by _ _ _ _ _ _ 
 
 pub returns-in-Err-clause-served : goal.returns-in-Err-clause-served
 returns-in-Err-clause-served g c = λ form input there is served. served_by form input _ served (caused_by _ _ _ _ _ _ _ form _ _ _ _ _ input there is c.in-Err.ensures.stopped)
+
+pub returns-in-Err-clause-refused : goal.returns-in-Err-clause-refused
+returns-in-Err-clause-refused g c = λ refusal. refused_in _ _ _ _ _ _ _ _ _ _ _ _ c.in-Err.ensures.stopped refusal
