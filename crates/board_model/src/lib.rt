@@ -5,6 +5,7 @@
 mod agents;
 mod board;
 mod bridge;
+mod buses;
 mod name;
 mod op;
 mod requests;
@@ -12,6 +13,7 @@ mod requests;
 pub use agents::{Master, Opening, Range, Target};
 pub use board::{Board, Planned};
 pub use bridge::{Bridge, Lane, Place, Window};
+pub use buses::{bridge_to, end_of, has_bridge_to, is_bus, primary_of};
 pub use name::Name;
 pub use op::Op;
 pub use requests::{op_of, request_of, request_on, tries_of};

@@ -94,7 +94,7 @@ fn claim_upwards(bridges: &[Bridge], bus: u8, space: Space, address: u64) -> Pla
 }
 
 /// The bridge above the bus.
-pub(crate) fn bridge_to(bridges: &[Bridge], bus: u8) -> Option<Bridge>
+fn bridge_to(bridges: &[Bridge], bus: u8) -> Option<Bridge>
     ensures { result ≡ find (λ bridge. bridge.bus == bus) bridges.now }
 {
     bridges.iter().copied().find(|bridge| bridge.bus == bus)

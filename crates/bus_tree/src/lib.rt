@@ -16,7 +16,7 @@ pub use hop::Hop;
 pub use hops::{next_hop, way_length};
 pub use refusal::TreeRefusal;
 pub use tree::{Tree, validate};
-pub use ways::{Route, end_of, route_of};
+pub use ways::{Route, route_of};
 
 #[cfg(test)]
 mod tests;

@@ -1,9 +1,9 @@
 ghost use Rattle.std.specs.Prelude.{◌≡◌, ◌≤◌, length};
-ghost use Rattle.board_model.specs.Ways.{end_of, route_within, route_of};
+ghost use Rattle.board_model.specs.Ways.{route_within, route_of};
 ghost use Rattle.bus_tree.specs.Decodable.{IsDecodable};
 
-use crate::claims::{bridge_to, claim_on};
-use board_model::{Board, Lane, Op, Place, request_on};
+use crate::claims::claim_on;
+use board_model::{Board, Op, Place, end_of, request_on};
 
 /// How many lanes the way of an operation takes, and the bus and the owner where it ends.
 #[derive(Clone, Copy)]
@@ -57,18 +57,5 @@ fn ends_at(bus: u8, owner: Place) -> Route
         lanes: 0,
         bus,
         owner,
-    }
-}
-
-/// The bus on which what the lane carries arrives.
-pub fn end_of(board: &Board, lane: Lane) -> u8
-    ensures { result ≡ end_of board.now lane }
-{
-    if !lane.up {
-        return lane.bus;
-    }
-    match bridge_to(board.bridges.as_slice(), lane.bus) {
-        None => 0,
-        Some(bridge) => bridge.parent,
     }
 }

@@ -3,7 +3,6 @@ ghost use Rattle.std.specs.List.{find, list_all};
 ghost use Rattle.list_facts.specs.Lists.{before};
 ghost use Rattle.board_model.specs.WellFormed.{is_well_formed};
 ghost use Rattle.board_model.specs.Requests.{reads};
-ghost use Rattle.board_model.specs.Ways.{end_of, primary_of, primary_in};
 ghost use Rattle.history_model.specs.Lanes.{is_of};
 ghost use Rattle.history_model.specs.World.{world_of};
 ghost use Rattle.history_model.specs.Program.{turn_of};
@@ -12,12 +11,11 @@ ghost use Rattle.history_model.specs.Runs.{Run, history_of};
 
 use crate::turns::turn_of;
 use crate::words::is_same_op;
-use board_model::{Board, Lane};
+use board_model::{Board, Lane, end_of};
 use history_model::{By, Carried, Event};
 use lane_replay::{BridgeLanes, Presented, before_request, reads, same_requests, standing_request};
 use order_table::may_pass;
 use pci_command::{Kind, OpId};
-use plain_claim::bridge_to;
 
 /// Whether the initiator presents the operation on the bus after these events, the first event
 /// first.
@@ -51,27 +49,6 @@ fn is_turn(board: &Board, before: &[Event], op: OpId) -> bool
     match turn_of(board, before, op.master) {
         Some(turn) => is_same_op(turn, op),
         None => false,
-    }
-}
-
-/// The bus on which what a lane carries arrives.
-fn end_of(board: &Board, lane: Lane) -> u8
-    ensures { result ≡ end_of board.now lane }
-{
-    if lane.up {
-        primary_of(board, lane.bus)
-    } else {
-        lane.bus
-    }
-}
-
-/// The bus above the bridge to a bus; 0 where there is none.
-fn primary_of(board: &Board, bus: u8) -> u8
-    ensures { result ≡ primary_of board.now bus }
-{
-    match bridge_to(board, bus) {
-        Some(bridge) => bridge.parent,
-        None => 0,
     }
 }
 

@@ -6,10 +6,9 @@ ghost use Rattle.lane_replay.specs.Room.{HasRoom};
 
 use crate::lane_tables::LaneTables;
 use crate::requests::{Presented, own_slot, reads};
-use board_model::{Board, Lane, Place};
+use board_model::{Board, Lane, Place, bridge_to};
 use history_model::{By, Carried, Event, Mark, Slot, Step};
 use pci_command::{OpId, Outcome};
-use plain_claim::bridge_to;
 use std::marker::Model;
 
 /// The two lanes of a bridge.

@@ -11,7 +11,7 @@ ghost use Rattle.board_model.specs.declared.agents.Target.{Target};
 ghost use Rattle.board_model.specs.WellFormed.{is_well_formed};
 ghost use Rattle.board_model.specs.Claims.{range_holds, window_holds, bridge_holds, decodes_down, claim_upwards, claim_by_bridge, claim_by_address, claim_by_header, claim_by_device, claim_by_bus, is_type_0, device_in, bus_in, claim_in_configuration, claim_in_space, claim};
 
-use board_model::{Board, Bridge, Lane, Place, Range, Target, Window};
+use board_model::{Board, Bridge, Lane, Place, Range, Target, Window, bridge_to};
 use pci_command::{Request, Space};
 
 /// Who claims the request on the bus.
@@ -43,14 +43,6 @@ pub fn is_in_ranges(ranges: &[Range], space: Space, address: u128) -> bool
     ranges
         .iter()
         .any(|range| range_holds(range, space, address))
-}
-
-/// The bridge to this secondary bus.
-pub fn bridge_to(board: &Board, bus: u8) -> Option<&Bridge>
-    ensures { option_copied result ≡ find (λ bridge. bridge.bus == bus) board.now.bridges }
-{
-    let bridges = board.bridges.as_slice();
-    bridges.iter().find(|bridge| bridge.bus == bus)
 }
 
 fn range_holds(range: &Range, space: Space, address: u128) -> bool

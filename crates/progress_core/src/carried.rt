@@ -8,8 +8,8 @@ ghost use Rattle.history_model.specs.Runs.{history_of};
 ghost use Rattle.history_model.specs.Left.{post_left, flying_left, standing_left, lane_left, bridge_left};
 ghost use Rattle.progress_core.specs.Running.{IsRunning};
 
-use board_model::{Board, Lane, Op, op_of, request_on};
-use bus_tree::{end_of, pieces_by, route_of};
+use board_model::{Board, Lane, Op, end_of, op_of, request_on};
+use bus_tree::{pieces_by, route_of};
 use history_core::through;
 use history_model::{Carried, Event};
 use lane_replay::{BridgeLanes, LaneTables};

@@ -9,8 +9,8 @@ ghost use Rattle.history_model.specs.Local.{is_ask_of, is_gone_of};
 ghost use Rattle.history_model.specs.Left.{is_slot_of, lane_or, reach_of, slot_left, reach_left, delayed_left};
 ghost use Rattle.progress_core.specs.Running.{IsRunning};
 
-use board_model::{Board, Lane, Op, Place, request_on};
-use bus_tree::{claim_on, end_of, route_of};
+use board_model::{Board, Lane, Op, Place, end_of, request_on};
+use bus_tree::{claim_on, route_of};
 use history_core::is_same_op;
 use history_model::{Carried, Event, Slot};
 use lane_replay::{BridgeLanes, LaneTables};

@@ -23,7 +23,7 @@ use Rattle.board_draft.specs.declared.draft.Draft.{Draft}
 use Rattle.board_draft.specs.Drafts.{first_draft}
 use Rattle.board_parser.specs.OneLine.{begin, read_words, read_more, read_unless, read_line}
 use Rattle.board_parser.specs.Boards.{then_lines, read_lines, ended, board_read}
-use Rattle.reading_laws.specs.Fits.{BoardFits}
+use Rattle.line_laws.specs.Fits.{BoardFits}
 use Rattle.reading_laws.proofs.LeadLemmas.{Leads, leads-append, leads-each, leads-map, behind_first}
 use Rattle.reading_laws.proofs.StateLemmas.{so_far, Of, BoardParts, board_parts}
 use Rattle.reading_laws.proofs.BridgeSteps.{bridge_step}

@@ -23,7 +23,7 @@ use Rattle.board_draft.specs.Drafts.{board_of}
 use Rattle.board_draft.specs.Targets.{agent_fault, unless}
 use Rattle.board_draft.specs.Masters.{add_op, add_master, does}
 use Rattle.board_draft.specs.Add.{add}
-use Rattle.reading_laws.specs.Fits.{ProgramFits}
+use Rattle.line_laws.specs.Fits.{ProgramFits}
 use Rattle.reading_laws.proofs.LeadLemmas.{Leads, Steps, leads-append, leads-to, leads-map, leads-line}
 use Rattle.reading_laws.proofs.PlaceLemmas.{each_of, all_of, may_of, length_of, count_of, total_of, masters_of, beside_of}
 use Rattle.reading_laws.proofs.StateLemmas.{so_far, Of, holding, Is, BoardParts}

@@ -17,7 +17,7 @@ use Rattle.board_draft.specs.declared.draft.Owner.TheVariants.{OfTarget}
 use Rattle.board_draft.specs.Drafts.{board_of}
 use Rattle.board_draft.specs.Targets.{is_name_used, agent_fault, unless, new_target, add_target}
 use Rattle.board_draft.proofs.PartLemmas.{parts_of}
-use Rattle.reading_laws.specs.Fits.{DetailsFit}
+use Rattle.line_laws.specs.Fits.{DetailsFit}
 use Rattle.reading_laws.proofs.LeadLemmas.{Leads, Steps, leads-append, leads-to, leads-map, leads-line}
 use Rattle.reading_laws.proofs.PlaceLemmas.{each_of, all_of, may_of, count_of, targets_of}
 use Rattle.reading_laws.proofs.StateLemmas.{so_far, Of, holding, BoardParts}

@@ -4,7 +4,7 @@ ghost use Rattle.board_model.specs.WellFormed.{is_well_formed};
 ghost use Rattle.board_printer.specs.Boards.{board_text};
 ghost use Rattle.board_parser.specs.Boards.{board_read};
 ghost use Rattle.line_laws.specs.Ranges.{BridgeFits, TargetFits, MasterFits, RangeFits, OpeningFits, OpFits, PhaseFits, PlannedFits};
-ghost use Rattle.reading_laws.specs.Fits.{DetailsFit, ProgramFits, BoardFits};
+ghost use Rattle.line_laws.specs.Fits.{DetailsFit, ProgramFits, BoardFits};
 
 use crate::boards_are_read;
 use board_model::{Board, Bridge, Master, Op, Opening, Planned, Range, Target};

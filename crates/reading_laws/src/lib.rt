@@ -10,7 +10,7 @@ ghost use Rattle.board_model.specs.declared.board.Board.{Board};
 ghost use Rattle.board_model.specs.WellFormed.{is_well_formed};
 ghost use Rattle.board_printer.specs.Boards.{board_text};
 ghost use Rattle.board_parser.specs.Boards.{board_read};
-ghost use Rattle.reading_laws.specs.Fits.{BoardFits};
+ghost use Rattle.line_laws.specs.Fits.{BoardFits};
 
 pub use fits::{board_fits, printed_is_read};
 

@@ -1,9 +1,8 @@
 -- The event of a line, by its words: BUS KIND and what stands behind them.
-use Rattle.std.specs.Prelude.{ℕ, Bool, true, false, List, [], ◌∷◌, length, Option, Some, None, is_some, ◌==◌, ◌&&◌, nat_le, codes, if◌then◌else◌, slice_get}
+use Rattle.std.specs.Prelude.{ℕ, Bool, List, length, Option, Some, None, is_some, ◌==◌, ◌&&◌, nat_le, codes, if◌then◌else◌, slice_get}
 use Rattle.std.specs.Option.{option_map, option_and_then}
 use Rattle.std.specs.Str.{bytes_eq}
 use Rattle.pci_command.specs.declared.op_id.OpId.{OpId}
-use Rattle.board_model.specs.declared.bridge.Lane.{Lane as BridgeLane}
 use Rattle.board_model.specs.declared.bridge.Place.{Place}
 use Rattle.board_model.specs.declared.bridge.Place.TheVariants.{Target, Header, Lane, Nobody as AtNobody}
 use Rattle.board_model.specs.declared.board.Board.{Board}

@@ -6,16 +6,15 @@ use Rattle.std.specs.Str.{bytes_eq}
 use Rattle.pci_command.specs.declared.op_id.OpId.{OpId}
 use Rattle.pci_command.specs.declared.op_id.Outcome.{Outcome}
 use Rattle.pci_command.specs.declared.op_id.Outcome.TheVariants.{Value, Written, Aborted}
-use Rattle.board_model.specs.declared.agents.Master.{Master as MasterAgent}
-use Rattle.board_model.specs.declared.agents.Target.{Target as TargetAgent}
 use Rattle.board_model.specs.declared.bridge.Lane.{Lane as BridgeLane}
 use Rattle.board_model.specs.declared.board.Board.{Board}
 use Rattle.board_model.specs.Requests.{op_of}
+use Rattle.board_model.specs.WellFormed.{is_target_named, is_master_named}
+use Rattle.board_model.specs.Valid.{has_bridge_to, is_bus}
 use Rattle.board_text.specs.Numbers.{hex_answer, decimal_answer}
 use Rattle.line_forms.specs.Words.{has_mark, before_mark, behind_mark}
 use Rattle.history_model.specs.declared.event.By.{By}
 use Rattle.history_model.specs.declared.event.By.TheVariants.{Master, Lane as FromLane}
-use Rattle.trace_text.specs.Events.{has_bridge, has_bus}
 use Rattle.trace_text.specs.Words.{names_poll}
 
 -- Numbers.
@@ -52,11 +51,11 @@ value_of word = only_where (length word == 8 && list_all is_lower_case word) (an
 
 -- a bus
 abbrev pub bus_in : Board → List ℕ → Option ℕ
-bus_in board word = option_and_then (λ bus. only_where (has_bus board bus) (Some bus)) (at_most 255 (number_of word))
+bus_in board word = option_and_then (λ bus. only_where (is_bus board bus) (Some bus)) (at_most 255 (number_of word))
 
 -- the secondary bus of a bridge
 abbrev pub bridge_in : Board → List ℕ → Option ℕ
-bridge_in board word = option_and_then (λ bus. only_where (has_bridge board bus) (Some bus)) (at_most 255 (number_of word))
+bridge_in board word = option_and_then (λ bus. only_where (has_bridge_to board bus) (Some bus)) (at_most 255 (number_of word))
 
 -- a lane: the number of its bridge, and `u` for up or `d` for down
 abbrev pub towards : Bool → ℕ → BridgeLane
@@ -79,16 +78,10 @@ abbrev pub by_in : Board → List ℕ → Option By
 by_in board word = if bytes_eq word (codes "m") then Some Master else option_map FromLane (lane_in board word)
 
 -- a target, by its name
-abbrev pub is_target_named : List ℕ → TargetAgent → Bool
-is_target_named word target = bytes_eq target.name word
-
 abbrev pub target_in : Board → List ℕ → Option ℕ
 target_in board word = at_most 65535 (position (is_target_named word) board.targets)
 
 -- an operation: NAME.INDEX, for a poll NAME.INDEX.TRY
-
-abbrev pub is_master_named : List ℕ → MasterAgent → Bool
-is_master_named word master = bytes_eq master.name word
 
 abbrev pub master_in : Board → List ℕ → Option ℕ
 master_in board word = at_most 65535 (position (is_master_named word) board.masters)

@@ -1,8 +1,5 @@
 ghost use Rattle.std.specs.Prelude.{◌≡◌, map, is_some, slice_get};
 ghost use Rattle.std.specs.Option.{option_map};
-ghost use Rattle.std.specs.List.{find};
-ghost use Rattle.board_model.specs.WellFormed.{has_bus};
-ghost use Rattle.board_model.specs.Ways.{end_of, primary_of};
 ghost use Rattle.trace_lines.specs.Words.{value_of, bus_in, lane_in, by_in, target_in, op_in, outcome_in, phases_in};
 ghost use Rattle.trace_lines.specs.Events.{mark_of, mark_at_end, has_words_for, word_as, at_target, reader_in, at_reader, at_lane, done_by, act_in, arrival_in, event_in};
 
@@ -12,7 +9,7 @@ use crate::operation::op_in;
 use crate::words::{
     begins_header, bus_in, by_in, header_in, lane_in, outcome_in, phases_in, target_in, value_of,
 };
-use board_model::{Board, Bridge, Lane, Place};
+use board_model::{Board, Place, end_of};
 use history_model::{Event, Mark, Step};
 
 /// Whether the line has as many words as its kind, and an arrival no fourth one but a mark.
@@ -77,33 +74,6 @@ fn arrival_in(board: &Board, line: &[&[u8]]) -> Option<Event>
     } else {
         None
     }
-}
-
-/// The bus on which what the lane carries arrives.
-fn end_of(board: &Board, lane: Lane) -> u8
-    ensures { result ≡ end_of board.now lane }
-{
-    if lane.up {
-        primary_of(board, lane.bus)
-    } else {
-        lane.bus
-    }
-}
-
-fn primary_of(board: &Board, bus: u8) -> u8
-    ensures { result ≡ primary_of board.now bus }
-{
-    match bridge_to(board, bus) {
-        Some(bridge) => bridge.parent,
-        None => 0,
-    }
-}
-
-fn bridge_to(board: &Board, bus: u8) -> Option<&Bridge>
-    ensures { option_map (λ bridge. bridge.now) result ≡ find (has_bus bus) board.now.bridges }
-{
-    let bridges = board.bridges.as_slice();
-    bridges.iter().find(|bridge| bridge.bus == bus)
 }
 
 /// What an act did, and who claimed it.

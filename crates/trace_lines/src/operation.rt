@@ -1,7 +1,8 @@
 ghost use Rattle.std.specs.Prelude.{◌≡◌};
 ghost use Rattle.std.specs.Option.{option_map};
 ghost use Rattle.std.specs.List.{position};
-ghost use Rattle.trace_lines.specs.Words.{at_most, number_of, is_master_named, master_in, at_dot, named, index_and_try, op_by, op_in};
+ghost use Rattle.board_model.specs.WellFormed.{is_master_named};
+ghost use Rattle.trace_lines.specs.Words.{at_most, number_of, master_in, at_dot, named, index_and_try, op_by, op_in};
 ghost use Rattle.trace_text.specs.Words.{names_poll};
 
 use crate::words::number_of;

@@ -1,10 +1,10 @@
 ghost use Rattle.std.specs.Prelude.{◌≡◌, ◌<◌, ◌≤◌, length, take, slice_index, nat_le, Some, None};
 ghost use Rattle.std.specs.Option.{option_map, option_and_then};
 ghost use Rattle.std.specs.List.{list_all, position};
-ghost use Rattle.trace_lines.specs.Words.{only_where, answered, has_no_zero_before, number_of, at_most, is_lower_case, value_of, bus_in, bridge_in, towards, without_last, last_byte, lane_in, by_in, is_target_named, target_in, begins_header, header_in, outcome_in, phases_in};
-ghost use Rattle.trace_text.specs.Events.{has_bridge, has_bus};
+ghost use Rattle.board_model.specs.WellFormed.{is_target_named};
+ghost use Rattle.trace_lines.specs.Words.{only_where, answered, has_no_zero_before, number_of, at_most, is_lower_case, value_of, bus_in, bridge_in, towards, without_last, last_byte, lane_in, by_in, target_in, begins_header, header_in, outcome_in, phases_in};
 
-use board_model::{Board, Lane};
+use board_model::{Board, Lane, has_bridge_to, is_bus};
 use board_text::{decimal, hex};
 use history_model::By;
 use pci_command::Outcome;
@@ -60,7 +60,7 @@ pub(crate) fn bus_in(board: &Board, word: &[u8]) -> Option<u8>
     ensures { result ≡ bus_in board.now word.now }
 {
     let bus = small_number_of(word)?;
-    if has_bus(board, bus) { Some(bus) } else { None }
+    if is_bus(board, bus) { Some(bus) } else { None }
 }
 
 /// The secondary bus of a bridge of the board.
@@ -68,24 +68,11 @@ pub(crate) fn bridge_in(board: &Board, word: &[u8]) -> Option<u8>
     ensures { result ≡ bridge_in board.now word.now }
 {
     let bus = small_number_of(word)?;
-    if has_bridge(board, bus) {
+    if has_bridge_to(board, bus) {
         Some(bus)
     } else {
         None
     }
-}
-
-fn has_bus(board: &Board, bus: u8) -> bool
-    ensures { result ≡ has_bus board.now bus }
-{
-    bus == 0 || has_bridge(board, bus)
-}
-
-fn has_bridge(board: &Board, bus: u8) -> bool
-    ensures { result ≡ has_bridge board.now bus }
-{
-    let bridges = board.bridges.as_slice();
-    bridges.iter().any(|bridge| bridge.bus == bus)
 }
 
 /// A lane of the board.

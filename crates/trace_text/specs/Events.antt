@@ -1,6 +1,5 @@
 -- The line of an event, and which events have one over a board.
-use Rattle.std.specs.Prelude.{ℕ, Bool, true, false, List, [], ◌∷◌, ◌++◌, length, codes, IsTrue, is_some, nat_lt, nat_le, ◌==◌, ◌&&◌, ◌||◌}
-use Rattle.std.specs.List.{list_any}
+use Rattle.std.specs.Prelude.{ℕ, Bool, true, false, List, [], ◌∷◌, ◌++◌, length, codes, IsTrue, is_some, nat_lt, nat_le, ◌&&◌, ◌||◌}
 use Rattle.std.specs.Fmt.{decimal}
 use Rattle.pci_command.specs.declared.op_id.OpId.{OpId}
 use Rattle.pci_command.specs.declared.op_id.Outcome.{Outcome}
@@ -11,6 +10,7 @@ use Rattle.board_model.specs.declared.bridge.Place.TheVariants.{Target, Header, 
 use Rattle.board_model.specs.declared.board.Board.{Board}
 use Rattle.board_model.specs.Requests.{op_of}
 use Rattle.board_model.specs.Ways.{end_of}
+use Rattle.board_model.specs.Valid.{has_bridge_to, is_bus}
 use Rattle.history_model.specs.declared.event.By.{By}
 use Rattle.history_model.specs.declared.event.By.TheVariants.{Master, Lane as FromLane}
 use Rattle.history_model.specs.declared.event.Mark.{Mark}
@@ -65,21 +65,15 @@ abbrev pub event_line : Board → Event → Line
 event_line board (Act bus by op step place) = act_line board bus by op step place
 event_line board (Arrive lane mark) = arrival_line board lane mark
 
--- the board has a bridge to this secondary bus; it has this bus; it has this lane
-abbrev pub has_bridge : Board → ℕ → Bool
-has_bridge board bus = list_any (λ bridge. bridge.bus == bus) board.bridges
-
-abbrev pub has_bus : Board → ℕ → Bool
-has_bus board bus = bus == 0 || has_bridge board bus
-
+-- the initiator is there, and the place
 abbrev pub has_initiator : Board → By → Bool
 has_initiator board Master = true
-has_initiator board (FromLane lane) = has_bridge board lane.bus
+has_initiator board (FromLane lane) = has_bridge_to board lane.bus
 
 abbrev pub has_place : Board → Place → Bool
 has_place board (Target index) = nat_lt index (length board.targets)
-has_place board (Header bus) = has_bridge board bus
-has_place board (Lane lane) = has_bridge board lane.bus
+has_place board (Header bus) = has_bridge_to board bus
+has_place board (Lane lane) = has_bridge_to board lane.bus
 has_place board Nobody = true
 
 abbrev pub is_target : Place → Bool
@@ -128,8 +122,8 @@ is_step_at TargetAbort place = is_target place
 -- the event has a line: all that it names is on the board, and the step is one of its place
 abbrev pub has_line : Board → Event → Bool
 has_line board (Act bus by op step place) =
-    has_bus board bus && (has_initiator board by && (is_some (op_of board op) && (has_place board place && is_step_at step place)))
-has_line board (Arrive lane mark) = has_bridge board lane.bus
+    is_bus board bus && (has_initiator board by && (is_some (op_of board op) && (has_place board place && is_step_at step place)))
+has_line board (Arrive lane mark) = has_bridge_to board lane.bus
 
 abbrev pub HasLine : Board → Event → Type 0
 HasLine board event = IsTrue (has_line board event)

@@ -1,13 +1,10 @@
 ghost use Rattle.std.specs.Prelude.{◌≡◌, [], ◌++◌, ◌==◌, OnOk, string_bytes};
-ghost use Rattle.std.specs.List.{find};
-ghost use Rattle.std.specs.Option.{option_copied};
-ghost use Rattle.board_model.specs.Ways.{end_of};
 ghost use Rattle.board_printer.specs.Lines.{spaced, line_text};
 ghost use Rattle.trace_text.specs.Words.{master_name, target_name, names_poll, op_word, place_words};
 ghost use Rattle.trace_text.specs.Events.{step_word, result_words, mark_words, act_line, arrival_line, event_line};
 
 use crate::words::{ByWord, LaneWord, OutcomeWord};
-use board_model::{Board, Bridge, Lane, Op, Place};
+use board_model::{Board, Lane, Op, Place, end_of};
 use board_printer::HexWord;
 use history_model::{By, Event, Mark, Step};
 use pci_command::OpId;
@@ -103,25 +100,6 @@ fn names_poll(board: &Board, op: &OpId) -> bool
     };
     let ops = master.ops.as_slice();
     matches!(ops.get(usize::from(op.index)), Some(Op::Poll { .. }))
-}
-
-/// The bus on which what the lane carries arrives.
-fn end_of(board: &Board, lane: Lane) -> u8
-    ensures { result ≡ end_of board.now lane }
-{
-    if !lane.up {
-        return lane.bus;
-    }
-    match bridge_to(board.bridges.as_slice(), lane.bus) {
-        Some(bridge) => bridge.parent,
-        None => 0,
-    }
-}
-
-fn bridge_to(bridges: &[Bridge], bus: u8) -> Option<&Bridge>
-    ensures { option_copied result ≡ find (λ bridge. bridge.bus == bus) bridges.now }
-{
-    bridges.iter().find(|bridge| bridge.bus == bus)
 }
 
 fn step_word(step: Step) -> &'static str

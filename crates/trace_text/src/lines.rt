@@ -1,10 +1,10 @@
 ghost use Rattle.std.specs.Prelude.{◌≡◌, is_some};
-ghost use Rattle.board_model.specs.Requests.{op_of, tries_of};
-ghost use Rattle.trace_text.specs.Events.{has_bridge, has_bus, has_initiator, has_place, is_completion, is_step_at, has_line};
+ghost use Rattle.board_model.specs.Requests.{op_of};
+ghost use Rattle.trace_text.specs.Events.{has_initiator, has_place, is_completion, is_step_at, has_line};
 
-use board_model::{Board, Op, Place};
+use board_model::{Board, Place, has_bridge_to, is_bus, op_of};
 use history_model::{By, Event, Step};
-use pci_command::{OpId, Outcome};
+use pci_command::Outcome;
 
 /// Whether the event has a line over the board: all that it names is there, and its step is one of
 /// its place.
@@ -19,27 +19,14 @@ pub fn has_line(board: &Board, event: &Event) -> bool
             step,
             place,
         } => {
-            has_bus(board, *bus)
+            is_bus(board, *bus)
                 && has_initiator(board, *by)
-                && has_operation(board, op)
+                && op_of(board, *op).is_some()
                 && has_place(board, *place)
                 && is_step_at(*step, *place)
         }
-        Event::Arrive { lane, mark: _ } => has_bridge(board, lane.bus),
+        Event::Arrive { lane, mark: _ } => has_bridge_to(board, lane.bus),
     }
-}
-
-fn has_bridge(board: &Board, bus: u8) -> bool
-    ensures { result ≡ has_bridge board.now bus }
-{
-    let bridges = board.bridges.as_slice();
-    bridges.iter().any(|bridge| bridge.bus == bus)
-}
-
-fn has_bus(board: &Board, bus: u8) -> bool
-    ensures { result ≡ has_bus board.now bus }
-{
-    bus == 0 || has_bridge(board, bus)
 }
 
 fn has_initiator(board: &Board, by: By) -> bool
@@ -47,30 +34,7 @@ fn has_initiator(board: &Board, by: By) -> bool
 {
     match by {
         By::Master => true,
-        By::Lane(lane) => has_bridge(board, lane.bus),
-    }
-}
-
-fn tries_of(op: &Op) -> u32
-    ensures { result ≡ tries_of op.now }
-{
-    match op {
-        Op::Read { .. } | Op::Write { .. } | Op::CfgRead { .. } | Op::CfgWrite { .. } => 1,
-        Op::Poll { tries, .. } => *tries,
-    }
-}
-
-fn has_operation(board: &Board, op: &OpId) -> bool
-    ensures { result ≡ is_some (op_of board.now op.now) }
-{
-    let masters = board.masters.as_slice();
-    let Some(master) = masters.get(usize::from(op.master)) else {
-        return false;
-    };
-    let ops = master.ops.as_slice();
-    match ops.get(usize::from(op.index)) {
-        Some(named) => op.attempt < tries_of(named),
-        None => false,
+        By::Lane(lane) => has_bridge_to(board, lane.bus),
     }
 }
 
@@ -79,8 +43,8 @@ fn has_place(board: &Board, place: Place) -> bool
 {
     match place {
         Place::Target(index) => usize::from(index) < board.targets.as_slice().len(),
-        Place::Header(bus) => has_bridge(board, bus),
-        Place::Lane(lane) => has_bridge(board, lane.bus),
+        Place::Header(bus) => has_bridge_to(board, bus),
+        Place::Lane(lane) => has_bridge_to(board, lane.bus),
         Place::Nobody => true,
     }
 }

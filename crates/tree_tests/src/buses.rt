@@ -3,7 +3,7 @@ ghost use Rattle.std.specs.List.{list_any};
 ghost use Rattle.board_model.specs.WellFormed.{has_bus};
 ghost use Rattle.board_model.specs.Valid.{has_bridge_to, is_bus, lacks_a_bus, is_numbered, is_behind, is_nested, are_beside, some_two, is_no_tree};
 
-use board_model::{Board, Bridge, Planned};
+use board_model::{Board, Bridge, Planned, bridge_to, has_bridge_to, is_bus};
 
 /// V1.
 pub(crate) fn lacks_a_bus(board: &Board) -> bool
@@ -52,34 +52,6 @@ fn plan_lacks_a_bridge(board: &Board, plans: &[Planned]) -> bool
     plans
         .iter()
         .any(|planned| !has_bridge_to(board, planned.bus))
-}
-
-fn is_bus(board: &Board, bus: u8) -> bool
-    ensures { result ≡ is_bus board.now bus }
-{
-    bus == 0 || has_bridge_to(board, bus)
-}
-
-fn has_bridge_to(board: &Board, bus: u8) -> bool
-    ensures { result ≡ has_bridge_to board.now bus }
-{
-    board
-        .bridges
-        .as_slice()
-        .iter()
-        .any(|bridge| bridge.bus == bus)
-}
-
-/// The bridge above the bus.
-pub(crate) fn bridge_to(board: &Board, bus: u8) -> Option<Bridge>
-    ensures { result ≡ find (has_bus bus) board.now.bridges }
-{
-    board
-        .bridges
-        .as_slice()
-        .iter()
-        .copied()
-        .find(|bridge| bridge.bus == bus)
 }
 
 /// V2.

@@ -2,9 +2,8 @@ ghost use Rattle.std.specs.Prelude.{◌≡◌, not};
 ghost use Rattle.std.specs.List.{list_any, list_all};
 ghost use Rattle.board_model.specs.Valid.{window_covers, bridge_covers, own_covers, is_reached, window_is_reached, last_of, ranges_are_reached, windows_are_reached, is_out_of_reach};
 
-use crate::buses::bridge_to;
 use crate::spans::last_of;
-use board_model::{Board, Bridge, Target, Window};
+use board_model::{Board, Bridge, Target, Window, bridge_to};
 use pci_command::Space;
 
 /// V4.
@@ -70,7 +69,7 @@ fn is_reached(board: &Board, bus: u8, space: Space, base: u64, limit: u128) -> b
 {
     match bridge_to(board, bus) {
         None => true,
-        Some(own) => bridge_covers(space, base, limit, &own),
+        Some(own) => bridge_covers(space, base, limit, own),
     }
 }
 

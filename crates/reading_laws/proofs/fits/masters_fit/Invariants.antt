@@ -1,6 +1,6 @@
 use Rattle.std.proofs.Common.{take}
 use Rattle.std.specs.List.{AllByRecursion}
-use Rattle.reading_laws.specs.Fits.{ProgramFits}
+use Rattle.line_laws.specs.Fits.{ProgramFits}
 use Rattle.reading_laws.proofs.fits.masters_fit.Given as goal
 
 -- the masters so far

@@ -1,6 +1,6 @@
 use Rattle.std.proofs.Common.{take}
 use Rattle.std.specs.List.{AllByRecursion}
-use Rattle.reading_laws.specs.Fits.{DetailsFit}
+use Rattle.line_laws.specs.Fits.{DetailsFit}
 use Rattle.reading_laws.proofs.fits.targets_fit.Given as goal
 
 -- the targets so far
