@@ -1,0 +1,5 @@
+pub mod Premises
+pub mod NewlineLemmas
+pub mod BoardPartLemmas
+pub mod EventPartLemmas
+pub mod TraceLemmas
