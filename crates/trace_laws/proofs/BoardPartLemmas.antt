@@ -13,15 +13,17 @@ use Rattle.board_parser.specs.OneLine.{read_line}
 use Rattle.board_parser.specs.Boards.{then_lines, read_lines, ended}
 use Rattle.trace_reader.specs.Traces.{with_before, until_events}
 
--- `events` is no line of a board: neither its first nor a later one
+-- `events` is not the first line of a board text
 not_first : read_line None (codes "events") ≡ Err NoFirstLine
 unfolding first_line_of
 not_first = refl
 
+-- nor a later one
 not_later : (draft : Draft) → read_line (Some draft) (codes "events") ≡ Err WrongWord
 unfolding statement_of statement_form form_of
 not_later draft = refl
 
+-- so it is no line of a text that is read as a board
 not_events : (draft next : Option Draft) → read_line draft (codes "events") ≡ Ok next → ⊥
 not_events None next read = let fault = sym not_first ∙ read in absurd (cc)
 not_events (Some draft) next read = let fault = sym (not_later draft) ∙ read in absurd (cc)

@@ -1,10 +1,9 @@
 -- The events of a trace text stand behind the line `events`.
-use Rattle.std.proofs.Common.{◌≡◌, ℕ, ◌+◌, ◌^◌, ◌<◌, Bool, true, false, cond, List, [], ◌∷◌, ◌++◌, append_assoc, append-nil, length, map, Result, Ok, Err, refl, sym, ap, subst, ◌∙◌, arith}
-use Rattle.std.specs.Prelude.{codes, ◌==◌}
+use Rattle.std.proofs.Common.{◌≡◌, ℕ, ◌+◌, ◌^◌, ◌<◌, Bool, true, false, cond, List, [], ◌∷◌, ◌++◌, append_assoc, append-nil, length, map, Result, Ok, Err, refl, sym, ap, subst, ◌∙◌}
+use Rattle.std.specs.Prelude.{codes}
 use Rattle.std.specs.List.{list_all, AllByRecursion}
 use Rattle.std.specs.Fmt.{decimal}
 use Rattle.std.proofs.lemmas.Bool.{and_from, eq-eqb}
-use Rattle.std.proofs.lemmas.List.Folds.{list_all-append}
 use Rattle.board_model.specs.declared.board.Board.{Board}
 use Rattle.board_model.specs.WellFormed.{is_well_formed}
 use Rattle.board_model.specs.Valid.{lacks_a_bus}
@@ -15,7 +14,6 @@ use Rattle.text_laws.specs.Printed.{has_words_alone, joined}
 use Rattle.trace_text.specs.Events.{event_line, HasLine}
 use Rattle.trace_lines.specs.declared.line.TraceLine.{TraceLine}
 use Rattle.trace_lines.specs.declared.line.LineFault.{LineFault}
-use Rattle.trace_lines.specs.Lines.{line_of}
 use Rattle.trace_reader.specs.declared.fault.TraceFault.{TraceFault}
 use Rattle.trace_reader.specs.declared.fault.TraceFault.TheVariants.{Trace}
 use Rattle.trace_reader.specs.Traces.{nothing_behind, events_by, events_read}
@@ -42,6 +40,7 @@ words_from board [] count bears fit has small = and_from _ _ (end_words count sm
 words_from board (event ∷ events) count bears fit has small =
     and_from _ _ (event_words board event bears.fits bears.formed bears.buses fit.0 has.0) (words_from board events count bears fit.1 has.1 small)
 
+-- read as these events
 abbrev events_so : List Event → Result (List Event) TraceFault
 events_so events = Ok events
 

@@ -1,5 +1,5 @@
 -- Texts that end in a newline: the lines of one, and of a text behind it, are those of both.
-use Rattle.std.proofs.Common.{◌≡◌, ℕ, Bool, true, false, cond, List, [], ◌∷◌, ◌++◌, append_assoc, append-nil, length, refl, sym, ap, subst, ◌∙◌, arith}
+use Rattle.std.proofs.Common.{◌≡◌, ℕ, Bool, true, false, cond, List, [], ◌∷◌, ◌++◌, append_assoc, append-nil, refl, sym, ap, subst, ◌∙◌, arith}
 use Rattle.std.specs.List.{slice_split, onto_first}
 use Rattle.std.proofs.lemmas.List.{length-append}
 use Rattle.std.proofs.lemmas.List.Splits.{slice_split-cons_yes, length-slice_split}
@@ -53,10 +53,11 @@ both_are_whole text next first second more =
     let lines = append_assoc (lines_of text) (lines_of next) (lines_of more) in
     cc
 
+-- the text of a printed line is whole, whatever is in its words
 pub line_is_whole : (line : Line) → IsWhole (line_text line)
 line_is_whole line = let P : List ℕ → Type 0 = λ text. IsWhole text in subst P (sym (line_is line)) (newline_is_whole (joined line))
 
--- every text of printed lines is whole, whatever is in their words
+-- so is the text of printed lines
 pub text_is_whole : (lines : List Line) → IsWhole (text_of lines)
 text_is_whole [] = empty_is_whole
 text_is_whole (line ∷ lines) = both_are_whole (line_text line) (text_of lines) (line_is_whole line) (text_is_whole lines)

@@ -25,5 +25,6 @@ event_words board event fits formed bus fit has = ?
 pub end_read : (board : Board) (n : ℕ) → n < 2 ^ 32 → line_of board (joined (codes "end" ∷ decimal n ∷ [])) ≡ Ok (Ends n)
 end_read board n small = ?
 
+-- and of words alone
 pub end_words : (n : ℕ) → n < 2 ^ 32 → has_words_alone (codes "end" ∷ decimal n ∷ []) ≡ true
 end_words n small = ?

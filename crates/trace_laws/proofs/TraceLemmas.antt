@@ -1,8 +1,7 @@
 -- A trace text is read as its board and its events.
-use Rattle.std.proofs.Common.{◌≡◌, ℕ, ◌+◌, ◌^◌, ◌<◌, Bool, true, false, cond, List, [], ◌∷◌, ◌++◌, append_assoc, append-nil, length, map, Option, Some, None, Result, Ok, Err, refl, sym, ap, ◌∙◌, arith}
+use Rattle.std.proofs.Common.{◌≡◌, ℕ, ◌+◌, ◌^◌, ◌<◌, true, false, List, [], ◌∷◌, ◌++◌, append-nil, length, map, Some, None, Result, Ok, refl, sym, ap, ◌∙◌}
 use Rattle.std.specs.Prelude.{codes}
 use Rattle.std.specs.List.{AllByRecursion}
-use Rattle.std.specs.Fmt.{decimal}
 use Rattle.std.proofs.lemmas.List.Concat.{flat_map-append}
 use Rattle.board_model.specs.declared.board.Board.{Board}
 use Rattle.board_model.specs.WellFormed.{is_well_formed}
@@ -11,7 +10,6 @@ use Rattle.history_model.specs.declared.event.Event.{Event}
 use Rattle.board_text.specs.Lines.{lines_of}
 use Rattle.board_printer.specs.Lines.{Line, line_text, text_of}
 use Rattle.board_printer.specs.Boards.{board_lines, board_text}
-use Rattle.line_forms.specs.declared.fault.LineFault.{LineFault}
 use Rattle.line_laws.specs.Fits.{BoardFits}
 use Rattle.text_laws.specs.Printed.{joined}
 use Rattle.text_laws.proofs.WordLemmas.{lines_again}
@@ -20,13 +18,14 @@ use Rattle.reading_laws.proofs.BoardLemmas.{board_law}
 use Rattle.trace_text.specs.Events.{event_line, HasLine}
 use Rattle.trace_text.specs.Traces.{trace_of}
 use Rattle.trace_reader.specs.declared.fault.TraceFault.{TraceFault}
-use Rattle.trace_reader.specs.Traces.{until_events, events_read, with_events, by_board, by_parts, by_first, trace_read}
+use Rattle.trace_reader.specs.Traces.{events_read, with_events, by_board, by_parts, by_first, trace_read}
 use Rattle.trace_reader.proofs.CutLemmas.{IsWhole}
 use Rattle.trace_laws.specs.Fits.{EventFits}
 use Rattle.trace_laws.proofs.NewlineLemmas.{line_is_whole, text_is_whole}
 use Rattle.trace_laws.proofs.BoardPartLemmas.{parts_of, draft_of}
 use Rattle.trace_laws.proofs.EventPartLemmas.{Bears, end_of, lines_from, words_from, events_from}
 
+-- the lines before the board and before the events
 abbrev first : Line
 first = codes "pcitrace" ∷ codes "1" ∷ []
 
@@ -57,10 +56,11 @@ lines_of_trace board events bears fit has small =
     ∙ ap (λ (ls : List (List ℕ)). lines_of (board_text board) ++ ls) (line_is_whole middle end
     ∙ ap (λ (ls : List (List ℕ)). codes "events" ∷ ls) last))
 
+-- read as this board and these events
 abbrev pair_so : Board → List Event → Result (Board × List Event) TraceFault
 pair_so board events = Ok (board, events)
 
--- lines that have these parts
+-- a first line, lines that are read as the board, `events`, and lines that are read as the events
 by_lines : (board : Board) (events : List Event) (lines behind : List (List ℕ)) → ended (read_lines None 1 lines) ≡ Ok board → ((number : ℕ) → with_events board (events_read board number [] behind) ≡ pair_so board events)
     → by_first (codes "pcitrace 1" ∷ (lines ++ codes "events" ∷ behind)) ≡ pair_so board events
 by_lines board events lines behind of_board of_events =
@@ -70,6 +70,7 @@ by_lines board events lines behind of_board of_events =
     ∙ ap (by_board (length lines + 3) behind) of_board
     ∙ of_events (length lines + 3)
 
+-- the text of a trace is read as its board and its events
 pub trace_law : (board : Board) (events : List Event) → BoardFits board → is_well_formed board ≡ true → lacks_a_bus board ≡ false → AllByRecursion EventFits events → AllByRecursion (HasLine board) events → length events < 2 ^ 32 → trace_read (trace_of board events) ≡ Ok (board, events)
 trace_law board events fits formed buses fit has small =
     let bears : Bears board = record { fits = fits; formed = formed; buses = buses } in

@@ -2,6 +2,9 @@
 //! contract of a function that does nothing.
 #![tactic(auto)]
 
+mod fits;
+mod printed;
+
 ghost use Rattle.std.specs.Prelude.{◌≡◌, ◌<◌, ◌^◌, List, length, Ok, true, false};
 ghost use Rattle.std.specs.List.{AllByRecursion};
 ghost use Rattle.board_model.specs.declared.board.Board.{Board};
@@ -13,6 +16,8 @@ ghost use Rattle.trace_text.specs.Events.{HasLine};
 ghost use Rattle.trace_text.specs.Traces.{trace_of};
 ghost use Rattle.trace_reader.specs.Traces.{trace_read};
 ghost use Rattle.trace_laws.specs.Fits.{EventFits};
+
+pub use printed::printed_trace_is_read;
 
 /// The text of a trace is read as its board and its events, where the board is well formed and has
 /// every bus that it names, and each event has a line over it.
