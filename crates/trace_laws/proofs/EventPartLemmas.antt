@@ -17,8 +17,8 @@ use Rattle.trace_lines.specs.declared.line.LineFault.{LineFault}
 use Rattle.trace_reader.specs.declared.fault.TraceFault.{TraceFault}
 use Rattle.trace_reader.specs.declared.fault.TraceFault.TheVariants.{Trace}
 use Rattle.trace_reader.specs.Traces.{nothing_behind, events_by, events_read}
-use Rattle.trace_laws.specs.Fits.{EventFits}
-use Rattle.trace_laws.proofs.Premises.{event_read, event_words, end_read, end_words}
+use Rattle.event_laws.specs.Fits.{EventFits}
+use Rattle.event_laws.proofs.EndLemmas.{event_read, event_plain, end_read, end_plain}
 
 -- a board over which events can be printed
 pub record Bears (board : Board) : Type 0 where
@@ -36,9 +36,9 @@ lines_from board events count = map (event_line board) events ++ end_of count �
 
 -- they are of words alone
 pub words_from : (board : Board) (events : List Event) (count : ℕ) → Bears board → AllByRecursion EventFits events → AllByRecursion (HasLine board) events → count < 2 ^ 32 → list_all has_words_alone (lines_from board events count) ≡ true
-words_from board [] count bears fit has small = and_from _ _ (end_words count small) refl
+words_from board [] count bears fit has small = and_from _ _ (end_plain count small) refl
 words_from board (event ∷ events) count bears fit has small =
-    and_from _ _ (event_words board event bears.fits bears.formed bears.buses fit.0 has.0) (words_from board events count bears fit.1 has.1 small)
+    and_from _ _ (event_plain board event bears.fits bears.formed bears.buses fit.0 has.0) (words_from board events count bears fit.1 has.1 small)
 
 -- read as these events
 abbrev events_so : List Event → Result (List Event) TraceFault

@@ -1,4 +1,3 @@
-pub mod Premises
 pub mod NewlineLemmas
 pub mod BoardPartLemmas
 pub mod EventPartLemmas

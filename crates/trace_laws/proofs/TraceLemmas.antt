@@ -20,7 +20,7 @@ use Rattle.trace_text.specs.Traces.{trace_of}
 use Rattle.trace_reader.specs.declared.fault.TraceFault.{TraceFault}
 use Rattle.trace_reader.specs.Traces.{events_read, with_events, by_board, by_parts, by_first, trace_read}
 use Rattle.trace_reader.proofs.CutLemmas.{IsWhole}
-use Rattle.trace_laws.specs.Fits.{EventFits}
+use Rattle.event_laws.specs.Fits.{EventFits}
 use Rattle.trace_laws.proofs.NewlineLemmas.{line_is_whole, text_is_whole}
 use Rattle.trace_laws.proofs.BoardPartLemmas.{parts_of, draft_of}
 use Rattle.trace_laws.proofs.EventPartLemmas.{Bears, end_of, lines_from, words_from, events_from}

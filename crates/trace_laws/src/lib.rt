@@ -2,7 +2,6 @@
 //! contract of a function that does nothing.
 #![tactic(auto)]
 
-mod fits;
 mod printed;
 
 ghost use Rattle.std.specs.Prelude.{◌≡◌, ◌<◌, ◌^◌, List, length, Ok, true, false};
@@ -15,7 +14,7 @@ ghost use Rattle.line_laws.specs.Fits.{BoardFits};
 ghost use Rattle.trace_text.specs.Events.{HasLine};
 ghost use Rattle.trace_text.specs.Traces.{trace_of};
 ghost use Rattle.trace_reader.specs.Traces.{trace_read};
-ghost use Rattle.trace_laws.specs.Fits.{EventFits};
+ghost use Rattle.event_laws.specs.Fits.{EventFits};
 
 pub use printed::printed_trace_is_read;
 

@@ -6,9 +6,9 @@ ghost use Rattle.trace_text.specs.Events.{HasLine};
 ghost use Rattle.trace_text.specs.Traces.{trace_of};
 ghost use Rattle.trace_reader.specs.Traces.{trace_read};
 
-use crate::fits::events_fit;
 use crate::traces_are_read;
 use board_model::Board;
+use event_laws::events_fit;
 use history_model::Event;
 use reading_laws::board_fits;
 
