@@ -1,2 +1,4 @@
 pub mod Premises
 pub mod LineLemmas
+pub mod LaneLemmas
+pub mod ResultLemmas
