@@ -101,7 +101,7 @@ pub lane_read : (board : Board) (lane : BridgeLane) → BoardFits board → has_
 lane_read board lane fits there = direction_read board lane.bus lane.up fits there
 
 -- more bytes of words behind a word
-longer_word : (word more : List ℕ) → is_word word ≡ true → list_all is_word_byte more ≡ true → is_word (word ++ more) ≡ true
+pub longer_word : (word more : List ℕ) → is_word word ≡ true → list_all is_word_byte more ≡ true → is_word (word ++ more) ≡ true
 longer_word word more good rest =
     let parts = and_parts (ltb 0 (length word)) (list_all is_word_byte word) good in
     let some = ltb-true _ _ parts.0 in

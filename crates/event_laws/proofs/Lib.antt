@@ -2,3 +2,6 @@ pub mod Premises
 pub mod LineLemmas
 pub mod LaneLemmas
 pub mod ResultLemmas
+pub mod PlaceLemmas
+pub mod ActLemmas
+pub mod ArrivalLemmas

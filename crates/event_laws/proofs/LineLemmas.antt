@@ -43,7 +43,8 @@ split_last (byte ∷ bytes) good =
     let here = slice_split-cons_no is_space byte bytes (not_space byte parts.0) in
     cc
 
-bytes_of : (word : List ℕ) → is_word word ≡ true → list_all is_word_byte word ≡ true
+-- the bytes of a word
+pub bytes_of : (word : List ℕ) → is_word word ≡ true → list_all is_word_byte word ≡ true
 bytes_of word good = (and_parts (ltb 0 (length word)) (list_all is_word_byte word) good).1
 
 -- words with single spaces between them are cut into the words
@@ -109,10 +110,10 @@ words_regular (word ∷ words) good =
     let parts = and_parts (is_word word) (has_words_alone words) good in
     rw (word_some word parts.0) (words_regular words parts.1)
 
-abbrev kind_so : Kind → Option Kind
+abbrev pub kind_so : Kind → Option Kind
 kind_so kind = Some kind
 
-abbrev event_so : Event → Option Event
+abbrev pub event_so : Event → Option Event
 event_so event = Some event
 
 abbrev pub happens_so : Event → Result TraceLine LineFault
