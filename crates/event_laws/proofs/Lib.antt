@@ -5,3 +5,4 @@ pub mod ResultLemmas
 pub mod PlaceLemmas
 pub mod ActLemmas
 pub mod ArrivalLemmas
+pub mod EndLemmas

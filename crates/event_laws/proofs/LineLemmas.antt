@@ -83,7 +83,7 @@ length-spaced (word ∷ words) =
     omega (arith, others, sum)
 
 -- a line of words that is not too long is read by these words
-line_cut : (board : Board) (word : List ℕ) (words : Line) → has_words_alone (word ∷ words) ≡ true → width (word ∷ words) ≤ 257 → line_of board (joined (word ∷ words)) ≡ pieces_line board (word ∷ words)
+pub line_cut : (board : Board) (word : List ℕ) (words : Line) → has_words_alone (word ∷ words) ≡ true → width (word ∷ words) ≤ 257 → line_of board (joined (word ∷ words)) ≡ pieces_line board (word ∷ words)
 line_cut board word words good few =
     let parts = and_parts (is_word word) (has_words_alone words) good in
     let bytes = bytes_of word parts.0 in
@@ -98,7 +98,7 @@ line_cut board word words good few =
     rw (short, printing) (ap (pieces_line board) cut)
 
 -- a word has a byte
-word_some : (word : List ℕ) → is_word word ≡ true → eqb (length word) 0 ≡ false
+pub word_some : (word : List ℕ) → is_word word ≡ true → eqb (length word) 0 ≡ false
 word_some word good =
     let parts = and_parts (ltb 0 (length word)) (list_all is_word_byte word) good in
     grind (arith, nat_tests, parts.0)
