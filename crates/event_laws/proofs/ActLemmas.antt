@@ -1,7 +1,6 @@
 -- The line of a transaction, as it is printed, is read as the transaction.
-use Rattle.std.proofs.Common.{◌≡◌, ℕ, ◌+◌, ◌^◌, ◌<◌, ◌≤◌, Bool, true, false, ◌&&◌, List, [], ◌∷◌, ◌++◌, length, Option, Some, None, refl, ap, ◌∙◌, arith}
+use Rattle.std.proofs.Common.{◌≡◌, ℕ, ◌+◌, ◌^◌, ◌<◌, ◌≤◌, true, ◌&&◌, List, ◌∷◌, ◌++◌, Option, Some, refl, ◌∙◌, arith}
 use Rattle.std.specs.Prelude.{is_some}
-use Rattle.std.specs.List.{list_all}
 use Rattle.std.specs.Option.{option_map, option_and_then}
 use Rattle.std.specs.Fmt.{decimal}
 use Rattle.std.proofs.lemmas.Bool.{and_parts}
@@ -14,23 +13,21 @@ use Rattle.board_model.specs.Valid.{is_bus}
 use Rattle.history_model.specs.declared.event.By.{By}
 use Rattle.history_model.specs.declared.event.Step.{Step}
 use Rattle.history_model.specs.declared.event.Step.TheVariants.{Land, Part, Read, Accept, Latch, Take, Stall, MasterAbort, TargetAbort}
-use Rattle.history_model.specs.declared.event.Event.{Event}
 use Rattle.history_model.specs.declared.event.Event.TheVariants.{Act}
 use Rattle.line_laws.specs.Fits.{BoardFits}
 use Rattle.line_laws.proofs.AllowedTexts.{width}
-use Rattle.text_laws.specs.Printed.{is_word, has_words_alone, joined}
+use Rattle.text_laws.specs.Printed.{has_words_alone, joined}
 use Rattle.text_laws.proofs.NumberLemmas.{decimal_word}
 use Rattle.trace_text.specs.Words.{by_word, op_word, place_words}
 use Rattle.trace_text.specs.Events.{step_word, result_words, act_line, has_initiator, has_place, is_step_at, has_line}
-use Rattle.trace_lines.specs.declared.kind.Kind.{Kind}
 use Rattle.trace_lines.specs.Events.{done_by, act_of, act_in, event_in}
 use Rattle.trace_lines.specs.Words.{bus_in, by_in, op_in}
 use Rattle.trace_lines.specs.Lines.{line_of}
 use Rattle.event_laws.specs.Fits.{StepFits, PlaceFits}
-use Rattle.event_laws.proofs.Premises.{op_so, op_read, op_plain, op_short, number_so, number_short}
+use Rattle.event_laws.proofs.Premises.{op_read, op_plain, op_short, number_short}
 use Rattle.event_laws.proofs.LineLemmas.{event_so, happens_so, event_by_kind}
-use Rattle.event_laws.proofs.LaneLemmas.{bus_small, bus_read, bus_no_end, by_so, by_read, by_plain, by_short}
-use Rattle.event_laws.proofs.PlaceLemmas.{kind_for, kind_told, step_plain, step_short, done_so, Stands, stands}
+use Rattle.event_laws.proofs.LaneLemmas.{bus_small, bus_read, bus_no_end, by_read, by_plain, by_short}
+use Rattle.event_laws.proofs.PlaceLemmas.{kind_for, kind_told, step_plain, step_short, stands}
 
 -- the parts of a transaction that has a line
 pub record ActParts (board : Board) (bus : ℕ) (by : By) (op : OpId) (step : Step) (place : Place) : Type 0 where

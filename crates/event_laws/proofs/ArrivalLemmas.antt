@@ -1,10 +1,10 @@
 -- The line of an arrival, as it is printed, is read as the arrival.
-use Rattle.std.proofs.Common.{◌≡◌, ℕ, ◌+◌, ◌^◌, ◌<◌, ◌≤◌, Bool, true, false, cond, not, eqb, ◌||◌, List, [], ◌∷◌, ◌++◌, length, Option, Some, None, refl, ap, ◌∙◌, arith}
+use Rattle.std.proofs.Common.{◌≡◌, ℕ, ◌≤◌, Bool, true, false, cond, not, eqb, ◌||◌, List, [], ◌∷◌, Option, Some, refl, arith}
 use Rattle.std.specs.Prelude.{codes, slice_get}
 use Rattle.std.specs.List.{list_all, list_any, find}
-use Rattle.std.specs.Option.{option_map, option_and_then}
+use Rattle.std.specs.Option.{option_and_then}
 use Rattle.std.specs.Fmt.{decimal}
-use Rattle.std.proofs.lemmas.Bool.{and_parts, or_parts, or_right, not-false, eq-eqb}
+use Rattle.std.proofs.lemmas.Bool.{or_parts, or_right, not-false, eq-eqb}
 use Rattle.board_model.specs.declared.agents.Target.{Target}
 use Rattle.board_model.specs.declared.agents.Master.{Master}
 use Rattle.board_model.specs.declared.bridge.Bridge.{Bridge}
@@ -15,7 +15,6 @@ use Rattle.board_model.specs.Ways.{primary_in, primary_of, end_of}
 use Rattle.board_model.specs.Valid.{has_bridge_to, is_bus, lacks_a_bus}
 use Rattle.history_model.specs.declared.event.Mark.{Mark}
 use Rattle.history_model.specs.declared.event.Mark.TheVariants.{Plain, Discard, Drop}
-use Rattle.history_model.specs.declared.event.Event.{Event}
 use Rattle.history_model.specs.declared.event.Event.TheVariants.{Arrive}
 use Rattle.line_laws.specs.Fits.{BoardFits}
 use Rattle.line_laws.proofs.AllowedTexts.{width}
@@ -23,14 +22,13 @@ use Rattle.text_laws.specs.Printed.{is_word, has_words_alone, joined}
 use Rattle.text_laws.proofs.NumberLemmas.{decimal_word}
 use Rattle.trace_text.specs.Words.{lane_word}
 use Rattle.trace_text.specs.Events.{mark_words, arrival_line}
-use Rattle.trace_lines.specs.declared.kind.Kind.{Kind}
 use Rattle.trace_lines.specs.declared.kind.Kind.TheVariants as kinds
 use Rattle.trace_lines.specs.Words.{only_where, bus_in, lane_in}
 use Rattle.trace_lines.specs.Events.{mark_at_end, has_words_for, arrival_in}
 use Rattle.trace_lines.specs.Lines.{line_of}
 use Rattle.event_laws.proofs.Premises.{number_short}
 use Rattle.event_laws.proofs.LineLemmas.{event_so, happens_so, event_by_kind}
-use Rattle.event_laws.proofs.LaneLemmas.{lane_small, bus_small, bus_read, bus_no_end, lane_so, lane_read, lane_plain, lane_short}
+use Rattle.event_laws.proofs.LaneLemmas.{lane_small, bus_small, bus_read, bus_no_end, lane_read, lane_plain, lane_short}
 
 -- the bus above each bridge is one of the board
 above_is_bus : (test : ℕ → Bool) (pick : Bridge → Bool) (bridges : List Bridge) → test 0 ≡ true → list_any (λ (bridge : Bridge). not (test bridge.parent)) bridges ≡ false → test (primary_in (find pick bridges)) ≡ true

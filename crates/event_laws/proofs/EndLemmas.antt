@@ -1,5 +1,5 @@
 -- The laws: the lines of events, and the last line.
-use Rattle.std.proofs.Common.{◌≡◌, ℕ, ◌^◌, ◌<◌, ◌≤◌, Bool, true, false, List, [], ◌∷◌, length, Result, Ok, refl, ap, ◌∙◌, arith}
+use Rattle.std.proofs.Common.{◌≡◌, ℕ, ◌^◌, ◌<◌, true, false, [], ◌∷◌, Result, Ok, refl, ap, ◌∙◌, arith}
 use Rattle.std.specs.Prelude.{codes}
 use Rattle.std.specs.Fmt.{decimal}
 use Rattle.board_model.specs.declared.board.Board.{Board}
@@ -8,14 +8,13 @@ use Rattle.board_model.specs.Valid.{lacks_a_bus}
 use Rattle.history_model.specs.declared.event.Event.{Event}
 use Rattle.history_model.specs.declared.event.Event.TheVariants.{Act, Arrive}
 use Rattle.line_laws.specs.Fits.{BoardFits}
-use Rattle.line_laws.proofs.AllowedTexts.{width}
 use Rattle.text_laws.specs.Printed.{has_words_alone, joined}
 use Rattle.text_laws.proofs.NumberLemmas.{decimal_word}
 use Rattle.trace_text.specs.Events.{event_line, HasLine}
 use Rattle.trace_lines.specs.declared.line.TraceLine.{TraceLine}
 use Rattle.trace_lines.specs.declared.line.TraceLine.TheVariants.{Ends}
 use Rattle.trace_lines.specs.declared.line.LineFault.{LineFault}
-use Rattle.trace_lines.specs.Lines.{ends_with, end_line, pieces_line, line_of}
+use Rattle.trace_lines.specs.Lines.{ends_with, pieces_line, line_of}
 use Rattle.event_laws.specs.Fits.{EventFits}
 use Rattle.event_laws.proofs.Premises.{number_so, number_read, number_short}
 use Rattle.event_laws.proofs.LineLemmas.{happens_so, line_cut, word_some}

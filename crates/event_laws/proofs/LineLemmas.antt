@@ -1,5 +1,5 @@
 -- A line of words, as it is printed, is cut into these words, and read by its kind.
-use Rattle.std.proofs.Common.{◌≡◌, ℕ, ◌+◌, ◌<◌, ◌≤◌, Bool, true, false, cond, not, ltb, eqb, ◌&&◌, ◌||◌, List, [], ◌∷◌, ◌++◌, length, Option, Some, None, Result, Ok, Err, refl, ap, ◌∙◌, arith}
+use Rattle.std.proofs.Common.{◌≡◌, ℕ, ◌+◌, ◌≤◌, Bool, true, false, cond, ltb, eqb, List, [], ◌∷◌, ◌++◌, length, Option, Some, Result, Ok, refl, ap, ◌∙◌, arith}
 use Rattle.std.specs.Prelude.{codes}
 use Rattle.std.specs.List.{list_all, slice_split}
 use Rattle.std.specs.Str.{bytes_eq}
@@ -15,11 +15,10 @@ use Rattle.text_laws.specs.Printed.{is_word_byte, is_word, has_words_alone, join
 use Rattle.line_laws.proofs.AllowedTexts.{width}
 use Rattle.trace_lines.specs.declared.kind.Kind.{Kind}
 use Rattle.trace_lines.specs.declared.line.TraceLine.{TraceLine}
-use Rattle.trace_lines.specs.declared.line.TraceLine.TheVariants.{Happens, Ends}
+use Rattle.trace_lines.specs.declared.line.TraceLine.TheVariants.{Happens}
 use Rattle.trace_lines.specs.declared.line.LineFault.{LineFault}
-use Rattle.trace_lines.specs.declared.line.LineFault.TheVariants.{Unreadable, NoKind, Misshapen}
 use Rattle.trace_lines.specs.Events.{kind_of, has_words_for, event_in}
-use Rattle.trace_lines.specs.Lines.{is_space, pieces_of, has_bytes, first_word, second_word, kind_by, is_printing, is_unreadable, begins_end, is_regular, happens, end_line, event_line_by, pieces_line, line_of}
+use Rattle.trace_lines.specs.Lines.{is_space, second_word, kind_by, is_printing, is_regular, happens, end_line, event_line_by, pieces_line, line_of}
 
 -- no byte of a word is a space
 not_space : (byte : ℕ) → is_word_byte byte ≡ true → is_space byte ≡ false

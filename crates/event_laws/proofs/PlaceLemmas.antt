@@ -1,6 +1,5 @@
 -- Who claimed and what happened, as they are printed, are read as the same.
-use Rattle.std.proofs.Common.{◌≡◌, ℕ, ◌+◌, ◌^◌, ◌<◌, ◌≤◌, Bool, true, false, cond, leb, ltb, ◌&&◌, List, [], ◌∷◌, ◌++◌, length, Option, Some, None, refl, ap, ◌∙◌, arith}
-use Rattle.std.specs.Prelude.{codes}
+use Rattle.std.proofs.Common.{◌≡◌, ℕ, ◌+◌, ◌^◌, ◌<◌, ◌≤◌, Bool, true, false, cond, leb, List, [], ◌∷◌, ◌++◌, length, Option, Some, refl, ap, ◌∙◌, arith}
 use Rattle.std.specs.List.{list_all}
 use Rattle.std.specs.Option.{option_map, option_and_then}
 use Rattle.std.specs.Fmt.{decimal}
@@ -14,7 +13,6 @@ use Rattle.board_model.specs.WellFormed.{is_well_formed}
 use Rattle.board_model.specs.Valid.{has_bridge_to}
 use Rattle.history_model.specs.declared.event.Step.{Step}
 use Rattle.history_model.specs.declared.event.Step.TheVariants.{Land, Part, Read, Accept, Latch, Take, Stall, MasterAbort, TargetAbort}
-use Rattle.board_printer.specs.Lines.{Line}
 use Rattle.board_printer.specs.Numbers.{word_text}
 use Rattle.line_laws.specs.Fits.{BoardFits}
 use Rattle.line_laws.proofs.AllowedTexts.{width}
@@ -22,16 +20,16 @@ use Rattle.line_laws.proofs.PartTexts.{word_length}
 use Rattle.text_laws.specs.Printed.{is_word}
 use Rattle.text_laws.proofs.NumberLemmas.{decimal_word, eight_word}
 use Rattle.trace_text.specs.Words.{lane_word, target_name, place_words, outcome_word}
-use Rattle.trace_text.specs.Events.{step_word, result_words, has_place, is_step_at, is_completion}
+use Rattle.trace_text.specs.Events.{step_word, result_words, has_place, is_step_at}
 use Rattle.trace_lines.specs.declared.kind.Kind.{Kind}
 use Rattle.trace_lines.specs.declared.kind.Kind.TheVariants as kinds
-use Rattle.trace_lines.specs.Words.{begins_header, header_in, target_in}
-use Rattle.trace_lines.specs.Events.{kind_of, has_words_for, reader_in, at_target, at_reader, at_lane, done_by}
+use Rattle.trace_lines.specs.Words.{header_in, target_in}
+use Rattle.trace_lines.specs.Events.{kind_of, has_words_for, reader_in, done_by}
 use Rattle.event_laws.specs.Fits.{StepFits, PlaceFits}
-use Rattle.event_laws.proofs.Premises.{number_so, target_read, target_plain, target_short, target_no_header, number_short}
+use Rattle.event_laws.proofs.Premises.{target_read, target_plain, target_short, target_no_header, number_short}
 use Rattle.event_laws.proofs.LineLemmas.{bytes_of, kind_so}
-use Rattle.event_laws.proofs.LaneLemmas.{lane_small, bridge_read, lane_so, lane_read, lane_plain, lane_short, longer_word}
-use Rattle.event_laws.proofs.ResultLemmas.{value_read, outcome_so, outcome_read, outcome_plain, outcome_short, phases_read}
+use Rattle.event_laws.proofs.LaneLemmas.{lane_small, bridge_read, lane_read, lane_plain, lane_short, longer_word}
+use Rattle.event_laws.proofs.ResultLemmas.{value_read, outcome_read, outcome_plain, outcome_short, phases_read}
 
 -- the kind of a step
 abbrev pub kind_for : Step → Kind

@@ -1,5 +1,5 @@
 -- What is known of the names of operations and targets, and of numbers: laws of the crate below.
-use Rattle.std.proofs.Common.{◌≡◌, ℕ, ◌^◌, ◌<◌, ◌≤◌, true, false, List, length, Option, Some}
+use Rattle.std.proofs.Common.{◌≡◌, ℕ, ◌^◌, ◌<◌, ◌≤◌, true, false, length, Option, Some}
 use Rattle.std.specs.Prelude.{is_some}
 use Rattle.std.specs.Fmt.{decimal}
 use Rattle.pci_command.specs.declared.op_id.OpId.{OpId}

@@ -1,6 +1,5 @@
 -- Events whose numbers are as wide as their fields. The buses of lanes and headers are those of bridges of the board.
-use Rattle.std.specs.Prelude.{ℕ, ◌^◌, ◌<◌}
-use Rattle.pci_command.specs.declared.op_id.OpId.{OpId}
+use Rattle.std.specs.Prelude.{◌^◌, ◌<◌}
 use Rattle.pci_command.specs.declared.op_id.Outcome.{Outcome}
 use Rattle.pci_command.specs.declared.op_id.Outcome.TheVariants.{Value, Written, Aborted, Nobody as NobodyClaimed}
 use Rattle.board_model.specs.declared.bridge.Place.{Place}
