@@ -1,1 +1,4 @@
 pub mod NumberLemmas
+pub mod NameLemmas
+pub mod PlaceLemmas
+pub mod TargetLemmas
