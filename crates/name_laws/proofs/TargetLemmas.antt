@@ -1,15 +1,12 @@
 -- The name of a target is read as the target.
-use Rattle.std.proofs.Common.{◌≡◌, ℕ, ◌^◌, ◌<◌, ◌≤◌, true, false, List, length, Some, ap, subst, sym}
-use Rattle.std.specs.Prelude.{slice_get}
-use Rattle.std.specs.Option.{option_map_or}
+use Rattle.std.proofs.Common.{◌≡◌, ℕ, ◌^◌, ◌<◌, true, length, Some}
 use Rattle.std.proofs.lemmas.Bool.{and_parts}
 use Rattle.board_model.specs.declared.agents.Target.{Target}
 use Rattle.board_model.specs.declared.board.Board.{Board}
 use Rattle.board_model.specs.WellFormed.{is_well_formed, are_targets_named_apart}
-use Rattle.text_laws.specs.Printed.{is_word}
 use Rattle.line_laws.specs.Fits.{DetailsFit, BoardFits}
 use Rattle.trace_text.specs.Words.{target_name}
-use Rattle.trace_lines.specs.Words.{target_in, begins_header}
+use Rattle.trace_lines.specs.Words.{target_in}
 use Rattle.name_laws.proofs.NameLemmas.{NameWord, name_is_word}
 use Rattle.name_laws.proofs.PlaceLemmas.{targets_apart, each_at, place_found, element_at}
 
