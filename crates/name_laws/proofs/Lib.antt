@@ -1,3 +1,4 @@
+pub mod PartLemmas
 pub mod NumberLemmas
 pub mod NameLemmas
 pub mod PlaceLemmas

@@ -19,21 +19,25 @@ first_dot (byte ∷ part) behind none =
     let later = first_dot part behind parts.1 in
     rw (parts.0, later) (omega arith)
 
+-- and the whole has a dot
 dot_stands : (part behind : List ℕ) → has_mark 46 part ≡ false → has_mark 46 (part ++ 46 ∷ behind) ≡ true
 dot_stands [] behind none = refl
 dot_stands (byte ∷ part) behind none =
     let parts = or_parts (eqb byte 46) (has_mark 46 part) none in
     rw (parts.0) (dot_stands part behind parts.1)
 
+-- the part stands before the first dot
 before_dot : (part behind : List ℕ) → has_mark 46 part ≡ false → before_mark 46 (part ++ 46 ∷ behind) ≡ part
 before_dot part behind none = take_at part (46 ∷ behind) _ (sym (first_dot part behind none))
 
+-- behind a part and the dot stands what follows
 behind_at : (part behind : List ℕ) (place : ℕ) → place ≡ length part → drop (place + 1) (part ++ 46 ∷ behind) ≡ behind
 behind_at [] behind place is = rw is refl
 behind_at (byte ∷ part) behind place is =
     let next : place + 1 ≡ suc (length part + 1) = omega arith in
     rw next (behind_at part behind (length part) refl)
 
+-- so it stands behind the first dot
 behind_dot : (part behind : List ℕ) → has_mark 46 part ≡ false → behind_mark 46 (part ++ 46 ∷ behind) ≡ behind
 behind_dot part behind none = behind_at part behind _ (first_dot part behind none)
 
@@ -42,6 +46,7 @@ pub split_at_dot : (part behind : List ℕ) → has_mark 46 part ≡ false → a
 split_at_dot part behind none =
     rw (dot_stands part behind none, before_dot part behind none, behind_dot part behind none) refl
 
+-- digits are no dots
 digits_have_none : (word : List ℕ) → AllDigits 10 word → has_mark 46 word ≡ false
 digits_have_none [] all = refl
 digits_have_none (byte ∷ word) all =

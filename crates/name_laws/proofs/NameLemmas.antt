@@ -16,12 +16,15 @@ pub record NameWord (name : List ℕ) : Type 0 where
   pub no_header : begins_header name ≡ false
   pub no_dot : has_mark 46 name ≡ false
 
+-- a byte that begins a name is one of words, and neither `=` nor a dot
 start_byte : (byte : ℕ) → is_name_start byte ≡ true → (is_word_byte byte ≡ true) × (eqb byte 61 ≡ false) × (eqb byte 46 ≡ false)
 start_byte byte start = (grind (arith, nat_tests), grind (arith, nat_tests), grind (arith, nat_tests))
 
+-- a byte of a name is one of words, and no dot
 name_byte : (byte : ℕ) → is_name_byte byte ≡ true → (is_word_byte byte ≡ true) × (eqb byte 46 ≡ false)
 name_byte byte named = (grind (arith, nat_tests), grind (arith, nat_tests))
 
+-- the bytes of a name are those of words, and none is a dot
 name_bytes : (bytes : List ℕ) → list_all is_name_byte bytes ≡ true → (list_all is_word_byte bytes ≡ true) × (has_mark 46 bytes ≡ false)
 name_bytes [] named = (refl, refl)
 name_bytes (byte ∷ bytes) named =

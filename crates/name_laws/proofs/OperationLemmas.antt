@@ -18,25 +18,29 @@ use Rattle.trace_text.specs.Words.{master_name, names_poll, try_text, op_word}
 use Rattle.trace_lines.specs.Words.{at_most, at_dot, number_of, named, index_and_try, op_by, master_in, op_in}
 use Rattle.name_laws.proofs.NumberLemmas.{number_is_read, number_is_short}
 use Rattle.name_laws.proofs.NameLemmas.{NameWord, name_is_word}
-use Rattle.name_laws.proofs.PlaceLemmas.{masters_apart, each_at, place_found}
+use Rattle.name_laws.proofs.PartLemmas.{agents_formed, each_at}
+use Rattle.name_laws.proofs.PlaceLemmas.{masters_apart, place_found}
 use Rattle.name_laws.proofs.MarkLemmas.{split_at_dot, number_has_no_dot}
-use Rattle.name_laws.proofs.ThereLemmas.{There, masters_formed, op_is_there}
-
+use Rattle.name_laws.proofs.ThereLemmas.{There, op_is_there}
 
 -- the name of the master of an operation is a name
 name_of : (board : Board) (o : OpId) (there : There board o) → BoardFits board → NameWord there.master.name
 name_of board o there fits = name_is_word there.master.name (each_at ProgramFits board.masters o.master there.master fits.masters there.found).begins.name
 
-word_is : (board : Board) (o : OpId) (there : There board o) → op_word board o ≡ there.master.name ++ 46 ∷ (decimal o.index ++ try_text (names_poll board o) o.attempt)
-word_is board o there = ap (λ (name : List ℕ). name ++ 46 ∷ (decimal o.index ++ try_text (names_poll board o) o.attempt)) (name_is board o there) where
-  name_is : (board : Board) (o : OpId) (there : There board o) → master_name board o.master ≡ there.master.name
-  name_is board o there = rw (there.found) refl
+-- the name of its master is the name at that place
+master_is : (board : Board) (o : OpId) (there : There board o) → master_name board o.master ≡ there.master.name
+master_is board o there = rw (there.found) refl
 
--- at most 16 bytes, a dot, ten digits, and for a poll a dot and ten digits more
+-- the word of an operation: the name, a dot, the index, and for a poll a dot and the try
+word_is : (board : Board) (o : OpId) (there : There board o) → op_word board o ≡ there.master.name ++ 46 ∷ (decimal o.index ++ try_text (names_poll board o) o.attempt)
+word_is board o there = ap (λ (name : List ℕ). name ++ 46 ∷ (decimal o.index ++ try_text (names_poll board o) o.attempt)) (master_is board o there)
+
+-- a try has a dot and at most ten digits
 try_is_short : (polls : Bool) (attempt : ℕ) → attempt < 2 ^ 32 → length (try_text polls attempt) ≤ 11
 try_is_short true attempt small = omega (arith, number_is_short attempt small)
 try_is_short false attempt small = omega arith
 
+-- a word of an operation is short: 16 bytes, a dot, ten digits, a dot and ten digits are 38
 pub op_is_short : (board : Board) (o : OpId) → BoardFits board → is_well_formed board ≡ true → is_some (op_of board o) ≡ true → length (op_word board o) ≤ 44
 op_is_short board o fits formed some =
     let there = op_is_there board o formed some in
@@ -49,14 +53,16 @@ op_is_short board o fits formed some =
     let attempt = try_is_short (names_poll board o) o.attempt (omega (arith, there.attempt)) in
     omega (arith, size, whole, digits, name, index, attempt)
 
--- all bytes are those of words
+-- the bytes of a word are those of words
 bytes_of : (word : List ℕ) → is_word word ≡ true → list_all is_word_byte word ≡ true
 bytes_of word good = (and_parts _ _ good).1
 
+-- so are those of a try
 try_bytes : (polls : Bool) (attempt : ℕ) → attempt < 2 ^ 32 → list_all is_word_byte (try_text polls attempt) ≡ true
 try_bytes true attempt small = bytes_of (decimal attempt) (decimal_word attempt small)
 try_bytes false attempt small = refl
 
+-- a word with more such bytes is a word
 words_joined : (name rest : List ℕ) → is_word name ≡ true → list_all is_word_byte rest ≡ true → is_word (name ++ rest) ≡ true
 words_joined [] rest good more = cc
 words_joined (byte ∷ name) rest good more =
@@ -64,6 +70,7 @@ words_joined (byte ∷ name) rest good more =
     let front = bytes_of (byte ∷ name) good in
     rw (both, front, more) (grind (arith, nat_tests))
 
+-- the word of an operation is a word
 pub op_is_word : (board : Board) (o : OpId) → BoardFits board → is_well_formed board ≡ true → is_some (op_of board o) ≡ true → is_word (op_word board o) ≡ true
 op_is_word board o fits formed some =
     let there = op_is_there board o formed some in
@@ -76,6 +83,7 @@ op_is_word board o fits formed some =
 
 -- The word is read.
 
+-- an index is read as it is printed
 index_is_read : (index : ℕ) → index < 1024 → at_most 65535 (number_of (decimal index)) ≡ Some index
 index_is_read index small =
     let few : leb index 65535 ≡ true = grind (arith, nat_tests) in
@@ -86,6 +94,7 @@ is_named : (board : Board) (o : OpId) (polls : Bool) → is_some (op_of board o)
 is_named board o true some is = rw (some, is) refl
 is_named board o false some is = rw (some, is) refl
 
+-- what is no poll is named with try 0
 once_named : (board : Board) (o : OpId) → is_some (op_of board o) ≡ true → names_poll board o ≡ false → o.attempt ≡ 0 → named board false o.master o.index 0 ≡ Some o
 once_named board o some is once = subst (λ (attempt : ℕ). named board false o.master o.index attempt ≡ Some o) once (is_named board o false some is)
 
@@ -109,7 +118,7 @@ op_is_read board o fits formed small some =
     let there = op_is_there board o formed some in
     let rest = decimal o.index ++ try_text (names_poll board o) o.attempt in
     let split = split_at_dot there.master.name rest (name_of board o there fits).no_dot in
-    let apart = masters_apart board.masters (masters_formed board formed).apart in
+    let apart = masters_apart board.masters (agents_formed board formed).masters_apart in
     let master : master_in board there.master.name ≡ Some o.master = place_found (λ (master : Master). master.name) board.masters o.master there.master apart there.found small in
     let behind = rest_is_read board o (names_poll board o) there some refl in
     ap (op_in board) (word_is board o there) ∙ ap (op_by board) split ∙ rw master behind

@@ -1,7 +1,7 @@
 -- Where names stand apart, each is found at its own place.
-use Rattle.std.proofs.Common.{◌≡◌, ℕ, zero, suc, ◌^◌, ◌<◌, Bool, true, false, leb, ltb, not, List, [], ◌∷◌, length, Option, Some, refl, sym, subst, arith, inl, inr}
+use Rattle.std.proofs.Common.{◌≡◌, ℕ, zero, suc, ◌^◌, ◌<◌, Bool, true, false, leb, ltb, not, List, [], ◌∷◌, length, Some, refl, sym, subst, arith, inl, inr}
 use Rattle.std.specs.Prelude.{slice_get, ◌&&◌}
-use Rattle.std.specs.List.{list_any, position_or_len, position, AllByRecursion}
+use Rattle.std.specs.List.{list_any, position_or_len, position}
 use Rattle.std.specs.Str.{bytes_eq}
 use Rattle.std.proofs.lemmas.Bool.{and_parts, or_parts, not-true, false_from_ne_true}
 use Rattle.std.proofs.lemmas.Bool.Decides.{nat_tests}
@@ -21,12 +21,14 @@ abbrev pub Apart : {X : Type 0} → (X → List ℕ) → List X → Type 0
 Apart name [] = Unit {0}
 Apart name (x ∷ xs) = (list_any (has_name name (name x)) xs ≡ false) × Apart name xs
 
+-- masters that the test finds named apart are so
 pub masters_apart : (masters : List Master) → are_masters_named_apart masters ≡ true → Apart (λ (master : Master). master.name) masters
 masters_apart [] apart = tt
 masters_apart (master ∷ masters) apart =
     let parts = and_parts (not (list_any (is_master_named master.name) masters)) (are_masters_named_apart masters) apart in
     (not-true _ parts.0, masters_apart masters parts.1)
 
+-- and so are targets
 pub targets_apart : (masters : List Master) (targets : List Target) → are_targets_named_apart masters targets ≡ true → Apart (λ (target : Target). target.name) targets
 targets_apart masters [] apart = tt
 targets_apart masters (target ∷ targets) apart =
@@ -34,9 +36,11 @@ targets_apart masters (target ∷ targets) apart =
     let named = and_parts (not (list_any (is_target_named target.name) targets)) (not (list_any (is_master_named target.name) masters)) parts.0 in
     (not-true _ named.0, targets_apart masters targets parts.1)
 
+-- a word has its own bytes
 same_bytes : (word : List ℕ) → bytes_eq word word ≡ true
 same_bytes word = (bytes_eq-Decides word word).1 refl
 
+-- two words that differ do so both ways
 bytes-swap : (a b : List ℕ) → bytes_eq a b ≡ false → bytes_eq b a ≡ false
 bytes-swap a b differ =
     false_from_ne_true (bytes_eq b a) (λ same. absurd (let again = (bytes_eq-Decides a b).1 (sym ((bytes_eq-Decides b a).0 same)) in cc))
@@ -49,12 +53,6 @@ none_at {X = X} test (y ∷ ys) zero x none found =
     let P : X → Type 0 = λ z. test z ≡ false in
     subst P same (or_parts (test y) (list_any test ys) none).0
 none_at test (y ∷ ys) (suc index) x none found = none_at test ys index x (or_parts (test y) (list_any test ys) none).1 found
-
--- what holds of each element, holds of the one at a place
-pub each_at : {X : Type 0} (P : X → Type 0) (xs : List X) (index : ℕ) (x : X) → AllByRecursion P xs → slice_get xs index ≡ Some x → P x
-each_at P [] index x each found = cc
-each_at {X = X} P (y ∷ ys) zero x each found = let same : y ≡ x = cc in subst P same each.0
-each_at P (y ∷ ys) (suc index) x each found = each_at P ys index x each.1 found
 
 -- the first element with the name of one is that one
 first_named : {X : Type 0} (name : X → List ℕ) (xs : List X) (index : ℕ) (x : X) → Apart name xs → slice_get xs index ≡ Some x → position_or_len (has_name name (name x)) xs ≡ index
@@ -70,9 +68,6 @@ first_named name (y ∷ ys) (suc index) x apart found =
     let later = first_named name ys index x apart.1 found in
     rw here (omega (arith, later))
 
-some_index : ℕ → Option ℕ
-some_index index = Some index
-
 -- so its place is found by its name
 pub place_found : {X : Type 0} (name : X → List ℕ) (xs : List X) (index : ℕ) (x : X) → Apart name xs → slice_get xs index ≡ Some x → index < 2 ^ 16 → at_most 65535 (position (has_name name (name x)) xs) ≡ Some index
 place_found name xs index x apart found small =
@@ -86,6 +81,7 @@ pub record ElementAt {X : Type 0} (xs : List X) (index : ℕ) : Type 0 where
   pub element : X
   pub found : slice_get xs index ≡ Some element
 
+-- there is one at each place within the list
 pub element_at : {X : Type 0} (xs : List X) (index : ℕ) → index < length xs → ElementAt xs index
 element_at xs index within =
     elim ((slice_get_cases xs index).1) [
