@@ -1,5 +1,5 @@
 -- What an answer with an event tells of its step and its place.
-use Rattle.std.proofs.Common.{◌≡◌, ℕ, ◌<◌, Bool, true, false, ◌&&◌, ◌||◌, cond, nat_lt, List, length, Option, Some, None, refl, subst, slice_get}
+use Rattle.std.proofs.Common.{◌≡◌, ℕ, Bool, true, false, ◌&&◌, ◌||◌, cond, nat_lt, List, length, Option, Some, None, refl, slice_get}
 use Rattle.std.specs.List.{find, list_any, AllByRecursion}
 use Rattle.list_facts.specs.Lists.{before}
 use Rattle.list_facts.proofs.EachLemmas.{Each-find}
@@ -72,7 +72,7 @@ either : {X : Type 0} (F : X → Type 0) (b : Bool) (x y : X) → F x → F y �
 either F true x y first second = first
 either F false x y first second = second
 
--- a target that claims gives a step of a target
+-- a target that claims gives a step of a target, and a part as large as its burst
 step_told : (board : Board) (h : List Event) (place : ℕ) (request : Request) (target : TargetAgent) → slice_get board.targets place ≡ Some target
     → Suits board (target_step board h place request target) (Target place)
 step_told board h place request target is =
@@ -87,12 +87,13 @@ step_told board h place request target is =
     (either F (is_read request.command) (Read value) written refl
     (either F many (Part target.burst) Land part refl)))
 
+-- so does a place of a target, and nobody claims where no target is there
 target_told : (board : Board) (h : List Event) (place : ℕ) (request : Request) (found : Option TargetAgent) → slice_get board.targets place ≡ found
     → Told board (target_answer board h place request found)
 target_told board h place request None is = (tt, refl)
 target_told board h place request (Some target) is = ((target, is), step_told board h place request target is)
 
--- the header of a bridge gives a value
+-- the header of a bridge that is there gives a value
 header_told : (board : Board) (bus : ℕ) (request : Request) (found : Option Bridge) → bridge_to board bus ≡ found → Told board (header_answer bus request found)
 header_told board bus request None is = (tt, refl)
 header_told board bus request (Some bridge) is = ((bridge, is), refl)
@@ -109,6 +110,7 @@ completion_told board read lane older (Some (Done op slot outcome)) bridge is sa
 completion_told board read lane older (Some Room) bridge is says = tt
 completion_told board read lane older (Some (Gone slot)) bridge is says = tt
 
+-- a delayed request is latched, or its completion given
 delayed_told : (board : Board) (read : Bool) (depth : ℕ) (lane : BridgeLane) (held : List Slot) (coming : List Carried) (own : Option Slot) (bridge : Bridge)
     → bridge_to board lane.bus ≡ Some bridge → AllByRecursion SaysHow coming → Told board (delayed_answer read depth lane held coming own)
 delayed_told board read depth lane held coming None bridge is says =
@@ -117,7 +119,7 @@ delayed_told board read depth lane held coming (Some slot) bridge is says =
     let test : Carried → Bool = is_done_for slot.number in
     completion_told board read lane (before test coming) (find test coming) bridge is (λ found some. Each-find SaysHow test coming found says some)
 
--- a lane answers where its bridge is there
+-- a lane answers where its bridge is there, and by a step of a lane
 lane_told : (board : Board) (world : World) (on : ℕ) (by : By) (o : OpId) (request : Request) (lane : BridgeLane) (found : Option Bridge)
     → bridge_to board lane.bus ≡ found → StandingSay world → Told board (lane_answer board world on by o request lane found)
 lane_told board world on by o request lane None is says = (tt, refl)
@@ -128,6 +130,7 @@ lane_told board world on by o request lane (Some bridge) is says =
     (either (Told board) (nat_lt (world lane).owed bridge.posted) (Gives Accept (Lane lane)) (Retry Full) ((bridge, is), refl) tt)
     (delayed_told board (is_read request.command) bridge.delayed lane (world lane).held (world (lane_back lane)).standing (find (is_own board on by o) (world lane).held) bridge is (says (lane_back lane)))
 
+-- of whoever claims
 place_told : (board : Board) (world : World) (h : List Event) (on : ℕ) (by : By) (o : OpId) (request : Request) (place : Place) → StandingSay world
     → Told board (answer_by board world h on by o request place)
 place_told board world h on by o request (Target place) says = target_told board h place request (slice_get board.targets place) refl
@@ -135,12 +138,13 @@ place_told board world h on by o request (Header bus) says = header_told board b
 place_told board world h on by o request (Lane lane) says = lane_told board world on by o request lane (bridge_to board lane.bus) refl says
 place_told board world h on by o request Nobody says = (tt, refl)
 
+-- of a request, if the operation is there
 request_told : (board : Board) (world : World) (h : List Event) (on : ℕ) (by : By) (o : OpId) (found : Option Request) → StandingSay world
     → Told board (answer_to board world h on by o found)
 request_told board world h on by o None says = (tt, refl)
 request_told board world h on by o (Some request) says =
     let rest : Request = without (through h o) request in place_told board world h on by o rest (claim board on rest) says
 
--- of every answer
+-- an answer with an event has its place on the board, and its step there
 pub answer_told : (board : Board) (h : List Event) (on : ℕ) (by : By) (o : OpId) → StandingSay (world_of board h) → Told board (answer board h on by o)
 answer_told board h on by o says = request_told board (world_of board h) h on by o (request_of board o on) says
