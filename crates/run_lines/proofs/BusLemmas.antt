@@ -42,11 +42,12 @@ bridge_is_there board bus bridge some = find_any (has_bus bus) board.bridges bri
 pub target_is_there : (board : Board) (index : ℕ) (target : TargetAgent) → slice_get board.targets index ≡ Some target → nat_lt index (length board.targets) ≡ true
 target_is_there board index target some = let below = slice_get-below board.targets index target some in grind (arith, nat_tests)
 
--- where one or the other fails, both fail
+-- where neither of two passes, the first fails
 or_first : (a b : Bool) → (a || b) ≡ false → a ≡ false
 or_first true b none = cc
 or_first false b none = refl
 
+-- and the second fails
 or_second : (a b : Bool) → (a || b) ≡ false → b ≡ false
 or_second true b none = cc
 or_second false b none = none

@@ -44,15 +44,17 @@ use Rattle.run_lines.proofs.SaidLemmas.{run_told, WorldSays-run}
 use Rattle.run_lines.proofs.TurnLemmas.{turn_is_there}
 use Rattle.run_lines.proofs.BusLemmas.{bridge_is_there, target_is_there, master_is_on, end_is_bus}
 
--- where both pass, each does, and the other way round
+-- where both of two pass, the first does
 first : (a b : Bool) → (a && b) ≡ true → a ≡ true
 first true b e = refl
 first false b e = cc
 
+-- and the second does
 second : (a b : Bool) → (a && b) ≡ true → b ≡ true
 second true b e = e
 second false b e = cc
 
+-- where each of two passes, both do
 joined : (a b : Bool) → a ≡ true → b ≡ true → (a && b) ≡ true
 joined a b here there = rw (here, there) refl
 
