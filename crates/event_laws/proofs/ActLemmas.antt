@@ -24,7 +24,8 @@ use Rattle.trace_lines.specs.Events.{done_by, act_of, act_in, event_in}
 use Rattle.trace_lines.specs.Words.{bus_in, by_in, op_in}
 use Rattle.trace_lines.specs.Lines.{line_of}
 use Rattle.event_laws.specs.Fits.{StepFits, PlaceFits}
-use Rattle.event_laws.proofs.Premises.{op_read, op_plain, op_short, number_short}
+use Rattle.name_laws.proofs.NumberLemmas.{number_is_short}
+use Rattle.name_laws.proofs.OperationLemmas.{op_is_read, op_is_word, op_is_short}
 use Rattle.event_laws.proofs.LineLemmas.{event_so, happens_so, event_by_kind}
 use Rattle.event_laws.proofs.LaneLemmas.{bus_small, bus_read, bus_no_end, by_read, by_plain, by_short}
 use Rattle.event_laws.proofs.PlaceLemmas.{kind_for, kind_told, step_plain, step_short, stands}
@@ -66,17 +67,17 @@ pub act_plain : (board : Board) (bus : ℕ) (by : By) (op : OpId) (step : Step) 
 act_plain board bus by op step place fits formed master wide below parts =
     let stand = stands board step place fits formed parts.claimed wide below parts.at in
     let few = bus_small board bus fits parts.on in
-    rw (decimal_word bus (omega arith), step_plain step, by_plain board by fits parts.from, op_plain board op fits formed master parts.named) stand.plain
+    rw (decimal_word bus (omega arith), step_plain step, by_plain board by fits parts.from, op_is_word board op fits formed parts.named) stand.plain
 
 -- and few enough
 act_short : (board : Board) (bus : ℕ) (by : By) (op : OpId) (step : Step) (place : Place) → BoardFits board → is_well_formed board ≡ true → op.master < 2 ^ 16 → StepFits step → PlaceFits place → ActParts board bus by op step place → width (act_line board bus by op step place) ≤ 257
 act_short board bus by op step place fits formed master wide below parts =
     let stand = stands board step place fits formed parts.claimed wide below parts.at in
     let few = bus_small board bus fits parts.on in
-    let one = number_short bus (omega arith) in
+    let one = number_is_short bus (omega arith) in
     let two = step_short step in
     let three = by_short board by fits parts.from in
-    let four = op_short board op fits formed master parts.named in
+    let four = op_is_short board op fits formed parts.named in
     let five = stand.short in
     omega (arith, one, two, three, four, five)
 
@@ -89,7 +90,7 @@ act_read board bus by op step place fits formed master wide below parts =
     let words : List (List ℕ) = decimal bus ∷ step_word step ∷ rest in
     let whole : act_in board (kind_for step) words ≡ event_so (Act bus by op step place) =
     four_parts (λ (b : ℕ) (y : By) (o : OpId) (d : Step × Place). act_of b y o d) (bus_in board (decimal bus)) (by_in board (by_word by)) (op_in board (op_word board op)) (done_by board (kind_for step) words) bus by op (step, place)
-    (bus_read board bus fits parts.on) (by_read board by fits parts.from) (op_read board op fits formed master parts.named) (stand.read (decimal bus) (step_word step) (by_word by) (op_word board op)) in
+    (bus_read board bus fits parts.on) (by_read board by fits parts.from) (op_is_read board op fits formed master parts.named) (stand.read (decimal bus) (step_word step) (by_word by) (op_word board op)) in
     event_by_kind board (decimal bus) (step_word step) rest (kind_for step) (Act bus by op step place)
     (act_plain board bus by op step place fits formed master wide below parts)
     (act_short board bus by op step place fits formed master wide below parts)

@@ -26,7 +26,7 @@ use Rattle.trace_lines.specs.declared.kind.Kind.TheVariants as kinds
 use Rattle.trace_lines.specs.Words.{only_where, bus_in, lane_in}
 use Rattle.trace_lines.specs.Events.{mark_at_end, has_words_for, arrival_in}
 use Rattle.trace_lines.specs.Lines.{line_of}
-use Rattle.event_laws.proofs.Premises.{number_short}
+use Rattle.name_laws.proofs.NumberLemmas.{number_is_short}
 use Rattle.event_laws.proofs.LineLemmas.{event_so, happens_so, event_by_kind}
 use Rattle.event_laws.proofs.LaneLemmas.{lane_small, bus_small, bus_read, bus_no_end, lane_read, lane_plain, lane_short}
 
@@ -90,7 +90,7 @@ arrival_short : (board : Board) (lane : BridgeLane) (mark : Mark) → BoardFits 
 arrival_short board lane mark fits all there =
     let stand = mark_stands mark in
     let few = bus_small board (end_of board lane) fits (end_is_bus board lane all there) in
-    let one = number_short (end_of board lane) (omega arith) in
+    let one = number_is_short (end_of board lane) (omega arith) in
     let two = lane_short lane (lane_small board lane.bus fits there) in
     let three = stand.short in
     omega (arith, one, two, three)

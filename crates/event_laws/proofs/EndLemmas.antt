@@ -1,5 +1,5 @@
 -- The laws: the lines of events, and the last line.
-use Rattle.std.proofs.Common.{◌≡◌, ℕ, ◌^◌, ◌<◌, true, false, [], ◌∷◌, Result, Ok, refl, ap, ◌∙◌, arith}
+use Rattle.std.proofs.Common.{◌≡◌, ℕ, ◌^◌, ◌<◌, true, false, [], ◌∷◌, Some, Result, Ok, refl, ap, ◌∙◌, arith}
 use Rattle.std.specs.Prelude.{codes}
 use Rattle.std.specs.Fmt.{decimal}
 use Rattle.board_model.specs.declared.board.Board.{Board}
@@ -16,7 +16,7 @@ use Rattle.trace_lines.specs.declared.line.TraceLine.TheVariants.{Ends}
 use Rattle.trace_lines.specs.declared.line.LineFault.{LineFault}
 use Rattle.trace_lines.specs.Lines.{ends_with, pieces_line, line_of}
 use Rattle.event_laws.specs.Fits.{EventFits}
-use Rattle.event_laws.proofs.Premises.{number_so, number_read, number_short}
+use Rattle.name_laws.proofs.NumberLemmas.{number_is_read, number_is_short}
 use Rattle.event_laws.proofs.LineLemmas.{happens_so, line_cut, word_some}
 use Rattle.event_laws.proofs.ActLemmas.{act_parts, act_plain, act_read}
 use Rattle.event_laws.proofs.ArrivalLemmas.{arrival_plain, arrival_read}
@@ -41,7 +41,7 @@ ends_so n = Ok (Ends n)
 -- the last line is read as the end, with the number of events
 pub end_read : (board : Board) (n : ℕ) → n < 2 ^ 32 → line_of board (joined (codes "end" ∷ decimal n ∷ [])) ≡ ends_so n
 end_read board n below =
-    let short = number_short n below in
+    let short = number_is_short n below in
     let cut = line_cut board (codes "end") (decimal n ∷ []) (end_plain n below) (omega (arith, short)) in
-    let last : pieces_line board (codes "end" ∷ decimal n ∷ []) ≡ ends_with (number_so n) = rw (word_some (decimal n) (decimal_word n below)) (ap ends_with (number_read n below)) in
+    let last : pieces_line board (codes "end" ∷ decimal n ∷ []) ≡ ends_with (Some n) = rw (word_some (decimal n) (decimal_word n below)) (ap ends_with (number_is_read n below)) in
     cut ∙ last

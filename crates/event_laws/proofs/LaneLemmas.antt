@@ -23,7 +23,7 @@ use Rattle.text_laws.proofs.NumberLemmas.{decimal_word}
 use Rattle.trace_text.specs.Words.{lane_word, by_word}
 use Rattle.trace_text.specs.Events.{has_initiator}
 use Rattle.trace_lines.specs.Words.{number_of, at_most, bus_in, bridge_in, towards, without_last, last_byte, lane_in, by_in}
-use Rattle.event_laws.proofs.Premises.{number_so, number_read, number_short}
+use Rattle.name_laws.proofs.NumberLemmas.{number_is_read, number_is_short}
 
 -- the number of a bridge of the board fits eight bits
 bridge_small : (bus : ℕ) (bridges : List Bridge) → AllByRecursion BridgeFits bridges → list_any (has_bus bus) bridges ≡ true → bus < 2 ^ 8
@@ -46,20 +46,20 @@ bus_small board bus fits there =
     ]
 
 -- a number of so few bits is at most 255
-pub at_most_so : (most n : ℕ) → n ≤ most → at_most most (number_so n) ≡ number_so n
+pub at_most_so : (most n : ℕ) → n ≤ most → at_most most (Some n) ≡ Some n
 at_most_so most n few = rw (le-leb n most few) refl
 
 -- the number of a bus is read as the bus
-pub bus_read : (board : Board) (bus : ℕ) → BoardFits board → is_bus board bus ≡ true → bus_in board (decimal bus) ≡ number_so bus
+pub bus_read : (board : Board) (bus : ℕ) → BoardFits board → is_bus board bus ≡ true → bus_in board (decimal bus) ≡ Some bus
 bus_read board bus fits there =
     let below = bus_small board bus fits there in
-    rw (number_read bus (omega arith), le-leb bus 255 (omega arith), there) refl
+    rw (number_is_read bus (omega arith), le-leb bus 255 (omega arith), there) refl
 
 -- the number of a bridge is read as the bridge
-pub bridge_read : (board : Board) (bus : ℕ) → BoardFits board → has_bridge_to board bus ≡ true → bridge_in board (decimal bus) ≡ number_so bus
+pub bridge_read : (board : Board) (bus : ℕ) → BoardFits board → has_bridge_to board bus ≡ true → bridge_in board (decimal bus) ≡ Some bus
 bridge_read board bus fits there =
     let below = lane_small board bus fits there in
-    rw (number_read bus (omega arith), le-leb bus 255 (omega arith), there) refl
+    rw (number_is_read bus (omega arith), le-leb bus 255 (omega arith), there) refl
 
 -- the number of a bus is not the word `end`
 pub bus_no_end : (n : ℕ) → n < 2 ^ 8 → bytes_eq (decimal n) (codes "end") ≡ false
@@ -68,7 +68,7 @@ bus_no_end n below =
     let equal : decimal n ≡ codes "end" = (bytes_eq-Decides (decimal n) (codes "end")).0 same in
     let none : number_of (codes "end") ≡ None = refl in
     let one : number_of (decimal n) ≡ number_of (codes "end") = ap number_of equal in
-    let read = number_read n (omega arith) in
+    let read = number_is_read n (omega arith) in
     absurd (cc))
 
 -- Lanes.
@@ -124,7 +124,7 @@ pub lane_short : (lane : BridgeLane) → lane.bus < 2 ^ 8 → length (lane_word 
 lane_short lane below =
     let sum = length-append (decimal lane.bus) (direction lane.up) in
     let last = direction_length lane.up in
-    let front = number_short lane.bus (omega arith) in
+    let front = number_is_short lane.bus (omega arith) in
     omega (arith, sum, last, front)
 
 -- texts of different lengths differ

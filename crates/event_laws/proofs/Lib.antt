@@ -1,4 +1,3 @@
-pub mod Premises
 pub mod LineLemmas
 pub mod LaneLemmas
 pub mod ResultLemmas

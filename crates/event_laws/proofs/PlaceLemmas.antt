@@ -26,7 +26,8 @@ use Rattle.trace_lines.specs.declared.kind.Kind.TheVariants as kinds
 use Rattle.trace_lines.specs.Words.{header_in, target_in}
 use Rattle.trace_lines.specs.Events.{kind_of, has_words_for, reader_in, done_by}
 use Rattle.event_laws.specs.Fits.{StepFits, PlaceFits}
-use Rattle.event_laws.proofs.Premises.{target_read, target_plain, target_short, target_no_header, number_short}
+use Rattle.name_laws.proofs.NumberLemmas.{number_is_short}
+use Rattle.name_laws.proofs.TargetLemmas.{target_is_read, target_is_word}
 use Rattle.event_laws.proofs.LineLemmas.{bytes_of, kind_so}
 use Rattle.event_laws.proofs.LaneLemmas.{lane_small, bridge_read, lane_read, lane_plain, lane_short, longer_word}
 use Rattle.event_laws.proofs.ResultLemmas.{value_read, outcome_read, outcome_plain, outcome_short, phases_read}
@@ -84,8 +85,8 @@ place_so place = Some place
 
 reader_target : (board : Board) (index : ℕ) → BoardFits board → is_well_formed board ≡ true → index < 2 ^ 16 → index < length board.targets → reader_in board (target_name board index) ≡ place_so (Target index)
 reader_target board index fits formed below there =
-    ap (λ (b : Bool). cond b (option_map Header (header_in board (target_name board index))) (option_map Target (target_in board (target_name board index)))) (target_no_header board index fits formed below there)
-    ∙ ap (option_map Target) (target_read board index fits formed below there)
+    ap (λ (b : Bool). cond b (option_map Header (header_in board (target_name board index))) (option_map Target (target_in board (target_name board index)))) (target_is_word board index fits there).no_header
+    ∙ ap (option_map Target) (target_is_read board index formed below there)
 
 reader_header : (board : Board) (bus : ℕ) → BoardFits board → has_bridge_to board bus ≡ true → reader_in board (61 ∷ decimal bus) ≡ place_so (Header bus)
 reader_header board bus fits there = ap (option_map Header) (bridge_read board bus fits there)
@@ -116,49 +117,54 @@ two_words word next good more = rw (good, more) refl
 -- what a target did is read as that
 target_stands : (board : Board) (step : Step) (index : ℕ) → BoardFits board → is_well_formed board ≡ true → index < 2 ^ 16 → index < length board.targets → StepFits step → is_step_at step (Target index) ≡ true → Stands board step (Target index)
 target_stands board Land index fits formed below there wide at =
-    let short = target_short board index fits formed below there in
+    let name = target_is_word board index fits there in
+    let few = name.short in
     record {
-      read = λ bus kind by op. ap (option_map (λ (t : ℕ). (Land, Target t))) (target_read board index fits formed below there);
+      read = λ bus kind by op. ap (option_map (λ (t : ℕ). (Land, Target t))) (target_is_read board index formed below there);
       many = λ bus kind by op. refl;
-      plain = one_word (target_name board index) (target_plain board index fits formed below there);
-      short = omega (arith, short);
+      plain = one_word (target_name board index) name.word;
+      short = omega (arith, few);
     }
 target_stands board Stall index fits formed below there wide at =
-    let short = target_short board index fits formed below there in
+    let name = target_is_word board index fits there in
+    let few = name.short in
     record {
-      read = λ bus kind by op. ap (option_map (λ (t : ℕ). (Stall, Target t))) (target_read board index fits formed below there);
+      read = λ bus kind by op. ap (option_map (λ (t : ℕ). (Stall, Target t))) (target_is_read board index formed below there);
       many = λ bus kind by op. refl;
-      plain = one_word (target_name board index) (target_plain board index fits formed below there);
-      short = omega (arith, short);
+      plain = one_word (target_name board index) name.word;
+      short = omega (arith, few);
     }
 target_stands board TargetAbort index fits formed below there wide at =
-    let short = target_short board index fits formed below there in
+    let name = target_is_word board index fits there in
+    let few = name.short in
     record {
-      read = λ bus kind by op. ap (option_map (λ (t : ℕ). (TargetAbort, Target t))) (target_read board index fits formed below there);
+      read = λ bus kind by op. ap (option_map (λ (t : ℕ). (TargetAbort, Target t))) (target_is_read board index formed below there);
       many = λ bus kind by op. refl;
-      plain = one_word (target_name board index) (target_plain board index fits formed below there);
-      short = omega (arith, short);
+      plain = one_word (target_name board index) name.word;
+      short = omega (arith, few);
     }
 target_stands board (Part phases) index fits formed below there wide at =
     let bounds = and_parts (leb 1 phases) (leb phases 8) at in
     let some = leb-true _ _ bounds.0 in
-    let few = leb-true _ _ bounds.1 in
-    let short = target_short board index fits formed below there in
-    let digits = number_short phases (omega arith) in
+    let most = leb-true _ _ bounds.1 in
+    let name = target_is_word board index fits there in
+    let few = name.short in
+    let digits = number_is_short phases (omega arith) in
     record {
-      read = λ bus kind by op. both (λ (p t : ℕ). (Part p, Target t)) _ _ phases index (phases_read phases some few) (target_read board index fits formed below there);
+      read = λ bus kind by op. both (λ (p t : ℕ). (Part p, Target t)) _ _ phases index (phases_read phases some most) (target_is_read board index formed below there);
       many = λ bus kind by op. refl;
-      plain = two_words (target_name board index) (decimal phases) (target_plain board index fits formed below there) (decimal_word phases (omega arith));
-      short = omega (arith, short, digits);
+      plain = two_words (target_name board index) (decimal phases) name.word (decimal_word phases (omega arith));
+      short = omega (arith, few, digits);
     }
 target_stands board (Read value) index fits formed below there wide at =
-    let short = target_short board index fits formed below there in
+    let name = target_is_word board index fits there in
+    let few = name.short in
     let digits = word_length value in
     record {
       read = λ bus kind by op. both (λ (v : ℕ) (p : Place). (Read v, p)) _ _ value (Target index) (value_read value wide) (reader_target board index fits formed below there);
       many = λ bus kind by op. refl;
-      plain = two_words (target_name board index) (word_text value) (target_plain board index fits formed below there) (eight_word value);
-      short = omega (arith, short, digits);
+      plain = two_words (target_name board index) (word_text value) name.word (eight_word value);
+      short = omega (arith, few, digits);
     }
 target_stands board step index fits formed below there wide at = absurd (let apart : false ≡ true = at in cc)
 
@@ -166,7 +172,7 @@ target_stands board step index fits formed below there wide at = absurd (let apa
 header_stands : (board : Board) (step : Step) (bus : ℕ) → BoardFits board → has_bridge_to board bus ≡ true → StepFits step → is_step_at step (Header bus) ≡ true → Stands board step (Header bus)
 header_stands board (Read value) bus fits there wide at =
     let below = lane_small board bus fits there in
-    let front = number_short bus (omega arith) in
+    let front = number_is_short bus (omega arith) in
     let digits = word_length value in
     let sign : is_word (61 ∷ decimal bus) ≡ true = longer_word (61 ∷ []) (decimal bus) refl (bytes_of (decimal bus) (decimal_word bus (omega arith))) in
     record {

@@ -18,7 +18,7 @@ use Rattle.trace_text.specs.Words.{outcome_word}
 use Rattle.trace_text.specs.Events.{is_completion}
 use Rattle.trace_lines.specs.Words.{only_where, answered, is_lower_case, value_of, outcome_in, phases_in}
 use Rattle.event_laws.specs.Fits.{OutcomeFits}
-use Rattle.event_laws.proofs.Premises.{number_so, number_read}
+use Rattle.name_laws.proofs.NumberLemmas.{number_is_read}
 use Rattle.event_laws.proofs.LaneLemmas.{lengths_differ}
 
 -- no digit is a letter in upper case
@@ -38,7 +38,7 @@ unfolding word_text
 word_lower n = hex_lower 8 n
 
 -- a value is read as the value
-pub value_read : (n : ℕ) → n < 2 ^ 32 → value_of (word_text n) ≡ number_so n
+pub value_read : (n : ℕ) → n < 2 ^ 32 → value_of (word_text n) ≡ Some n
 value_read n below =
     let shape : (eqb (length (word_text n)) 8 && list_all is_lower_case (word_text n)) ≡ true = rw (word_length n, word_lower n) refl in
     ap (λ (b : Bool). only_where b (answered (hex_answer (word_text n) 8))) shape ∙ ap answered (eight_again n below)
@@ -70,5 +70,5 @@ outcome_short Aborted = omega arith
 outcome_short NobodyClaimed = omega arith
 
 -- a number of data phases is read as the number
-pub phases_read : (n : ℕ) → 1 ≤ n → n ≤ 8 → phases_in (decimal n) ≡ number_so n
-phases_read n some few = rw (number_read n (omega arith), le-leb 1 n some, le-leb n 8 few) refl
+pub phases_read : (n : ℕ) → 1 ≤ n → n ≤ 8 → phases_in (decimal n) ≡ Some n
+phases_read n some few = rw (number_is_read n (omega arith), le-leb 1 n some, le-leb n 8 few) refl
