@@ -1,5 +1,5 @@
 -- The line of a transaction, as it is printed, is read as the transaction.
-use Rattle.std.proofs.Common.{◌≡◌, ℕ, ◌+◌, ◌^◌, ◌<◌, ◌≤◌, true, ◌&&◌, List, ◌∷◌, ◌++◌, Option, Some, refl, ◌∙◌, arith}
+use Rattle.std.proofs.Common.{◌≡◌, ℕ, ◌+◌, ◌^◌, ◌<◌, ◌≤◌, true, ◌&&◌, List, ◌∷◌, ◌++◌, Option, Some, Ok, refl, ◌∙◌, arith}
 use Rattle.std.specs.Prelude.{is_some}
 use Rattle.std.specs.Option.{option_map, option_and_then}
 use Rattle.std.specs.Fmt.{decimal}
@@ -20,13 +20,14 @@ use Rattle.text_laws.specs.Printed.{has_words_alone, joined}
 use Rattle.text_laws.proofs.NumberLemmas.{decimal_word}
 use Rattle.trace_text.specs.Words.{by_word, op_word, place_words}
 use Rattle.trace_text.specs.Events.{step_word, result_words, act_line, has_initiator, has_place, is_step_at, has_line}
+use Rattle.trace_lines.specs.declared.line.TraceLine.TheVariants.{Happens}
 use Rattle.trace_lines.specs.Events.{done_by, act_of, act_in, event_in}
 use Rattle.trace_lines.specs.Words.{bus_in, by_in, op_in}
 use Rattle.trace_lines.specs.Lines.{line_of}
 use Rattle.event_laws.specs.Fits.{StepFits, PlaceFits}
 use Rattle.name_laws.proofs.NumberLemmas.{number_is_short}
 use Rattle.name_laws.proofs.OperationLemmas.{op_is_read, op_is_word, op_is_short}
-use Rattle.event_laws.proofs.LineLemmas.{event_so, happens_so, event_by_kind}
+use Rattle.event_laws.proofs.LineLemmas.{event_by_kind}
 use Rattle.event_laws.proofs.LaneLemmas.{bus_small, bus_read, bus_no_end, by_read, by_plain, by_short}
 use Rattle.event_laws.proofs.PlaceLemmas.{kind_for, kind_told, step_plain, step_short, stands}
 
@@ -63,15 +64,15 @@ act_kind board MasterAbort words = refl
 act_kind board TargetAbort words = refl
 
 -- its words are words
-pub act_plain : (board : Board) (bus : ℕ) (by : By) (op : OpId) (step : Step) (place : Place) → BoardFits board → is_well_formed board ≡ true → op.master < 2 ^ 16 → StepFits step → PlaceFits place → ActParts board bus by op step place → has_words_alone (act_line board bus by op step place) ≡ true
-act_plain board bus by op step place fits formed master wide below parts =
+pub act_plain : (board : Board) (bus : ℕ) (by : By) (op : OpId) (step : Step) (place : Place) → BoardFits board → is_well_formed board ≡ true → StepFits step → PlaceFits place → ActParts board bus by op step place → has_words_alone (act_line board bus by op step place) ≡ true
+act_plain board bus by op step place fits formed wide below parts =
     let stand = stands board step place fits formed parts.claimed wide below parts.at in
     let few = bus_small board bus fits parts.on in
     rw (decimal_word bus (omega arith), step_plain step, by_plain board by fits parts.from, op_is_word board op fits formed parts.named) stand.plain
 
 -- and few enough
-act_short : (board : Board) (bus : ℕ) (by : By) (op : OpId) (step : Step) (place : Place) → BoardFits board → is_well_formed board ≡ true → op.master < 2 ^ 16 → StepFits step → PlaceFits place → ActParts board bus by op step place → width (act_line board bus by op step place) ≤ 257
-act_short board bus by op step place fits formed master wide below parts =
+act_short : (board : Board) (bus : ℕ) (by : By) (op : OpId) (step : Step) (place : Place) → BoardFits board → is_well_formed board ≡ true → StepFits step → PlaceFits place → ActParts board bus by op step place → width (act_line board bus by op step place) ≤ 257
+act_short board bus by op step place fits formed wide below parts =
     let stand = stands board step place fits formed parts.claimed wide below parts.at in
     let few = bus_small board bus fits parts.on in
     let one = number_is_short bus (omega arith) in
@@ -82,18 +83,18 @@ act_short board bus by op step place fits formed master wide below parts =
     omega (arith, one, two, three, four, five)
 
 -- the line is read as the transaction
-pub act_read : (board : Board) (bus : ℕ) (by : By) (op : OpId) (step : Step) (place : Place) → BoardFits board → is_well_formed board ≡ true → op.master < 2 ^ 16 → StepFits step → PlaceFits place → ActParts board bus by op step place → line_of board (joined (act_line board bus by op step place)) ≡ happens_so (Act bus by op step place)
+pub act_read : (board : Board) (bus : ℕ) (by : By) (op : OpId) (step : Step) (place : Place) → BoardFits board → is_well_formed board ≡ true → op.master < 2 ^ 16 → StepFits step → PlaceFits place → ActParts board bus by op step place → line_of board (joined (act_line board bus by op step place)) ≡ Ok (Happens (Act bus by op step place))
 act_read board bus by op step place fits formed master wide below parts =
     let stand = stands board step place fits formed parts.claimed wide below parts.at in
     let few = bus_small board bus fits parts.on in
     let rest : List (List ℕ) = by_word by ∷ op_word board op ∷ (place_words board place ++ result_words step) in
     let words : List (List ℕ) = decimal bus ∷ step_word step ∷ rest in
-    let whole : act_in board (kind_for step) words ≡ event_so (Act bus by op step place) =
+    let whole : act_in board (kind_for step) words ≡ Some (Act bus by op step place) =
     four_parts (λ (b : ℕ) (y : By) (o : OpId) (d : Step × Place). act_of b y o d) (bus_in board (decimal bus)) (by_in board (by_word by)) (op_in board (op_word board op)) (done_by board (kind_for step) words) bus by op (step, place)
     (bus_read board bus fits parts.on) (by_read board by fits parts.from) (op_is_read board op fits formed master parts.named) (stand.read (decimal bus) (step_word step) (by_word by) (op_word board op)) in
     event_by_kind board (decimal bus) (step_word step) rest (kind_for step) (Act bus by op step place)
-    (act_plain board bus by op step place fits formed master wide below parts)
-    (act_short board bus by op step place fits formed master wide below parts)
+    (act_plain board bus by op step place fits formed wide below parts)
+    (act_short board bus by op step place fits formed wide below parts)
     (bus_no_end bus few) (kind_told step)
     (stand.many (decimal bus) (step_word step) (by_word by) (op_word board op))
     (act_kind board step words ∙ whole)

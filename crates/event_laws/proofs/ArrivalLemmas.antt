@@ -1,5 +1,5 @@
 -- The line of an arrival, as it is printed, is read as the arrival.
-use Rattle.std.proofs.Common.{◌≡◌, ℕ, ◌≤◌, Bool, true, false, cond, not, eqb, ◌||◌, List, [], ◌∷◌, Option, Some, refl, arith}
+use Rattle.std.proofs.Common.{◌≡◌, ℕ, ◌≤◌, Bool, true, false, cond, not, eqb, ◌||◌, List, [], ◌∷◌, Option, Some, Ok, refl, arith}
 use Rattle.std.specs.Prelude.{codes, slice_get}
 use Rattle.std.specs.List.{list_all, list_any, find}
 use Rattle.std.specs.Option.{option_and_then}
@@ -24,10 +24,11 @@ use Rattle.trace_text.specs.Words.{lane_word}
 use Rattle.trace_text.specs.Events.{mark_words, arrival_line}
 use Rattle.trace_lines.specs.declared.kind.Kind.TheVariants as kinds
 use Rattle.trace_lines.specs.Words.{only_where, bus_in, lane_in}
+use Rattle.trace_lines.specs.declared.line.TraceLine.TheVariants.{Happens}
 use Rattle.trace_lines.specs.Events.{mark_at_end, has_words_for, arrival_in}
 use Rattle.trace_lines.specs.Lines.{line_of}
 use Rattle.name_laws.proofs.NumberLemmas.{number_is_short}
-use Rattle.event_laws.proofs.LineLemmas.{event_so, happens_so, event_by_kind}
+use Rattle.event_laws.proofs.LineLemmas.{event_by_kind}
 use Rattle.event_laws.proofs.LaneLemmas.{lane_small, bus_small, bus_read, bus_no_end, lane_read, lane_plain, lane_short}
 
 -- the bus above each bridge is one of the board
@@ -59,12 +60,9 @@ end_by board number false all there = or_right (eqb number 0) (has_bridge_to boa
 pub end_is_bus : (board : Board) (lane : BridgeLane) → lacks_a_bus board ≡ false → has_bridge_to board lane.bus ≡ true → is_bus board (end_of board lane) ≡ true
 end_is_bus board lane all there = end_by board lane.bus lane.up all there
 
-abbrev mark_so : Mark → Option Mark
-mark_so mark = Some mark
-
 -- what is known of the words of a mark
 pub record MarkStands (mark : Mark) : Type 0 where
-  pub read : (bus kind lane : List ℕ) → mark_at_end (slice_get (bus ∷ kind ∷ lane ∷ mark_words mark) 3) ≡ mark_so mark
+  pub read : (bus kind lane : List ℕ) → mark_at_end (slice_get (bus ∷ kind ∷ lane ∷ mark_words mark) 3) ≡ Some mark
   pub many : (bus kind lane : List ℕ) → has_words_for kinds.Arrive (bus ∷ kind ∷ lane ∷ mark_words mark) ≡ true
   pub plain : list_all is_word (mark_words mark) ≡ true
   pub short : width (mark_words mark) ≤ 8
@@ -96,14 +94,14 @@ arrival_short board lane mark fits all there =
     omega (arith, one, two, three)
 
 -- the line is read as the arrival
-pub arrival_read : (board : Board) (lane : BridgeLane) (mark : Mark) → BoardFits board → lacks_a_bus board ≡ false → has_bridge_to board lane.bus ≡ true → line_of board (joined (arrival_line board lane mark)) ≡ happens_so (Arrive lane mark)
+pub arrival_read : (board : Board) (lane : BridgeLane) (mark : Mark) → BoardFits board → lacks_a_bus board ≡ false → has_bridge_to board lane.bus ≡ true → line_of board (joined (arrival_line board lane mark)) ≡ Ok (Happens (Arrive lane mark))
 arrival_read board lane mark fits all there =
     let stand = mark_stands mark in
     let bus = end_of board lane in
     let is = end_is_bus board lane all there in
     let rest : List (List ℕ) = lane_word lane ∷ mark_words mark in
     let words : List (List ℕ) = decimal bus ∷ codes "arrive" ∷ rest in
-    let whole : arrival_in board words ≡ event_so (Arrive lane mark) =
+    let whole : arrival_in board words ≡ Some (Arrive lane mark) =
     three_parts (λ (b : ℕ) (l : BridgeLane). eqb (end_of board l) b) (λ (l : BridgeLane) (m : Mark). Arrive l m) (bus_in board (decimal bus)) (lane_in board (lane_word lane)) (mark_at_end (slice_get words 3)) bus lane mark
     (bus_read board bus fits is) (lane_read board lane fits there) (stand.read (decimal bus) (codes "arrive") (lane_word lane)) (eq-eqb bus bus refl) in
     event_by_kind board (decimal bus) (codes "arrive") rest kinds.Arrive (Arrive lane mark)

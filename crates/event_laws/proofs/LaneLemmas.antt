@@ -1,5 +1,5 @@
 -- Buses, bridges, lanes and initiators, as they are printed, are read as the same.
-use Rattle.std.proofs.Common.{◌≡◌, ℕ, ◌+◌, ◌-◌, ◌^◌, ◌<◌, ◌≤◌, Bool, true, false, cond, ltb, List, [], ◌∷◌, ◌++◌, length, Option, Some, None, inl, inr, refl, ap, ◌∙◌, arith}
+use Rattle.std.proofs.Common.{◌≡◌, ℕ, ◌+◌, ◌-◌, ◌^◌, ◌<◌, ◌≤◌, Bool, true, false, cond, ltb, List, [], ◌∷◌, ◌++◌, length, Some, None, inl, inr, refl, ap, ◌∙◌, arith}
 use Rattle.std.specs.Prelude.{codes}
 use Rattle.std.specs.List.{list_all, list_any, AllByRecursion}
 use Rattle.std.specs.Str.{bytes_eq}
@@ -83,20 +83,17 @@ front_is word byte =
     let sum = length-append word (byte ∷ []) in
     take_at word (byte ∷ []) _ (omega (arith, sum))
 
-abbrev pub lane_so : BridgeLane → Option BridgeLane
-lane_so lane = Some lane
-
 abbrev direction : Bool → List ℕ
 direction up = cond up (codes "u") (codes "d")
 
-direction_read : (board : Board) (number : ℕ) (up : Bool) → BoardFits board → has_bridge_to board number ≡ true → lane_in board (decimal number ++ direction up) ≡ lane_so (towards up number)
+direction_read : (board : Board) (number : ℕ) (up : Bool) → BoardFits board → has_bridge_to board number ≡ true → lane_in board (decimal number ++ direction up) ≡ Some (towards up number)
 direction_read board number true fits there =
     rw (last_is (decimal number) 117, front_is (decimal number) 117) (ap (option_map (towards true)) (bridge_read board number fits there))
 direction_read board number false fits there =
     rw (last_is (decimal number) 100, front_is (decimal number) 100) (ap (option_map (towards false)) (bridge_read board number fits there))
 
 -- a lane is read as the lane
-pub lane_read : (board : Board) (lane : BridgeLane) → BoardFits board → has_bridge_to board lane.bus ≡ true → lane_in board (lane_word lane) ≡ lane_so lane
+pub lane_read : (board : Board) (lane : BridgeLane) → BoardFits board → has_bridge_to board lane.bus ≡ true → lane_in board (lane_word lane) ≡ Some lane
 lane_read board lane fits there = direction_read board lane.bus lane.up fits there
 
 -- more bytes of words behind a word
@@ -136,9 +133,6 @@ word_long word good = ltb-true _ _ (and_parts (ltb 0 (length word)) (list_all is
 
 -- Initiators.
 
-abbrev pub by_so : By → Option By
-by_so by = Some by
-
 -- a lane is not the word `m`
 lane_no_master : (lane : BridgeLane) → lane.bus < 2 ^ 8 → bytes_eq (lane_word lane) (codes "m") ≡ false
 lane_no_master lane below =
@@ -148,7 +142,7 @@ lane_no_master lane below =
     lengths_differ (lane_word lane) (codes "m") (λ same. omega (arith, sum, last, front, same))
 
 -- an initiator is read as the initiator
-pub by_read : (board : Board) (by : By) → BoardFits board → has_initiator board by ≡ true → by_in board (by_word by) ≡ by_so by
+pub by_read : (board : Board) (by : By) → BoardFits board → has_initiator board by ≡ true → by_in board (by_word by) ≡ Some by
 by_read board Master fits there = refl
 by_read board (FromLane lane) fits there =
     let below = lane_small board lane.bus fits there in

@@ -1,5 +1,5 @@
 -- A line of words, as it is printed, is cut into these words, and read by its kind.
-use Rattle.std.proofs.Common.{◌≡◌, ℕ, ◌+◌, ◌≤◌, Bool, true, false, cond, ltb, eqb, List, [], ◌∷◌, ◌++◌, length, Option, Some, Result, Ok, refl, ap, ◌∙◌, arith}
+use Rattle.std.proofs.Common.{◌≡◌, ℕ, ◌+◌, ◌≤◌, Bool, true, false, cond, ltb, eqb, List, [], ◌∷◌, ◌++◌, length, Some, Ok, refl, ap, ◌∙◌, arith}
 use Rattle.std.specs.Prelude.{codes}
 use Rattle.std.specs.List.{list_all, slice_split}
 use Rattle.std.specs.Str.{bytes_eq}
@@ -14,9 +14,7 @@ use Rattle.board_printer.specs.Lines.{Line, spaced}
 use Rattle.text_laws.specs.Printed.{is_word_byte, is_word, has_words_alone, joined}
 use Rattle.line_laws.proofs.AllowedTexts.{width}
 use Rattle.trace_lines.specs.declared.kind.Kind.{Kind}
-use Rattle.trace_lines.specs.declared.line.TraceLine.{TraceLine}
 use Rattle.trace_lines.specs.declared.line.TraceLine.TheVariants.{Happens}
-use Rattle.trace_lines.specs.declared.line.LineFault.{LineFault}
 use Rattle.trace_lines.specs.Events.{kind_of, has_words_for, event_in}
 use Rattle.trace_lines.specs.Lines.{is_space, second_word, kind_by, is_printing, is_regular, happens, end_line, event_line_by, pieces_line, line_of}
 
@@ -109,23 +107,14 @@ words_regular (word ∷ words) good =
     let parts = and_parts (is_word word) (has_words_alone words) good in
     rw (word_some word parts.0) (words_regular words parts.1)
 
-abbrev pub kind_so : Kind → Option Kind
-kind_so kind = Some kind
-
-abbrev pub event_so : Event → Option Event
-event_so event = Some event
-
-abbrev pub happens_so : Event → Result TraceLine LineFault
-happens_so event = Ok (Happens event)
-
 -- the words of a line of a kind are read as the event of that kind
-pub event_by_kind : (board : Board) (bus word : List ℕ) (rest : Line) (kind : Kind) (event : Event) → has_words_alone (bus ∷ word ∷ rest) ≡ true → width (bus ∷ word ∷ rest) ≤ 257 → bytes_eq bus (codes "end") ≡ false → kind_of word ≡ kind_so kind → has_words_for kind (bus ∷ word ∷ rest) ≡ true → event_in board kind (bus ∷ word ∷ rest) ≡ event_so event → line_of board (joined (bus ∷ word ∷ rest)) ≡ happens_so event
+pub event_by_kind : (board : Board) (bus word : List ℕ) (rest : Line) (kind : Kind) (event : Event) → has_words_alone (bus ∷ word ∷ rest) ≡ true → width (bus ∷ word ∷ rest) ≤ 257 → bytes_eq bus (codes "end") ≡ false → kind_of word ≡ Some kind → has_words_for kind (bus ∷ word ∷ rest) ≡ true → event_in board kind (bus ∷ word ∷ rest) ≡ Some event → line_of board (joined (bus ∷ word ∷ rest)) ≡ Ok (Happens event)
 event_by_kind board bus word rest kind event good few no_end told many read =
     let words : Line = bus ∷ word ∷ rest in
     let parts = and_parts (is_word bus) (has_words_alone (word ∷ rest)) good in
     let next = and_parts (is_word word) (has_words_alone rest) parts.1 in
     let second : second_word words ≡ Some word = rw (word_some bus parts.0, word_some word next.0) refl in
-    let kind_told : kind_by (second_word words) ≡ kind_so kind = ap kind_by second ∙ told in
+    let kind_told : kind_by (second_word words) ≡ Some kind = ap kind_by second ∙ told in
     let regular : is_regular words ≡ true = words_regular words good in
     let one : pieces_line board words ≡ event_line_by board words (kind_by (second_word words)) = ap (λ (b : Bool). cond b (end_line words) (event_line_by board words (kind_by (second_word words)))) no_end in
     let two : event_line_by board words (kind_by (second_word words)) ≡ event_line_by board words (Some kind) = ap (event_line_by board words) kind_told in

@@ -28,7 +28,7 @@ use Rattle.trace_lines.specs.Events.{kind_of, has_words_for, reader_in, done_by}
 use Rattle.event_laws.specs.Fits.{StepFits, PlaceFits}
 use Rattle.name_laws.proofs.NumberLemmas.{number_is_short}
 use Rattle.name_laws.proofs.TargetLemmas.{target_is_read, target_is_word}
-use Rattle.event_laws.proofs.LineLemmas.{bytes_of, kind_so}
+use Rattle.event_laws.proofs.LineLemmas.{bytes_of}
 use Rattle.event_laws.proofs.LaneLemmas.{lane_small, bridge_read, lane_read, lane_plain, lane_short, longer_word}
 use Rattle.event_laws.proofs.ResultLemmas.{value_read, outcome_read, outcome_plain, outcome_short, phases_read}
 
@@ -45,7 +45,7 @@ kind_for MasterAbort = kinds.Nobody
 kind_for TargetAbort = kinds.Abort
 
 -- the word of a step tells its kind
-pub kind_told : (step : Step) → kind_of (step_word step) ≡ kind_so (kind_for step)
+pub kind_told : (step : Step) → kind_of (step_word step) ≡ Some (kind_for step)
 kind_told Land = refl
 kind_told (Part phases) = refl
 kind_told (Read value) = refl
@@ -80,24 +80,18 @@ step_short TargetAbort = omega arith
 
 -- Readers: a target by its name, or the header of a bridge.
 
-abbrev place_so : Place → Option Place
-place_so place = Some place
-
-reader_target : (board : Board) (index : ℕ) → BoardFits board → is_well_formed board ≡ true → index < 2 ^ 16 → index < length board.targets → reader_in board (target_name board index) ≡ place_so (Target index)
+reader_target : (board : Board) (index : ℕ) → BoardFits board → is_well_formed board ≡ true → index < 2 ^ 16 → index < length board.targets → reader_in board (target_name board index) ≡ Some (Target index)
 reader_target board index fits formed below there =
     ap (λ (b : Bool). cond b (option_map Header (header_in board (target_name board index))) (option_map Target (target_in board (target_name board index)))) (target_is_word board index fits there).no_header
     ∙ ap (option_map Target) (target_is_read board index formed below there)
 
-reader_header : (board : Board) (bus : ℕ) → BoardFits board → has_bridge_to board bus ≡ true → reader_in board (61 ∷ decimal bus) ≡ place_so (Header bus)
+reader_header : (board : Board) (bus : ℕ) → BoardFits board → has_bridge_to board bus ≡ true → reader_in board (61 ∷ decimal bus) ≡ Some (Header bus)
 reader_header board bus fits there = ap (option_map Header) (bridge_read board bus fits there)
 
 -- What stands behind the operation of a line.
 
-abbrev pub done_so : Step → Place → Option (Step × Place)
-done_so step place = Some (step, place)
-
 pub record Stands (board : Board) (step : Step) (place : Place) : Type 0 where
-  pub read : (bus kind by op : List ℕ) → done_by board (kind_for step) (bus ∷ kind ∷ by ∷ op ∷ (place_words board place ++ result_words step)) ≡ done_so step place
+  pub read : (bus kind by op : List ℕ) → done_by board (kind_for step) (bus ∷ kind ∷ by ∷ op ∷ (place_words board place ++ result_words step)) ≡ Some (step, place)
   pub many : (bus kind by op : List ℕ) → has_words_for (kind_for step) (bus ∷ kind ∷ by ∷ op ∷ (place_words board place ++ result_words step)) ≡ true
   pub plain : list_all is_word (place_words board place ++ result_words step) ≡ true
   pub short : width (place_words board place ++ result_words step) ≤ 28

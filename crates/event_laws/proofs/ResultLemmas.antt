@@ -1,5 +1,5 @@
 -- Values, outcomes and numbers of data phases, as they are printed, are read as the same.
-use Rattle.std.proofs.Common.{◌≡◌, ℕ, zero, suc, ◌/◌, ◌%◌, ◌^◌, ◌<◌, ◌≤◌, Bool, true, false, eqb, ◌&&◌, [], ◌∷◌, length, Option, Some, refl, ap, ◌∙◌, arith}
+use Rattle.std.proofs.Common.{◌≡◌, ℕ, zero, suc, ◌/◌, ◌%◌, ◌^◌, ◌<◌, ◌≤◌, Bool, true, false, eqb, ◌&&◌, [], ◌∷◌, length, Some, refl, ap, ◌∙◌, arith}
 use Rattle.std.specs.Prelude.{codes}
 use Rattle.std.specs.List.{list_all}
 use Rattle.std.specs.Option.{option_map}
@@ -43,11 +43,8 @@ value_read n below =
     let shape : (eqb (length (word_text n)) 8 && list_all is_lower_case (word_text n)) ≡ true = rw (word_length n, word_lower n) refl in
     ap (λ (b : Bool). only_where b (answered (hex_answer (word_text n) 8))) shape ∙ ap answered (eight_again n below)
 
-abbrev pub outcome_so : Outcome → Option Outcome
-outcome_so outcome = Some outcome
-
 -- an outcome of a completion is read as the outcome
-pub outcome_read : (outcome : Outcome) → OutcomeFits outcome → is_completion outcome ≡ true → outcome_in (outcome_word outcome) ≡ outcome_so outcome
+pub outcome_read : (outcome : Outcome) → OutcomeFits outcome → is_completion outcome ≡ true → outcome_in (outcome_word outcome) ≡ Some outcome
 outcome_read (Value value) fits done =
     let size = word_length value in
     let no_write = lengths_differ (word_text value) (codes "ok") (λ same. omega (arith, size, same)) in
