@@ -1,0 +1,5 @@
+pub mod ToldLemmas
+pub mod SaidLemmas
+pub mod TurnLemmas
+pub mod BusLemmas
+pub mod LineLemmas
