@@ -1,5 +1,5 @@
 -- The line of a transaction, as it is printed, is read as the transaction.
-use Rattle.std.proofs.Common.{◌≡◌, ℕ, ◌+◌, ◌^◌, ◌<◌, ◌≤◌, true, ◌&&◌, List, ◌∷◌, ◌++◌, Option, Some, Ok, refl, ◌∙◌, arith}
+use Rattle.std.proofs.Common.{◌≡◌, ℕ, ◌^◌, ◌<◌, ◌≤◌, true, ◌&&◌, List, ◌∷◌, ◌++◌, Option, Some, Ok, refl, ◌∙◌, arith}
 use Rattle.std.specs.Prelude.{is_some}
 use Rattle.std.specs.Option.{option_map, option_and_then}
 use Rattle.std.specs.Fmt.{decimal}
@@ -39,6 +39,7 @@ pub record ActParts (board : Board) (bus : ℕ) (by : By) (op : OpId) (step : St
   pub claimed : has_place board place ≡ true
   pub at : is_step_at step place ≡ true
 
+-- a transaction that has a line has these parts
 pub act_parts : (board : Board) (bus : ℕ) (by : By) (op : OpId) (step : Step) (place : Place) → has_line board (Act bus by op step place) ≡ true → ActParts board bus by op step place
 act_parts board bus by op step place has =
     let one = and_parts (is_bus board bus) (has_initiator board by && (is_some (op_of board op) && (has_place board place && is_step_at step place))) has in

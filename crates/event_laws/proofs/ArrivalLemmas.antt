@@ -40,10 +40,12 @@ above_is_bus test pick (bridge ∷ bridges) root all =
     let P : Bool → Type 0 = λ b. test (primary_in (cond b (Some bridge) (find pick bridges))) ≡ true in
     elim (pick bridge) as P [ true ↦ not-false _ parts.0 | false ↦ later ]
 
+-- where none of five holds, the first does not
 first_of_five : (a b c d e : Bool) → (a || b || c || d || e) ≡ false → a ≡ false
 first_of_five true b c d e none = absurd (let apart : true ≡ false = none in cc)
 first_of_five false b c d e none = refl
 
+-- no bridge of the board is below a bus that is not there
 parents_are_buses : (board : Board) → lacks_a_bus board ≡ false → list_any (λ (bridge : Bridge). not (is_bus board bridge.parent)) board.bridges ≡ false
 parents_are_buses board all =
     first_of_five (list_any (λ (bridge : Bridge). not (is_bus board bridge.parent)) board.bridges)
@@ -52,6 +54,7 @@ parents_are_buses board all =
     (list_any (λ (planned : Planned). not (has_bridge_to board planned.bus)) board.discards)
     (list_any (λ (planned : Planned). not (has_bridge_to board planned.bus)) board.drops) all
 
+-- the bus at an end, by the direction
 end_by : (board : Board) (number : ℕ) (up : Bool) → lacks_a_bus board ≡ false → has_bridge_to board number ≡ true → is_bus board (cond up (primary_of board number) number) ≡ true
 end_by board number true all there = above_is_bus (is_bus board) (λ bridge. eqb bridge.bus number) board.bridges refl (parents_are_buses board all)
 end_by board number false all there = or_right (eqb number 0) (has_bridge_to board number) there
@@ -67,6 +70,7 @@ pub record MarkStands (mark : Mark) : Type 0 where
   pub plain : list_all is_word (mark_words mark) ≡ true
   pub short : width (mark_words mark) ≤ 8
 
+-- so stand the words of each mark
 mark_stands : (mark : Mark) → MarkStands mark
 mark_stands Plain = record { read = λ bus kind lane. refl; many = λ bus kind lane. refl; plain = refl; short = omega arith }
 mark_stands Discard = record { read = λ bus kind lane. refl; many = λ bus kind lane. refl; plain = refl; short = omega arith }

@@ -1,5 +1,5 @@
 -- Buses, bridges, lanes and initiators, as they are printed, are read as the same.
-use Rattle.std.proofs.Common.{◌≡◌, ℕ, ◌+◌, ◌-◌, ◌^◌, ◌<◌, ◌≤◌, Bool, true, false, cond, ltb, List, [], ◌∷◌, ◌++◌, length, Some, None, inl, inr, refl, ap, ◌∙◌, arith}
+use Rattle.std.proofs.Common.{◌≡◌, ℕ, ◌^◌, ◌<◌, ◌≤◌, Bool, true, false, cond, ltb, List, [], ◌∷◌, ◌++◌, length, Some, None, inl, inr, refl, ap, ◌∙◌, arith}
 use Rattle.std.specs.Prelude.{codes}
 use Rattle.std.specs.List.{list_all, list_any, AllByRecursion}
 use Rattle.std.specs.Str.{bytes_eq}
@@ -34,10 +34,11 @@ bridge_small bus (bridge ∷ bridges) fits there =
       | inr later ↦ bridge_small bus bridges fits.1 later
     ]
 
+-- so does that of a lane of the board
 pub lane_small : (board : Board) (bus : ℕ) → BoardFits board → has_bridge_to board bus ≡ true → bus < 2 ^ 8
 lane_small board bus fits there = bridge_small bus board.bridges fits.bridges there
 
--- so does that of a bus
+-- so does that of any bus of the board
 pub bus_small : (board : Board) (bus : ℕ) → BoardFits board → is_bus board bus ≡ true → bus < 2 ^ 8
 bus_small board bus fits there =
     elim (or_cases _ (has_bridge_to board bus) there) [
@@ -73,19 +74,23 @@ bus_no_end n below =
 
 -- Lanes.
 
+-- the last byte behind a word
 last_is : (word : List ℕ) (byte : ℕ) → last_byte (word ++ byte ∷ []) ≡ byte
 last_is word byte =
     let sum = length-append word (byte ∷ []) in
     get_or_at word byte [] 0 _ (omega (arith, sum))
 
+-- the word before a last byte
 front_is : (word : List ℕ) (byte : ℕ) → without_last (word ++ byte ∷ []) ≡ word
 front_is word byte =
     let sum = length-append word (byte ∷ []) in
     take_at word (byte ∷ []) _ (omega (arith, sum))
 
+-- `u` for up or `d` for down
 abbrev direction : Bool → List ℕ
 direction up = cond up (codes "u") (codes "d")
 
+-- a number and a direction are read as the lane
 direction_read : (board : Board) (number : ℕ) (up : Bool) → BoardFits board → has_bridge_to board number ≡ true → lane_in board (decimal number ++ direction up) ≡ Some (towards up number)
 direction_read board number true fits there =
     rw (last_is (decimal number) 117, front_is (decimal number) 117) (ap (option_map (towards true)) (bridge_read board number fits there))
@@ -105,6 +110,7 @@ longer_word word more good rest =
     let long : ltb 0 (length (word ++ more)) ≡ true = lt-ltb _ _ (omega (arith, some, sum)) in
     rw long (list_all-append is_word_byte word more ∙ rw (parts.1, rest) refl)
 
+-- a direction is of bytes of words
 direction_plain : (up : Bool) → list_all is_word_byte (direction up) ≡ true
 direction_plain true = refl
 direction_plain false = refl
@@ -113,10 +119,12 @@ direction_plain false = refl
 pub lane_plain : (lane : BridgeLane) → lane.bus < 2 ^ 8 → is_word (lane_word lane) ≡ true
 lane_plain lane below = longer_word (decimal lane.bus) (direction lane.up) (decimal_word lane.bus (omega arith)) (direction_plain lane.up)
 
+-- a direction is one byte
 direction_length : (up : Bool) → length (direction up) ≡ 1
 direction_length true = refl
 direction_length false = refl
 
+-- of so few bytes
 pub lane_short : (lane : BridgeLane) → lane.bus < 2 ^ 8 → length (lane_word lane) ≤ 11
 lane_short lane below =
     let sum = length-append (decimal lane.bus) (direction lane.up) in
@@ -128,6 +136,7 @@ lane_short lane below =
 pub lengths_differ : (xs ys : List ℕ) → (length xs ≡ length ys → ⊥) → bytes_eq xs ys ≡ false
 lengths_differ xs ys differ = false_from_ne_true _ (λ same. differ (ap length ((bytes_eq-Decides xs ys).0 same)))
 
+-- a word has a byte
 word_long : (word : List ℕ) → is_word word ≡ true → 0 < length word
 word_long word good = ltb-true _ _ (and_parts (ltb 0 (length word)) (list_all is_word_byte word) good).0
 
@@ -148,10 +157,12 @@ by_read board (FromLane lane) fits there =
     let below = lane_small board lane.bus fits there in
     rw (lane_no_master lane below) (ap (option_map FromLane) (lane_read board lane fits there))
 
+-- it is a word
 pub by_plain : (board : Board) (by : By) → BoardFits board → has_initiator board by ≡ true → is_word (by_word by) ≡ true
 by_plain board Master fits there = refl
 by_plain board (FromLane lane) fits there = lane_plain lane (lane_small board lane.bus fits there)
 
+-- of so few bytes
 pub by_short : (board : Board) (by : By) → BoardFits board → has_initiator board by ≡ true → length (by_word by) ≤ 11
 by_short board Master fits there = omega arith
 by_short board (FromLane lane) fits there = lane_short lane (lane_small board lane.bus fits there)

@@ -5,3 +5,4 @@ pub mod PlaceLemmas
 pub mod ActLemmas
 pub mod ArrivalLemmas
 pub mod EndLemmas
+pub mod EventLemmas

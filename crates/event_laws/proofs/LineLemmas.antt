@@ -1,5 +1,5 @@
 -- A line of words, as it is printed, is cut into these words, and read by its kind.
-use Rattle.std.proofs.Common.{◌≡◌, ℕ, ◌+◌, ◌≤◌, Bool, true, false, cond, ltb, eqb, List, [], ◌∷◌, ◌++◌, length, Some, Ok, refl, ap, ◌∙◌, arith}
+use Rattle.std.proofs.Common.{◌≡◌, ℕ, ◌≤◌, Bool, true, false, cond, ltb, eqb, List, [], ◌∷◌, ◌++◌, length, Some, Ok, refl, ap, ◌∙◌, arith}
 use Rattle.std.specs.Prelude.{codes}
 use Rattle.std.specs.List.{list_all, slice_split}
 use Rattle.std.specs.Str.{bytes_eq}
@@ -57,12 +57,14 @@ split_words word (next ∷ words) good more =
 byte_printing : (byte : ℕ) → is_word_byte byte ≡ true → is_printing byte ≡ true
 byte_printing byte word = grind (arith, nat_tests)
 
+-- the bytes of a word are printing
 word_printing : (word : List ℕ) → list_all is_word_byte word ≡ true → list_all is_printing word ≡ true
 word_printing [] good = refl
 word_printing (byte ∷ bytes) good =
     let parts = and_parts (is_word_byte byte) (list_all is_word_byte bytes) good in
     rw (byte_printing byte parts.0) (word_printing bytes parts.1)
 
+-- so are those of words with spaces before them
 spaced_printing : (words : Line) → has_words_alone words ≡ true → list_all is_printing (spaced words []) ≡ true
 spaced_printing [] good = refl
 spaced_printing (word ∷ words) good =
@@ -72,6 +74,7 @@ spaced_printing (word ∷ words) good =
     let later = spaced_printing words parts.1 in
     cc
 
+-- they are as many as the words have, and one for each
 length-spaced : (words : Line) → length (spaced words []) ≡ width words
 length-spaced [] = refl
 length-spaced (word ∷ words) =

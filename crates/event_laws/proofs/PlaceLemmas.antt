@@ -1,5 +1,5 @@
 -- Who claimed and what happened, as they are printed, are read as the same.
-use Rattle.std.proofs.Common.{◌≡◌, ℕ, ◌+◌, ◌^◌, ◌<◌, ◌≤◌, Bool, true, false, cond, leb, List, [], ◌∷◌, ◌++◌, length, Option, Some, refl, ap, ◌∙◌, arith}
+use Rattle.std.proofs.Common.{◌≡◌, ℕ, ◌^◌, ◌<◌, ◌≤◌, Bool, true, false, cond, leb, List, [], ◌∷◌, ◌++◌, length, Option, Some, refl, ap, ◌∙◌, arith}
 use Rattle.std.specs.List.{list_all}
 use Rattle.std.specs.Option.{option_map, option_and_then}
 use Rattle.std.specs.Fmt.{decimal}
@@ -56,6 +56,7 @@ kind_told Stall = refl
 kind_told MasterAbort = refl
 kind_told TargetAbort = refl
 
+-- the word of a step is a word
 pub step_plain : (step : Step) → is_word (step_word step) ≡ true
 step_plain Land = refl
 step_plain (Part phases) = refl
@@ -67,6 +68,7 @@ step_plain Stall = refl
 step_plain MasterAbort = refl
 step_plain TargetAbort = refl
 
+-- of so few bytes
 pub step_short : (step : Step) → length (step_word step) ≤ 6
 step_short Land = omega arith
 step_short (Part phases) = omega arith
@@ -80,16 +82,19 @@ step_short TargetAbort = omega arith
 
 -- Readers: a target by its name, or the header of a bridge.
 
+-- the name of a target is read as a reader
 reader_target : (board : Board) (index : ℕ) → BoardFits board → is_well_formed board ≡ true → index < 2 ^ 16 → index < length board.targets → reader_in board (target_name board index) ≡ Some (Target index)
 reader_target board index fits formed below there =
     ap (λ (b : Bool). cond b (option_map Header (header_in board (target_name board index))) (option_map Target (target_in board (target_name board index)))) (target_is_word board index fits there).no_header
     ∙ ap (option_map Target) (target_is_read board index formed below there)
 
+-- so is the word of a header
 reader_header : (board : Board) (bus : ℕ) → BoardFits board → has_bridge_to board bus ≡ true → reader_in board (61 ∷ decimal bus) ≡ Some (Header bus)
 reader_header board bus fits there = ap (option_map Header) (bridge_read board bus fits there)
 
 -- What stands behind the operation of a line.
 
+-- the words behind the operation are read as what happened and who claimed it, are as many as they have to be, and are words of so few bytes
 pub record Stands (board : Board) (step : Step) (place : Place) : Type 0 where
   pub read : (bus kind by op : List ℕ) → done_by board (kind_for step) (bus ∷ kind ∷ by ∷ op ∷ (place_words board place ++ result_words step)) ≡ Some (step, place)
   pub many : (bus kind by op : List ℕ) → has_words_for (kind_for step) (bus ∷ kind ∷ by ∷ op ∷ (place_words board place ++ result_words step)) ≡ true
@@ -214,6 +219,7 @@ nobody_stands : (board : Board) (step : Step) → is_step_at step Nobody ≡ tru
 nobody_stands board MasterAbort at = record { read = λ bus kind by op. refl; many = λ bus kind by op. refl; plain = refl; short = omega arith }
 nobody_stands board step at = absurd (let apart : false ≡ true = at in cc)
 
+-- what happened at any place is read as that
 pub stands : (board : Board) (step : Step) (place : Place) → BoardFits board → is_well_formed board ≡ true → has_place board place ≡ true → StepFits step → PlaceFits place → is_step_at step place ≡ true → Stands board step place
 stands board step (Target index) fits formed there wide below at = target_stands board step index fits formed below (ltb-true _ _ there) wide at
 stands board step (Header bus) fits formed there wide below at = header_stands board step bus fits there wide at

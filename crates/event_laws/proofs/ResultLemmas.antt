@@ -25,6 +25,7 @@ use Rattle.event_laws.proofs.LaneLemmas.{lengths_differ}
 glyph_lower : (d : ℕ) → d < 16 → is_lower_case (digit_glyph false d) ≡ true
 glyph_lower d small = grind (arith, nat_tests)
 
+-- no digit of a printed number is in upper case
 hex_lower : (k n : ℕ) → list_all is_lower_case (hex k n) ≡ true
 hex_lower zero n = refl
 hex_lower (suc k) n =
@@ -33,6 +34,7 @@ hex_lower (suc k) n =
     let both = list_all-append is_lower_case (hex k (n / 16)) (digit_glyph false (n % 16) ∷ []) in
     cc
 
+-- no digit of a printed value is in upper case
 word_lower : (n : ℕ) → list_all is_lower_case (word_text n) ≡ true
 unfolding word_text
 word_lower n = hex_lower 8 n
@@ -54,12 +56,14 @@ outcome_read Written fits done = refl
 outcome_read Aborted fits done = refl
 outcome_read NobodyClaimed fits done = absurd (let apart : false ≡ true = done in cc)
 
+-- it is a word
 pub outcome_plain : (outcome : Outcome) → is_word (outcome_word outcome) ≡ true
 outcome_plain (Value value) = eight_word value
 outcome_plain Written = refl
 outcome_plain Aborted = refl
 outcome_plain NobodyClaimed = refl
 
+-- of so few bytes
 pub outcome_short : (outcome : Outcome) → length (outcome_word outcome) ≤ 10
 outcome_short (Value value) = let size = word_length value in omega (arith, size)
 outcome_short Written = omega arith

@@ -1,4 +1,4 @@
-use Rattle.event_laws.proofs.EndLemmas.{event_read, event_plain}
+use Rattle.event_laws.proofs.EventLemmas.{event_read, event_plain}
 use Rattle.event_laws.proofs.event_lines_are_read.Goals as goal
 
 pub returns-clause-read : goal.returns-clause-read
