@@ -8,6 +8,7 @@ use Rattle.history_model.specs.Runs.{Run, Complete, history_of}
 use Rattle.history_model.specs.Local.{Matched}
 use Rattle.board_parser.specs.Boards.{board_read}
 use Rattle.trace_text.specs.Traces.{trace_of}
+use Rattle.trace_reader.specs.Traces.{trace_read}
 use Rattle.header_text.specs.Headers.{headers_text}
 use Rattle.plain_board.specs.Plain.{is_plain}
 use Rattle.bus_tree.specs.declared.refusal.TreeRefusal.{TreeRefusal}
@@ -31,7 +32,8 @@ pub record Runs (board : Board) (events : List Event) : Type 0 where
   pub matched : Matched board (history_of events)
   pub bound : length events ≤ bound_of board
 
--- run: the input is the text of a valid plain board, and what is written is the trace of such a run of it
+-- run: the input is the text of a valid plain board, and what is written is the trace of such a run of it, which is
+-- read as this board and this run
 pub record AnswersRun (input trace : List ℕ) : Type 0 where
   pub board : Board
   pub events : List Event
@@ -39,6 +41,7 @@ pub record AnswersRun (input trace : List ℕ) : Type 0 where
   pub plain : IsTrue (is_plain board)
   pub runs : Runs board events
   pub written : trace ≡ trace_of board events
+  pub read_back : trace_read trace ≡ Ok (board, events)
 
 -- headers: the input is the text of a valid board, and its headers are written
 pub record AnswersHeaders (input text : List ℕ) : Type 0 where
@@ -72,11 +75,12 @@ RefusesHeaders input (BadTrace line code) = ⊥
 RefusesHeaders input (NotRun event why) = ⊥
 RefusesHeaders input (Incomplete left) = ⊥
 
--- a trace of such a run of the board
+-- a trace of such a run of the board, which is read as this run of it
 pub record RunsTo (board : Board) (trace : List ℕ) : Type 0 where
   pub events : List Event
   pub runs : Runs board events
   pub written : trace ≡ trace_of board events
+  pub read_back : trace_read trace ≡ Ok (board, events)
 
 -- a tree is of this board, which is valid
 pub record IsTreeOf (board tree : Board) : Type 0 where

@@ -1,5 +1,6 @@
-ghost use Rattle.std.specs.Prelude.{◌<◌, ◌^◌, length, IfOk, IfErr, IsTrue};
+ghost use Rattle.std.specs.Prelude.{◌≡◌, false, ◌<◌, ◌^◌, length, IfOk, IfErr, IsTrue};
 ghost use Rattle.board_model.specs.WellFormed.{is_well_formed};
+ghost use Rattle.board_model.specs.Valid.{lacks_a_bus};
 ghost use Rattle.plain_board.specs.Plain.{is_plain};
 ghost use Rattle.board_answers.specs.Answers.{AnswersRun, RefusesRun, RunsTo};
 
@@ -11,6 +12,7 @@ use plain_run::run_plain;
 use program_status::{BoardFault, Status};
 use run_slots::{matched, well_formed_boards};
 use std::alloc::Global;
+use trace_laws::printed_trace_is_read;
 use trace_text::print_trace;
 
 /// The trace of the run of the board whose text these bytes are.
@@ -36,10 +38,12 @@ pub fn answer_run(alloc: Global, input: &[u8]) -> Result<Vec<u8>, Status>
 fn trace_of(alloc: Global, board: &Board) -> Result<List<u8>, NoMemory>
     requires plain { IsTrue (is_plain board.now) }
     requires formed { IsTrue (is_well_formed board.now) }
+    requires buses { lacks_a_bus board.now ≡ false }
     ensures { IfOk result (RunsTo board.now) }
 {
     matched();
     well_formed_boards();
     let events = run_plain(alloc, board)?;
+    printed_trace_is_read(board, events.as_slice());
     print_trace(alloc, board, events.as_slice())
 }

@@ -1,2 +1,3 @@
 pub mod AppendLemmas
 pub mod StopLemmas
+pub mod WrittenLemmas

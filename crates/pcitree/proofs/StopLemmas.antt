@@ -1,5 +1,5 @@
 -- What a status says where a call stopped with it: that nothing was written, and its cause in the input.
-use Rattle.std.proofs.Common.{◌≡◌, ℕ, ◌^◌, ◌<◌, ◌≤◌, List, [], ◌++◌, append-nil, length, Option, Some, None, IfSome, refl, sym, subst, ap, ◌∙◌, arith}
+use Rattle.std.proofs.Common.{◌≡◌, ℕ, ◌<◌, ◌≤◌, List, ◌++◌, append-nil, length, Option, Some, None, IfSome, refl, sym, subst, ap, ◌∙◌, arith}
 use Rattle.std.specs.Io.KnownBytes.{Consumes, IsAtEnd}
 use Rattle.program_status.specs.declared.status.Status.{Status}
 use Rattle.program_status.specs.declared.status.Status.TheVariants.{Done, NoMemory, Usage, ReadFault, WriteFault, TooLong, BadBoard, BadTrace, NotRun, Incomplete}
@@ -7,8 +7,8 @@ use Rattle.pcitree.specs.declared.words.Form.{Form}
 use Rattle.pcitree.specs.declared.words.Form.TheVariants.{RunSteady, Headers, Check}
 use Rattle.trace_answers.proofs.ServedLemmas.{complete_is_answered}
 use Rattle.pcitree.specs.Answers.{limit_of, AnswersTo, Refuses, IsFaultless, IsServed, IsAnswered, Causes, Serves}
-use Rattle.pcitree.specs.Ends.{ReadsInput, HoldsTooMuch, AnswersInput, RefusesInput, Finishes, StopsInText, IsBeforeWriting, IsRefusal}
-use Rattle.pcitree.specs.Stops.{StopsReading, StopsAnswering, StopsServing, StopsRunning}
+use Rattle.pcitree.specs.Ends.{HoldsTooMuch, AnswersInput, RefusesInput, IsBeforeWriting, IsRefusal}
+use Rattle.pcitree.specs.Stops.{StopsServing, StopsRunning}
 
 -- what was read to the end of a source is all that it held
 all_of : (held left : Option (List ℕ)) (input taken : List ℕ) → held ≡ Some input → Consumes held left taken → IsAtEnd left → input ≡ taken

@@ -1,10 +1,11 @@
 -- How a call of the program ends, seen at its words, its source and its sink.
-use Rattle.std.specs.Prelude.{ℕ, ◌≡◌, ◌≤◌, ◌<◌, List, length, Option, IfSome}
+use Rattle.std.specs.Prelude.{ℕ, ◌≤◌, ◌<◌, List, length, Option, IfSome}
 use Rattle.std.specs.Io.KnownBytes.{Consumes, IsAtEnd, Appends}
 use Rattle.program_status.specs.declared.status.Status.{Status}
-use Rattle.program_status.specs.declared.status.Status.TheVariants.{Done, NoMemory, Usage, ReadFault, WriteFault, TooLong, BadBoard, BadTrace, NotRun, Incomplete}
+use Rattle.program_status.specs.declared.status.Status.TheVariants.{Done, Usage, WriteFault, BadBoard, BadTrace, NotRun, Incomplete}
 use Rattle.pcitree.specs.declared.words.Form.{Form}
-use Rattle.pcitree.specs.Answers.{limit_of, AnswersTo, Refuses}
+use Rattle.pcitree.specs.declared.words.Form.TheVariants.{Check}
+use Rattle.pcitree.specs.Answers.{limit_of, AnswersTo, Refuses, IsFaultless}
 use Rattle.pcitree.specs.Writing.{WritesFront}
 
 -- the source gave this input to its end: all that it held, where it tells it
@@ -40,6 +41,12 @@ pub record StopsInText (form : Form) (held left before after : Option (List ℕ)
   pub text : List ℕ
   pub answers : AnswersInput form held left text
   pub front : WritesFront before after text
+
+-- the sink took the text of a valid board and of a complete run of it, as `check` wants it
+pub record WritesRun (before after : Option (List ℕ)) : Type 0 where
+  pub text : List ℕ
+  pub complete : IsFaultless Check text
+  pub written : Appends before after text
 
 abbrev pub IsUsage : Status → Type 0
 IsUsage (Usage _) = Unit {0}

@@ -4,7 +4,6 @@ use Rattle.io_ports.specs.Faults.{Rose}
 use Rattle.program_status.specs.declared.status.Status.{Status}
 use Rattle.program_status.specs.declared.status.Status.TheVariants.{NoMemory, Usage, ReadFault, WriteFault, TooLong, BadBoard, BadTrace, NotRun, Incomplete}
 use Rattle.pcitree.specs.declared.words.Form.{Form}
-use Rattle.pcitree.specs.Words.{form_of, misfit}
 use Rattle.pcitree.specs.Ends.{HoldsTooMuch, RefusesInput, StopsInText}
 
 -- an input is not read

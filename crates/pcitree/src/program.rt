@@ -3,7 +3,7 @@ ghost use Rattle.io_ports.specs.Faults.{Rose};
 ghost use Rattle.pcitree.specs.declared.words.Form.{Form as WordForm};
 ghost use Rattle.pcitree.specs.Words.{form_of, misfit};
 ghost use Rattle.pcitree.specs.Answers.{IsServed, Causes, Serves};
-ghost use Rattle.pcitree.specs.Ends.{IsUsage, IsRefusal, IsBeforeWriting, ReadsInput, HoldsTooMuch, AnswersInput, RefusesInput, Finishes, StopsInText};
+ghost use Rattle.pcitree.specs.Ends.{IsUsage, IsRefusal, IsBeforeWriting, ReadsInput, HoldsTooMuch, AnswersInput, RefusesInput, Finishes, StopsInText, WritesRun};
 ghost use Rattle.pcitree.specs.Stops.{StopsReading, StopsAnswering, StopsServing, StopsRunning};
 
 use crate::answering::{answer, limit_of};
@@ -13,6 +13,7 @@ use crate::writing::write_all;
 use io_ports::{Sink, Source};
 use program_status::Status;
 use std::alloc::Global;
+use trace_answers::written_runs_are_complete;
 
 /// Does what the words say: reads the source to its end, and writes the text that answers it to
 /// the sink. The first of these that holds is the answer: `Usage`, `ReadFault`, `TooLong`,
@@ -43,6 +44,10 @@ pub fn pcitree<S: Source, K: Sink>(
     ensures done { result ≡ Status.Done → IfSome (form_of (map string_bytes words.now)) (λ form.
         Finishes form (S.held source.old) (S.held source.new) (K.taken sink.old) (K.taken sink.new)) }
 
+    // What `run` wrote is the text of a complete run, as `check` wants it.
+    ensures checked { result ≡ Status.Done → form_of (map string_bytes words.now) ≡ Some WordForm.RunSteady
+        → WritesRun (K.taken sink.old) (K.taken sink.new) }
+
     // What was read.
     ensures refused { IsRefusal result → IfSome (form_of (map string_bytes words.now)) (λ form.
         RefusesInput form (S.held source.old) (S.held source.new) result) }
@@ -54,6 +59,7 @@ pub fn pcitree<S: Source, K: Sink>(
     ensures served { (form : WordForm) (input : List ℕ) → form_of (map string_bytes words.now) ≡ Some form
         → S.held source.old ≡ Some input → IsServed form input → Serves result }
 {
+    written_runs_are_complete();
     match run(alloc, words, source, sink) {
         Ok(()) => Status::Done,
         Err(status) => status,

@@ -10,10 +10,9 @@ use Rattle.history_core.proofs.VerdictLemmas.{allowed_exactly}
 use Rattle.trace_check.specs.Verdicts.{FirstRefused}
 use Rattle.trace_reader.specs.declared.fault.TraceFault.{TraceFault}
 use Rattle.trace_reader.specs.Traces.{trace_read}
-use Rattle.board_answers.specs.Refusals.{tree_fault}
 use Rattle.program_status.specs.declared.status.Status.{Status}
 use Rattle.program_status.specs.declared.status.Status.TheVariants.{Done, NoMemory, Usage, ReadFault, WriteFault, TooLong, BadBoard, BadTrace, NotRun, Incomplete}
-use Rattle.trace_answers.specs.Traces.{trace_reading_refusal, trace_refusal, ReadsTrace, IsNoRun, IsCut, RefusesCheck, IsCompleteTrace}
+use Rattle.trace_answers.specs.Traces.{trace_reading_refusal, trace_refusal, RefusesCheck, IsCompleteTrace}
 
 history_split : (before : List Event) (e : Event) (after : List Event) → history_of (before ++ e ∷ after) ≡ reverse after ++ e ∷ history_of before
 history_split before e after =

@@ -1,7 +1,16 @@
 //! What the program writes for a trace text, or why it refuses it.
 #![tactic(auto)]
 
+ghost use Rattle.std.specs.Prelude.{ℕ, List};
+ghost use Rattle.board_answers.specs.Answers.{AnswersRun};
+ghost use Rattle.trace_answers.specs.Traces.{IsCompleteTrace};
+
 mod answer;
 mod read;
 
 pub use answer::answer_check;
+
+/// What a run writes of a board is the text of a valid board and of a complete run of it.
+pub fn written_runs_are_complete()
+    ensures { (input trace : List ℕ) → AnswersRun input trace → IsCompleteTrace trace }
+{}

@@ -18,7 +18,8 @@ use Rattle.trace_reader.specs.declared.fault.TraceFault.{TraceFault}
 use Rattle.trace_reader.specs.declared.fault.TraceFault.TheVariants.{Trace}
 use Rattle.trace_reader.specs.Traces.{nothing_behind, events_by, events_read}
 use Rattle.event_laws.specs.Fits.{EventFits}
-use Rattle.event_laws.proofs.EndLemmas.{event_read, event_plain, end_read, end_plain}
+use Rattle.event_laws.proofs.EventLemmas.{event_read, event_plain}
+use Rattle.event_laws.proofs.EndLemmas.{end_read, end_plain}
 
 -- a board over which events can be printed
 pub record Bears (board : Board) : Type 0 where

@@ -1,6 +1,9 @@
-use Rattle.std.proofs.Common.{◌≡◌, rules}
 use Rattle.pcitree.proofs.StopLemmas.{unwritten, refused_in, caused_by, served_by}
+use Rattle.pcitree.proofs.WrittenLemmas.{run_is_written}
 use Rattle.pcitree.proofs.program.pcitree.Goals as goal
+
+pub returns-in-Ok-clause-checked : goal.returns-in-Ok-clause-checked
+returns-in-Ok-clause-checked g c = λ is form. run_is_written _ _ _ _ _ form c.in-Ok.ensures.done
 
 pub returns-in-Err-clause-unwritten : goal.returns-in-Err-clause-unwritten
 returns-in-Err-clause-unwritten g c = λ before. unwritten _ _ _ _ _ _ _ _ _ _ _ _ c.in-Err.ensures.stopped before
