@@ -1,0 +1,4 @@
+pub mod RefusedLemmas
+pub mod LaneLemmas
+pub mod PresentLemmas
+pub mod StandLemmas
