@@ -5,3 +5,4 @@ pub mod StandLemmas
 pub mod SoundLemmas
 pub mod ArrivalLemmas
 pub mod PostLemmas
+pub mod TakeLemmas
