@@ -6,3 +6,6 @@ pub mod SoundLemmas
 pub mod ArrivalLemmas
 pub mod PostLemmas
 pub mod TakeLemmas
+pub mod AskLemmas
+pub mod TurnLemmas
+pub mod GoOnLemmas
