@@ -1,11 +1,8 @@
 -- Where nothing is in flight and only delayed requests stand, the furthest on its way finds a slot.
-use Rattle.std.proofs.Common.{◌≡◌, ℕ, zero, suc, ◌+◌, ◌<◌, ◌≤◌, Bool, true, false, List, [], ◌∷◌, length, Option, Some, None, refl, sym, ap, subst, ◌∙◌, ◌⊎◌, inl, inr, ⊎_elim, arith}
+use Rattle.std.proofs.Common.{◌≡◌, ℕ, zero, suc, ◌<◌, ◌≤◌, Bool, true, false, List, [], ◌∷◌, length, Some, refl, sym, subst, ◌⊎◌, inl, inr, ⊎_elim, arith}
 use Rattle.std.specs.List.{find, AllByRecursion}
 use Rattle.list_facts.proofs.EachLemmas.{Each-find}
-use Rattle.pci_command.specs.declared.command.Command.TheVariants.{MemWrite}
-use Rattle.pci_command.specs.declared.request.Request.{Request}
 use Rattle.pci_command.specs.declared.op_id.OpId.{OpId}
-use Rattle.pci_command.specs.Same.{same_command}
 use Rattle.board_model.specs.declared.bridge.Lane.{Lane as BridgeLane}
 use Rattle.board_model.specs.declared.bridge.Place.TheVariants.{Lane}
 use Rattle.board_model.specs.declared.board.Board.{Board}
@@ -13,22 +10,22 @@ use Rattle.board_model.specs.declared.op.Op.{Op}
 use Rattle.board_model.specs.Requests.{op_of, request_on, request_of, is_posted}
 use Rattle.board_model.specs.Claims.{claim}
 use Rattle.board_model.specs.Ways.{end_of, start_of}
-use Rattle.board_laws.specs.WayEnds.{rank, GoesOn}
+use Rattle.board_laws.specs.WayEnds.{rank}
 use Rattle.board_laws.proofs.EndLemmas.{rank-falls}
 use Rattle.history_model.specs.declared.event.By.TheVariants.{Lane as ByLane}
 use Rattle.history_model.specs.declared.event.Event.{Event}
 use Rattle.history_model.specs.declared.item.Carried.{Carried}
 use Rattle.history_model.specs.declared.item.Carried.TheVariants.{Ask, Done}
 use Rattle.history_model.specs.declared.item.Slot.{Slot}
-use Rattle.history_model.specs.Lanes.{Both, has_number, is_done_for}
+use Rattle.history_model.specs.Lanes.{has_number, is_done_for}
 use Rattle.history_model.specs.Local.{is_ask_of, is_gone_of}
 use Rattle.history_model.specs.World.{World, lane_back, both, is_own, world_of}
-use Rattle.history_model.specs.Words.{through, without}
+use Rattle.history_model.specs.Words.{through}
 use Rattle.history_model.specs.Answers.{presents}
 use Rattle.history_model.specs.Runs.{Run}
 use Rattle.run_slots.specs.Kinds.{NamesOp, RightKind}
 use Rattle.run_slots.specs.Latched.{LatchedOn, Latched}
-use Rattle.run_slots.specs.Slots.{IsHeldFor, AskNamed, Slots, ItemOf, ask_flies, ask_stands, done_flies, done_stands, gone_flies, HasOneItem}
+use Rattle.run_slots.specs.Slots.{IsHeldFor, AskNamed, Slots, ask_flies, ask_stands, done_flies, done_stands, gone_flies, HasOneItem}
 use Rattle.run_slots.proofs.KindLemmas.{RightKind-run}
 use Rattle.run_slots.proofs.LatchedLemmas.{Latched-run}
 use Rattle.run_slots.proofs.OneItemLemmas.{HasOneItem-each}
@@ -40,7 +37,7 @@ use Rattle.run_progress.specs.Next.{Next}
 use Rattle.run_progress.proofs.SoundLemmas.{Sound, room_at}
 use Rattle.run_progress.proofs.PresentLemmas.{oldest_presented}
 use Rattle.run_progress.proofs.PostLemmas.{lane_wants}
-use Rattle.run_progress.proofs.RefusedLemmas.{Refusal, full, no_slot, waits, Refused, presented}
+use Rattle.run_progress.proofs.RefusedLemmas.{full, no_slot, waits, Refused, presented}
 use Rattle.run_progress.proofs.StandLemmas.{NotDone, FirstAsk, ask_or_none}
 use Rattle.run_progress.proofs.TakeLemmas.{claims_whole}
 

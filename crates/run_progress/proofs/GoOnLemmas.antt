@@ -1,5 +1,5 @@
 -- A run goes on, or it is complete.
-use Rattle.std.proofs.Common.{◌≡◌, ℕ, ◌<◌, List, [], ◌∷◌, length, None, refl, sym, ap, subst, ◌⊎◌, inl, inr, ⊎_elim}
+use Rattle.std.proofs.Common.{◌≡◌, ℕ, ◌<◌, List, [], length, None, sym, ap, subst, ◌⊎◌, inl, inr, ⊎_elim}
 use Rattle.std.specs.List.{AllByRecursion}
 use Rattle.list_facts.proofs.EachLemmas.{Each-all}
 use Rattle.board_model.specs.declared.bridge.Bridge.{Bridge}
@@ -7,7 +7,6 @@ use Rattle.board_model.specs.declared.bridge.Lane.{Lane as BridgeLane}
 use Rattle.board_model.specs.declared.board.Board.{Board}
 use Rattle.board_model.specs.Valid.{IsValid}
 use Rattle.history_model.specs.declared.event.Event.{Event}
-use Rattle.history_model.specs.declared.item.Carried.{Carried}
 use Rattle.history_model.specs.Lanes.{LaneState, empty_lane}
 use Rattle.history_model.specs.World.{lane_back, world_of}
 use Rattle.history_model.specs.Program.{turn_of}

@@ -1,6 +1,6 @@
 -- Where nothing is in flight and a posted write stands, one of them can be presented and ends: the furthest on its way
 -- finds room.
-use Rattle.std.proofs.Common.{◌≡◌, ℕ, zero, suc, ◌+◌, ◌<◌, ◌≤◌, Bool, true, false, ◌||◌, ◌&&◌, ◌==◌, eqb, List, [], ◌∷◌, Option, Some, refl, sym, ap, subst, ◌∙◌, ◌⊎◌, inl, inr, ⊎_elim, arith}
+use Rattle.std.proofs.Common.{◌≡◌, ℕ, zero, suc, ◌<◌, ◌≤◌, Bool, true, false, ◌||◌, ◌&&◌, ◌==◌, eqb, List, [], ◌∷◌, Some, refl, sym, ap, subst, ◌∙◌, ◌⊎◌, inl, inr, ⊎_elim, arith}
 use Rattle.std.specs.List.{list_any, AllByRecursion}
 use Rattle.std.proofs.lemmas.Bool.Decides.{nat_tests}
 use Rattle.list_facts.specs.Lists.{total}
@@ -11,15 +11,14 @@ use Rattle.board_model.specs.declared.bridge.Place.{Place}
 use Rattle.board_model.specs.declared.bridge.Place.TheVariants.{Target, Header, Lane, Nobody}
 use Rattle.board_model.specs.declared.board.Board.{Board}
 use Rattle.board_model.specs.declared.op.Op.{Op}
-use Rattle.board_model.specs.Requests.{op_of, request_on, request_of, is_posted}
+use Rattle.board_model.specs.Requests.{request_on, request_of, is_posted}
 use Rattle.board_model.specs.Claims.{claim}
-use Rattle.board_model.specs.Ways.{end_of, Route, route_by, route_within, way}
-use Rattle.board_laws.specs.WayEnds.{rank, GoesOn}
+use Rattle.board_model.specs.Ways.{end_of, Route, route_by, route_within}
+use Rattle.board_laws.specs.WayEnds.{rank}
 use Rattle.board_laws.proofs.EndLemmas.{rank-falls}
 use Rattle.history_model.specs.declared.event.By.TheVariants.{Lane as ByLane}
 use Rattle.history_model.specs.declared.event.Event.{Event}
-use Rattle.history_model.specs.declared.item.Carried.{Carried}
-use Rattle.history_model.specs.World.{World, lane_back, same_lane, both, world_of}
+use Rattle.history_model.specs.World.{lane_back, same_lane, both, world_of}
 use Rattle.history_model.specs.Words.{through, without}
 use Rattle.history_model.specs.Answers.{presents, wants}
 use Rattle.history_model.specs.Runs.{Run}
@@ -38,7 +37,7 @@ use Rattle.run_order.specs.Masters.{MastersWrite}
 use Rattle.run_progress.specs.Next.{Next}
 use Rattle.run_progress.proofs.SoundLemmas.{Sound, room_at}
 use Rattle.run_progress.proofs.PresentLemmas.{post_presented}
-use Rattle.run_progress.proofs.RefusedLemmas.{Refusal, full, no_slot, waits, Refused, presented}
+use Rattle.run_progress.proofs.RefusedLemmas.{full, no_slot, waits, Refused, presented}
 use Rattle.run_progress.proofs.StandLemmas.{SomePost, some_post, post_or_none}
 
 -- a lane that claims the operation on some bus

@@ -1,25 +1,24 @@
 -- What a lane presents: its oldest posted write, and where no posted write stands the first delayed request of its kind.
-use Rattle.std.proofs.Common.{◌≡◌, ℕ, ◌+◌, ◌≤◌, Bool, true, false, not, ◌&&◌, cond, List, [], ◌∷◌, ◌++◌, Option, Some, refl, sym, ap, subst, ◌∙◌, arith}
-use Rattle.std.specs.List.{find, list_all, list_any, AllByRecursion}
-use Rattle.list_facts.specs.Lists.{before, total}
+use Rattle.std.proofs.Common.{◌≡◌, ℕ, Bool, true, false, not, ◌&&◌, cond, List, [], ◌∷◌, Option, Some, refl, sym, subst}
+use Rattle.std.specs.List.{find, list_all, AllByRecursion}
+use Rattle.list_facts.specs.Lists.{before}
 use Rattle.pci_command.specs.declared.op_id.OpId.{OpId}
 use Rattle.pci_command.specs.declared.op_id.Outcome.{Outcome}
 use Rattle.pci_command.specs.Same.{same_op}
 use Rattle.board_model.specs.declared.board.Board.{Board}
 use Rattle.board_model.specs.Requests.{reads, same_requests}
 use Rattle.order_table.specs.Order.{may_pass}
-use Rattle.pci_command.specs.declared.command.Kind.TheVariants.{Pmw, Drr, Dwr, Drc, Dwc}
+use Rattle.pci_command.specs.declared.command.Kind.TheVariants.{Pmw}
 use Rattle.history_model.specs.declared.item.Carried.{Carried}
 use Rattle.history_model.specs.declared.item.Carried.TheVariants.{Post, Ask, Done, Room, Gone}
-use Rattle.history_model.specs.Lanes.{is_of, is_post}
+use Rattle.history_model.specs.Lanes.{is_of}
 use Rattle.history_model.specs.Answers.{request_kind, completion_kind, goes_before, presents_item, presents}
-use Rattle.run_slots.specs.Credits.{post_count}
 use Rattle.run_slots.specs.Kinds.{RightKind}
 use Rattle.run_slots.specs.Owners.{is_equal_ask}
 use Rattle.run_slots.specs.Standing.{CanStand}
 use Rattle.run_slots.proofs.RequestLemmas.{same_op_true, same_op_self}
-use Rattle.run_order.specs.Order.{posts, post_in, is_posted_op}
-use Rattle.run_order.proofs.PostLemmas.{other_no_post, post_of}
+use Rattle.run_order.specs.Order.{posts, is_posted_op}
+use Rattle.run_order.proofs.PostLemmas.{post_of}
 
 -- a posted write may go before a delayed request and before a completion
 post_before_ask : (board : Board) (on : ℕ) (o op : OpId) (slot : ℕ) → goes_before board on (Post o) (Ask op slot) ≡ true

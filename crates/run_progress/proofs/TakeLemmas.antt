@@ -1,5 +1,5 @@
 -- Where no posted write stands and a completion does, it is taken.
-use Rattle.std.proofs.Common.{◌≡◌, ℕ, ◌+◌, ◌*◌, ◌≤◌, Bool, true, false, ◌&&◌, ◌==◌, cond, eqb, List, [], ◌∷◌, Option, Some, None, is_some, refl, sym, ap, subst, ◌∙◌, ◌⊎◌, inl, inr, ⊎_elim, arith, slice_get}
+use Rattle.std.proofs.Common.{◌≡◌, ℕ, ◌+◌, ◌*◌, ◌≤◌, Bool, true, false, ◌==◌, cond, eqb, List, [], ◌∷◌, Some, is_some, refl, sym, ap, subst, ◌∙◌, ◌⊎◌, inl, inr, ⊎_elim, arith, slice_get}
 use Rattle.std.specs.List.{find, list_any, AllByRecursion}
 use Rattle.std.proofs.lemmas.Bool.{eqb-true}
 use Rattle.std.proofs.lemmas.Bool.Decides.{nat_tests}
@@ -11,8 +11,6 @@ use Rattle.pci_command.specs.declared.request.Request.{Request}
 use Rattle.pci_command.specs.declared.op_id.OpId.{OpId}
 use Rattle.pci_command.specs.declared.op_id.Outcome.{Outcome}
 use Rattle.pci_command.specs.Command.{is_read, space_of}
-use Rattle.pci_command.specs.Same.{same_op}
-use Rattle.board_model.specs.declared.bridge.Bridge.{Bridge}
 use Rattle.board_model.specs.declared.bridge.Lane.{Lane as BridgeLane}
 use Rattle.board_model.specs.declared.bridge.Place.{Place}
 use Rattle.board_model.specs.declared.bridge.Place.TheVariants.{Lane}
@@ -38,7 +36,7 @@ use Rattle.history_model.specs.Answers.{is_on, is_turn, presents, wants, complet
 use Rattle.history_model.specs.Runs.{Run}
 use Rattle.run_slots.specs.Slots.{IsHeldFor, DoneNamed, Slots}
 use Rattle.run_slots.specs.Latched.{IsAt, LatchedOn, Latched}
-use Rattle.run_slots.specs.Owners.{Waits, own_count, Owners}
+use Rattle.run_slots.specs.Owners.{Waits, Owners}
 use Rattle.run_slots.proofs.EqualLemmas.{same_initiator-self, same_requests-self}
 use Rattle.run_slots.proofs.FoundLemmas.{Each-found}
 use Rattle.run_slots.proofs.LatchedLemmas.{Latched-run}

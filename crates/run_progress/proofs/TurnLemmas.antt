@@ -1,5 +1,5 @@
 -- Where nothing is on any lane, a master whose turn has come has an event.
-use Rattle.std.proofs.Common.{◌≡◌, ℕ, zero, suc, ◌+◌, ◌<◌, ◌≤◌, ◌==◌, Bool, true, false, cond, eqb, List, [], ◌∷◌, length, Option, Some, None, is_some, refl, sym, ap, subst, ◌∙◌, ◌⊎◌, inl, inr, ⊎_elim, arith, slice_get}
+use Rattle.std.proofs.Common.{◌≡◌, ℕ, zero, suc, ◌+◌, ◌<◌, Bool, true, false, cond, eqb, List, [], ◌∷◌, length, Option, Some, None, is_some, refl, sym, ap, subst, ◌∙◌, ◌⊎◌, inl, inr, ⊎_elim, arith, slice_get}
 use Rattle.std.specs.List.{find, AllByRecursion}
 use Rattle.std.proofs.lemmas.Bool.{eqb-true}
 use Rattle.std.proofs.lemmas.Bool.Decides.{nat_tests}
@@ -14,7 +14,6 @@ use Rattle.board_model.specs.declared.op.Op.TheVariants.{Read as ReadOp, Write, 
 use Rattle.board_model.specs.Requests.{op_of}
 use Rattle.history_model.specs.declared.event.By.TheVariants.{Master}
 use Rattle.history_model.specs.declared.event.Event.{Event}
-use Rattle.history_model.specs.declared.item.Carried.{Carried}
 use Rattle.history_model.specs.declared.item.Carried.TheVariants.{Ask}
 use Rattle.history_model.specs.declared.item.Slot.{Slot}
 use Rattle.history_model.specs.Local.{is_ask_of}
@@ -31,7 +30,7 @@ use Rattle.run_slots.proofs.SlotsRunLemmas.{Slots-run}
 use Rattle.run_progress.specs.Next.{Next}
 use Rattle.run_progress.proofs.SoundLemmas.{Sound, room_at}
 use Rattle.run_progress.proofs.PostLemmas.{joined}
-use Rattle.run_progress.proofs.RefusedLemmas.{Refusal, full, no_slot, waits, Refused, presented}
+use Rattle.run_progress.proofs.RefusedLemmas.{full, no_slot, waits, Refused, presented}
 use Rattle.run_progress.proofs.StandLemmas.{NotDone}
 use Rattle.run_progress.proofs.AskLemmas.{ask_of_slot}
 
