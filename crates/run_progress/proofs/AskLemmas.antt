@@ -86,6 +86,7 @@ module _ (board : Board) (h : List Event) (run : Run board h) (sound : Sound boa
     delayed : is_posted (request_on op (start_of board lane)) ≡ false
     claims : claim board (start_of board lane) (request_on op (start_of board lane)) ≡ Lane lane
 
+  -- as the oldest of a lane is
   goes : (lane : BridgeLane) (first : FirstAsk (world_of board h lane).standing) → Goes lane first.op
   goes lane first =
       let world : World = world_of board h in

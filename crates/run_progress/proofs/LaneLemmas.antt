@@ -10,10 +10,11 @@ use Rattle.board_model.specs.declared.board.Board.{Board}
 use Rattle.board_model.specs.WellFormed.{has_bus}
 use Rattle.history_model.specs.Answers.{bridge_to}
 
--- the lanes of a bridge, down and up
+-- the lane of a bridge down
 abbrev pub lane_down : Bridge → BridgeLane
 lane_down bridge = record { bus = bridge.bus; up = false }
 
+-- and the lane up
 abbrev pub lane_up : Bridge → BridgeLane
 lane_up bridge = record { bus = bridge.bus; up = true }
 

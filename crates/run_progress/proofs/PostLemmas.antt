@@ -59,6 +59,7 @@ claims_by board op lane onwards on (Lane l) claims later is =
     ]) refl is
 claims_by board op lane onwards on Nobody claims later is = cc
 
+-- so does each of a way that follows so many claims
 claims_within : (board : Board) (op : Op) (lane : BridgeLane) (n on : ℕ) → list_any (same_lane lane) (route_within n board op on).lanes ≡ true → ClaimsIt board op lane
 claims_within board op lane zero on is = cc
 claims_within board op lane (suc n) on is =
@@ -90,6 +91,7 @@ module _ (board : Board) (h : List Event) (run : Run board h) (sound : Sound boa
     way : OnWay board lane o
     posted : is_posted_op board o ≡ true
 
+  -- as the oldest of a lane is
   oldest_stands : (lane : BridgeLane) (o : OpId) (later : List OpId) → posts (world_of board h lane).standing ≡ o ∷ later → Stands lane o
   oldest_stands lane o later is =
       let ways = subst (AllByRecursion (OnWay board lane)) is (OnWay-stands board sound.tree sound.one h lane run) in

@@ -20,12 +20,13 @@ use Rattle.run_slots.proofs.RequestLemmas.{same_op_true, same_op_self}
 use Rattle.run_order.specs.Order.{posts, is_posted_op}
 use Rattle.run_order.proofs.PostLemmas.{post_of}
 
--- a posted write may go before a delayed request and before a completion
+-- a posted write may go before a delayed request
 post_before_ask : (board : Board) (on : ℕ) (o op : OpId) (slot : ℕ) → goes_before board on (Post o) (Ask op slot) ≡ true
 post_before_ask board on o op slot =
     let P : Bool → Type 0 = λ b. (may_pass Pmw (request_kind b) && true) ≡ true in
     elim (reads board op) as P [ true ↦ refl | false ↦ refl ]
 
+-- and before a completion
 post_before_done : (board : Board) (on : ℕ) (o op : OpId) (slot : ℕ) (outcome : Outcome) → goes_before board on (Post o) (Done op slot outcome) ≡ true
 post_before_done board on o op slot outcome =
     let P : Bool → Type 0 = λ b. (may_pass Pmw (completion_kind b) && true) ≡ true in
@@ -81,13 +82,14 @@ pub post_presented : (board : Board) (on : ℕ) (o : OpId) (later : List OpId) (
     → posts xs ≡ o ∷ later → presents board on o xs ≡ true
 post_presented board on o later xs posted right stands is = first_presents board on o (Post o) xs (first_post board on o later xs posted right stands is)
 
--- a delayed request may go before a completion, and before a request that is not the same
+-- a delayed request may go before one that is not the same
 requests_pass : (a b same : Bool) → same ≡ false → (may_pass (request_kind a) (request_kind b) && not same) ≡ true
 requests_pass true true same differs = rw differs refl
 requests_pass true false same differs = rw differs refl
 requests_pass false true same differs = rw differs refl
 requests_pass false false same differs = rw differs refl
 
+-- and before a completion
 request_before_done : (a b : Bool) → (may_pass (request_kind a) (completion_kind b) && true) ≡ true
 request_before_done true true = refl
 request_before_done true false = refl

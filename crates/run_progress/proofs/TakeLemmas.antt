@@ -85,6 +85,17 @@ never_refused true lane older op number outcome cause none refuses =
     cc
 never_refused false lane older op number outcome cause none refuses = cc
 
+-- the completion for the slot of this number is refused
+abbrev RefusesAt : Bool → BridgeLane → List Carried → Cause → ℕ → Type 0
+RefusesAt read lane coming cause number = completion_answer read lane (before (is_done_for number) coming) (find (is_done_for number) coming) ≡ Retry cause
+
+-- it is not, where it stands and no posted write does
+done_given : (read : Bool) (lane : BridgeLane) (coming : List Carried) (some : SomeDone coming) (cause : Cause) → posts coming ≡ [] → RefusesAt read lane coming cause some.number → ⊥
+done_given read lane coming some cause none refuses =
+    let older : List Carried = before (is_done_for some.number) coming in
+    let by_done = subst (λ item. completion_answer read lane older item ≡ Retry cause) some.is refuses in
+    never_refused read lane older some.op some.number some.outcome cause (none_before (is_done_for some.number) coming none) by_done
+
 -- a request of which nothing went through is claimed as a whole
 pub claims_whole : (board : Board) (on : ℕ) (request : Request) (gone : ℕ) (place : Place) → gone ≡ 0 → claim board on (without gone request) ≡ place → claim board on request ≡ place
 claims_whole board on request gone place none claims =
@@ -106,51 +117,90 @@ module _ (board : Board) (h : List Event) (run : Run board h) (sound : Sound boa
       ask_presented board on o waiting.number standing (same_requests-self board on o request is_request) (no_posts k) (CanStand-run board h k run) waiting.first in
       joined (end_of board k == on) (presents board on o standing) ends shown
 
-  -- the completion of a lane's slot is taken
-  done_taken : (lane : BridgeLane) → SomeDone (world_of board h (lane_back lane)).standing → Next board h
-  done_taken lane some =
+  -- a slot of this number is held at the lane, and who latched it waits for it
+  record Awaited (lane : BridgeLane) (number : ℕ) : Type 0 where
+    slot : Slot
+    is_held : find (has_number number) (world_of board h lane).held ≡ Some slot
+    latched : LatchedOn board (start_of board lane) lane slot
+    waiting : Waits board (turn_of board h) (world_of board h) (start_of board lane) slot.by slot.op
+
+  -- so it is where the completion for the slot stands
+  done_awaited : (lane : BridgeLane) (some : SomeDone (world_of board h (lane_back lane)).standing) → Awaited lane some.number
+  done_awaited lane some =
+      let world : World = world_of board h in
+      let held : List Slot = (world lane).held in
+      let slots : Slots (both world lane) = Slots-run board h lane run in
+      let named : IsHeldFor held some.number some.op =
+      Each-find (DoneNamed held) (is_done_for some.number) (world (lane_back lane)).standing (Done some.op some.number some.outcome) slots.dones_standing some.is in
+      let owners : Owners board (turn_of board h) world = Owners-run board sound.distinct sound.single h run in
+      let W : Slot → Type 0 = λ slot. Waits board (turn_of board h) world (start_of board lane) slot.by slot.op in
+      record {
+        slot = named.slot;
+        is_held = named.is_held;
+        latched = Each-find (Latched board lane) (has_number some.number) held named.slot (Latched-run board h lane sound.distinct sound.single run) named.is_held;
+        waiting = Each-find W (has_number some.number) held named.slot (owners.waits lane) named.is_held;
+      }
+
+  -- the slot is the own one of who waits
+  awaited_own : (lane : BridgeLane) (number : ℕ) (awaited : Awaited lane number) → is_own board (start_of board lane) awaited.slot.by awaited.slot.op awaited.slot ≡ true
+  awaited_own lane number awaited =
+      let on : ℕ = start_of board lane in
+      let slot : Slot = awaited.slot in
+      joined (same_initiator slot.by slot.op slot.by slot.op) (same_requests board on slot.op slot.op) (same_initiator-self slot.by slot.op)
+      (same_requests-self board on slot.op awaited.latched.request awaited.latched.is_request)
+
+  -- the lane that refuses would be this one
+  refused_here : (lane : BridgeLane) (number : ℕ) (awaited : Awaited lane number) (refused : Refused board h (start_of board lane) awaited.slot.by awaited.slot.op)
+      → (is_posted refused.request ≡ false) × (refused.lane ≡ lane)
+  refused_here lane number awaited refused =
+      let on : ℕ = start_of board lane in
+      let o : OpId = awaited.slot.op in
+      let latched = awaited.latched in
+      let same : latched.request ≡ refused.request = let a = latched.is_request in let b = refused.is_request in cc in
+      let delayed : is_posted refused.request ≡ false = subst (λ r. is_posted r ≡ false) same latched.delayed in
+      let none : through h o ≡ 0 = delayed-not_parted board h o on refused.request sound.single run refused.is_request delayed in
+      let claims : claim board on refused.request ≡ Lane refused.lane = claims_whole board on refused.request (through h o) (Lane refused.lane) none refused.claims in
+      let claims_here : claim board on refused.request ≡ Lane lane = subst (λ r. claim board on r ≡ Lane lane) same latched.claims in
+      (delayed, cc)
+
+  -- and who waits is not refused, as the completion stands
+  none_refused : (lane : BridgeLane) (some : SomeDone (world_of board h (lane_back lane)).standing) (awaited : Awaited lane some.number)
+      → Refused board h (start_of board lane) awaited.slot.by awaited.slot.op → ⊥
+  none_refused lane some awaited refused =
       let world : World = world_of board h in
       let held : List Slot = (world lane).held in
       let coming : List Carried = (world (lane_back lane)).standing in
-      let on : ℕ = start_of board lane in
-      let slots : Slots (both world lane) = Slots-run board h lane run in
-      let named : IsHeldFor held some.number some.op = Each-find (DoneNamed held) (is_done_for some.number) coming (Done some.op some.number some.outcome) slots.dones_standing some.is in
-      let slot : Slot = named.slot in
-      let number : slot.number ≡ some.number = eqb-true slot.number some.number (find_passes (has_number some.number) held slot named.is_held) in
-      let latched : LatchedOn board on lane slot = Each-find (Latched board lane) (has_number some.number) held slot (Latched-run board h lane sound.distinct sound.single run) named.is_held in
-      let owners : Owners board (turn_of board h) world = Owners-run board sound.distinct sound.single h run in
-      let W : Slot → Type 0 = λ s. Waits board (turn_of board h) world on s.by s.op in
-      let waiting : W slot = Each-find W (has_number some.number) held slot (owners.waits lane) named.is_held in
-      let test : Slot → Bool = is_own board on slot.by slot.op in
-      let own : test slot ≡ true =
-      joined (same_initiator slot.by slot.op slot.by slot.op) (same_requests board on slot.op slot.op) (same_initiator-self slot.by slot.op) (same_requests-self board on slot.op latched.request latched.is_request) in
-      ⊎_elim {C = Next board h}
-      (λ next. next)
-      (λ (refused : Refused board h on slot.by slot.op).
-      let same : latched.request ≡ refused.request = let a = latched.is_request in let b = refused.is_request in cc in
-      let delayed : is_posted refused.request ≡ false = subst (λ r. is_posted r ≡ false) same latched.delayed in
-      let none : through h slot.op ≡ 0 = delayed-not_parted board h slot.op on refused.request sound.single run refused.is_request delayed in
-      let claims : claim board on refused.request ≡ Lane refused.lane = claims_whole board on refused.request (through h slot.op) (Lane refused.lane) none refused.claims in
-      let claims_here : claim board on refused.request ≡ Lane lane = subst (λ r. claim board on r ≡ Lane lane) same latched.claims in
-      let lanes : refused.lane ≡ lane = cc in
-      let why = subst (λ l. Refusal refused.bridge (world l).owed (world l).held (world (lane_back l)).standing l refused.request (find test (world l).held)) lanes refused.why in
-      absurd (elim why as (λ _. ⊥) [
+      let slot : Slot = awaited.slot in
+      let test : Slot → Bool = is_own board (start_of board lane) slot.by slot.op in
+      let own : test slot ≡ true = awaited_own lane some.number awaited in
+      let here = refused_here lane some.number awaited refused in
+      let delayed : is_posted refused.request ≡ false = here.0 in
+      let why = subst (λ l. Refusal refused.bridge (world l).owed (world l).held (world (lane_back l)).standing l refused.request (find test (world l).held)) here.1 refused.why in
+      elim why as (λ _. ⊥) [
         | full posted _ ↦ cc
         | no_slot _ missing _ ↦
             let F : Slot → Type 0 = λ s. test s ≡ true → is_some (find test held) ≡ true in
-            let there : is_some (find test held) ≡ true = Each-find F (has_number some.number) held slot (Each-found test held) named.is_held own in
+            let there : is_some (find test held) ≡ true = Each-find F (has_number some.number) held slot (Each-found test held) awaited.is_held own in
             let nowhere : is_some (find test held) ≡ false = ap is_some missing in
             cc
         | waits _ other is cause refuses ↦
-            let one : other ≡ slot = one_found test (has_number some.number) held other slot (owners.one_own lane slot.by slot.op) is named.is_held own in
-            let numbers : other.number ≡ some.number = ap (λ (s : Slot). s.number) one ∙ number in
-            let read : Bool = is_read refused.request.command in
-            let by_number : completion_answer read lane (before (is_done_for some.number) coming) (find (is_done_for some.number) coming) ≡ Retry cause =
-            subst (λ n. completion_answer read lane (before (is_done_for n) coming) (find (is_done_for n) coming) ≡ Retry cause) numbers refuses in
-            let by_done = subst (λ item. completion_answer read lane (before (is_done_for some.number) coming) item ≡ Retry cause) some.is by_number in
-            never_refused read lane (before (is_done_for some.number) coming) some.op some.number some.outcome cause (none_before (is_done_for some.number) coming (no_posts (lane_back lane))) by_done
-      ]))
-      (presented board h on slot.by slot.op (waits_wants on slot.by slot.op latched.request latched.is_request latched.initiator waiting))
+            let owners : Owners board (turn_of board h) world = Owners-run board sound.distinct sound.single h run in
+            let one : other ≡ slot = one_found test (has_number some.number) held other slot (owners.one_own lane slot.by slot.op) is awaited.is_held own in
+            let number : other.number ≡ some.number = ap (λ (s : Slot). s.number) one ∙ eqb-true slot.number some.number (find_passes (has_number some.number) held slot awaited.is_held) in
+            done_given (is_read refused.request.command) lane coming some cause (no_posts (lane_back lane))
+            (subst (RefusesAt (is_read refused.request.command) lane coming cause) number refuses)
+      ]
+
+  -- the completion for a lane's slot is taken
+  done_taken : (lane : BridgeLane) → SomeDone (world_of board h (lane_back lane)).standing → Next board h
+  done_taken lane some =
+      let awaited : Awaited lane some.number = done_awaited lane some in
+      let slot : Slot = awaited.slot in
+      let on : ℕ = start_of board lane in
+      ⊎_elim {C = Next board h}
+      (λ next. next)
+      (λ (refused : Refused board h on slot.by slot.op). absurd (none_refused lane some awaited refused))
+      (presented board h on slot.by slot.op (waits_wants on slot.by slot.op awaited.latched.request awaited.latched.is_request awaited.latched.initiator awaited.waiting))
 
   -- a completion that stands on the lane back makes a next event, or none stands there
   pub take_next : (lane : BridgeLane) → Next board h ⊎ AllByRecursion NotDone (world_of board h (lane_back lane)).standing

@@ -39,6 +39,7 @@ abbrev IsOf : ℕ → Option OpId → Type 0
 IsOf master None = Unit {0}
 IsOf master (Some o) = o.master ≡ master
 
+-- an operation that is there is of its master
 present_of : (board : Board) (o : OpId) → IsOf o.master (present board o)
 present_of board o =
     let P : Bool → Type 0 = λ b. IsOf o.master (cond b (Some o) None) in
