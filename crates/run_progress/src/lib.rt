@@ -9,8 +9,7 @@ ghost use Rattle.history_model.specs.declared.event.Event.{Event};
 ghost use Rattle.history_model.specs.Runs.{Run, Complete};
 ghost use Rattle.run_progress.specs.Next.{Next};
 
-/// After a run of a valid board that is not complete some event is allowed: an arrival where
-/// anything is in flight, and else an act.
+/// After a run of a valid board that is not complete some event is allowed.
 pub fn runs_go_on()
     ensures { (board : Board) (h : List Event) → IsValid board → Run board h → ¬ Complete board h → Next board h }
 {}
