@@ -1,0 +1,11 @@
+pub mod RefusedLemmas
+pub mod LaneLemmas
+pub mod PresentLemmas
+pub mod StandLemmas
+pub mod SoundLemmas
+pub mod ArrivalLemmas
+pub mod PostLemmas
+pub mod TakeLemmas
+pub mod AskLemmas
+pub mod TurnLemmas
+pub mod GoOnLemmas
