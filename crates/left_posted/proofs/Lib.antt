@@ -1,0 +1,3 @@
+pub mod PieceLemmas
+pub mod SumLemmas
+pub mod AlikeLemmas
