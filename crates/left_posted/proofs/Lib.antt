@@ -1,3 +1,4 @@
 pub mod PieceLemmas
 pub mod SumLemmas
 pub mod AlikeLemmas
+pub mod ProgramLemmas
