@@ -2,3 +2,4 @@ pub mod PieceLemmas
 pub mod SumLemmas
 pub mod AlikeLemmas
 pub mod ProgramLemmas
+pub mod MoveLemmas
