@@ -3,3 +3,5 @@ pub mod SumLemmas
 pub mod AlikeLemmas
 pub mod ProgramLemmas
 pub mod MoveLemmas
+pub mod FormLemmas
+pub mod StallLemmas
