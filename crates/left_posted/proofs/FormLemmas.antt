@@ -21,6 +21,9 @@ use Rattle.run_slots.proofs.RequestLemmas.{Each-slice_get}
 use Rattle.run_order.proofs.BlockLemmas.{le_true, Each-list_all}
 use Rattle.left_posted.proofs.PieceLemmas.{AllTake}
 
+io_some : (long : ℕ) → (long == 1) ≡ true → 1 ≤ long
+io_some long one = omega (arith, eqb-true long 1 one)
+
 -- a write that is well formed has a data phase
 write_some : (address : ℕ) (phases : List Phase) (space : Option Space) → is_well_formed_write address phases space ≡ true → 1 ≤ length phases
 write_some address phases None well = cc
@@ -28,8 +31,7 @@ write_some address phases (Some Mem) well =
     let burst = (and_parts _ _ (and_parts _ _ (and_parts _ _ well).0).1).0 in
     le_true 1 (length phases) (and_parts _ _ burst).0
 write_some address phases (Some Io) well =
-    let one : length phases ≡ 1 = eqb-true (length phases) 1 (and_parts _ _ (and_parts _ _ well).0).1 in
-    omega (arith, one)
+    io_some (length phases) (and_parts _ _ (and_parts _ _ well).0).1
 write_some address phases (Some Cfg) well = cc
 
 -- and so has every operation
@@ -46,28 +48,39 @@ front x y both = (and_parts x y both).0
 masters_formed : (board : Board) → is_well_formed board ≡ true → list_all is_well_formed_master board.masters ≡ true
 masters_formed board formed = (and_parts _ _ (front _ _ (front _ _ (front _ _ (front _ _ (front _ _ (front _ _ (front _ _ (front _ _ formed))))))))).1
 
+abbrev IsSome : Op → Type 0
+IsSome op = 1 ≤ length (phases_of op)
+
+abbrev AreSome : Master → Type 0
+AreSome master = AllByRecursion IsSome master.ops
+
+ops_some : (master : Master) → is_well_formed_master master ≡ true → AreSome master
+ops_some master well =
+    Each-weaker (λ (p : Op). is_well_formed_op p ≡ true) IsSome phases_some master.ops (Each-list_all is_well_formed_op master.ops (and_parts _ _ well).1)
+
+masters_some : (board : Board) → is_well_formed board ≡ true → AllByRecursion AreSome board.masters
+masters_some board formed =
+    Each-weaker (λ (master : Master). is_well_formed_master master ≡ true) AreSome ops_some board.masters (Each-list_all is_well_formed_master board.masters (masters_formed board formed))
+
 -- the operation of a name stands in the program of its master
-pub op_some : (board : Board) (o : OpId) (op : Op) → is_well_formed board ≡ true → op_of board o ≡ Some op → 1 ≤ length (phases_of op)
-op_some board o op formed is =
-    let W : Op → Type 0 = λ p. 1 ≤ length (phases_of p) in
-    let E : Master → Type 0 = λ master. AllByRecursion W master.ops in
-    let each : (master : Master) → is_well_formed_master master ≡ true → E master = λ master well.
-    Each-weaker (λ (p : Op). is_well_formed_op p ≡ true) W phases_some master.ops (Each-list_all is_well_formed_op master.ops (and_parts _ _ well).1) in
-    let all : AllByRecursion E board.masters =
-    Each-weaker (λ (master : Master). is_well_formed_master master ≡ true) E each board.masters (Each-list_all is_well_formed_master board.masters (masters_formed board formed)) in
+op_of_some : (board : Board) (o : OpId) (op : Op) → AllByRecursion AreSome board.masters → op_of board o ≡ Some op → IsSome op
+op_of_some board o op all is =
     let here : Op → Option Op = λ p. cond (nat_lt o.attempt (tries_of p)) (Some p) None in
-    let P : Option Master → Type 0 = λ found. slice_get board.masters o.master ≡ found → option_and_then here (option_and_then (λ master. slice_get master.ops o.index) found) ≡ Some op → W op in
+    let P : Option Master → Type 0 = λ found. slice_get board.masters o.master ≡ found → option_and_then here (option_and_then (λ master. slice_get master.ops o.index) found) ≡ Some op → IsSome op in
     (elim (slice_get board.masters o.master) as P [
       | None ↦ λ _ e. cc
       | Some master ↦ λ is_master e.
-          let Q : Option Op → Type 0 = λ found. slice_get master.ops o.index ≡ found → option_and_then here found ≡ Some op → W op in
+          let Q : Option Op → Type 0 = λ found. slice_get master.ops o.index ≡ found → option_and_then here found ≡ Some op → IsSome op in
           (elim (slice_get master.ops o.index) as Q [
             | None ↦ λ _ f. cc
             | Some p ↦ λ is_op f.
                 let same : p ≡ op = (cond_some (nat_lt o.attempt (tries_of p)) p op f).1 in
-                subst W same (Each-slice_get W master.ops o.index p (Each-slice_get E board.masters o.master master all is_master) is_op)
+                subst IsSome same (Each-slice_get IsSome master.ops o.index p (Each-slice_get AreSome board.masters o.master master all is_master) is_op)
           ]) refl e
     ]) refl is
+
+pub op_some : (board : Board) (o : OpId) (op : Op) → is_well_formed board ≡ true → op_of board o ≡ Some op → 1 ≤ length (phases_of op)
+op_some board o op formed is = op_of_some board o op (masters_some board formed) is
 
 -- each target takes something at a time
 takes_some : (target : TargetAgent) → is_well_formed_target target ≡ true → 1 ≤ target.burst

@@ -5,3 +5,4 @@ pub mod ProgramLemmas
 pub mod MoveLemmas
 pub mod FormLemmas
 pub mod StallLemmas
+pub mod PostLemmas
