@@ -6,3 +6,9 @@ pub mod MoveLemmas
 pub mod FormLemmas
 pub mod StallLemmas
 pub mod PostLemmas
+pub mod Premises
+pub mod ArrivalLemmas
+pub mod FitLemmas
+pub mod LaneLemmas
+pub mod MasterLemmas
+pub mod EventLemmas

@@ -48,6 +48,10 @@ lane_weight board h lane state = total (flying_left board h lane) state.flight +
 abbrev pub world_weight : Board → List Event → World → ℕ
 world_weight board h world = over_lanes (λ lane. lane_weight board h lane (world lane)) board
 
+-- the operation after another one in the program of its master
+abbrev pub later_op : OpId → OpId
+later_op o = record { master = o.master; index = o.index + 1; attempt = 0 }
+
 -- After one more event, which changes only posted writes and credits on the lanes.
 
 module _ (board : Board) (h : List Event) (e : Event) (alike : AlikeWorlds (world_of board (e ∷ h)) (world_of board h)) where
@@ -91,14 +95,14 @@ module _ (board : Board) (h : List Event) (e : Event) (alike : AlikeWorlds (worl
   post_falls lane o None = omega arith
   post_falls lane o (Some op) = omega (arith, phases_fall o op (end_of board lane))
 
-  flying_falls : (lane : BridgeLane) (item : Carried) → flying_left board new lane item ≤ flying_left board h lane item
+  pub flying_falls : (lane : BridgeLane) (item : Carried) → flying_left board new lane item ≤ flying_left board h lane item
   flying_falls lane (Post op) = omega (arith, post_falls lane op (op_of board op))
   flying_falls lane (Ask op slot) = omega arith
   flying_falls lane (Done op slot outcome) = omega arith
   flying_falls lane Room = omega arith
   flying_falls lane (Gone slot) = omega arith
 
-  standing_falls : (lane : BridgeLane) (item : Carried) → standing_left board new lane item ≤ standing_left board h lane item
+  pub standing_falls : (lane : BridgeLane) (item : Carried) → standing_left board new lane item ≤ standing_left board h lane item
   standing_falls lane (Post op) = omega (arith, post_falls lane op (op_of board op))
   standing_falls lane (Ask op slot) = omega arith
   standing_falls lane (Done op slot outcome) = omega arith
@@ -172,10 +176,6 @@ module _ (board : Board) (h : List Event) (e : Event) (alike : AlikeWorlds (worl
             (omega (arith, pieces_of_le board op on (all - through new o) all (omega arith)))
         | false ↦ rw (none_reached o (way board op on) none, first) (all_tries (tries_of op) (4 * long + 1) tried)
       ]
-
-  -- the operation after another one in the program of its master
-  abbrev pub later_op : OpId → OpId
-  later_op o = record { master = o.master; index = o.index + 1; attempt = 0 }
 
   -- what an operation that is there says of its master's program
   record InProgram (master : MasterAgent) (o : OpId) (op : Op) : Type 0 where

@@ -1,12 +1,5 @@
-use Rattle.left_posted.proofs.PieceLemmas.{pieces_in_le}
-use Rattle.left_posted.proofs.SumLemmas.{from}
-use Rattle.left_posted.proofs.AlikeLemmas.{AlikeWorlds}
-use Rattle.left_posted.proofs.ProgramLemmas.{lane_weight}
-use Rattle.left_posted.proofs.MoveLemmas.{enters_alike}
-use Rattle.left_posted.proofs.FormLemmas.{op_some}
-use Rattle.left_posted.proofs.StallLemmas.{stalls_lower}
-use Rattle.left_posted.proofs.PostLemmas.{posted_op}
+use Rattle.left_posted.proofs.EventLemmas.{events_lower}
 use Rattle.left_posted.proofs.posted_events_lower_left.Goals as goal
 
 pub returns : goal.returns
-returns c = ?
+returns c = λ board h e valid run is. events_lower board valid h run.1 e run.0 is
