@@ -1,7 +1,6 @@
 -- The arrival of a posted write or of a credit lowers what is left.
-use Rattle.std.proofs.Common.{◌≡◌, ℕ, ◌+◌, ◌≤◌, true, List, [], ◌∷◌, refl, sym, ap, ◌∙◌, arith}
+use Rattle.std.proofs.Common.{◌≡◌, ◌+◌, ◌≤◌, true, List, [], ◌∷◌, refl, sym, ap, ◌∙◌, arith}
 use Rattle.list_facts.specs.Lists.{total}
-use Rattle.pci_command.specs.declared.op_id.OpId.{OpId}
 use Rattle.board_model.specs.declared.bridge.Lane.{Lane as BridgeLane}
 use Rattle.board_model.specs.declared.board.Board.{Board}
 use Rattle.history_model.specs.declared.event.Event.{Event}
@@ -9,8 +8,8 @@ use Rattle.history_model.specs.declared.event.Event.TheVariants.{Arrive}
 use Rattle.history_model.specs.declared.event.Mark.{Mark}
 use Rattle.history_model.specs.declared.item.Carried.{Carried}
 use Rattle.history_model.specs.declared.item.Carried.TheVariants.{Post, Ask, Done, Room, Gone}
-use Rattle.history_model.specs.Lanes.{LaneState, empty_lane, arrives}
-use Rattle.history_model.specs.World.{World, moved, world_of}
+use Rattle.history_model.specs.Lanes.{LaneState, arrives}
+use Rattle.history_model.specs.World.{moved, world_of}
 use Rattle.history_model.specs.Runs.{Run}
 use Rattle.history_model.specs.Left.{bridge_left, left_of}
 use Rattle.run_slots.specs.Depths.{DifferentNumbers}

@@ -16,7 +16,7 @@ use Rattle.history_model.specs.Runs.{Allowed, Run}
 use Rattle.history_model.specs.Left.{left_of}
 use Rattle.run_order.specs.Order.{is_posted_op}
 use Rattle.left_posted.specs.PostedEvents.{is_stall, IsPostedEvent}
-use Rattle.left_posted.proofs.Premises.{slots_turn}
+use Rattle.left_posted.proofs.TurnLemmas.{slots_turn}
 use Rattle.left_posted.proofs.FormLemmas.{op_some}
 use Rattle.left_posted.proofs.FitLemmas.{Fit, Fit-valid}
 use Rattle.left_posted.proofs.PostLemmas.{posted_op}

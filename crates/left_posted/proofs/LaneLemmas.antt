@@ -1,14 +1,12 @@
 -- Each act of a lane that presents a posted write lowers what is left.
-use Rattle.std.proofs.Common.{◌≡◌, ℕ, ◌+◌, ◌*◌, ◌-◌, ◌≤◌, Bool, true, false, List, [], ◌∷◌, length, Option, Some, None, refl, sym, ap, subst, ◌∙◌, arith}
+use Rattle.std.proofs.Common.{◌≡◌, ℕ, ◌+◌, ◌*◌, ◌-◌, ◌≤◌, Bool, true, List, ◌∷◌, length, Some, refl, sym, ap, subst, ◌∙◌, arith}
 use Rattle.std.specs.List.{find}
 use Rattle.list_facts.specs.Lists.{less, total}
 use Rattle.list_facts.proofs.TotalLemmas.{found, total-le, total-less}
-use Rattle.pci_command.specs.declared.request.Request.{Request}
 use Rattle.pci_command.specs.declared.op_id.OpId.{OpId}
 use Rattle.pci_command.specs.declared.op_id.Outcome.{Outcome}
 use Rattle.pci_command.specs.declared.op_id.Outcome.TheVariants.{Written, Aborted}
 use Rattle.pci_command.specs.Same.{same_op}
-use Rattle.board_model.specs.declared.bridge.Bridge.{Bridge}
 use Rattle.board_model.specs.declared.bridge.Lane.{Lane as BridgeLane}
 use Rattle.board_model.specs.declared.bridge.Place.{Place}
 use Rattle.board_model.specs.declared.bridge.Place.TheVariants.{Target, Header, Lane, Nobody}
@@ -17,20 +15,18 @@ use Rattle.board_model.specs.declared.board.Board.{Board}
 use Rattle.board_model.specs.Requests.{op_of, phases_of, request_on, request_of, is_posted, reads}
 use Rattle.board_model.specs.Claims.{claim}
 use Rattle.board_model.specs.Ways.{end_of, way, pieces_of}
-use Rattle.history_model.specs.declared.event.By.{By}
-use Rattle.history_model.specs.declared.event.By.TheVariants.{Master, Lane as ByLane}
+use Rattle.history_model.specs.declared.event.By.TheVariants.{Lane as ByLane}
 use Rattle.history_model.specs.declared.event.Step.{Step}
 use Rattle.history_model.specs.declared.event.Step.TheVariants.{Land, Part, Read, Accept, Latch, Take, Stall, MasterAbort, TargetAbort}
 use Rattle.history_model.specs.declared.event.Event.{Event}
 use Rattle.history_model.specs.declared.event.Event.TheVariants.{Act}
-use Rattle.history_model.specs.declared.item.Carried.{Carried}
 use Rattle.history_model.specs.declared.item.Carried.TheVariants.{Post}
 use Rattle.history_model.specs.declared.item.Answer.TheVariants.{Gives}
-use Rattle.history_model.specs.Lanes.{LaneState, is_of, post_enters, item_ends}
+use Rattle.history_model.specs.Lanes.{is_of, post_enters, item_ends}
 use Rattle.history_model.specs.World.{World, moved, unclaimed, mode_of, world_of}
 use Rattle.history_model.specs.Program.{turn_of}
-use Rattle.history_model.specs.Words.{through, without}
-use Rattle.history_model.specs.Answers.{wants, bridge_to, answer}
+use Rattle.history_model.specs.Words.{through}
+use Rattle.history_model.specs.Answers.{wants, answer}
 use Rattle.history_model.specs.Runs.{Run}
 use Rattle.history_model.specs.Left.{flying_left, standing_left, bridge_left, left_of}
 use Rattle.run_slots.proofs.AnswerLemmas.{answered_at}
@@ -39,7 +35,7 @@ use Rattle.run_slots.proofs.RequestLemmas.{same_op_self}
 use Rattle.run_order.specs.Order.{is_posted_in, is_posted_op}
 use Rattle.run_order.proofs.PostedLemmas.{PostedAt, posted_answered}
 use Rattle.left_posted.proofs.SumLemmas.{over-falls}
-use Rattle.left_posted.proofs.AlikeLemmas.{Alike, AlikeWorlds, Alike-self, Alike-then}
+use Rattle.left_posted.proofs.AlikeLemmas.{AlikeWorlds, Alike-self, Alike-then}
 use Rattle.left_posted.proofs.ProgramLemmas.{lane_weight, world_weight, flying_falls, standing_falls, lane_falls, programs_fall, lanes_fall, stalls_fall, left_falls}
 use Rattle.left_posted.proofs.MoveLemmas.{enters_alike, enters_stands, enters_weight, leaves_alike, leaves_weight}
 use Rattle.left_posted.proofs.StallLemmas.{stalls_lower}

@@ -6,7 +6,7 @@ pub mod MoveLemmas
 pub mod FormLemmas
 pub mod StallLemmas
 pub mod PostLemmas
-pub mod Premises
+pub mod TurnLemmas
 pub mod ArrivalLemmas
 pub mod FitLemmas
 pub mod LaneLemmas

@@ -1,5 +1,5 @@
 -- What the moves of posted writes and credits change on the lanes of a bridge.
-use Rattle.std.proofs.Common.{◌≡◌, ℕ, ◌+◌, ◌-◌, ◌≤◌, Bool, true, false, cond, List, [], ◌∷◌, ◌++◌, Option, Some, None, refl, sym, ap, subst, ◌∙◌, arith}
+use Rattle.std.proofs.Common.{◌≡◌, ℕ, ◌+◌, true, false, List, [], ◌∷◌, ◌++◌, Some, refl, sym, ap, subst, ◌∙◌, arith}
 use Rattle.std.specs.List.{find, list_any}
 use Rattle.list_facts.specs.Lists.{less, total}
 use Rattle.list_facts.proofs.TotalLemmas.{found, total-push, total-less}
@@ -12,7 +12,7 @@ use Rattle.history_model.specs.declared.event.Event.{Event}
 use Rattle.history_model.specs.declared.event.Mark.{Mark}
 use Rattle.history_model.specs.declared.item.Carried.{Carried}
 use Rattle.history_model.specs.declared.item.Carried.TheVariants.{Post, Room}
-use Rattle.history_model.specs.Lanes.{LaneState, Both, is_of, is_done_for, post_enters, reply_to, item_ends, arrives_first, arrives}
+use Rattle.history_model.specs.Lanes.{Both, is_of, is_done_for, post_enters, reply_to, item_ends, arrives_first, arrives}
 use Rattle.history_model.specs.World.{World, lane_back, same_lane, both, moved}
 use Rattle.history_model.specs.Answers.{bridge_to}
 use Rattle.history_model.specs.Local.{is_ask_of, is_gone_of}

@@ -1,43 +1,31 @@
 -- What is left of the programs and of what is on the lanes, where lanes differ only in posted writes and credits.
-use Rattle.std.proofs.Common.{◌≡◌, ℕ, zero, suc, ◌+◌, ◌*◌, ◌-◌, ◌<◌, ◌≤◌, ◌==◌, Bool, true, false, ◌||◌, cond, eqb, nat_lt, List, [], ◌∷◌, drop, length, Option, Some, None, is_some, refl, sym, ap, subst, ◌∙◌, arith, slice_get}
-use Rattle.std.specs.List.{list_any, AllByRecursion}
+use Rattle.std.proofs.Common.{◌≡◌, ℕ, zero, suc, ◌+◌, ◌*◌, ◌-◌, ◌<◌, ◌≤◌, Bool, true, false, cond, nat_lt, List, [], ◌∷◌, drop, length, Option, Some, None, is_some, refl, sym, ap, subst, ◌∙◌, arith, slice_get}
+use Rattle.std.specs.List.{list_any}
 use Rattle.std.specs.Option.{option_and_then}
 use Rattle.std.proofs.lemmas.Option.{cond_some}
 use Rattle.std.proofs.lemmas.Bool.Decides.{nat_tests}
 use Rattle.list_facts.specs.Lists.{total}
 use Rattle.list_facts.proofs.TotalLemmas.{total-le}
-use Rattle.pci_command.specs.declared.command.Space.{Space}
-use Rattle.pci_command.specs.declared.command.Space.TheVariants.{Mem, Io, Cfg}
 use Rattle.pci_command.specs.declared.op_id.OpId.{OpId}
-use Rattle.pci_command.specs.declared.op_id.Outcome.{Outcome}
-use Rattle.pci_command.specs.Same.{same_op}
 use Rattle.board_model.specs.declared.agents.Master.{Master as MasterAgent}
 use Rattle.board_model.specs.declared.agents.Target.{Target as TargetAgent}
 use Rattle.board_model.specs.declared.bridge.Lane.{Lane as BridgeLane}
-use Rattle.board_model.specs.declared.bridge.Place.{Place}
 use Rattle.board_model.specs.declared.op.Op.{Op}
-use Rattle.board_model.specs.declared.op.Op.TheVariants.{Read as ReadOp, Write, CfgRead, CfgWrite, Poll}
 use Rattle.board_model.specs.declared.board.Board.{Board}
 use Rattle.board_model.specs.Requests.{op_of, phases_of, request_on, tries_of, is_posted}
 use Rattle.board_model.specs.Ways.{way, end_of, pieces_of, cost_of, cost_of_try}
-use Rattle.history_model.specs.declared.event.By.TheVariants.{Master}
-use Rattle.history_model.specs.declared.event.Step.{Step}
 use Rattle.history_model.specs.declared.event.Event.{Event}
-use Rattle.history_model.specs.declared.event.Event.TheVariants.{Act}
 use Rattle.history_model.specs.declared.item.Carried.{Carried}
 use Rattle.history_model.specs.declared.item.Carried.TheVariants.{Post, Ask, Done, Room, Gone}
-use Rattle.history_model.specs.declared.item.Slot.{Slot}
 use Rattle.history_model.specs.Lanes.{LaneState}
 use Rattle.history_model.specs.World.{World, world_of}
-use Rattle.history_model.specs.Program.{master_outcome, ending_of, next_op, follows_op, follows_in, turn_after, turn_of}
+use Rattle.history_model.specs.Program.{next_op, turn_of}
 use Rattle.history_model.specs.Words.{through}
 use Rattle.history_model.specs.Answers.{stalls_used}
 use Rattle.history_model.specs.Left.{post_left, flying_left, standing_left, bridge_left, is_slot_of, delayed_left, op_left, turn_left, program_left, programs_left, stalls_left, left_of}
-use Rattle.run_slots.proofs.RequestLemmas.{same_op_true}
 use Rattle.run_order.specs.One.{over_lanes}
-use Rattle.run_order.specs.Order.{is_posted_in}
 use Rattle.left_posted.proofs.PieceLemmas.{pieces_of_le}
-use Rattle.left_posted.proofs.SumLemmas.{from, from-le, from-one, programs_from, stalls_from, over-le}
+use Rattle.left_posted.proofs.SumLemmas.{from-le, programs_from, stalls_from, over-le}
 use Rattle.left_posted.proofs.AlikeLemmas.{AlikeWorlds, delayed_alike, discards_alike, drops_alike}
 
 -- what the posted writes and credits of a lane weigh after a history, whatever is on it

@@ -1,7 +1,6 @@
 -- Sums over masters and targets by their places, and over the lanes of a board, where one of them changes.
-use Rattle.std.proofs.Common.{◌≡◌, ℕ, zero, suc, ◌+◌, ◌-◌, ◌<◌, ◌≤◌, Bool, true, false, cond, eqb, List, [], ◌∷◌, Option, Some, None, refl, sym, ap, subst, ◌∙◌, arith, slice_get}
+use Rattle.std.proofs.Common.{◌≡◌, ℕ, zero, suc, ◌+◌, ◌-◌, ◌<◌, ◌≤◌, Bool, true, false, cond, eqb, List, [], ◌∷◌, Some, refl, sym, ap, subst, ◌∙◌, arith, slice_get}
 use Rattle.std.proofs.lemmas.Bool.Decides.{nat_tests}
-use Rattle.list_facts.specs.Lists.{total}
 use Rattle.list_facts.proofs.TotalLemmas.{total-le}
 use Rattle.board_model.specs.declared.agents.Master.{Master as MasterAgent}
 use Rattle.board_model.specs.declared.agents.Target.{Target as TargetAgent}
@@ -14,7 +13,7 @@ use Rattle.history_model.specs.Program.{turn_of}
 use Rattle.history_model.specs.Answers.{stalls_used, bridge_to}
 use Rattle.history_model.specs.Left.{program_left, programs_left, stalls_left}
 use Rattle.run_slots.specs.Depths.{DifferentNumbers}
-use Rattle.run_slots.proofs.BridgeLemmas.{same_lane_true, same_lane_self, same_lane_back, same_lane_symm}
+use Rattle.run_slots.proofs.BridgeLemmas.{same_lane_true, same_lane_back, same_lane_symm}
 use Rattle.run_order.specs.One.{both_lanes, over_lanes}
 use Rattle.run_order.proofs.LaneSums.{over-same, over-plus, over-one}
 
