@@ -24,9 +24,11 @@ pub record Alike (a b : LaneState) : Type 0 where
   pub dones_standing : (number : ℕ) → list_any (is_done_for number) a.standing ≡ list_any (is_done_for number) b.standing
   pub gones_flying : (number : ℕ) → list_any (is_gone_of number) a.flight ≡ list_any (is_gone_of number) b.flight
 
+-- so on every lane
 abbrev pub AlikeWorlds : World → World → Type 0
 AlikeWorlds world other = (l : BridgeLane) → Alike (world l) (other l)
 
+-- a lane is like itself
 pub Alike-self : (a : LaneState) → Alike a a
 Alike-self a =
     record {
@@ -40,6 +42,7 @@ Alike-self a =
       gones_flying = λ number. refl;
     }
 
+-- what is like a lane that is like another is like that one
 pub Alike-then : (a b c : LaneState) → Alike a b → Alike b c → Alike a c
 Alike-then a b c first second =
     record {
@@ -71,6 +74,7 @@ slot_alike long far here here' back back' (Some slot) alike alike_back =
     let e = alike_back.gones_flying slot.number in
     rw (a, b, c, d, e) refl
 
+-- by its furthest slot
 last_alike : (world other : World) (o : OpId) (long far : ℕ) (last : Option BridgeLane) → AlikeWorlds world other → reach_left world o long far last ≡ reach_left other o long far last
 last_alike world other o long far None alike = refl
 last_alike world other o long far (Some lane) alike =
@@ -91,6 +95,7 @@ discards_alike board world other alike lines =
     total-same (discard_left board world) (discard_left board other)
     (λ (planned : Planned). let same = (alike (record { bus = planned.bus; up = planned.up })).dones in rw same refl) lines
 
+-- the same of the lines of drops
 pub drops_alike : (world other : World) → AlikeWorlds world other → (lines : List Planned) → total (drop_left world) lines ≡ total (drop_left other) lines
 drops_alike world other alike lines =
     total-same (drop_left world) (drop_left other)
@@ -101,6 +106,7 @@ pub any-push : {X : Type 0} (test : X → Bool) (xs : List X) (x : X) → test x
 any-push test [] x fails = rw fails refl
 any-push test (y ∷ xs) x fails = ap (λ b. test y || b) (any-push test xs x fails)
 
+-- nor does one that fails when it is taken away
 pub any-less : {X : Type 0} (test gone : X → Bool) (xs : List X) (y : X) → find gone xs ≡ Some y → test y ≡ false → list_any test (less gone xs) ≡ list_any test xs
 any-less test gone [] y some fails = cc
 any-less test gone (x ∷ xs) y some fails =

@@ -32,11 +32,13 @@ module _ (board : Board) (h : List Event) (run : Run board h) (distinct : Differ
       (omega (arith, stalls_fall board h e alike))
       (omega arith)
 
+  -- a lane with something in flight is one of a bridge
   flies_bridge : (item : Carried) (rest : List Carried) → (world_of board h lane).flight ≡ item ∷ rest → OfBridge board lane
   flies_bridge item rest flies =
       of_bridge board h lane run
       (λ empty. let none : (world_of board h lane).flight ≡ [] = ap (λ (s : LaneState). s.flight) empty in let both : item ∷ rest ≡ [] = sym flies ∙ none in cc)
 
+  -- by the oldest item in flight
   pub arrivals_lower : (flight : List Carried) → (world_of board h lane).flight ≡ flight → first_is_post_or_room flight ≡ true → left_of board (Arrive lane mark ∷ h) + 1 ≤ left_of board h
   arrivals_lower [] flies is = cc
   arrivals_lower (Post op ∷ rest) flies is =

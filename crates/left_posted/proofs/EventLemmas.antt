@@ -51,6 +51,7 @@ module _ (board : Board) (valid : IsValid board) (h : List Event) (run : Run boa
       let some : 1 ≤ length (phases_of there.op) = op_some board o there.op valid.well_formed there.is_op in
       lanes_lower board fit h run o there.op there.is_op posted some on lane allowed.0 step place allowed.1
 
+  -- a stall of any operation
   stalls_of_any : (on : ℕ) (by : By) (o : OpId) (step : Step) (place : Place) → step ≡ Stall → Allowed board h (Act on by o step place) → left_of board (Act on by o step place ∷ h) + 1 ≤ left_of board h
   stalls_of_any on by o Land place is allowed = cc
   stalls_of_any on by o (Part phases) place is allowed = cc
@@ -62,6 +63,7 @@ module _ (board : Board) (valid : IsValid board) (h : List Event) (run : Run boa
   stalls_of_any on by o MasterAbort place is allowed = cc
   stalls_of_any on by o TargetAbort place is allowed = cc
 
+  -- each of these events
   pub events_lower : (e : Event) → Allowed board h e → IsPostedEvent board h e → left_of board (e ∷ h) + 1 ≤ left_of board h
   events_lower (Act on by o step place) allowed is =
       let P : Bool → Type 0 = λ b. is_stall step ≡ b → (b || is_posted_op board o) ≡ true → left_of board (Act on by o step place ∷ h) + 1 ≤ left_of board h in

@@ -19,6 +19,7 @@ pub record Fit (board : Board) : Type 0 where
   pub whole : WritesAbortWhole board
   pub take : AllTake board
 
+-- a valid board is so
 pub Fit-valid : (board : Board) → IsValid board → Fit board
 Fit-valid board valid =
     record {

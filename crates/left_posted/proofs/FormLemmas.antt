@@ -21,6 +21,7 @@ use Rattle.run_slots.proofs.RequestLemmas.{Each-slice_get}
 use Rattle.run_order.proofs.BlockLemmas.{le_true, Each-list_all}
 use Rattle.left_posted.proofs.PieceLemmas.{AllTake}
 
+-- one is at least one
 io_some : (long : ℕ) → (long == 1) ≡ true → 1 ≤ long
 io_some long one = omega (arith, eqb-true long 1 one)
 
@@ -42,22 +43,28 @@ phases_some (CfgRead bus device register) well = omega arith
 phases_some (CfgWrite bus device register phase) well = omega arith
 phases_some (Poll space address mask value tries) well = omega arith
 
+-- the first of two tests that pass
 front : (x y : Bool) → (x && y) ≡ true → x ≡ true
 front x y both = (and_parts x y both).0
 
+-- the masters of a well-formed board are well formed
 masters_formed : (board : Board) → is_well_formed board ≡ true → list_all is_well_formed_master board.masters ≡ true
 masters_formed board formed = (and_parts _ _ (front _ _ (front _ _ (front _ _ (front _ _ (front _ _ (front _ _ (front _ _ (front _ _ formed))))))))).1
 
+-- an operation with a data phase
 abbrev IsSome : Op → Type 0
 IsSome op = 1 ≤ length (phases_of op)
 
+-- and a master all of whose operations have one
 abbrev AreSome : Master → Type 0
 AreSome master = AllByRecursion IsSome master.ops
 
+-- a well-formed master is one
 ops_some : (master : Master) → is_well_formed_master master ≡ true → AreSome master
 ops_some master well =
     Each-weaker (λ (p : Op). is_well_formed_op p ≡ true) IsSome phases_some master.ops (Each-list_all is_well_formed_op master.ops (and_parts _ _ well).1)
 
+-- and so is each master of a well-formed board
 masters_some : (board : Board) → is_well_formed board ≡ true → AllByRecursion AreSome board.masters
 masters_some board formed =
     Each-weaker (λ (master : Master). is_well_formed_master master ≡ true) AreSome ops_some board.masters (Each-list_all is_well_formed_master board.masters (masters_formed board formed))
@@ -79,6 +86,7 @@ op_of_some board o op all is =
           ]) refl e
     ]) refl is
 
+-- so each operation of a well-formed board has a data phase
 pub op_some : (board : Board) (o : OpId) (op : Op) → is_well_formed board ≡ true → op_of board o ≡ Some op → 1 ≤ length (phases_of op)
 op_some board o op formed is = op_of_some board o op (masters_some board formed) is
 
@@ -88,6 +96,7 @@ takes_some target well =
     let burst = (and_parts _ _ (front _ _ (front _ _ (front _ _ (front _ _ (front _ _ (front _ _ well))))))).1 in
     le_true 1 target.burst (and_parts _ _ burst).0
 
+-- so does each target of a well-formed board
 pub all_take : (board : Board) → is_well_formed board ≡ true → AllTake board
 all_take board formed =
     Each-weaker (λ (target : TargetAgent). is_well_formed_target target ≡ true) (λ (target : TargetAgent). 1 ≤ target.burst) takes_some board.targets

@@ -56,24 +56,31 @@ found-falls f g test xs x below is falls =
 
 module _ (board : Board) (fit : Fit board) (h : List Event) (run : Run board h) (o : OpId) (op : Op) (is_op : op_of board o ≡ Some op) (posted : is_posted_op board o ≡ true) (some : 1 ≤ length (phases_of op))
     (on : ℕ) (k : BridgeLane) (wanted : wants board h on (ByLane k) o ≡ true) where
+  -- what is on the lanes before the event
   abbrev world : World
   world = world_of board h
 
+  -- how many data phases are left
   abbrev rest : ℕ
   rest = length (phases_of op) - through h o
 
+  -- the posted write stands on the lane
   stands : find (is_of o) (world k).standing ≡ Some (Post o)
   stands = stands_posted board h on k o posted run wanted
 
+  -- the lane is one of a bridge
   of : OfBridge board k
   of = stands_bridge board h k o run stands
 
+  -- what the posted write has left there
   weighs : standing_left board h k (Post o) ≡ 3 * length (way board op (end_of board k)) + pieces_of board op (end_of board k) rest + 1
   weighs = standing_weight board fit.tree fit.one fit.whole fit.take o op is_op posted some h run k
 
+  -- at least one piece of it is left
   piece : (bus : ℕ) → 1 ≤ pieces_of board op bus rest
   piece bus = piece_left board fit.tree fit.one fit.whole fit.take o op is_op posted some h run bus
 
+  -- all lanes weigh what is left on all bridges
   before : total (bridge_left board h) board.bridges ≡ world_weight board h world
   before = refl
 
@@ -139,6 +146,7 @@ module _ (board : Board) (fit : Fit board) (h : List Event) (run : Run board h) 
       (omega (arith, stalls_fall board h e alike))
       (omega arith)
 
+  -- each step that a lane is given
   lane_act : (step : Step) (place : Place) → answer board h on (ByLane k) o ≡ Gives step place → PostedAt step place → left_of board (Act on (ByLane k) o step place ∷ h) + 1 ≤ left_of board h
   lane_act Land (Target place) gives at = ends_lower (Act on (ByLane k) o Land (Target place)) Written refl (λ i. refl)
   lane_act Land (Header bus) gives at = absurd at
@@ -165,6 +173,7 @@ module _ (board : Board) (fit : Fit board) (h : List Event) (run : Run board h) 
   lane_act TargetAbort (Lane lane) gives at = absurd at
   lane_act TargetAbort Nobody gives at = absurd at
 
+  -- so each act of a lane
   pub lanes_lower : (step : Step) (place : Place) → answer board h on (ByLane k) o ≡ Gives step place → left_of board (Act on (ByLane k) o step place ∷ h) + 1 ≤ left_of board h
   lanes_lower step place gives =
       let requested : request_of board o on ≡ Some (request_on op on) = rw is_op refl in

@@ -60,6 +60,7 @@ posted_follows board o outcome (Poll Cfg address mask value tries) write = cc
 abbrev pub OnlyTurns : (ℕ → Option OpId) → List Slot → Type 0
 OnlyTurns turn = AllByRecursion (λ (slot : Slot). turn slot.op.master ≡ Some slot.op)
 
+-- the slot of a turn is none of the operation behind it
 not_later : (turn : ℕ → Option OpId) (o : OpId) (slot : Slot) → turn o.master ≡ Some o → turn slot.op.master ≡ Some slot.op → is_slot_of (later_op o) slot ≡ false
 not_later turn o slot is_turn held =
     let P : Bool → Type 0 = λ b. same_op slot.op (later_op o) ≡ b → b ≡ false in
@@ -73,6 +74,7 @@ not_later turn o slot is_turn held =
       | false ↦ λ _. refl
     ]) refl
 
+-- so of all slots
 none_later : (turn : ℕ → Option OpId) (o : OpId) (held : List Slot) → turn o.master ≡ Some o → OnlyTurns turn held → list_any (is_slot_of (later_op o)) held ≡ false
 none_later turn o [] is_turn only = refl
 none_later turn o (slot ∷ held) is_turn only =
@@ -82,18 +84,23 @@ none_later turn o (slot ∷ held) is_turn only =
 
 module _ (board : Board) (fit : Fit board) (h : List Event) (run : Run board h) (only : (l : BridgeLane) → OnlyTurns (turn_of board h) (world_of board h l).held)
     (o : OpId) (op : Op) (is_op : op_of board o ≡ Some op) (posted : is_posted_op board o ≡ true) (some : 1 ≤ length (phases_of op)) (on : ℕ) (wanted : wants board h on Master o ≡ true) where
+  -- what is on the lanes before the event
   abbrev world : World
   world = world_of board h
 
+  -- how many data phases are left
   abbrev rest : ℕ
   rest = length (phases_of op) - through h o
 
+  -- the master of the operation
   its : OfMaster board on o
   its = of_master board h on o wanted
 
+  -- the operation is a write in memory
   write : same_command (command_of op) MemWrite ≡ true
   write = sym (ap is_posted_in is_op) ∙ posted
 
+  -- and its master's turn
   is_turn : turn_of board h o.master ≡ Some o
   is_turn = wants-turn board h on o wanted
 
@@ -103,18 +110,22 @@ module _ (board : Board) (fit : Fit board) (h : List Event) (run : Run board h) 
       let posts : is_posted (request_on op its.master.bus) ≡ true = write in
       rw posts refl
 
+  -- at least one piece of it is left
   piece : 1 ≤ pieces_of board op its.master.bus rest
   piece = piece_left board fit.tree fit.one fit.whole fit.take o op is_op posted some h run its.master.bus
 
+  -- all lanes weigh what is left on all bridges
   before : total (bridge_left board h) board.bridges ≡ world_weight board h world
   before = refl
 
   -- Where the step ends it at its master.
 
   module _ (step : Step) (place : Place) (outcome : Outcome) (ends : master_outcome step ≡ Some outcome) (alike : AlikeWorlds (world_of board (Act on Master o step place ∷ h)) (world_of board h)) where
+    -- the event
     abbrev e : Event
     e = Act on Master o step place
 
+    -- the next operation is the turn of the master, and the other turns stay
     turn_next : (i : ℕ) → turn_of board (e ∷ h) i ≡ cond (eqb o.master i) (next_op board o) (turn_of board h i)
     turn_next i =
         ap (λ x. turn_after board i (turn_of board h i) (ending_of o x)) ends
@@ -159,6 +170,7 @@ module _ (board : Board) (fit : Fit board) (h : List Event) (run : Run board h) 
 
   -- A bridge accepts it.
 
+  -- the accepted write weighs less on its lane than it had left at its master
   accept_lowers : (lane : BridgeLane) → answer board h on Master o ≡ Gives Accept (Lane lane) → left_of board (Act on Master o Accept (Lane lane) ∷ h) + 1 ≤ left_of board h
   accept_lowers lane gives =
       let e : Event = Act on Master o Accept (Lane lane) in
@@ -177,6 +189,7 @@ module _ (board : Board) (fit : Fit board) (h : List Event) (run : Run board h) 
 
   -- A target takes a part of it.
 
+  -- one piece less is left at the master
   part_lowers : (phases place : ℕ) → answer board h on Master o ≡ Gives (Part phases) (Target place) → left_of board (Act on Master o (Part phases) (Target place) ∷ h) + 1 ≤ left_of board h
   part_lowers phases place gives =
       let e : Event = Act on Master o (Part phases) (Target place) in
@@ -204,9 +217,11 @@ module _ (board : Board) (fit : Fit board) (h : List Event) (run : Run board h) 
       (omega (arith, stalls_fall board h e alike))
       (omega arith)
 
+  -- where the lanes stay
   same_worlds : AlikeWorlds world world
   same_worlds = λ l. Alike-self (world l)
 
+  -- each step that a master is given
   master_act : (step : Step) (place : Place) → answer board h on Master o ≡ Gives step place → PostedAt step place → left_of board (Act on Master o step place ∷ h) + 1 ≤ left_of board h
   master_act Land (Target place) gives at = ends_lower Land (Target place) Written refl same_worlds refl
   master_act Land (Header bus) gives at = absurd at
@@ -233,6 +248,7 @@ module _ (board : Board) (fit : Fit board) (h : List Event) (run : Run board h) 
   master_act TargetAbort (Lane lane) gives at = absurd at
   master_act TargetAbort Nobody gives at = absurd at
 
+  -- so each act of a master
   pub masters_lower : (step : Step) (place : Place) → answer board h on Master o ≡ Gives step place → left_of board (Act on Master o step place ∷ h) + 1 ≤ left_of board h
   masters_lower step place gives =
       let requested : request_of board o on ≡ Some (request_on op on) = rw is_op refl in

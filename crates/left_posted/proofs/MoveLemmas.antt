@@ -26,6 +26,7 @@ use Rattle.left_posted.proofs.ProgramLemmas.{lane_weight, world_weight}
 
 -- A posted write enters: it is in flight.
 
+-- nothing else changes
 pub enters_alike : (o : OpId) (lane : BridgeLane) (world : World) → AlikeWorlds (moved (post_enters o) lane world) world
 enters_alike o lane world =
     let flight : List Carried = (world lane).flight in
@@ -47,6 +48,7 @@ enters_stands o lane world l = moved_each (λ l s. s.standing ≡ (world l).stan
 
 -- A posted write that stands leaves, and its credit goes back.
 
+-- nothing else changes
 pub leaves_alike : (o : OpId) (outcome : Outcome) (lane : BridgeLane) (world : World) → find (is_of o) (world lane).standing ≡ Some (Post o) → AlikeWorlds (moved (item_ends o outcome) lane world) world
 leaves_alike o outcome lane world is =
     let back : BridgeLane = lane_back lane in
@@ -81,9 +83,11 @@ leaves_alike o outcome lane world is =
 abbrev AlikePair : Both → Both → Type 0
 AlikePair x y = Alike x.here y.here × Alike x.back y.back
 
+-- nothing more
 plus_none : (n : ℕ) → n + 0 ≡ n
 plus_none n = omega arith
 
+-- nothing else changes where a posted write comes
 first_posts : (o : OpId) (mark : Mark) (flight rest : List Carried) (x : Both) → flight ≡ Post o ∷ rest → x.here.flight ≡ flight → AlikePair (arrives_first mark flight x) x
 first_posts o mark flight rest x is same =
     let F : List Carried → Type 0 = λ xs. AlikePair (arrives_first mark xs x) x in
@@ -103,6 +107,7 @@ first_posts o mark flight rest x is same =
     ) in
     subst F (sym is) there
 
+-- nor where a credit comes
 first_rooms : (mark : Mark) (flight rest : List Carried) (x : Both) → flight ≡ Room ∷ rest → x.here.flight ≡ flight → AlikePair (arrives_first mark flight x) x
 first_rooms mark flight rest x is same =
     let F : List Carried → Type 0 = λ xs. AlikePair (arrives_first mark xs x) x in
@@ -131,21 +136,26 @@ first_rooms mark flight rest x is same =
     ) in
     subst F (sym is) there
 
+-- so on every lane
 pair_alike : (move : Both → Both) (lane : BridgeLane) (world : World) → AlikePair (move (both world lane)) (both world lane) → AlikeWorlds (moved move lane world) world
 pair_alike move lane world pair = moved_each (λ l s. Alike s (world l)) move lane world (λ l _ _. Alike-self (world l)) pair.0 pair.1
 
+-- where a posted write comes, the lanes are much the same
 pub posts_come_alike : (o : OpId) (mark : Mark) (rest : List Carried) (lane : BridgeLane) (world : World) → (world lane).flight ≡ Post o ∷ rest → AlikeWorlds (moved (arrives mark) lane world) world
 posts_come_alike o mark rest lane world is = pair_alike (arrives mark) lane world (first_posts o mark (world lane).flight rest (both world lane) is refl)
 
+-- so they are where a credit comes
 pub rooms_come_alike : (mark : Mark) (rest : List Carried) (lane : BridgeLane) (world : World) → (world lane).flight ≡ Room ∷ rest → AlikeWorlds (moved (arrives mark) lane world) world
 rooms_come_alike mark rest lane world is = pair_alike (arrives mark) lane world (first_rooms mark (world lane).flight rest (both world lane) is refl)
 
 -- The weight of the lanes after a move of one bridge.
 
 module _ (board : Board) (h : List Event) (distinct : DifferentNumbers board) where
+  -- what a lane and the lane back weigh
   abbrev pair_weight : BridgeLane → Both → ℕ
   pair_weight lane x = lane_weight board h lane x.here + lane_weight board h (lane_back lane) x.back
 
+  -- all lanes change as these two do
   moved_weight : (move : Both → Both) (lane : BridgeLane) (world : World) (bridge : Bridge) → bridge_to board lane.bus ≡ Some bridge
       → world_weight board h (moved move lane world) + pair_weight lane (both world lane) ≡ world_weight board h world + pair_weight lane (move (both world lane))
   moved_weight move lane world bridge is =
@@ -190,6 +200,7 @@ module _ (board : Board) (h : List Event) (distinct : DifferentNumbers board) wh
       let flew : total V (world lane).flight ≡ V (Post o) + total V rest = ap (total V) flies in
       omega (arith, moved_weight (arrives mark) lane world bridge is, comes, flew, total-push W (world lane).standing (Post o))
 
+  -- so does a credit
   pub rooms_come_weight : (mark : Mark) (rest : List Carried) (lane : BridgeLane) (world : World) (bridge : Bridge) → bridge_to board lane.bus ≡ Some bridge → (world lane).flight ≡ Room ∷ rest
       → world_weight board h (moved (arrives mark) lane world) + 1 ≡ world_weight board h world
   rooms_come_weight mark rest lane world bridge is flies =

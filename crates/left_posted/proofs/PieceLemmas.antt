@@ -33,12 +33,14 @@ pieces_in_falls burst n takes enough =
 abbrev pub AllTake : Board → Type 0
 AllTake board = AllByRecursion (λ (target : TargetAgent). 1 ≤ target.burst) board.targets
 
+-- by the target that takes it
 at_le : (request : Request) (m n : ℕ) (found : Option TargetAgent) → m ≤ n → pieces_at request m found ≤ pieces_at request n found
 at_le request m n None below = omega arith
 at_le request m n (Some target) below =
     let P : Bool → Type 0 = λ b. cond b 1 (pieces_in target.burst m) ≤ cond b 1 (pieces_in target.burst n) in
     elim (aborts_at target request) as P [ true ↦ omega arith | false ↦ pieces_in_le target.burst m n below ]
 
+-- by whom it ends at
 by_le : (board : Board) (request : Request) (m n : ℕ) (place : Place) → m ≤ n → pieces_by board request m place ≤ pieces_by board request n place
 by_le board request m n (Target place) below = at_le request m n (slice_get board.targets place) below
 by_le board request m n (Header bus) below = omega arith
@@ -51,11 +53,13 @@ pieces_of_le board op on m n below =
     let route : Route = route_of board op on in
     by_le board (request_on op route.bus) m n route.owner below
 
+-- by the target that takes it
 at_one : (request : Request) (n : ℕ) (target : TargetAgent) → 1 ≤ target.burst → 1 ≤ n → 1 ≤ pieces_at request n (Some target)
 at_one request n target takes some =
     let P : Bool → Type 0 = λ b. 1 ≤ cond b 1 (pieces_in target.burst n) in
     elim (aborts_at target request) as P [ true ↦ omega arith | false ↦ pieces_in_one target.burst n takes some ]
 
+-- by whom it ends at
 by_one : (board : Board) (request : Request) (n : ℕ) (place : Place) → AllTake board → 1 ≤ n → 1 ≤ pieces_by board request n place
 by_one board request n (Target place) take some =
     let P : Option TargetAgent → Type 0 = λ found. slice_get board.targets place ≡ found → 1 ≤ pieces_at request n found in

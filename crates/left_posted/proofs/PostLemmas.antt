@@ -57,6 +57,7 @@ pub record PostedOp (board : Board) (o : OpId) : Type 0 where
   pub is_op : op_of board o ≡ Some op
   pub write : same_command (command_of op) MemWrite ≡ true
 
+-- an operation that is a write in memory
 pub posted_op : (board : Board) (o : OpId) → is_posted_op board o ≡ true → PostedOp board o
 posted_op board o posted =
     let P : Option Op → Type 0 = λ found. op_of board o ≡ found → is_posted_in found ≡ true → PostedOp board o in
@@ -67,6 +68,7 @@ pub record OfBridge (board : Board) (lane : BridgeLane) : Type 0 where
   pub bridge : Bridge
   pub is_bridge : bridge_to board lane.bus ≡ Some bridge
 
+-- since nothing is on a lane of no bridge
 pub of_bridge : (board : Board) (h : List Event) (lane : BridgeLane) → Run board h → (world_of board h lane ≡ empty_lane → ⊥) → OfBridge board lane
 of_bridge board h lane run some =
     let P : Option Bridge → Type 0 = λ found. bridge_to board lane.bus ≡ found → OfBridge board lane in
@@ -82,6 +84,7 @@ presented_post board on o xs None posted right some presented = cc
 presented_post board on o xs (Some item) posted right some presented =
     some ∙ ap Some (post_of board o posted item (Each-find (RightKind board) (is_of o) xs item right some) (find_passes (is_of o) xs item some))
 
+-- so where a lane presents it
 pub stands_posted : (board : Board) (h : List Event) (on : ℕ) (lane : BridgeLane) (o : OpId) → is_posted_op board o ≡ true → Run board h → wants board h on (ByLane lane) o ≡ true
     → find (is_of o) (world_of board h lane).standing ≡ Some (Post o)
 stands_posted board h on lane o posted run wanted =
@@ -89,6 +92,7 @@ stands_posted board h on lane o posted run wanted =
     let presented : presents board on o st ≡ true = (split_true (end_of board lane == on) (presents board on o st) wanted).1 in
     presented_post board on o st (find (is_of o) st) posted (RightKind-run board h lane run).1 refl presented
 
+-- and the lane is one of a bridge
 pub stands_bridge : (board : Board) (h : List Event) (lane : BridgeLane) (o : OpId) → Run board h → find (is_of o) (world_of board h lane).standing ≡ Some (Post o) → OfBridge board lane
 stands_bridge board h lane o run stands =
     of_bridge board h lane run
@@ -100,6 +104,7 @@ pub record OfMaster (board : Board) (on : ℕ) (o : OpId) : Type 0 where
   pub is_master : slice_get board.masters o.master ≡ Some master
   pub bus : on ≡ master.bus
 
+-- the master of an operation that is presented by its master
 pub of_master : (board : Board) (h : List Event) (on : ℕ) (o : OpId) → wants board h on Master o ≡ true → OfMaster board on o
 of_master board h on o wanted =
     let P : Option MasterAgent → Type 0 = λ found. slice_get board.masters o.master ≡ found → is_on on found ≡ true → OfMaster board on o in
@@ -113,11 +118,13 @@ pub record WayGoesOn (board : Board) (op : Op) (on : ℕ) (lane : BridgeLane) : 
   pub first : way board op on ≡ lane ∷ way board op (end_of board lane)
   pub pieces : (n : ℕ) → pieces_of board op on n ≡ pieces_of board op (end_of board lane) n
 
+-- a way is that of whom the request is claimed by
 route_is : (board : Board) (op : Op) (on : ℕ) (place : Place) → IsTree board → claim board on (request_on op on) ≡ place → route_of board op on ≡ route_by (λ lane. route_of board op (end_of board lane)) on place
 route_is board op on place tree claims =
     let ends = WayEnds-tree board op tree on in
     ends.onwards ∙ ap (route_by (λ lane. route_of board op (end_of board lane)) on) claims
 
+-- by the first claim
 pub way_goes_on : (board : Board) (op : Op) (on : ℕ) (lane : BridgeLane) → IsTree board → claim board on (request_on op on) ≡ Lane lane → WayGoesOn board op on lane
 way_goes_on board op on lane tree claims =
     let route = route_is board op on (Lane lane) tree claims in
@@ -147,6 +154,7 @@ part_is board h place request target phases is =
     let D : Bool → Type 0 = λ d. Goal (cond d Stall (cond (aborts_at target request) TargetAbort (cond (is_read request.command) reads (cond (nat_lt target.burst long) (Part target.burst) Land)))) in
     (elim (nat_lt (stalls_used h place) target.stalls) as D [ true ↦ λ e. cc | false ↦ c ]) is
 
+-- what has not gone whole is left
 short_left : (gone long : ℕ) → Short gone long → 1 ≤ long → 1 ≤ long - gone
 short_left zero long short some = omega (arith, some)
 short_left (suc gone) long short some = omega (arith, short (omega arith))
@@ -199,5 +207,6 @@ module _ (board : Board) (tree : IsTree board) (one : WritesHaveOneClaimant boar
   pub standing_weight : (lane : BridgeLane) → standing_left board h lane (Post o) ≡ 3 * length (way board op (end_of board lane)) + pieces_of board op (end_of board lane) (length (phases_of op) - through h o) + 1
   standing_weight lane = ap (λ found. post_left board h lane o found + 1) is_op
 
+  -- and in flight one more
   pub flying_weight : (lane : BridgeLane) → flying_left board h lane (Post o) ≡ 3 * length (way board op (end_of board lane)) + pieces_of board op (end_of board lane) (length (phases_of op) - through h o) + 2
   flying_weight lane = ap (λ found. post_left board h lane o found + 2) is_op

@@ -43,9 +43,11 @@ later_op o = record { master = o.master; index = o.index + 1; attempt = 0 }
 -- After one more event, which changes only posted writes and credits on the lanes.
 
 module _ (board : Board) (h : List Event) (e : Event) (alike : AlikeWorlds (world_of board (e ∷ h)) (world_of board h)) where
+  -- the history with the event
   abbrev new : List Event
   new = e ∷ h
 
+  -- no more pieces are left
   phases_fall : (o : OpId) (op : Op) (on : ℕ) → pieces_of board op on (length (phases_of op) - through new o) ≤ pieces_of board op on (length (phases_of op) - through h o)
   phases_fall o op on = pieces_of_le board op on (length (phases_of op) - through new o) (length (phases_of op) - through h o) (omega arith)
 
@@ -61,6 +63,7 @@ module _ (board : Board) (h : List Event) (e : Event) (alike : AlikeWorlds (worl
         | false ↦ omega (arith, delayed_alike (world_of board new) (world_of board h) o alike (way board op on))
       ]
 
+  -- nor has a turn
   turn_falls : (on : ℕ) (o : OpId) (op : Option Op) → turn_left board new on o op ≤ turn_left board h on o op
   turn_falls on o None = omega arith
   turn_falls on o (Some op) = op_falls on o op
@@ -70,6 +73,7 @@ module _ (board : Board) (h : List Event) (e : Event) (alike : AlikeWorlds (worl
   program_falls master None = omega arith
   program_falls master (Some o) = omega (arith, turn_falls master.bus o (op_of board o))
 
+  -- nor have all programs, where all turns stay
   pub programs_fall : ((i : ℕ) → turn_of board new i ≡ turn_of board h i) → programs_left board new 0 board.masters ≤ programs_left board h 0 board.masters
   programs_fall same =
       let f : ℕ → MasterAgent → ℕ = λ i master. program_left board new master (turn_of board new i) in
@@ -83,6 +87,7 @@ module _ (board : Board) (h : List Event) (e : Event) (alike : AlikeWorlds (worl
   post_falls lane o None = omega arith
   post_falls lane o (Some op) = omega (arith, phases_fall o op (end_of board lane))
 
+  -- in flight
   pub flying_falls : (lane : BridgeLane) (item : Carried) → flying_left board new lane item ≤ flying_left board h lane item
   flying_falls lane (Post op) = omega (arith, post_falls lane op (op_of board op))
   flying_falls lane (Ask op slot) = omega arith
@@ -90,6 +95,7 @@ module _ (board : Board) (h : List Event) (e : Event) (alike : AlikeWorlds (worl
   flying_falls lane Room = omega arith
   flying_falls lane (Gone slot) = omega arith
 
+  -- or standing
   pub standing_falls : (lane : BridgeLane) (item : Carried) → standing_left board new lane item ≤ standing_left board h lane item
   standing_falls lane (Post op) = omega (arith, post_falls lane op (op_of board op))
   standing_falls lane (Ask op slot) = omega arith
@@ -97,6 +103,7 @@ module _ (board : Board) (h : List Event) (e : Event) (alike : AlikeWorlds (worl
   standing_falls lane Room = omega arith
   standing_falls lane (Gone slot) = omega arith
 
+  -- so each lane
   pub lane_falls : (lane : BridgeLane) (state : LaneState) → lane_weight board new lane state ≤ lane_weight board h lane state
   lane_falls lane state =
       omega (
@@ -105,6 +112,7 @@ module _ (board : Board) (h : List Event) (e : Event) (alike : AlikeWorlds (worl
         total-le (standing_left board new lane) (standing_left board h lane) (standing_falls lane) state.standing,
       )
 
+  -- and all lanes
   pub lanes_fall : total (bridge_left board new) board.bridges ≤ world_weight board h (world_of board new)
   lanes_fall = over-le (λ lane. lane_weight board new lane (world_of board new lane)) (λ lane. lane_weight board h lane (world_of board new lane)) board (λ lane. lane_falls lane (world_of board new lane))
 
@@ -138,14 +146,17 @@ module _ (board : Board) (h : List Event) (e : Event) (alike : AlikeWorlds (worl
   abbrev pub NoSlots : OpId → Type 0
   NoSlots o = (l : BridgeLane) → list_any (is_slot_of o) (world_of board new l).held ≡ false
 
+  -- a delayed request without slots has its whole way left
   none_reached : (o : OpId) (lanes : List BridgeLane) → NoSlots o → delayed_left (world_of board new) o lanes ≡ 4 * length lanes + 1
   none_reached o [] none = refl
   none_reached o (lane ∷ lanes) none = let here = none lane in rw here refl
 
+  -- one try costs no more than all
   once_le : (tries c d : ℕ) → 0 < tries → c ≤ d → c ≤ tries * d
   once_le zero c d some below = absurd (omega arith)
   once_le (suc n) c d some below = omega (arith, below)
 
+  -- the tries behind the first, and the first
   all_tries : (tries cost : ℕ) → 0 < tries → cost + (tries - 1) * cost ≤ tries * cost
   all_tries zero cost some = absurd (omega arith)
   all_tries (suc n) cost some = let e : suc n - 1 ≡ n = omega arith in rw e (omega arith)
@@ -170,6 +181,7 @@ module _ (board : Board) (h : List Event) (e : Event) (alike : AlikeWorlds (worl
     at : slice_get master.ops o.index ≡ Some op
     tried : o.attempt < tries_of op
 
+  -- it stands there at its index
   in_program : (master : MasterAgent) (o : OpId) (op : Op) → slice_get board.masters o.master ≡ Some master → op_of board o ≡ Some op → InProgram master o op
   in_program master o op is_master is_op =
       let here : Op → Option Op = λ p. cond (nat_lt o.attempt (tries_of p)) (Some p) None in
@@ -183,6 +195,7 @@ module _ (board : Board) (h : List Event) (e : Event) (alike : AlikeWorlds (worl
             record { at = at ∙ ap Some parts.1; tried = subst (λ q. o.attempt < tries_of q) parts.1 below }
       ]) refl (subst F is_master is_op)
 
+  -- a list from a place on begins with what stands at the place
   drop-at : (ops : List Op) (place : ℕ) (op : Op) → slice_get ops place ≡ Some op → drop place ops ≡ op ∷ drop (suc place) ops
   drop-at [] place op is = cc
   drop-at (p ∷ ops) zero op is = let same : p ≡ op = cc in ap (λ q. q ∷ ops) same

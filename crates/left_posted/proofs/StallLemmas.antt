@@ -40,10 +40,12 @@ use Rattle.left_posted.proofs.ProgramLemmas.{world_weight, programs_fall, lanes_
 
 -- Only a target stalls.
 
+-- an answer that is no stall
 abbrev NoStall : Answer → Type 0
 NoStall (Gives step place) = is_stall step ≡ false
 NoStall (Retry cause) = Unit {0}
 
+-- the answer of a completion is none
 completion_no_stall : (read : Bool) (lane : BridgeLane) (older : List Carried) (item : Option Carried) → NoStall (completion_answer read lane older item)
 completion_no_stall read lane older None = tt
 completion_no_stall read lane older (Some (Post op)) = tt
@@ -54,6 +56,7 @@ completion_no_stall read lane older (Some (Done op slot outcome)) =
 completion_no_stall read lane older (Some Room) = tt
 completion_no_stall read lane older (Some (Gone slot)) = tt
 
+-- nor is what a bridge answers a delayed request
 delayed_no_stall : (read : Bool) (depth : ℕ) (lane : BridgeLane) (held : List Slot) (coming : List Carried) (own : Option Slot) → NoStall (delayed_answer read depth lane held coming own)
 delayed_no_stall read depth lane held coming None =
     let P : Bool → Type 0 = λ b. NoStall (cond b (Gives Latch (Lane lane)) (Retry NoSlot)) in
@@ -61,11 +64,13 @@ delayed_no_stall read depth lane held coming None =
 delayed_no_stall read depth lane held coming (Some slot) =
     completion_no_stall read lane (before (is_done_for slot.number) coming) (find (is_done_for slot.number) coming)
 
+-- nor what it answers a posted write
 posted_no_stall : (owed depth : ℕ) (lane : BridgeLane) → NoStall (posted_answer owed depth lane)
 posted_no_stall owed depth lane =
     let P : Bool → Type 0 = λ b. NoStall (cond b (Gives Accept (Lane lane)) (Retry Full)) in
     elim (nat_lt owed depth) as P [ true ↦ refl | false ↦ tt ]
 
+-- so no lane stalls
 lane_no_stall : (board : Board) (world : World) (on : ℕ) (by : By) (o : OpId) (request : Request) (lane : BridgeLane) (found : Option Bridge) → NoStall (lane_answer board world on by o request lane found)
 lane_no_stall board world on by o request lane None = refl
 lane_no_stall board world on by o request lane (Some bridge) =
@@ -77,6 +82,7 @@ lane_no_stall board world on by o request lane (Some bridge) =
       | false ↦ delayed_no_stall (is_read request.command) bridge.delayed lane (world lane).held coming own
     ]
 
+-- nor does a header
 header_no_stall : (bus : ℕ) (request : Request) (found : Option Bridge) → NoStall (header_answer bus request found)
 header_no_stall bus request None = refl
 header_no_stall bus request (Some bridge) = refl
@@ -93,6 +99,7 @@ record StallsAt (board : Board) (h : List Event) (at : Place) : Type 0 where
   is_target : slice_get board.targets place ≡ Some target
   token : stalls_used h place < target.stalls
 
+-- a target stalls only while a token is left
 target_stalls : (board : Board) (h : List Event) (place : ℕ) (request : Request) (target : TargetAgent) (at : Place) → slice_get board.targets place ≡ Some target
     → Gives (target_step board h place request target) (Target place) ≡ Gives Stall at → StallsAt board h at
 target_stalls board h place request target at is gives =
@@ -113,11 +120,13 @@ target_stalls board h place request target at is gives =
     ]) refl step in
     record { place = place; target = target; is = cc; is_target = is; token = token }
 
+-- a target that is there
 target_found : (board : Board) (h : List Event) (place : ℕ) (request : Request) (found : Option TargetAgent) (at : Place) → slice_get board.targets place ≡ found
     → target_answer board h place request found ≡ Gives Stall at → StallsAt board h at
 target_found board h place request None at is gives = cc
 target_found board h place request (Some target) at is gives = target_stalls board h place request target at is gives
 
+-- by who claims
 place_stalls : (board : Board) (h : List Event) (on : ℕ) (by : By) (o : OpId) (request : Request) (place at : Place) → answer_by board (world_of board h) h on by o request place ≡ Gives Stall at → StallsAt board h at
 place_stalls board h on by o request (Target place) at gives = target_found board h place request (slice_get board.targets place) at refl gives
 place_stalls board h on by o request (Header bus) at gives = absurd (stalls_not (header_answer bus request (bridge_to board bus)) at gives (header_no_stall bus request (bridge_to board bus)))
@@ -125,6 +134,7 @@ place_stalls board h on by o request (Lane lane) at gives =
     absurd (stalls_not (lane_answer board (world_of board h) on by o request lane (bridge_to board lane.bus)) at gives (lane_no_stall board (world_of board h) on by o request lane (bridge_to board lane.bus)))
 place_stalls board h on by o request Nobody at gives = cc
 
+-- so any operation that is stalled
 answered_stalls : (board : Board) (h : List Event) (on : ℕ) (by : By) (o : OpId) (at : Place) → answer board h on by o ≡ Gives Stall at → StallsAt board h at
 answered_stalls board h on by o at gives =
     let P : Option Request → Type 0 = λ some. answer_to board (world_of board h) h on by o some ≡ Gives Stall at → StallsAt board h at in
@@ -135,18 +145,22 @@ answered_stalls board h on by o at gives =
 
 -- The event.
 
+-- a stall changes nothing on the lanes
 stall_alike : (board : Board) (h : List Event) (on : ℕ) (by : By) (o : OpId) (place : ℕ) → AlikeWorlds (world_of board (Act on by o Stall (Target place) ∷ h)) (world_of board h)
 stall_alike board h on Master o place = λ l. Alike-self (world_of board h l)
 stall_alike board h on (ByLane lane) o place = λ l. Alike-self (world_of board h l)
 
+-- no turn
 stall_turn : (board : Board) (h : List Event) (on : ℕ) (by : By) (o : OpId) (place i : ℕ) → turn_of board (Act on by o Stall (Target place) ∷ h) i ≡ turn_of board h i
 stall_turn board h on Master o place i = refl
 stall_turn board h on (ByLane lane) o place i = refl
 
+-- no weight of a lane
 stall_weight : (board : Board) (h : List Event) (on : ℕ) (by : By) (o : OpId) (place : ℕ) → world_weight board h (world_of board (Act on by o Stall (Target place) ∷ h)) ≡ total (bridge_left board h) board.bridges
 stall_weight board h on Master o place = refl
 stall_weight board h on (ByLane lane) o place = refl
 
+-- but one token is used up
 token_used : (board : Board) (h : List Event) (on : ℕ) (by : By) (o : OpId) (place : ℕ) (target : TargetAgent) → slice_get board.targets place ≡ Some target → stalls_used h place < target.stalls
     → stalls_left (Act on by o Stall (Target place) ∷ h) 0 board.targets + 1 ≤ stalls_left h 0 board.targets
 token_used board h on by o place target is token =
@@ -159,6 +173,7 @@ token_used board h on by o place target is token =
     let falls : f place target + 1 ≤ g place target = omega (arith, one_more, token) in
     omega (arith, stalls_from new 0 board.targets, stalls_from h 0 board.targets, from-one f g place target 1 each falls 0 board.targets place (omega arith) is)
 
+-- so less is left
 at_target : (board : Board) (h : List Event) (on : ℕ) (by : By) (o : OpId) (place : ℕ) (target : TargetAgent) → slice_get board.targets place ≡ Some target → stalls_used h place < target.stalls
     → left_of board (Act on by o Stall (Target place) ∷ h) + 1 ≤ left_of board h
 at_target board h on by o place target is token =

@@ -22,6 +22,7 @@ abbrev pub from : {X : Type 0} → (ℕ → X → ℕ) → ℕ → List X → �
 from weight place [] = 0
 from weight place (x ∷ xs) = weight place x + from weight (place + 1) xs
 
+-- where no element weighs more
 pub from-le : {X : Type 0} (f g : ℕ → X → ℕ) → ((place : ℕ) (x : X) → f place x ≤ g place x) → (place : ℕ) (xs : List X) → from f place xs ≤ from g place xs
 from-le f g below place [] = omega arith
 from-le f g below place (x ∷ xs) = omega (arith, below place x, from-le f g below (place + 1) xs)
@@ -51,6 +52,7 @@ pub programs_from : (board : Board) (h : List Event) (place : ℕ) (masters : Li
 programs_from board h place [] = refl
 programs_from board h place (master ∷ masters) = ap (λ n. program_left board h master (turn_of board h place) + n) (programs_from board h (place + 1) masters)
 
+-- and so are the stall tokens
 pub stalls_from : (h : List Event) (place : ℕ) (targets : List TargetAgent) → stalls_left h place targets ≡ from (λ i (target : TargetAgent). target.stalls - stalls_used h i) place targets
 stalls_from h place [] = refl
 stalls_from h place (target ∷ targets) = ap (λ n. (target.stalls - stalls_used h place) + n) (stalls_from h (place + 1) targets)

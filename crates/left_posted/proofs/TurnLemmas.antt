@@ -57,6 +57,7 @@ rank_most board lane bridge is =
     elim lane.up as P [ true ↦ omega (arith, most, number) | false ↦ omega arith ]
 
 module _ (board : Board) (tree : IsTree board) (distinct : DifferentNumbers board) (single : DelayedAreSingle board) (h : List Event) (run : Run board h) where
+  -- what is on the lanes
   abbrev world : World
   world = world_of board h
 
@@ -70,6 +71,7 @@ module _ (board : Board) (tree : IsTree board) (distinct : DifferentNumbers boar
     held : IsHeldFor (world k).held number o
     above : rank board lane < rank board k
 
+  -- since its request stands on that lane
   goes_behind : (lane k : BridgeLane) (slot : Slot) → Latched board lane slot → end_of board k ≡ start_of board lane → Waits board (turn_of board h) world (start_of board lane) (ByLane k) slot.op → Behind lane k slot.op
   goes_behind lane k slot latched ends waits =
       let o : OpId = slot.op in
@@ -92,6 +94,7 @@ module _ (board : Board) (tree : IsTree board) (distinct : DifferentNumbers boar
   abbrev Known : BridgeLane → Slot → Type 0
   Known lane slot = Latched board lane slot × Waits board (turn_of board h) world (start_of board lane) slot.by slot.op
 
+  -- all that is known of all slots of a lane
   known : (lane : BridgeLane) → AllByRecursion (Known lane) (world lane).held
   known lane =
       Each-both (Latched board lane) (λ (slot : Slot). Waits board (turn_of board h) world (start_of board lane) slot.by slot.op) (world lane).held
@@ -122,6 +125,7 @@ module _ (board : Board) (tree : IsTree board) (distinct : DifferentNumbers boar
   turns_from (suc n) lane beyond =
       Each-weaker (Known lane) ForTurn (slot_turn lane (λ k above. turns_from n k (omega (arith, beyond, above)))) (world lane).held (known lane)
 
+  -- so on each lane
   turns_of : (lane : BridgeLane) → AllByRecursion ForTurn (world lane).held
   turns_of lane = turns_from (2 * last_bus board + 1) lane (omega arith)
 
