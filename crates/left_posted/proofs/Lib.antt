@@ -1,0 +1,14 @@
+pub mod PieceLemmas
+pub mod SumLemmas
+pub mod AlikeLemmas
+pub mod ProgramLemmas
+pub mod MoveLemmas
+pub mod FormLemmas
+pub mod StallLemmas
+pub mod PostLemmas
+pub mod TurnLemmas
+pub mod ArrivalLemmas
+pub mod FitLemmas
+pub mod LaneLemmas
+pub mod MasterLemmas
+pub mod EventLemmas
