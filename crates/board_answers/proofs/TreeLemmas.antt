@@ -1,20 +1,19 @@
 -- How the refusal of a board as a tree is told.
-use Rattle.std.proofs.Common.{◌≡◌, ◌≢◌, ℕ, ◌<◌, ◌≤◌, Bool, true, false, cond, nat_lt, List, Option, Some, None, Result, Ok, Err, refl, sym, subst, ap, ◌∙◌, inl, inr, ◌⊎◌, arith}
+use Rattle.std.proofs.Common.{◌≡◌, ℕ, ◌<◌, ◌≤◌, Bool, true, false, cond, nat_lt, List, Option, Some, None, Ok, refl, sym, subst, ap, ◌∙◌, inl, inr, arith}
 use Rattle.std.proofs.lemmas.Bool.{cases_lt}
 use Rattle.std.proofs.lemmas.Bool.Decides.{nat_tests}
 use Rattle.board_model.specs.declared.board.Board.{Board}
 use Rattle.board_model.specs.WellFormed.{is_well_formed}
 use Rattle.board_model.specs.Ways.{bound_of}
-use Rattle.board_model.specs.Valid.{IsValid, lacks_a_bus, is_no_tree, has_windows_that_meet, is_out_of_reach, has_range_in_window, has_ranges_that_meet, has_devices_that_meet, writes_a_header, is_too_long}
+use Rattle.board_model.specs.Valid.{IsValid, lacks_a_bus, is_no_tree, has_windows_that_meet, is_out_of_reach, has_range_in_window, has_ranges_that_meet, has_devices_that_meet, writes_a_header}
 use Rattle.tree_tests.specs.Faults.{first_fault_of}
 use Rattle.board_parser.specs.Boards.{board_read}
-use Rattle.bus_tree.specs.declared.refusal.TreeRefusal.TheVariants.{Fault}
 use Rattle.bus_tree.specs.Refusals.{refusal_by, refusal_of}
 use Rattle.bus_tree.proofs.ValidLemmas.{IsValid-passed}
 use Rattle.program_status.specs.declared.status.Status.{Status}
 use Rattle.program_status.specs.declared.status.Status.TheVariants.{BadBoard}
 use Rattle.program_status.specs.declared.status.BoardFault.TheVariants.{V, Bound}
-use Rattle.board_answers.specs.Refusals.{tree_fault_by, tree_fault, reading_refusal, board_refusal}
+use Rattle.board_answers.specs.Refusals.{tree_fault_by, reading_refusal, board_refusal}
 use Rattle.board_answers.specs.Answers.{tree_fault_told, refusal_told, RefusesTree, RefusesHeaders}
 
 -- one of eight codes is told by its number
