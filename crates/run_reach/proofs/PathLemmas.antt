@@ -46,7 +46,7 @@ follows_few board op on lanes tree follows =
     omega (arith, ends.within, follows_within board op tree on lanes follows)
 
 -- lanes of different bridges are different
-other_bridge : (a b : BridgeLane) → same_bridge a b ≡ false → same_lane b a ≡ false
+pub other_bridge : (a b : BridgeLane) → same_bridge a b ≡ false → same_lane b a ≡ false
 other_bridge a b other = grind (arith, nat_tests)
 
 -- what holds of each holds behind the first so many
