@@ -2,6 +2,7 @@
 use Rattle.std.proofs.Common.{◌≡◌, ℕ, ◌+◌, ◌≤◌, Bool, true, false, ◌||◌, cond, List, [], ◌∷◌, ◌++◌, Option, Some, None, refl, sym, ◌∙◌, arith}
 use Rattle.std.specs.List.{find, list_any, AllByRecursion}
 use Rattle.list_facts.specs.Lists.{less, total}
+use Rattle.list_facts.proofs.TotalLemmas.{total-le}
 
 -- where one passes, one is found
 pub any_some : {X : Type 0} (test : X → Bool) (xs : List X) → list_any test xs ≡ true → (y : X) × (find test xs ≡ Some y)
@@ -105,3 +106,41 @@ found_any test other (x ∷ xs) y some passes =
       | true ↦ λ e. let same : x ≡ y = cc in let here : other x ≡ true = cc in rw here refl
       | false ↦ λ e. elim (other x) as Q [ true ↦ refl | false ↦ later e passes ]
     ]) some
+
+-- one more at the end that fails is not found
+pub find-push_other : {X : Type 0} (test : X → Bool) (xs : List X) (y : X) → test y ≡ false → find test (xs ++ y ∷ []) ≡ find test xs
+find-push_other test [] y fails = rw fails refl
+find-push_other test (x ∷ xs) y fails = let later = find-push_other test xs y fails in rw later refl
+
+-- what is found stays so where another is taken away
+pub find-less_same : {X : Type 0} (test other : X → Bool) (xs : List X) → ((y : X) → find test xs ≡ Some y → other y ≡ false) → find test (less other xs) ≡ find test xs
+find-less_same test other [] apart = refl
+find-less_same {X} test other (x ∷ xs) apart =
+    let P : Bool → Type 0 = λ b. other x ≡ b → ((y : X) → cond (test x) (Some x) (find test xs) ≡ Some y → other y ≡ false) → find test (cond b xs (x ∷ less other xs)) ≡ cond (test x) (Some x) (find test xs) in
+    let Q : Bool → Type 0 = λ b. ((y : X) → cond b (Some x) (find test xs) ≡ Some y → other y ≡ false) → other x ≡ true → find test xs ≡ cond b (Some x) (find test xs) in
+    let R : Bool → Type 0 = λ b. ((y : X) → cond b (Some x) (find test xs) ≡ Some y → other y ≡ false) → cond b (Some x) (find test (less other xs)) ≡ cond b (Some x) (find test xs) in
+    (elim (other x) as P [
+      | true ↦ λ gone away. (elim (test x) as Q [ true ↦ λ far is. let fails = far x refl in cc | false ↦ λ _ _. refl ]) away gone
+      | false ↦ λ _ away. (elim (test x) as R [ true ↦ λ _. refl | false ↦ λ far. find-less_same test other xs far ]) away
+    ]) refl apart
+
+-- where none passes, what is found fails
+pub found_fails : {X : Type 0} (test other : X → Bool) (xs : List X) (y : X) → find test xs ≡ Some y → list_any other xs ≡ false → other y ≡ false
+found_fails test other xs y some none =
+    let P : Bool → Type 0 = λ b. other y ≡ b → b ≡ false in
+    (elim (other y) as P [ true ↦ λ passes. let any = found_any test other xs y some passes in cc | false ↦ λ _. refl ]) refl
+
+-- sums of the same weights
+pub total_same : {X : Type 0} (f g : X → ℕ) → ((x : X) → f x ≡ g x) → (xs : List X) → total f xs ≡ total g xs
+total_same f g same [] = refl
+total_same f g same (x ∷ xs) = omega (arith, same x, total_same f g same xs)
+
+-- sums of weights that are each no greater, one of them by so much less
+pub total_falls : {X : Type 0} (f g : X → ℕ) (test : X → Bool) (d : ℕ) → ((x : X) → f x ≤ g x) → ((x : X) → test x ≡ true → f x + d ≤ g x) → (xs : List X) → list_any test xs ≡ true → total f xs + d ≤ total g xs
+total_falls f g test d each one [] is = cc
+total_falls f g test d each one (x ∷ xs) is =
+    let P : Bool → Type 0 = λ b. test x ≡ b → (b || list_any test xs) ≡ true → f x + total f xs + d ≤ g x + total g xs in
+    (elim (test x) as P [
+      | true ↦ λ passes _. omega (arith, one x passes, total-le f g each xs)
+      | false ↦ λ _ e. omega (arith, each x, total_falls f g test d each one xs e)
+    ]) refl is

@@ -1,3 +1,5 @@
 pub mod AnyLemmas
 pub mod StageLemmas
 pub mod CountLemmas
+pub mod SameLemmas
+pub mod StoreLemmas
