@@ -3,3 +3,4 @@ pub mod StageLemmas
 pub mod CountLemmas
 pub mod SameLemmas
 pub mod StoreLemmas
+pub mod ActLemmas
