@@ -70,13 +70,15 @@ list_all_each test (x ∷ xs) all = let parts = and_parts (test x) (list_all tes
 front : (x y : Bool) → (x && y) ≡ true → x ≡ true
 front x y both = (and_parts x y both).0
 
+from_one : (n : ℕ) → is_within 1 8 n ≡ true → 1 ≤ n
+from_one n within = grind (arith, nat_tests)
+
 -- a target takes at least one data phase at a time
-some_burst : (board : Board) (place : ℕ) (target : TargetAgent) → IsValid board → slice_get board.targets place ≡ Some target → 1 ≤ target.burst
+pub some_burst : (board : Board) (place : ℕ) (target : TargetAgent) → IsValid board → slice_get board.targets place ≡ Some target → 1 ≤ target.burst
 some_burst board place target valid is =
     let well : is_well_formed_target target ≡ true =
     Each-slice_get (λ (t : TargetAgent). is_well_formed_target t ≡ true) board.targets place target (list_all_each is_well_formed_target board.targets (targets_formed board valid.well_formed)) is in
-    let within : is_within 1 8 target.burst ≡ true = (and_parts _ _ (front _ _ (front _ _ (front _ _ (front _ _ (front _ _ (front _ _ well))))))).1 in
-    grind (arith, nat_tests)
+    from_one target.burst ((and_parts _ _ (front _ _ (front _ _ (front _ _ (front _ _ (front _ _ (front _ _ well))))))).1)
 
 -- a lane answers at itself
 completion_place : (read : Bool) (lane : BridgeLane) (older : List Carried) (item : Option Carried) (step : Step) (place : Place) → completion_answer read lane older item ≡ Gives step place → place ≡ Lane lane

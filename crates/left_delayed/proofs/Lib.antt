@@ -4,3 +4,4 @@ pub mod CountLemmas
 pub mod SameLemmas
 pub mod StoreLemmas
 pub mod ActLemmas
+pub mod ProgramLemmas
