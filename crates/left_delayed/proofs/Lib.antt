@@ -5,3 +5,5 @@ pub mod SameLemmas
 pub mod StoreLemmas
 pub mod ActLemmas
 pub mod ProgramLemmas
+pub mod MoveLemmas
+pub mod ChangeLemmas
