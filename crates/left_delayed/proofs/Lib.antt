@@ -7,3 +7,4 @@ pub mod ActLemmas
 pub mod ProgramLemmas
 pub mod MoveLemmas
 pub mod ChangeLemmas
+pub mod OwnLemmas
