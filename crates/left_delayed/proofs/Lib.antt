@@ -8,3 +8,4 @@ pub mod ProgramLemmas
 pub mod MoveLemmas
 pub mod ChangeLemmas
 pub mod OwnLemmas
+pub mod LaneEndLemmas

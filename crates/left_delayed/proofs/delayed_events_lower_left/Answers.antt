@@ -6,6 +6,7 @@ use Rattle.left_delayed.proofs.ProgramLemmas.{turn_master}
 use Rattle.left_delayed.proofs.MoveLemmas.{moved_here}
 use Rattle.left_delayed.proofs.ChangeLemmas.{lowers}
 use Rattle.left_delayed.proofs.OwnLemmas.{none_of}
+use Rattle.left_delayed.proofs.LaneEndLemmas.{lane_end_lowers}
 use Rattle.left_delayed.proofs.delayed_events_lower_left.Goals as goal
 
 pub returns : goal.returns
