@@ -144,3 +144,14 @@ total_falls f g test d each one (x ∷ xs) is =
       | true ↦ λ passes _. omega (arith, one x passes, total-le f g each xs)
       | false ↦ λ _ e. omega (arith, each x, total_falls f g test d each one xs e)
     ]) refl is
+
+-- where none passes, none does where another is taken away
+pub any-less_none : {X : Type 0} (test other : X → Bool) (xs : List X) → list_any test xs ≡ false → list_any test (less other xs) ≡ false
+any-less_none test other [] none = refl
+any-less_none test other (x ∷ xs) none =
+    let P : Bool → Type 0 = λ b. (b || list_any test xs) ≡ false → (b ≡ false) × (list_any test xs ≡ false) in
+    let parts = (elim (test x) as P [ true ↦ λ e. cc | false ↦ λ e. (refl, e) ]) none in
+    let here : test x ≡ false = parts.0 in
+    let later = any-less_none test other xs parts.1 in
+    let Q : Bool → Type 0 = λ b. list_any test (cond b xs (x ∷ less other xs)) ≡ false in
+    elim (other x) as Q [ true ↦ parts.1 | false ↦ rw here later ]

@@ -9,3 +9,7 @@ pub mod MoveLemmas
 pub mod ChangeLemmas
 pub mod OwnLemmas
 pub mod LaneEndLemmas
+pub mod TakenLemmas
+pub mod LatchLemmas
+pub mod MasterEndLemmas
+pub mod ActEventLemmas

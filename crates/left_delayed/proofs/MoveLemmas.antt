@@ -89,7 +89,7 @@ module _ (board : Board) (h : List Event) where
   abbrev pub StillBoth : BridgeLane → Both → Both → Type 0
   StillBoth lane x y = Still lane x.here y.here × Still (lane_back lane) x.back y.back
 
-  still_self : (lane : BridgeLane) (state : LaneState) → Still lane state state
+  pub still_self : (lane : BridgeLane) (state : LaneState) → Still lane state state
   still_self lane state = record { asks = omega arith; dones = omega arith; lighter = omega arith }
 
   -- an item that is no posted write and no credit weighs nothing
