@@ -1,14 +1,11 @@
 -- Each act of a delayed request lowers what is left.
-use Rattle.std.proofs.Common.{◌≡◌, ℕ, ◌+◌, ◌*◌, ◌≤◌, Bool, true, false, List, [], ◌∷◌, length, Option, Some, None, refl, sym, ap, subst, ◌∙◌, arith}
-use Rattle.std.specs.List.{list_any}
-use Rattle.list_facts.specs.Lists.{total}
+use Rattle.std.proofs.Common.{◌≡◌, ℕ, ◌+◌, ◌*◌, ◌≤◌, true, false, List, ◌∷◌, length, Some, refl, sym, ap, subst, ◌∙◌, arith}
 use Rattle.pci_command.specs.declared.request.Request.{Request}
 use Rattle.pci_command.specs.declared.op_id.OpId.{OpId}
 use Rattle.pci_command.specs.declared.op_id.Outcome.{Outcome}
 use Rattle.pci_command.specs.declared.op_id.Outcome.TheVariants.{Value, Written, Aborted, Nobody as NoOutcome}
 use Rattle.pci_command.specs.declared.command.Command.TheVariants.{MemWrite}
-use Rattle.pci_command.specs.Same.{same_op, same_command}
-use Rattle.board_model.specs.declared.agents.Master.{Master as MasterAgent}
+use Rattle.pci_command.specs.Same.{same_command}
 use Rattle.board_model.specs.declared.bridge.Lane.{Lane as BridgeLane}
 use Rattle.board_model.specs.declared.bridge.Place.{Place}
 use Rattle.board_model.specs.declared.bridge.Place.TheVariants.{Target, Header, Lane, Nobody}
@@ -27,22 +24,18 @@ use Rattle.history_model.specs.declared.event.Step.{Step}
 use Rattle.history_model.specs.declared.event.Step.TheVariants.{Land, Part, Read, Accept, Latch, Take, Stall, MasterAbort, TargetAbort}
 use Rattle.history_model.specs.declared.event.Event.{Event}
 use Rattle.history_model.specs.declared.event.Event.TheVariants.{Act}
-use Rattle.history_model.specs.World.{World, both, at_place, mode_of, unclaimed, lane_outcome, world_of}
+use Rattle.history_model.specs.World.{World, at_place, mode_of, unclaimed, lane_outcome, world_of}
 use Rattle.history_model.specs.Program.{master_outcome}
-use Rattle.history_model.specs.Words.{parted_by}
 use Rattle.history_model.specs.Answers.{stalls_in}
 use Rattle.history_model.specs.Runs.{Run}
-use Rattle.history_model.specs.Left.{is_slot_of, left_of}
-use Rattle.run_slots.specs.Kinds.{NamesOp}
+use Rattle.history_model.specs.Left.{left_of}
 use Rattle.run_slots.proofs.AnswerLemmas.{answered_at}
 use Rattle.run_slots.proofs.LatchedLemmas.{wants-at}
 use Rattle.run_slots.proofs.RequestLemmas.{request_is_of}
 use Rattle.run_reach.proofs.PathLemmas.{way_goes}
 use Rattle.left_delayed.specs.Delayed.{is_stall}
-use Rattle.left_delayed.proofs.StageLemmas.{stage_at}
 use Rattle.left_delayed.proofs.CountLemmas.{passed_stage}
-use Rattle.left_delayed.proofs.SameLemmas.{Same}
-use Rattle.left_delayed.proofs.MoveLemmas.{Still, still_self}
+use Rattle.left_delayed.proofs.MoveLemmas.{still_self}
 use Rattle.left_delayed.proofs.ActLemmas.{IsEnd, nothing_parted, ends_there, lane_there}
 use Rattle.left_delayed.proofs.LaneEndLemmas.{one_op, asked_at, passed_at, lane_end_lowers}
 use Rattle.left_delayed.proofs.TakenLemmas.{mid, is_mid, others_mid, still_mid, none_mid, sum_mid, held_same, stands_same, stage_k}

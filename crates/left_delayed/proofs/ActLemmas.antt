@@ -1,12 +1,11 @@
 -- How a delayed request is answered: by who claims it, at the end of its way or at a lane.
-use Rattle.std.proofs.Common.{◌≡◌, ℕ, ◌+◌, ◌*◌, ◌/◌, ◌%◌, ◌^◌, ◌≤◌, ◌<◌, Bool, true, false, ◌&&◌, cond, nat_lt, List, [], ◌∷◌, length, Option, Some, None, refl, sym, ap, subst, ◌∙◌, arith, slice_get, ◌⊎◌, inl, inr, ⊎_elim}
+use Rattle.std.proofs.Common.{◌≡◌, ℕ, ◌+◌, ◌*◌, ◌/◌, ◌%◌, ◌^◌, ◌≤◌, Bool, true, false, ◌&&◌, cond, nat_lt, List, [], ◌∷◌, length, Option, Some, None, refl, sym, ap, subst, ◌∙◌, arith, slice_get, ⊎_elim}
 use Rattle.std.specs.List.{find, list_any, list_all, AllByRecursion}
 use Rattle.std.proofs.lemmas.Bool.{and_parts}
 use Rattle.std.proofs.lemmas.Bool.Decides.{nat_tests}
 use Rattle.list_facts.specs.Lists.{before}
 use Rattle.pci_command.specs.declared.request.Request.{Request}
 use Rattle.pci_command.specs.declared.op_id.OpId.{OpId}
-use Rattle.pci_command.specs.declared.op_id.Outcome.{Outcome}
 use Rattle.pci_command.specs.Command.{space_of, is_read}
 use Rattle.pci_command.specs.Same.{same_op}
 use Rattle.board_model.specs.declared.agents.Target.{Target as TargetAgent}
@@ -18,13 +17,11 @@ use Rattle.board_model.specs.declared.op.Op.{Op}
 use Rattle.board_model.specs.declared.board.Board.{Board}
 use Rattle.board_model.specs.Requests.{op_of, request_on, request_of, is_posted}
 use Rattle.board_model.specs.Claims.{claim_in_space, claim}
-use Rattle.board_model.specs.Ways.{Route, end_of, route_by, route_of, way, address_in, aborts_at}
+use Rattle.board_model.specs.Ways.{address_in, aborts_at}
 use Rattle.board_model.specs.WellFormed.{is_within, is_well_formed_target}
 use Rattle.board_model.specs.Valid.{IsValid}
 use Rattle.bridge_header.specs.HeaderBytes.{header_word}
-use Rattle.board_laws.specs.Trees.{IsTree}
 use Rattle.board_laws.specs.WayEnds.{is_lane}
-use Rattle.board_laws.proofs.EndLemmas.{WayEnds-tree}
 use Rattle.board_laws.proofs.StepLemmas.{Up, Down, steps}
 use Rattle.board_laws.proofs.ValidLemmas.{IsTree-valid, targets_formed}
 use Rattle.history_model.specs.declared.event.By.{By}
@@ -40,7 +37,7 @@ use Rattle.history_model.specs.declared.item.Slot.{Slot}
 use Rattle.history_model.specs.Lanes.{is_done_for, is_post}
 use Rattle.history_model.specs.World.{World, lane_back, is_own, world_of}
 use Rattle.history_model.specs.Words.{phases_parted, parted_by, through, without, value_of}
-use Rattle.history_model.specs.Answers.{stalls_used, target_step, target_answer, header_answer, completion_answer, delayed_answer, posted_answer, lane_answer, bridge_to, answer_by, answer_to, answer}
+use Rattle.history_model.specs.Answers.{stalls_used, target_step, target_answer, header_answer, completion_answer, delayed_answer, posted_answer, lane_answer, bridge_to, answer_by, answer_to}
 use Rattle.history_model.specs.Runs.{Run}
 use Rattle.run_slots.proofs.RequestLemmas.{Each-slice_get, same_op_self}
 use Rattle.run_slots.proofs.PartLemmas.{delayed-not_parted}

@@ -1,5 +1,5 @@
 -- Tests over lists, when elements come and go, and sums over them.
-use Rattle.std.proofs.Common.{◌≡◌, ℕ, ◌+◌, ◌≤◌, Bool, true, false, ◌||◌, cond, List, [], ◌∷◌, ◌++◌, Option, Some, None, refl, sym, ◌∙◌, arith}
+use Rattle.std.proofs.Common.{◌≡◌, ℕ, ◌+◌, ◌≤◌, Bool, true, false, ◌||◌, cond, List, [], ◌∷◌, ◌++◌, Some, None, refl, ◌∙◌, arith}
 use Rattle.std.specs.List.{find, list_any, AllByRecursion}
 use Rattle.list_facts.specs.Lists.{less, total}
 use Rattle.list_facts.proofs.TotalLemmas.{total-le}

@@ -23,11 +23,10 @@ use Rattle.history_model.specs.Runs.{Run}
 use Rattle.history_model.specs.Local.{is_ask_of, is_gone_of}
 use Rattle.history_model.specs.Left.{is_slot_of, lane_or, Reach, reach_of, slot_left, reach_left, delayed_left, op_left, turn_left, program_left, discard_left, drop_left, left_of}
 use Rattle.run_slots.proofs.RequestLemmas.{same_op_true}
-use Rattle.left_delayed.proofs.StageLemmas.{stage_at}
 use Rattle.left_delayed.proofs.CountLemmas.{delayed_sum}
 use Rattle.left_delayed.proofs.SameLemmas.{Same}
 use Rattle.left_delayed.proofs.StoreLemmas.{stalls_same, through_same, bridges_le, left_by, programs_fall}
-use Rattle.left_delayed.proofs.ProgramLemmas.{turn_master, behind, follows_left}
+use Rattle.left_delayed.proofs.ProgramLemmas.{turn_master, follows_left}
 use Rattle.left_delayed.proofs.MoveLemmas.{sum_same, Still}
 
 -- where a lane holds a slot, the lanes that do are some
@@ -71,8 +70,12 @@ module _ (board : Board) (valid : IsValid board) (h : List Event) (e : Event) (r
       → ((lane : BridgeLane) → Same p (both (world_of board h) lane) (both (world_of board (e ∷ h)) lane))
       → delayed_left (world_of board (e ∷ h)) p (way board op master.bus) ≡ delayed_left (world_of board h) p (way board op master.bus)
   delayed_same p op master is_op is_master same =
-      omega (arith, delayed_sum board valid h run.1 p op master is_op is_master, delayed_sum board valid (e ∷ h) run p op master is_op is_master,
-      sum_same board op p (world_of board h) (world_of board (e ∷ h)) same (way board op master.bus))
+      omega (
+        arith,
+        delayed_sum board valid h run.1 p op master is_op is_master,
+        delayed_sum board valid (e ∷ h) run p op master is_op is_master,
+        sum_same board op p (world_of board h) (world_of board (e ∷ h)) same (way board op master.bus),
+      )
 
   op_same : (p : OpId) (op : Op) (master : MasterAgent) → op_of board p ≡ Some op → slice_get board.masters p.master ≡ Some master
       → ((lane : BridgeLane) → Same p (both (world_of board h) lane) (both (world_of board (e ∷ h)) lane)) → op_left board (e ∷ h) master.bus p op ≤ op_left board h master.bus p op

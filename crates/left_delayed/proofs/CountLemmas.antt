@@ -1,5 +1,5 @@
 -- What is left of an operation and how far the lanes of its way brought it make up one number, in every run.
-use Rattle.std.proofs.Common.{◌≡◌, ℕ, ◌+◌, ◌*◌, ◌≤◌, Bool, true, false, ◌||◌, cond, List, [], ◌∷◌, length, Option, Some, None, refl, sym, ap, subst, ◌∙◌, arith, slice_get, eqb-true}
+use Rattle.std.proofs.Common.{◌≡◌, ℕ, ◌+◌, ◌*◌, ◌≤◌, Bool, true, false, cond, List, [], ◌∷◌, length, Option, Some, None, refl, sym, ap, subst, ◌∙◌, arith, slice_get, eqb-true}
 use Rattle.std.specs.List.{find, list_any, AllByRecursion, IsDistinct}
 use Rattle.std.proofs.lemmas.Map.Keys.{IsDistinct-tail, IsDistinct-head}
 use Rattle.list_facts.specs.Lists.{before, total}
@@ -23,15 +23,14 @@ use Rattle.board_laws.specs.WayEnds.{same_bridge}
 use Rattle.board_laws.proofs.EndLemmas.{WayEnds-tree}
 use Rattle.board_laws.proofs.ValidLemmas.{IsTree-valid}
 use Rattle.history_model.specs.declared.event.Event.{Event}
-use Rattle.history_model.specs.declared.item.Carried.{Carried}
 use Rattle.history_model.specs.declared.item.Carried.TheVariants.{Ask}
 use Rattle.history_model.specs.declared.item.Slot.{Slot}
-use Rattle.history_model.specs.Lanes.{LaneState, Both, has_number, is_done_for}
+use Rattle.history_model.specs.Lanes.{Both, has_number, is_done_for}
 use Rattle.history_model.specs.World.{World, lane_back, same_lane, both, world_of}
 use Rattle.history_model.specs.Runs.{Run}
 use Rattle.history_model.specs.Local.{is_ask_of, is_gone_of}
 use Rattle.history_model.specs.Left.{is_slot_of, lane_or, Reach, reach_of, slot_left, reach_left, delayed_left}
-use Rattle.run_slots.specs.Slots.{IsHeldFor, HasOneItem}
+use Rattle.run_slots.specs.Slots.{HasOneItem}
 use Rattle.run_slots.proofs.RequestLemmas.{same_op_true, same_op_self}
 use Rattle.run_slots.proofs.SlotsRunLemmas.{Slots-run}
 use Rattle.run_slots.proofs.OneItemLemmas.{HasOneItem-each}
@@ -39,7 +38,7 @@ use Rattle.run_slots.proofs.WellFormedLemmas.{WellFormed-numbers, WellFormed-sin
 use Rattle.run_reach.specs.Reach.{Passed, slots_of, Reaches}
 use Rattle.run_reach.proofs.PathLemmas.{other_bridge}
 use Rattle.run_reach.proofs.ReachLemmas.{Reaches-run}
-use Rattle.left_delayed.proofs.AnyLemmas.{any_some, any_none, find_any, found_any}
+use Rattle.left_delayed.proofs.AnyLemmas.{any_some, any_none, find_any}
 use Rattle.left_delayed.proofs.StageLemmas.{stage, stage_at, chain, some_one, somewhere, stage_ask_stands}
 
 -- where only one element has a weight, a test of those that weigh finds it

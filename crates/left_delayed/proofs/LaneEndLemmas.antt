@@ -1,5 +1,5 @@
 -- A delayed request that stands at the end of a lane ends there.
-use Rattle.std.proofs.Common.{◌≡◌, ℕ, ◌+◌, ◌*◌, ◌≤◌, Bool, true, false, ◌==◌, ◌&&◌, cond, eqb, List, [], ◌∷◌, ◌++◌, length, Option, Some, None, refl, sym, ap, subst, ◌∙◌, arith, slice_get}
+use Rattle.std.proofs.Common.{◌≡◌, ℕ, ◌+◌, ◌*◌, ◌≤◌, true, false, ◌==◌, List, [], ◌∷◌, ◌++◌, length, Option, Some, None, refl, sym, ap, subst, ◌∙◌, arith}
 use Rattle.std.specs.List.{find, list_any, AllByRecursion}
 use Rattle.std.proofs.lemmas.Bool.{eqb-true, and_parts}
 use Rattle.std.proofs.lemmas.Bool.Decides.{nat_tests}
@@ -27,12 +27,11 @@ use Rattle.history_model.specs.declared.item.Carried.TheVariants.{Post, Ask, Don
 use Rattle.history_model.specs.declared.item.Slot.{Slot}
 use Rattle.history_model.specs.Lanes.{Both, is_of, is_done_for, has_number, reply_to, item_ends}
 use Rattle.history_model.specs.World.{World, lane_back, same_lane, both, moved, at_place, lane_outcome, leaves, world_of}
-use Rattle.history_model.specs.Program.{turn_of}
 use Rattle.history_model.specs.Words.{parted_by}
 use Rattle.history_model.specs.Answers.{stalls_by, wants, presents, presents_item}
 use Rattle.history_model.specs.Runs.{Run}
 use Rattle.history_model.specs.Local.{is_ask_of}
-use Rattle.history_model.specs.Left.{is_slot_of, delayed_left, left_of}
+use Rattle.history_model.specs.Left.{delayed_left, left_of}
 use Rattle.run_slots.specs.Slots.{IsHeldFor}
 use Rattle.run_slots.specs.Kinds.{NamesOp, RightKind}
 use Rattle.run_slots.proofs.BridgeLemmas.{same_lane_self}
@@ -45,10 +44,10 @@ use Rattle.left_delayed.proofs.AnyLemmas.{any-push_here}
 use Rattle.left_delayed.proofs.StageLemmas.{stage, stage_at, stage_done_flies}
 use Rattle.left_delayed.proofs.CountLemmas.{Own, own_by, delayed_sum}
 use Rattle.left_delayed.proofs.SameLemmas.{Same, Others, ends_here, ends_back, moved_same}
-use Rattle.left_delayed.proofs.StoreLemmas.{discards_le, drops_le, left_by}
+use Rattle.left_delayed.proofs.StoreLemmas.{discards_le, drops_le}
 use Rattle.left_delayed.proofs.MoveLemmas.{moved_here, sum_up, Still, ends_still, moved_still, still_both, grown_still}
 use Rattle.left_delayed.proofs.ChangeLemmas.{own_stays, lowers}
-use Rattle.left_delayed.proofs.OwnLemmas.{others_of, Stands, stands_of}
+use Rattle.left_delayed.proofs.OwnLemmas.{others_of, stands_of}
 
 -- an operation has one meaning
 pub one_op : (found : Option Op) (a b : Op) → found ≡ Some a → found ≡ Some b → a ≡ b

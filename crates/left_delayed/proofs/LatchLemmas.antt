@@ -1,5 +1,5 @@
 -- A delayed request is latched.
-use Rattle.std.proofs.Common.{◌≡◌, ℕ, ◌+◌, ◌*◌, ◌≤◌, Bool, true, false, cond, eqb, List, [], ◌∷◌, ◌++◌, length, Option, Some, None, refl, sym, ap, subst, ◌∙◌, arith}
+use Rattle.std.proofs.Common.{◌≡◌, ℕ, ◌+◌, ◌≤◌, true, false, List, [], ◌∷◌, ◌++◌, length, Some, refl, sym, ap, subst, ◌∙◌, arith}
 use Rattle.std.specs.List.{find, list_any}
 use Rattle.std.proofs.lemmas.Bool.Decides.{nat_tests}
 use Rattle.list_facts.specs.Lists.{total}
@@ -23,7 +23,7 @@ use Rattle.history_model.specs.declared.event.Event.{Event}
 use Rattle.history_model.specs.declared.event.Event.TheVariants.{Act}
 use Rattle.history_model.specs.declared.item.Carried.TheVariants.{Ask}
 use Rattle.history_model.specs.declared.item.Slot.{Slot}
-use Rattle.history_model.specs.Lanes.{LaneState, Both, has_number, lowest_free, ask_enters}
+use Rattle.history_model.specs.Lanes.{LaneState, Both, lowest_free, ask_enters}
 use Rattle.history_model.specs.World.{World, lane_back, same_lane, both, moved, world_of}
 use Rattle.history_model.specs.Program.{turn_of}
 use Rattle.history_model.specs.Words.{parted_by}
@@ -35,7 +35,7 @@ use Rattle.run_slots.proofs.RequestLemmas.{same_op_self}
 use Rattle.run_reach.specs.Reach.{slots_of}
 use Rattle.left_delayed.proofs.AnyLemmas.{any_none, any_some, any-push_here}
 use Rattle.left_delayed.proofs.StageLemmas.{stage, stage_at}
-use Rattle.left_delayed.proofs.CountLemmas.{Own, own_of, stage_none, delayed_sum}
+use Rattle.left_delayed.proofs.CountLemmas.{own_of, stage_none, delayed_sum}
 use Rattle.left_delayed.proofs.SameLemmas.{Same, latch_here, latch_back, moved_same}
 use Rattle.left_delayed.proofs.StoreLemmas.{discards_le, drops_le}
 use Rattle.left_delayed.proofs.MoveLemmas.{moved_here, sum_up, Still, latch_still, moved_still, grown_still}

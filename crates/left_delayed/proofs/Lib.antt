@@ -13,3 +13,5 @@ pub mod TakenLemmas
 pub mod LatchLemmas
 pub mod MasterEndLemmas
 pub mod ActEventLemmas
+pub mod ArriveLemmas
+pub mod ArriveEventLemmas

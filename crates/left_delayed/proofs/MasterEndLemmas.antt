@@ -1,5 +1,5 @@
 -- A delayed request ends at its master.
-use Rattle.std.proofs.Common.{◌≡◌, ℕ, ◌+◌, ◌≤◌, Bool, true, false, cond, eqb, List, [], ◌∷◌, Option, Some, None, refl, sym, ap, subst, ◌∙◌, arith, slice_get}
+use Rattle.std.proofs.Common.{◌≡◌, ℕ, ◌+◌, ◌≤◌, Bool, true, false, eqb, List, ◌∷◌, Option, Some, None, refl, sym, ap, subst, ◌∙◌, arith, slice_get}
 use Rattle.std.specs.List.{list_any}
 use Rattle.std.proofs.lemmas.Bool.{eqb-true}
 use Rattle.std.proofs.lemmas.Bool.Decides.{nat_tests}
@@ -21,7 +21,7 @@ use Rattle.history_model.specs.declared.event.Event.TheVariants.{Act}
 use Rattle.history_model.specs.World.{World, both, at_place, world_of}
 use Rattle.history_model.specs.Program.{master_outcome, ending_of, follows, turn_after, turn_of}
 use Rattle.history_model.specs.Words.{parted_by}
-use Rattle.history_model.specs.Answers.{stalls_by, is_on, wants}
+use Rattle.history_model.specs.Answers.{stalls_by, is_on}
 use Rattle.history_model.specs.Runs.{Run}
 use Rattle.history_model.specs.Left.{is_slot_of, left_of}
 use Rattle.run_slots.proofs.LatchedLemmas.{wants-at}

@@ -1,6 +1,6 @@
 -- Moves of a bridge: what is on its lanes afterwards, and sums of stages over a way.
-use Rattle.std.proofs.Common.{◌≡◌, ℕ, ◌+◌, ◌*◌, ◌≤◌, Bool, true, false, ◌||◌, cond, List, [], ◌∷◌, ◌++◌, length, Option, Some, None, refl, sym, ap, subst, ◌∙◌, arith}
-use Rattle.std.specs.List.{find, list_any, AllByRecursion, IsDistinct}
+use Rattle.std.proofs.Common.{◌≡◌, ℕ, ◌+◌, ◌≤◌, Bool, true, false, List, [], ◌∷◌, ◌++◌, length, Option, Some, refl, sym, ap, subst, ◌∙◌, arith}
+use Rattle.std.specs.List.{find, list_any, IsDistinct}
 use Rattle.std.proofs.lemmas.Map.Keys.{IsDistinct-tail, IsDistinct-head}
 use Rattle.list_facts.specs.Lists.{less, total}
 use Rattle.list_facts.proofs.EachLemmas.{Each-weaker}
@@ -15,8 +15,8 @@ use Rattle.board_laws.specs.WayEnds.{same_bridge}
 use Rattle.history_model.specs.declared.event.By.{By}
 use Rattle.history_model.specs.declared.event.Event.{Event}
 use Rattle.history_model.specs.declared.item.Carried.{Carried}
-use Rattle.history_model.specs.declared.item.Carried.TheVariants.{Post, Ask, Done, Room, Gone}
-use Rattle.history_model.specs.Lanes.{LaneState, Both, is_of, is_done_for, has_number, lowest_free, ask_enters, reply_to, item_ends, slot_taken, Stands, Frees, Drops, takes_effect, came_off}
+use Rattle.history_model.specs.declared.item.Carried.TheVariants.{Ask, Done, Gone}
+use Rattle.history_model.specs.Lanes.{LaneState, Both, is_of, is_done_for, lowest_free, ask_enters, reply_to, item_ends, slot_taken, Stands, Frees, Drops, takes_effect, came_off}
 use Rattle.history_model.specs.World.{World, lane_back, same_lane, both, moved}
 use Rattle.history_model.specs.Left.{flying_left, standing_left}
 use Rattle.run_slots.proofs.BridgeLemmas.{flip, both_back, same_lane_true, same_lane_self, same_lane_back, same_lane_symm, moved_gives, moved_keeps}

@@ -1,6 +1,6 @@
 -- The slots of one operation: where they are on its way, and what is left of them where one is freed.
-use Rattle.std.proofs.Common.{◌≡◌, ℕ, zero, suc, ◌+◌, ◌*◌, ◌≤◌, Bool, true, false, ◌||◌, cond, eqb, List, [], ◌∷◌, length, max, Option, Some, None, refl, sym, ap, subst, ◌∙◌, arith, slice_get}
-use Rattle.std.specs.List.{find, list_any, AllByRecursion}
+use Rattle.std.proofs.Common.{◌≡◌, ℕ, zero, suc, ◌+◌, ◌≤◌, Bool, true, false, ◌||◌, eqb, List, [], ◌∷◌, length, Some, refl, sym, ap, subst, ◌∙◌, arith, slice_get}
+use Rattle.std.specs.List.{find, list_any}
 use Rattle.std.proofs.lemmas.Bool.{eqb-true}
 use Rattle.list_facts.specs.Lists.{less, total, greatest}
 use Rattle.list_facts.proofs.EachLemmas.{Each-find}
@@ -19,7 +19,7 @@ use Rattle.board_laws.specs.Trees.{IsTree}
 use Rattle.history_model.specs.declared.event.Event.{Event}
 use Rattle.history_model.specs.declared.item.Slot.{Slot}
 use Rattle.history_model.specs.Lanes.{has_number}
-use Rattle.history_model.specs.World.{lane_back, same_lane, both, world_of}
+use Rattle.history_model.specs.World.{same_lane, world_of}
 use Rattle.history_model.specs.Program.{turn_of}
 use Rattle.history_model.specs.Runs.{Run}
 use Rattle.history_model.specs.Left.{is_slot_of}

@@ -1,6 +1,6 @@
 -- What is left of a master's program where one of its operations ends.
 use Rattle.std.proofs.Common.{◌≡◌, ℕ, zero, suc, ◌+◌, ◌*◌, ◌-◌, ◌/◌, ◌≤◌, ◌<◌, Bool, true, false, ◌==◌, cond, eqb, nat_lt, List, [], ◌∷◌, length, drop, Option, Some, None, is_some, refl, sym, ap, subst, ◌∙◌, arith, slice_get, option_and_then}
-use Rattle.std.specs.List.{find, list_any}
+use Rattle.std.specs.List.{list_any}
 use Rattle.std.proofs.Math.Nat.{div-mul-le_self}
 use Rattle.std.proofs.lemmas.Nat.{le-div}
 use Rattle.std.proofs.lemmas.Option.{cond_some}
@@ -20,15 +20,13 @@ use Rattle.board_model.specs.declared.op.Op.{Op}
 use Rattle.board_model.specs.declared.op.Op.TheVariants.{Read as ReadOp, Write, CfgRead, CfgWrite, Poll}
 use Rattle.board_model.specs.declared.board.Board.{Board}
 use Rattle.board_model.specs.Requests.{op_of, phases_of, tries_of, request_on, is_posted}
-use Rattle.board_model.specs.Ways.{Route, route_of, way, aborts_at, pieces_in, pieces_at, pieces_by, pieces_of, cost_of_try, cost_of}
+use Rattle.board_model.specs.Ways.{route_of, way, aborts_at, pieces_in, pieces_at, pieces_by, pieces_of, cost_of_try, cost_of}
 use Rattle.board_model.specs.Valid.{IsValid}
 use Rattle.history_model.specs.declared.event.Event.{Event}
-use Rattle.history_model.specs.Lanes.{LaneState}
-use Rattle.history_model.specs.World.{World, lane_back, world_of}
+use Rattle.history_model.specs.World.{World, world_of}
 use Rattle.history_model.specs.Program.{Ending, ended, present, next_op, next_try, meets, follows_op, follows_in, follows, turn_after, turn_of}
 use Rattle.history_model.specs.Words.{through}
-use Rattle.history_model.specs.Left.{is_slot_of, lane_or, Reach, reach_of, slot_left, reach_left, delayed_left, op_left, turn_left, program_left}
-use Rattle.history_model.specs.declared.item.Slot.{Slot}
+use Rattle.history_model.specs.Left.{is_slot_of, delayed_left, op_left, turn_left, program_left}
 use Rattle.left_delayed.proofs.ActLemmas.{some_burst}
 
 -- a master's turn is one of its own operations

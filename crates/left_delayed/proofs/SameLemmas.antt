@@ -1,9 +1,8 @@
 -- What the moves of a bridge leave as it was for an operation.
-use Rattle.std.proofs.Common.{◌≡◌, ℕ, ◌+◌, ◌*◌, Bool, true, false, ◌||◌, cond, eqb, List, [], ◌∷◌, ◌++◌, Option, Some, None, refl, sym, ap, subst, ◌∙◌, arith}
+use Rattle.std.proofs.Common.{◌≡◌, ℕ, Bool, true, false, ◌||◌, eqb, List, [], ◌∷◌, ◌++◌, Option, Some, None, refl, sym, ap, subst, ◌∙◌, arith}
 use Rattle.std.specs.List.{find, list_any}
 use Rattle.std.proofs.lemmas.Bool.{eqb-true}
 use Rattle.std.proofs.lemmas.Bool.Decides.{nat_tests}
-use Rattle.list_facts.specs.Lists.{less}
 use Rattle.pci_command.specs.declared.op_id.OpId.{OpId}
 use Rattle.pci_command.specs.declared.op_id.Outcome.{Outcome}
 use Rattle.pci_command.specs.Same.{same_op}
@@ -12,8 +11,8 @@ use Rattle.history_model.specs.declared.event.By.{By}
 use Rattle.history_model.specs.declared.item.Carried.{Carried}
 use Rattle.history_model.specs.declared.item.Carried.TheVariants.{Post, Ask, Done, Room, Gone}
 use Rattle.history_model.specs.declared.item.Slot.{Slot}
-use Rattle.history_model.specs.Lanes.{LaneState, Both, is_of, is_done_for, has_number, lowest_free, ask_enters, reply_to, item_ends, slot_taken, Stands, Frees, Drops, takes_effect, came_off}
-use Rattle.history_model.specs.World.{World, lane_back, same_lane, both, moved}
+use Rattle.history_model.specs.Lanes.{Both, is_of, is_done_for, has_number, lowest_free, ask_enters, reply_to, item_ends, slot_taken, Stands, Frees, Drops, takes_effect, came_off}
+use Rattle.history_model.specs.World.{World, lane_back, both, moved}
 use Rattle.history_model.specs.Local.{is_ask_of, is_gone_of}
 use Rattle.history_model.specs.Left.{is_slot_of}
 use Rattle.run_slots.proofs.BridgeLemmas.{flip, both_back, moved_keeps}

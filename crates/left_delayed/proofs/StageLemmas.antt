@@ -1,39 +1,21 @@
 -- What an operation has before it, by how far each lane of its way has brought it.
-use Rattle.std.proofs.Common.{◌≡◌, ℕ, ◌+◌, ◌*◌, ◌-◌, ◌≤◌, Bool, true, false, ◌||◌, ◌==◌, cond, List, [], ◌∷◌, length, Option, Some, None, refl, sym, ap, subst, ◌∙◌, arith, slice_get, eqb, eqb-true, ◌⊎◌, inl, inr}
-use Rattle.std.specs.List.{find, list_any, AllByRecursion, IsDistinct}
-use Rattle.std.proofs.lemmas.Map.Keys.{IsDistinct-tail, IsDistinct-head}
-use Rattle.list_facts.specs.Lists.{before, total}
-use Rattle.list_facts.proofs.EachLemmas.{Each-weaker, Each-both, Each-find, Each-all}
-use Rattle.list_facts.proofs.FindLemmas.{find_passes}
-use Rattle.list_facts.proofs.TotalLemmas.{found, found-le}
+use Rattle.std.proofs.Common.{◌≡◌, ℕ, ◌+◌, ◌*◌, ◌-◌, ◌≤◌, Bool, true, false, ◌||◌, cond, length, Option, Some, None, refl, arith, ◌⊎◌, inl, inr}
+use Rattle.std.specs.List.{find, list_any}
+use Rattle.list_facts.specs.Lists.{total}
 use Rattle.pci_command.specs.declared.op_id.OpId.{OpId}
-use Rattle.pci_command.specs.Same.{same_op}
-use Rattle.board_model.specs.declared.agents.Master.{Master as MasterAgent}
 use Rattle.board_model.specs.declared.bridge.Lane.{Lane as BridgeLane}
-use Rattle.board_model.specs.declared.bridge.Place.{Place}
-use Rattle.board_model.specs.declared.bridge.Place.TheVariants.{Target, Header, Lane, Nobody}
 use Rattle.board_model.specs.declared.op.Op.{Op}
 use Rattle.board_model.specs.declared.board.Board.{Board}
-use Rattle.board_model.specs.Requests.{op_of, request_on}
-use Rattle.board_model.specs.Claims.{claim}
-use Rattle.board_model.specs.Ways.{Route, end_of, route_by, route_of, way}
-use Rattle.board_laws.specs.Trees.{IsTree}
-use Rattle.board_laws.specs.WayEnds.{same_bridge}
-use Rattle.board_laws.proofs.EndLemmas.{WayEnds-tree}
-use Rattle.history_model.specs.declared.event.Event.{Event}
+use Rattle.board_model.specs.Ways.{end_of, way}
 use Rattle.history_model.specs.declared.item.Carried.{Carried}
 use Rattle.history_model.specs.declared.item.Carried.TheVariants.{Post, Ask, Done, Room, Gone}
 use Rattle.history_model.specs.declared.item.Slot.{Slot}
-use Rattle.history_model.specs.Lanes.{LaneState, Both, has_number, is_done_for}
-use Rattle.history_model.specs.World.{World, lane_back, same_lane, both, world_of}
-use Rattle.history_model.specs.Runs.{Run}
+use Rattle.history_model.specs.Lanes.{LaneState, Both, is_done_for}
+use Rattle.history_model.specs.World.{World, lane_back}
 use Rattle.history_model.specs.Local.{is_ask_of, is_gone_of}
-use Rattle.history_model.specs.Left.{is_slot_of, lane_or, Reach, reach_of, slot_left, reach_left, delayed_left}
-use Rattle.run_slots.specs.Slots.{hit, ask_weight, done_weight, gone_weight, places, ItemOf, ask_flies, ask_stands, done_flies, done_stands, gone_flies, HasOneItem}
-use Rattle.run_slots.proofs.RequestLemmas.{same_op_true, same_op_self}
-use Rattle.run_reach.specs.Reach.{Passed, slots_of, Reaches}
-use Rattle.run_reach.proofs.PathLemmas.{other_bridge}
-use Rattle.left_delayed.proofs.AnyLemmas.{any_some, any_none, find_any, weigh_none, any_weighs, found_any}
+use Rattle.history_model.specs.Left.{is_slot_of}
+use Rattle.run_slots.specs.Slots.{hit, ask_weight, done_weight, gone_weight, ItemOf, ask_flies, ask_stands, done_flies, done_stands, gone_flies, HasOneItem}
+use Rattle.left_delayed.proofs.AnyLemmas.{find_any, weigh_none, any_weighs}
 
 -- how far a lane has brought an operation, by the place of the item of its slot, where so many lanes are behind it
 abbrev pub stage : ℕ → LaneState → LaneState → Option Slot → ℕ
@@ -67,7 +49,7 @@ some_one false true c d e some = refl
 some_one false false true d e some = refl
 some_one false false false true e some = refl
 some_one false false false false true some = refl
-some_one false false false false false some = elim some [ | inl i ↦ cc | inr (inl i) ↦ cc | inr (inr (inl i)) ↦ cc | inr (inr (inr (inl i))) ↦ cc | inr (inr (inr (inr i))) ↦ cc ]
+some_one false false false false false some = elim some [ inl i ↦ cc | inr (inl i) ↦ cc | inr (inr (inl i)) ↦ cc | inr (inr (inr (inl i))) ↦ cc | inr (inr (inr (inr i))) ↦ cc ]
 
 -- the item of a slot is somewhere
 pub somewhere : (x : Both) (slot : Slot) → ItemOf slot x

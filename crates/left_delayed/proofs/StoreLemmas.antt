@@ -1,5 +1,5 @@
 -- What the board has in store, and what is on its lanes, after an event that takes no part of a write.
-use Rattle.std.proofs.Common.{◌≡◌, ℕ, zero, suc, ◌+◌, ◌*◌, ◌-◌, ◌≤◌, ◌<◌, Bool, true, false, ◌||◌, ◌&&◌, cond, eqb, nat_lt, List, [], ◌∷◌, length, Option, Some, None, refl, sym, ap, subst, ◌∙◌, arith, slice_get}
+use Rattle.std.proofs.Common.{◌≡◌, ℕ, zero, suc, ◌+◌, ◌*◌, ◌-◌, ◌≤◌, ◌<◌, Bool, true, false, cond, eqb, nat_lt, List, [], ◌∷◌, length, Option, Some, None, refl, sym, ap, subst, arith, slice_get}
 use Rattle.std.specs.List.{list_any}
 use Rattle.std.proofs.lemmas.Bool.{and_parts}
 use Rattle.std.proofs.lemmas.Bool.Decides.{nat_tests}
@@ -22,7 +22,7 @@ use Rattle.history_model.specs.Lanes.{LaneState}
 use Rattle.history_model.specs.World.{World, world_of, same_lane}
 use Rattle.history_model.specs.Program.{turn_of}
 use Rattle.history_model.specs.Words.{parted_by, through}
-use Rattle.history_model.specs.Answers.{stalls_by, stalls_used}
+use Rattle.history_model.specs.Answers.{stalls_by}
 use Rattle.history_model.specs.Runs.{names}
 use Rattle.history_model.specs.Left.{post_left, flying_left, standing_left, lane_left, bridge_left, program_left, programs_left, stalls_left, discard_left, drop_left}
 use Rattle.run_slots.proofs.BridgeLemmas.{same_lane_true}
@@ -134,8 +134,12 @@ module _ (board : Board) (h : List Event) (e : Event) (parts : (o : OpId) → pa
       let one : (lane : BridgeLane) → lane_left board (e ∷ h) lane ≤ lane_left board h lane =
       λ lane.
       let new : LaneState = world_of board (e ∷ h) lane in
-      omega (arith, lighter lane, total_same (flying_left board (e ∷ h) lane) (flying_left board h lane) (flying_same lane) new.flight,
-      total_same (standing_left board (e ∷ h) lane) (standing_left board h lane) (standing_same lane) new.standing) in
+      omega (
+        arith,
+        lighter lane,
+        total_same (flying_left board (e ∷ h) lane) (flying_left board h lane) (flying_same lane) new.flight,
+        total_same (standing_left board (e ∷ h) lane) (standing_left board h lane) (standing_same lane) new.standing,
+      ) in
       let each : (bridge : Bridge) → bridge_left board (e ∷ h) bridge ≤ bridge_left board h bridge =
       λ bridge. omega (arith, one (record { bus = bridge.bus; up = false }), one (record { bus = bridge.bus; up = true })) in
       total-le (bridge_left board (e ∷ h)) (bridge_left board h) each bridges

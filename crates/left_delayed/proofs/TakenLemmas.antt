@@ -1,50 +1,40 @@
 -- A completion is taken: its slot is freed, by its lane, or by its master.
-use Rattle.std.proofs.Common.{◌≡◌, ℕ, ◌+◌, ◌*◌, ◌≤◌, Bool, true, false, cond, List, [], ◌∷◌, length, Option, Some, None, refl, sym, ap, subst, ◌∙◌, arith}
+use Rattle.std.proofs.Common.{◌≡◌, ℕ, ◌+◌, ◌*◌, ◌≤◌, Bool, true, false, List, ◌∷◌, length, Some, refl, ap, ◌∙◌, arith}
 use Rattle.std.specs.List.{find, list_any, IsDistinct}
 use Rattle.list_facts.specs.Lists.{less, total}
 use Rattle.list_facts.proofs.FindLemmas.{find-less_other}
 use Rattle.pci_command.specs.declared.op_id.OpId.{OpId}
 use Rattle.pci_command.specs.declared.op_id.Outcome.{Outcome}
-use Rattle.pci_command.specs.declared.command.Command.TheVariants.{MemWrite}
-use Rattle.pci_command.specs.Same.{same_op, same_command}
+use Rattle.pci_command.specs.Same.{same_op}
 use Rattle.board_model.specs.declared.bridge.Lane.{Lane as BridgeLane}
 use Rattle.board_model.specs.declared.bridge.Place.TheVariants.{Lane}
 use Rattle.board_model.specs.declared.op.Op.{Op}
 use Rattle.board_model.specs.declared.board.Board.{Board}
-use Rattle.board_model.specs.Requests.{op_of, command_of, request_on}
-use Rattle.board_model.specs.Claims.{claim}
+use Rattle.board_model.specs.Requests.{op_of}
 use Rattle.board_model.specs.Ways.{end_of, way}
 use Rattle.board_model.specs.Valid.{IsValid}
 use Rattle.board_laws.specs.WayEnds.{same_bridge}
-use Rattle.board_laws.proofs.EndLemmas.{WayEnds-tree}
-use Rattle.board_laws.proofs.ValidLemmas.{IsTree-valid}
 use Rattle.history_model.specs.declared.event.By.{By}
-use Rattle.history_model.specs.declared.event.By.TheVariants.{Lane as ByLane}
 use Rattle.history_model.specs.declared.event.Step.TheVariants.{Take}
 use Rattle.history_model.specs.declared.event.Event.{Event}
 use Rattle.history_model.specs.declared.event.Event.TheVariants.{Act}
 use Rattle.history_model.specs.declared.item.Carried.{Carried}
 use Rattle.history_model.specs.declared.item.Carried.TheVariants.{Post, Ask, Done, Room, Gone}
-use Rattle.history_model.specs.declared.item.Slot.{Slot}
 use Rattle.history_model.specs.Lanes.{Both, is_of, is_done_for, has_number, slot_taken}
 use Rattle.history_model.specs.World.{World, lane_back, same_lane, both, put, moved, is_own, slot_found, at_place, world_of}
-use Rattle.history_model.specs.Words.{parted_by}
 use Rattle.history_model.specs.Runs.{Run}
-use Rattle.history_model.specs.Left.{is_slot_of, left_of}
+use Rattle.history_model.specs.Left.{is_slot_of}
 use Rattle.run_slots.specs.Slots.{IsHeldFor}
 use Rattle.run_slots.specs.Owners.{TakesItsOwn}
 use Rattle.run_slots.proofs.BridgeLemmas.{same_lane_true, same_lane_self, moved_gives, moved_keeps}
 use Rattle.run_slots.proofs.WellFormedLemmas.{WellFormed-numbers, WellFormed-single}
-use Rattle.run_slots.proofs.LatchedLemmas.{wants-at}
 use Rattle.run_slots.proofs.MatchedLemmas.{TakesItsOwn-run}
-use Rattle.run_reach.proofs.PathLemmas.{way_goes}
 use Rattle.left_delayed.proofs.AnyLemmas.{any_none, find_any, any-less_none}
 use Rattle.left_delayed.proofs.StageLemmas.{stage, stage_at, stage_done_stands}
-use Rattle.left_delayed.proofs.CountLemmas.{Own, own_by, passed_stage}
+use Rattle.left_delayed.proofs.CountLemmas.{Own, own_by}
 use Rattle.left_delayed.proofs.SameLemmas.{Same, taken_here, taken_back, moved_same}
 use Rattle.left_delayed.proofs.MoveLemmas.{moved_here, sum_down, Still, taken_still, moved_still}
 use Rattle.left_delayed.proofs.OwnLemmas.{freed_none, own_number, others_of, Stands, stands_of}
-use Rattle.left_delayed.proofs.LaneEndLemmas.{asked_at, passed_at, lane_end_lowers}
 
 -- a completion is no request
 done_not_of : (number : ℕ) (o : OpId) (item : Carried) → is_done_for number item ≡ true → is_of o item ≡ false
