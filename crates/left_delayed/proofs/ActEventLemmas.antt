@@ -54,6 +54,7 @@ master_ended Stall is = absurd is
 master_ended MasterAbort is = (NoOutcome, refl)
 master_ended TargetAbort is = (Aborted, refl)
 
+-- and at a lane that presented it
 lane_ended : (board : Board) (lane : BridgeLane) (o : OpId) (step : Step) → IsEnd step → (outcome : Outcome) × (lane_outcome board lane o step ≡ Some outcome)
 lane_ended board lane o Land is = (Written, refl)
 lane_ended board lane o (Part phases) is = absurd is

@@ -60,13 +60,16 @@ IsEnd TargetAbort = Unit {0}
 abbrev Whole : Step → Type 0
 Whole step = (is_stall step ≡ false) × (phases_parted step ≡ 0)
 
+-- where all pass, each does
 list_all_each : {X : Type 0} (test : X → Bool) (xs : List X) → list_all test xs ≡ true → AllByRecursion (λ x. test x ≡ true) xs
 list_all_each test [] all = tt
 list_all_each test (x ∷ xs) all = let parts = and_parts (test x) (list_all test xs) all in (parts.0, list_all_each test xs parts.1)
 
+-- the first of two that both hold
 front : (x y : Bool) → (x && y) ≡ true → x ≡ true
 front x y both = (and_parts x y both).0
 
+-- what is within one to eight is at least one
 from_one : (n : ℕ) → is_within 1 8 n ≡ true → 1 ≤ n
 from_one n within = grind (arith, nat_tests)
 
@@ -88,6 +91,7 @@ completion_place read lane older (Some (Done op slot outcome)) step place gives 
 completion_place read lane older (Some Room) step place gives = cc
 completion_place read lane older (Some (Gone slot)) step place gives = cc
 
+-- so does it for every delayed request
 delayed_place : (depth : ℕ) (read : Bool) (lane : BridgeLane) (held : List Slot) (coming : List Carried) (own : Option Slot) (step : Step) (place : Place) → delayed_answer read depth lane held coming own ≡ Gives step place → place ≡ Lane lane
 delayed_place depth read lane held coming None step place gives =
     let P : Bool → Type 0 = λ b. cond b (Gives Latch (Lane lane)) (Retry NoSlot) ≡ Gives step place → place ≡ Lane lane in
@@ -95,6 +99,7 @@ delayed_place depth read lane held coming None step place gives =
 delayed_place depth read lane held coming (Some slot) step place gives = completion_place read lane (before (is_done_for slot.number) coming) (find (is_done_for slot.number) coming) step place gives
 
 module _ (board : Board) (valid : IsValid board) where
+  -- a target that takes no part ends what it answers
   target_ends : (h : List Event) (place : ℕ) (request : Request) (target : TargetAgent) → 1 ≤ target.burst → Whole (target_step board h place request target) → IsEnd (target_step board h place request target)
   target_ends h place request target some =
       let P : Step → Type 0 = λ step. Whole step → IsEnd step in
@@ -114,18 +119,21 @@ module _ (board : Board) (valid : IsValid board) where
     is_end : IsEnd step
     no_lane : is_lane place ≡ false
 
+  -- an answer with these is that step at that place
   ended_by : (step given : Step) (place at : Place) → Gives step place ≡ Gives given at → Whole given → (Whole step → IsEnd step) → is_lane place ≡ false → Ended given at
   ended_by step given place at same whole ends none =
       let steps : step ≡ given = cc in
       let places : place ≡ at = cc in
       record { is_end = subst IsEnd steps (ends (subst Whole (sym steps) whole)); no_lane = subst (λ p. is_lane p ≡ false) places none }
 
+  -- the answer of a target
   target_ended : (h : List Event) (place : ℕ) (request : Request) (found : Option TargetAgent) (step : Step) (at : Place) → slice_get board.targets place ≡ found
       → target_answer board h place request found ≡ Gives step at → Whole step → Ended step at
   target_ended h place request None step at is gives whole = ended_by MasterAbort step Nobody at gives whole (λ _. tt) refl
   target_ended h place request (Some target) step at is gives whole =
       ended_by (target_step board h place request target) step (Target place) at gives whole (target_ends h place request target (some_burst board place target valid is)) refl
 
+  -- the answer of a header
   header_ended : (bus : ℕ) (request : Request) (found : Option Bridge) (step : Step) (at : Place) → header_answer bus request found ≡ Gives step at → Whole step → Ended step at
   header_ended bus request None step at gives whole = ended_by MasterAbort step Nobody at gives whole (λ _. tt) refl
   header_ended bus request (Some bridge) step at gives whole = ended_by (Read (header_word bridge (request.address % 2 ^ 8 / 4))) step (Header bus) at gives whole (λ _. tt) refl
@@ -139,12 +147,15 @@ module _ (board : Board) (valid : IsValid board) where
   place_ended h on by o request Nobody step at none gives whole = ended_by MasterAbort step Nobody at gives whole (λ _. tt) refl
 
   module _ (h : List Event) (on : ℕ) (by : By) (o : OpId) (op : Op) (step : Step) (place : Place) (run : Run board (Act on by o step place ∷ h)) (is_op : op_of board o ≡ Some op) (delayed : is_posted (request_on op on) ≡ false) (moves : is_stall step ≡ false) where
+    -- the request of the operation
     requested : request_of board o on ≡ Some (request_on op on)
     requested = rw is_op refl
 
+    -- nothing of it went through before
     pub none_through : through h o ≡ 0
     none_through = delayed-not_parted board h o on (request_on op on) (WellFormed-single board valid.well_formed) run.1 requested delayed
 
+    -- nor does anything of it go through now
     pub not_parted : phases_parted step ≡ 0
     not_parted =
         let after : through (Act on by o step place ∷ h) o ≡ 0 = delayed-not_parted board (Act on by o step place ∷ h) o on (request_on op on) (WellFormed-single board valid.well_formed) run requested delayed in
@@ -168,6 +179,7 @@ module _ (board : Board) (valid : IsValid board) where
         let whole : request.address + 4 * through h o ≡ request.address = omega arith in
         ap (claim_in_space board on (space_of request.command)) whole
 
+    -- who claims what is left of it answers
     answered : answer_by board (world_of board h) h on by o (without (through h o) (request_on op on)) (claim board on (without (through h o) (request_on op on))) ≡ Gives step place
     answered = let F : Option Request → Type 0 = λ some. answer_to board (world_of board h) h on by o some ≡ Gives step place in subst F requested run.0.1
 

@@ -61,6 +61,7 @@ record Known (board : Board) (valid : IsValid board) (h : List Event) (run : Run
   stands : Stands board valid h run lane o op
   numbers : slot.number ≡ number
 
+-- by the number that an item names
 known_of : (board : Board) (valid : IsValid board) (h : List Event) (run : Run board h) (lane : BridgeLane) (number : ℕ) (o : OpId) (held : IsHeldFor (world_of board h lane).held number o) → Known board valid h run lane number o held.slot
 known_of board valid h run lane number o held =
     let own = own_by board valid h run lane o (has_number number) held.slot held.is_held held.is_for in
@@ -75,21 +76,27 @@ known_of board valid h run lane number o held =
     }
 
 module _ (board : Board) (valid : IsValid board) (h : List Event) (lane : BridgeLane) (mark : Mark) (run : Run board (Arrive lane mark ∷ h)) (rest : List Carried) where
+  -- the arrival
   abbrev event : Event
   event = Arrive lane mark
 
+  -- the lane and the lane back before it
   abbrev x : Both
   x = both (world_of board h) lane
 
+  -- what was on the lanes before it
   abbrev world : World
   world = world_of board h
 
+  -- what is on the lanes after it
   abbrev new : World
   new = world_of board (Arrive lane mark ∷ h)
 
+  -- the lane back, where the slots are whose completions come here
   abbrev back : BridgeLane
   back = lane_back lane
 
+  -- it lowers what is left
   abbrev Lowers : Type 0
   Lowers = left_of board (Arrive lane mark ∷ h) + 1 ≤ left_of board h
 
@@ -106,12 +113,14 @@ module _ (board : Board) (valid : IsValid board) (h : List Event) (lane : Bridge
 
   -- a delayed request
   module _ (o : OpId) (number : ℕ) (is : (world_of board h lane).flight ≡ Ask o number ∷ rest) where
+    -- its slot is held on this lane
     ask_held : IsHeldFor (world_of board h lane).held number o
     ask_held =
         let slots = Slots-run board h lane run.1 in
         let named : AllByRecursion (AskNamed x.here.held) (Ask o number ∷ rest) = subst (AllByRecursion (AskNamed x.here.held)) is slots.asks_flying in
         named.0
 
+    -- in flight it had brought its operation so far
     ask_old : (known : Known board valid h run.1 lane number o ask_held.slot) → stage_at board known.op o (world_of board h) lane ≡ 2
     ask_old known =
         let slot : Slot = ask_held.slot in
@@ -120,6 +129,7 @@ module _ (board : Board) (valid : IsValid board) (h : List Event) (lane : Bridge
         let length_behind : ℕ = length (way board known.op (end_of board lane)) in
         ap (stage length_behind (world lane) (world back)) known.own.found ∙ stage_ask_flies x slot known.own.item length_behind (first_any (is_ask_of slot.number) (world lane).flight (Ask o number) rest is self)
 
+    -- it comes to stand
     ask_stands_lowers : effect_of mark (Ask o number) ≡ Standing → Lowers
     ask_stands_lowers is_effect =
         let item : Carried = Ask o number in
@@ -144,6 +154,7 @@ module _ (board : Board) (valid : IsValid board) (h : List Event) (lane : Bridge
         (λ p other. (ask_here p x rest o number is (others_of board valid h run.1 lane number o p held other), ask_back p x rest o number is)) still 1 0 0 0 left
         (omega (arith, discards_le board world new all_grown)) (omega (arith, drops_le board world new all_grown)) (omega arith)
 
+    -- it is dropped: that costs less than the line of the board had in store
     ask_drops_lowers : effect_of mark (Ask o number) ≡ Drops number → list_any (names lane ((world_of board h lane).asks + 1)) board.drops ≡ true → Lowers
     ask_drops_lowers is_effect named =
         let item : Carried = Ask o number in
@@ -159,6 +170,7 @@ module _ (board : Board) (valid : IsValid board) (h : List Event) (lane : Bridge
         (λ p other. (drop_here p x rest o number is (others_of board valid h run.1 lane number o p held other), drop_back p x rest o number is)) still 0 2 0 3 left
         (omega (arith, discards_le board world new all_grown)) (drops_fall board world new all_grown lane one named) (omega arith)
 
+    -- as the board marks it
     ask_lowers : Lowers
     ask_lowers =
         let by_mark = marked (Ask o number) is in
@@ -171,6 +183,7 @@ module _ (board : Board) (valid : IsValid board) (h : List Event) (lane : Bridge
   -- a slot of the lane back is freed
   module _ (item : Carried) (number : ℕ) (is : (world_of board h lane).flight ≡ item ∷ rest) (is_effect : effect_of mark item ≡ Frees number) (o : OpId) (held : IsHeldFor (world_of board h (lane_back lane)).held number o)
       (known : Known board valid h run.1 (lane_back lane) number o held.slot) where
+    -- afterwards nothing is held there for the operation
     freed_new : stage_at board known.op o (world_of board (Arrive lane mark ∷ h)) (lane_back lane) ≡ 1
     freed_new =
         let there = new_there board valid h lane mark run item rest is (Frees number) is_effect in
@@ -178,17 +191,20 @@ module _ (board : Board) (valid : IsValid board) (h : List Event) (lane : Bridge
         let none = any_none (is_slot_of o) (less (has_number number) (world back).held) (freed_none o (world back).held held.slot number known.stands.only held.is_held held.is_for) in
         ap (stage (length (way board known.op (end_of board back))) (new back) (new (lane_back back))) (ap (find (is_slot_of o)) held_new ∙ none)
 
+  -- the lane back of the lane back is the lane
   flight_back : (item : Carried) → (world_of board h lane).flight ≡ item ∷ rest → (world_of board h (lane_back (lane_back lane))).flight ≡ item ∷ rest
   flight_back item is = ap (λ l. (world_of board h l).flight) (lane_back_back lane) ∙ is
 
   -- a completion
   module _ (o : OpId) (number : ℕ) (outcome : Outcome) (is : (world_of board h lane).flight ≡ Done o number outcome ∷ rest) where
+    -- its slot is held on the lane back
     done_held : IsHeldFor (world_of board h (lane_back lane)).held number o
     done_held =
         let slots = slots_back in
         let named : AllByRecursion (DoneNamed x.back.held) (Done o number outcome ∷ rest) = subst (AllByRecursion (DoneNamed x.back.held)) is slots.dones_flying in
         named.0
 
+    -- in flight it had brought its operation so far
     done_old : (known : Known board valid h run.1 (lane_back lane) number o done_held.slot) → stage_at board known.op o (world_of board h) (lane_back lane) ≡ 4 * length (way board known.op (end_of board (lane_back lane))) + 4
     done_old known =
         let slot : Slot = done_held.slot in
@@ -198,6 +214,7 @@ module _ (board : Board) (valid : IsValid board) (h : List Event) (lane : Bridge
         ap (stage length_behind (world back) (world (lane_back back))) known.own.found
         ∙ stage_done_flies (both world back) slot known.own.item length_behind (first_any (is_done_for slot.number) (world (lane_back back)).flight (Done o number outcome) rest (flight_back (Done o number outcome) is) self)
 
+    -- it comes to stand
     done_stands_lowers : effect_of mark (Done o number outcome) ≡ Standing → Lowers
     done_stands_lowers is_effect =
         let item : Carried = Done o number outcome in
@@ -222,6 +239,7 @@ module _ (board : Board) (valid : IsValid board) (h : List Event) (lane : Bridge
         (λ p other. (done_here p x rest o number outcome is, done_back p x rest o number outcome is (others_of board valid h run.1 back number o p held other))) still 1 0 0 0 left
         (omega (arith, discards_le board world new all_grown)) (omega (arith, drops_le board world new all_grown)) (omega arith)
 
+    -- it is discarded: that costs less than the line of the board had in store
     done_frees_lowers : effect_of mark (Done o number outcome) ≡ Frees number → list_any (names lane ((world_of board h lane).dones + 1)) board.discards ≡ true → Lowers
     done_frees_lowers is_effect named =
         let item : Carried = Done o number outcome in
@@ -244,6 +262,7 @@ module _ (board : Board) (valid : IsValid board) (h : List Event) (lane : Bridge
         0 (4 * length_behind + 3) (4 * longest_way board) 0 left
         (discards_fall board world new all_grown lane one named) (omega (arith, drops_le board world new all_grown)) (omega arith)
 
+    -- as the board marks it
     done_lowers : Lowers
     done_lowers =
         let by_mark = marked (Done o number outcome) is in
@@ -279,6 +298,7 @@ module _ (board : Board) (valid : IsValid board) (h : List Event) (lane : Bridge
       (λ p other. (frees_here p x rest item number is (λ _. refl), frees_back p x rest item number is (λ _ _. refl) (λ n e. e) (others_of board valid h run.1 back number o p held other))) still 1 0 0 0 left
       (omega (arith, discards_le board world new all_grown)) (omega (arith, drops_le board world new all_grown)) (omega arith)
 
+-- by what arrives
 arrival_by : (board : Board) (valid : IsValid board) (h : List Event) (lane : BridgeLane) (mark : Mark) (run : Run board (Arrive lane mark ∷ h)) (flight : List Carried) → (world_of board h lane).flight ≡ flight → is_delayed_first flight ≡ true
     → left_of board (Arrive lane mark ∷ h) + 1 ≤ left_of board h
 arrival_by board valid h lane mark run [] is delayed = cc
@@ -288,6 +308,7 @@ arrival_by board valid h lane mark run (Done op slot outcome ∷ rest) is delaye
 arrival_by board valid h lane mark run (Room ∷ rest) is delayed = cc
 arrival_by board valid h lane mark run (Gone slot ∷ rest) is delayed = gone_lowers board valid h lane mark run rest slot is
 
+-- each of these arrivals lowers what is left
 pub arrival_lowers : (board : Board) (valid : IsValid board) (h : List Event) (lane : BridgeLane) (mark : Mark) → Run board (Arrive lane mark ∷ h) → is_delayed_first (world_of board h lane).flight ≡ true
     → left_of board (Arrive lane mark ∷ h) + 1 ≤ left_of board h
 arrival_lowers board valid h lane mark run delayed = arrival_by board valid h lane mark run (world_of board h lane).flight refl delayed

@@ -38,29 +38,37 @@ first_any test xs x rest is passes = ap (list_any test) is ∙ rw passes refl
 -- an item that arrives, and what it does
 module _ (board : Board) (valid : IsValid board) (h : List Event) (lane : BridgeLane) (mark : Mark) (run : Run board (Arrive lane mark ∷ h))
     (item : Carried) (rest : List Carried) (is : (world_of board h lane).flight ≡ item ∷ rest) (effect : Effect) (is_effect : effect_of mark item ≡ effect) where
+  -- the lane and the lane back before the arrival
   abbrev pub x : Both
   x = both (world_of board h) lane
 
+  -- and after it
   abbrev pub y : Both
   y = takes_effect effect item (record (both (world_of board h) lane) { here = came_off item rest (world_of board h lane) })
 
+  -- what was on the lanes before
   abbrev pub world : World
   world = world_of board h
 
+  -- what is on the lanes after
   abbrev pub new : World
   new = world_of board (Arrive lane mark ∷ h)
 
+  -- the same, by the move of the one bridge
   abbrev pub last : World
   last = moved (λ _. y) lane (world_of board h)
 
+  -- the arrival is that move
   pub is_new : world_of board (Arrive lane mark ∷ h) ≡ last
   is_new =
       let off : Both = record x { here = came_off item rest x.here } in
       ap (λ flight. put world lane (arrives_first mark flight x)) is ∙ ap (λ does. put world lane (takes_effect does item off)) is_effect
 
+  -- the lane and the lane back after it
   pub new_here : both (world_of board (Arrive lane mark ∷ h)) lane ≡ y
   new_here = ap (λ w. both w lane) is_new ∙ moved_here (λ _. y) lane world
 
+  -- the same from the lane back
   pub new_there : both (world_of board (Arrive lane mark ∷ h)) (lane_back lane) ≡ flip y
   new_there = ap (λ w. both w (lane_back lane)) is_new ∙ moved_there (λ _. y) lane world
 
@@ -79,6 +87,7 @@ module _ (board : Board) (valid : IsValid board) (h : List Event) (lane : Bridge
       let own = own_stays board valid h event run (λ _. refl) o op master is_op is_master delayed (λ i _. refl) others_new a b is_turn is_turn left in
       lowers board valid h event run (λ _. refl) o op master is_op is_master delayed (λ i _. refl) others_new (λ _. refl) still_new a b c d own discards drops enough
 
+  -- no fewer requests and completions came by
   pub grown : StillBoth board h lane x y → Grown (world_of board h) (world_of board (Arrive lane mark ∷ h))
   grown still = grown_still board h world new (λ l. subst (λ (w : World). Still board h l (world l) (w l)) (sym is_new) (moved_still board h (λ _. y) lane world still l))
 
@@ -93,6 +102,7 @@ module _ (board : Board) (valid : IsValid board) (h : List Event) (lane : Bridge
       let further = sum_up board op o world new lane d same_but up lanes on_way in
       omega (arith, further, delayed_sum board valid h run.1 o op master is_op is_master, delayed_sum board valid (Arrive lane mark ∷ h) run o op master is_op is_master)
 
+  -- or brings it less far
   pub rises_here : (o : OpId) (op : Op) (d : ℕ) (master : MasterAgent) → op_of board o ≡ Some op → slice_get board.masters o.master ≡ Some master → Same o (flip x) (flip y)
       → stage_at board op o (world_of board h) lane ≤ stage_at board op o (world_of board (Arrive lane mark ∷ h)) lane + d
       → delayed_left (world_of board (Arrive lane mark ∷ h)) o (way board op master.bus) + 0 ≤ delayed_left (world_of board h) o (way board op master.bus) + d
@@ -104,6 +114,7 @@ module _ (board : Board) (valid : IsValid board) (h : List Event) (lane : Bridge
       let back = sum_down board op o world new lane d same_but down lanes ends.no_bridge_twice in
       omega (arith, back, delayed_sum board valid h run.1 o op master is_op is_master, delayed_sum board valid (Arrive lane mark ∷ h) run o op master is_op is_master)
 
+  -- the lane back brings the operation further
   pub falls_there : (o : OpId) (op : Op) (d : ℕ) (master : MasterAgent) → op_of board o ≡ Some op → slice_get board.masters o.master ≡ Some master → Same o x y
       → stage_at board op o (world_of board h) (lane_back lane) + d ≤ stage_at board op o (world_of board (Arrive lane mark ∷ h)) (lane_back lane) → list_any (same_lane (lane_back lane)) (way board op master.bus) ≡ true
       → delayed_left (world_of board (Arrive lane mark ∷ h)) o (way board op master.bus) + d ≤ delayed_left (world_of board h) o (way board op master.bus) + 0
@@ -114,6 +125,7 @@ module _ (board : Board) (valid : IsValid board) (h : List Event) (lane : Bridge
       let further = sum_up board op o world new (lane_back lane) d same_but up lanes on_way in
       omega (arith, further, delayed_sum board valid h run.1 o op master is_op is_master, delayed_sum board valid (Arrive lane mark ∷ h) run o op master is_op is_master)
 
+  -- or brings it less far
   pub rises_there : (o : OpId) (op : Op) (d : ℕ) (master : MasterAgent) → op_of board o ≡ Some op → slice_get board.masters o.master ≡ Some master → Same o x y
       → stage_at board op o (world_of board h) (lane_back lane) ≤ stage_at board op o (world_of board (Arrive lane mark ∷ h)) (lane_back lane) + d
       → delayed_left (world_of board (Arrive lane mark ∷ h)) o (way board op master.bus) + 0 ≤ delayed_left (world_of board h) o (way board op master.bus) + d

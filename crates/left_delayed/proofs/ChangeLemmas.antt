@@ -39,6 +39,7 @@ some_reach world o (lane ∷ lanes) last is =
     let P : Bool → Type 0 = λ b. (cond b reach none).last ≡ Some last → 1 ≤ (cond b reach none).lanes in
     (elim (list_any (is_slot_of o) (world lane).held) as P [ true ↦ λ _. omega arith | false ↦ λ e. cc ]) is
 
+-- whatever place the item of the furthest slot has, something is left
 some_chain : (long far : ℕ) (a b c d e : Bool) → 1 ≤ far
     → 1 ≤ cond a (4 * (long - far) + 2 * far + 2) (cond b (4 * (long - far) + 2 * far + 1) (cond c (2 * far) (cond d (2 * far - 1) (cond e (4 * (long - far) + 2 * far + 4) (4 * long + 1)))))
 some_chain long far true b c d e some = omega arith
@@ -48,6 +49,7 @@ some_chain long far false false false true e some = omega arith
 some_chain long far false false false false true some = omega arith
 some_chain long far false false false false false some = omega arith
 
+-- so it is by the furthest slot
 some_slot : (long far : ℕ) (here back : LaneState) (slot : Option Slot) → 1 ≤ far → 1 ≤ slot_left long far here back slot
 some_slot long far here back None some = omega arith
 some_slot long far here back (Some slot) some =
@@ -77,6 +79,7 @@ module _ (board : Board) (valid : IsValid board) (h : List Event) (e : Event) (r
         sum_same board op p (world_of board h) (world_of board (e ∷ h)) same (way board op master.bus),
       )
 
+  -- of a posted write too
   op_same : (p : OpId) (op : Op) (master : MasterAgent) → op_of board p ≡ Some op → slice_get board.masters p.master ≡ Some master
       → ((lane : BridgeLane) → Same p (both (world_of board h) lane) (both (world_of board (e ∷ h)) lane)) → op_left board (e ∷ h) master.bus p op ≤ op_left board h master.bus p op
   op_same p op master is_op is_master same =
@@ -89,6 +92,7 @@ module _ (board : Board) (valid : IsValid board) (h : List Event) (e : Event) (r
       let P : Bool → Type 0 = λ b. cond b (write (through (e ∷ h) p)) (delayed_left (world_of board (e ∷ h)) p (way board op on) + further) ≤ cond b (write (through h p)) (delayed_left (world_of board h) p (way board op on) + further) in
       elim (is_posted (request_on op on)) as P [ true ↦ omega arith | false ↦ omega arith ]
 
+  -- and of a turn
   turn_same : (p : OpId) (master : MasterAgent) → slice_get board.masters p.master ≡ Some master → ((lane : BridgeLane) → Same p (both (world_of board h) lane) (both (world_of board (e ∷ h)) lane))
       → turn_left board (e ∷ h) master.bus p (op_of board p) ≤ turn_left board h master.bus p (op_of board p)
   turn_same p master is_master same =

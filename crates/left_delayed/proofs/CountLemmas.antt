@@ -63,6 +63,7 @@ pub record WayCons (board : Board) (op : Op) (on : ℕ) (lane : BridgeLane) (lan
   pub claims : claim board on (request_on op on) ≡ Lane lane
   pub later : lanes ≡ way board op (end_of board lane)
 
+-- by who claims on the bus
 cons_by : (board : Board) (op : Op) (on : ℕ) (lane : BridgeLane) (lanes : List BridgeLane) (place : Place) → claim board on (request_on op on) ≡ place
     → lane ∷ lanes ≡ (route_by (λ l. route_of board op (end_of board l)) on place).lanes → WayCons board op on lane lanes
 cons_by board op on lane lanes (Target target) claims is = cc
@@ -73,6 +74,7 @@ cons_by board op on lane lanes (Lane first) claims is =
     record { claims = claims ∙ ap Lane (sym same); later = others ∙ ap (λ l. way board op (end_of board l)) (sym same) }
 cons_by board op on lane lanes Nobody claims is = cc
 
+-- the first lane of a way and the others
 pub way_cons : (board : Board) (op : Op) (on : ℕ) (lane : BridgeLane) (lanes : List BridgeLane) → IsTree board → lane ∷ lanes ≡ way board op on → WayCons board op on lane lanes
 way_cons board op on lane lanes tree is =
     let ends = WayEnds-tree board op tree on in
@@ -84,9 +86,11 @@ Count world o long far sum size lanes None = (lanes ≡ 0) × (sum ≡ size)
 Count world o long far sum size lanes (Some last) = reach_left world o long (far + lanes) (Some last) + sum + 2 * far ≡ 4 * long + 1 + size
 
 module _ (board : Board) (valid : IsValid board) (h : List Event) (run : Run board h) where
+  -- each slot has one item
   has_item : (lane : BridgeLane) → AllByRecursion (HasOneItem (both (world_of board h) lane)) (world_of board h lane).held
   has_item lane = HasOneItem-each (both (world_of board h) lane) (Slots-run board h lane run)
 
+  -- each slot is on the way of its operation
   reaches : (lane : BridgeLane) → AllByRecursion (Reaches board h lane) (world_of board h lane).held
   reaches lane = Reaches-run board (IsTree-valid board valid) (WellFormed-numbers board valid.well_formed) (WellFormed-single board valid.well_formed) h run lane
 
@@ -107,6 +111,7 @@ module _ (board : Board) (valid : IsValid board) (h : List Event) (run : Run boa
       let passes : is_slot_of o slot ≡ true = rw is_for self in
       record { found = found_only o test held slot (omega arith) some passes; is_for = is_for; item = Each-find (HasOneItem (both (world_of board h) lane)) test held slot (has_item lane) some; reach = reach }
 
+  -- the slot of an operation
   pub own_of : (lane : BridgeLane) (o : OpId) (slot : Slot) → find (is_slot_of o) (world_of board h lane).held ≡ Some slot → Own lane o slot
   own_of lane o slot some = own_by lane o (is_slot_of o) slot some (same_op_true slot.op o (find_passes (is_slot_of o) (world_of board h lane).held slot some))
 
@@ -117,6 +122,7 @@ module _ (board : Board) (valid : IsValid board) (h : List Event) (run : Run boa
       find_any (is_slot_of o) (world_of board h lane).held passed.held.slot own.found
 
   module _ (o : OpId) (op : Op) where
+    -- that far is three
     pub passed_stage : (lane : BridgeLane) → Passed (world_of board h) o lane → stage_at board op o (world_of board h) lane ≡ 3
     passed_stage lane passed =
         let slot : Slot = passed.held.slot in
@@ -132,9 +138,11 @@ module _ (board : Board) (valid : IsValid board) (h : List Event) (run : Run boa
     pub stage_none : (lane : BridgeLane) → list_any (is_slot_of o) (world_of board h lane).held ≡ false → stage_at board op o (world_of board h) lane ≡ 1
     stage_none lane none = let gone = any_none (is_slot_of o) (world_of board h lane).held none in rw gone refl
 
+    -- the lane holds a slot for the operation
     abbrev Holds : BridgeLane → Type 0
     Holds lane = list_any (is_slot_of o) (world_of board h lane).held ≡ true
 
+    -- where none is held each lane counts one
     total_none : (lanes : List BridgeLane) → AllByRecursion (λ (l : BridgeLane). list_any (is_slot_of o) (world_of board h l).held ≡ false) lanes → total (stage_at board op o (world_of board h)) lanes ≡ length lanes
     total_none [] none = refl
     total_none (lane ∷ lanes) none = omega (arith, stage_none lane none.0, total_none lanes none.1)
@@ -143,6 +151,7 @@ module _ (board : Board) (valid : IsValid board) (h : List Event) (run : Run boa
     abbrev Behind : List BridgeLane → Type 0
     Behind lanes = AllByRecursion (λ (l : BridgeLane). Holds l → AllByRecursion (Passed (world_of board h) o) (before (same_lane l) lanes)) lanes
 
+    -- behind the first lane it is so for the others, and each that holds a slot has the operation passed the first
     behind_parts : (lane : BridgeLane) (lanes : List BridgeLane) → IsDistinct same_bridge (lane ∷ lanes) → Behind (lane ∷ lanes)
         → Behind lanes × AllByRecursion (λ (l : BridgeLane). Holds l → Passed (world_of board h) o lane) lanes
     behind_parts lane lanes distinct behind =
@@ -183,9 +192,27 @@ module _ (board : Board) (valid : IsValid board) (h : List Event) (run : Run boa
         let G : Bool → Type 0 = λ b. list_any (is_slot_of o) (world_of board h first).held ≡ b → (cond b reach none).last ≡ Some last → Passed (world_of board h) o lane in
         (elim (list_any (is_slot_of o) (world_of board h first).held) as G [ true ↦ λ holds _. each.0 holds | false ↦ λ _ e. cc ]) refl is
 
+    -- a valid board is a tree
     tree : IsTree board
     tree = IsTree-valid board valid
 
+    -- what is left by the furthest slot, and how far its lane brought the operation
+    furthest : (lane : BridgeLane) (slot : Slot) (long far rest : ℕ) → find (is_slot_of o) (world_of board h lane).held ≡ Some slot → far + rest ≡ long → 1 ≤ far
+        → slot_left long far (world_of board h lane) (world_of board h (lane_back lane)) (find (is_slot_of o) (world_of board h lane).held)
+        + stage rest (world_of board h lane) (world_of board h (lane_back lane)) (find (is_slot_of o) (world_of board h lane).held) + 2 * far ≡ 4 * long + 4
+    furthest lane slot long far rest found sum some =
+        let own = own_of lane o slot found in
+        let x : Both = both (world_of board h) lane in
+        let a : Bool = list_any (is_ask_of slot.number) x.here.flight in
+        let b : Bool = list_any (is_ask_of slot.number) x.here.standing in
+        let c : Bool = list_any (is_done_for slot.number) x.back.flight in
+        let d : Bool = list_any (is_done_for slot.number) x.back.standing in
+        let e : Bool = list_any (is_gone_of slot.number) x.back.flight in
+        let F : Option Slot → Type 0 = λ one. slot_left long far x.here x.back one + stage rest x.here x.back one + 2 * far ≡ 4 * long + 4 in
+        let there : F (Some slot) = chain long far rest a b c d e sum some (some_one a b c d e (somewhere x slot own.item.somewhere)) in
+        subst F (sym found) there
+
+    -- what is left by the furthest slot, and how far each lane brought the operation, make up one number
     counted : (lanes : List BridgeLane) (on long far : ℕ) → lanes ≡ way board op on → IsDistinct same_bridge lanes → Behind lanes → far + length lanes ≡ long
         → Count (world_of board h) o long far (total (stage_at board op o (world_of board h)) lanes) (length lanes) (reach_of (world_of board h) o lanes).lanes (reach_of (world_of board h) o lanes).last
     counted [] on long far is distinct behind size = (refl, refl)
@@ -207,18 +234,10 @@ module _ (board : Board) (valid : IsValid board) (h : List Event) (run : Run boa
           | true ↦ λ holds.
               let at = any_some (is_slot_of o) (world lane).held holds in
               let slot : Slot = at.0 in
-              let own = own_of lane o slot at.1 in
-              let x : Both = both world lane in
               (elim R.last as Q [
                 | None ↦ λ _ old.
-                    let some = some_one (list_any (is_ask_of slot.number) x.here.flight) (list_any (is_ask_of slot.number) x.here.standing) (list_any (is_done_for slot.number) x.back.flight)
-                    (list_any (is_done_for slot.number) x.back.standing) (list_any (is_gone_of slot.number) x.back.flight) (somewhere x slot own.item.somewhere) in
                     let at_last : ℕ = far + (R.lanes + 1) in
-                    let sums = chain long at_last rest (list_any (is_ask_of slot.number) x.here.flight) (list_any (is_ask_of slot.number) x.here.standing) (list_any (is_done_for slot.number) x.back.flight)
-                    (list_any (is_done_for slot.number) x.back.standing) (list_any (is_gone_of slot.number) x.back.flight) (omega arith) (omega arith) some in
-                    let F : Option Slot → Type 0 = λ found. slot_left long at_last (world lane) (world (lane_back lane)) found + (stage rest (world lane) (world (lane_back lane)) found + sum) + 2 * far ≡ 4 * long + 1 + length (lane ∷ lanes) in
-                    let there : F (Some slot) = omega arith in
-                    subst F (sym at.1) there
+                    omega (arith, furthest lane slot long at_last rest at.1 (omega arith) (omega arith))
                 | Some last ↦ λ is_last old.
                     let three : here ≡ 3 = passed_stage lane (passed_if lane lanes last parts.1 is_last) in
                     let far_is : far + 1 + R.lanes ≡ far + (R.lanes + 1) = omega arith in

@@ -72,6 +72,7 @@ asked_item board on o op standing (Some (Done p slot outcome)) is_op delayed rig
 asked_item board on o op standing (Some Room) is_op delayed right found presented = let e : false ≡ true = find_passes (is_of o) standing Room found in cc
 asked_item board on o op standing (Some (Gone slot)) is_op delayed right found presented = let e : false ≡ true = find_passes (is_of o) standing (Gone slot) found in cc
 
+-- the item of a delayed operation that a lane presents
 pub asked_at : (board : Board) (h : List Event) (on : ℕ) (k : BridgeLane) (o : OpId) (op : Op) → Run board h → op_of board o ≡ Some op → same_command (command_of op) MemWrite ≡ false → wants board h on (ByLane k) o ≡ true
     → (number : ℕ) × (find (is_of o) (world_of board h k).standing ≡ Some (Ask o number))
 asked_at board h on k o op run is_op delayed wanted =
@@ -96,12 +97,15 @@ module _ (board : Board) (valid : IsValid board) (h : List Event) (on : ℕ) (k 
     (run : Run board (Act on (ByLane k) o step place ∷ h)) (is_op : op_of board o ≡ Some op) (delayed : same_command (command_of op) MemWrite ≡ false)
     (parts : (p : OpId) → parted_by p (Act on (ByLane k) o step place) ≡ 0) (stalls : (target : ℕ) → stalls_by target (Act on (ByLane k) o step place) ≡ 0)
     (ends : lane_outcome board k o step ≡ Some outcome) (number : ℕ) (stands : find (is_of o) (world_of board h k).standing ≡ Some (Ask o number)) where
+  -- the event
   abbrev event : Event
   event = Act on (ByLane k) o step place
 
+  -- what was on the lanes before it
   abbrev world : World
   world = world_of board h
 
+  -- what is on the lanes after it
   abbrev new : World
   new = world_of board (Act on (ByLane k) o step place ∷ h)
 
@@ -110,15 +114,19 @@ module _ (board : Board) (valid : IsValid board) (h : List Event) (on : ℕ) (k 
       (stands_same : find (is_of o) (mid k).standing ≡ find (is_of o) (world_of board h k).standing)
       (others_same : (p : OpId) → same_op o p ≡ false → (l : BridgeLane) → Same p (both (world_of board h) l) (both mid l))
       (still_mid : (l : BridgeLane) → Still board h l (world_of board h l) (mid l)) where
+    -- what ending at the lane makes of that
     abbrev last : World
     last = moved (item_ends o outcome) k mid
 
+    -- that is what is on the lanes after the event
     is_new : world_of board (Act on (ByLane k) o step place ∷ h) ≡ last
     is_new = ap (λ w. leaves k o (lane_outcome board k o step) w) is_mid ∙ ap (λ y. leaves k o y mid) ends
 
+    -- the request still stands
     stands_mid : find (is_of o) (mid k).standing ≡ Some (Ask o number)
     stands_mid = stands_same ∙ stands
 
+    -- its slot is held
     held_for : IsHeldFor (world_of board h k).held number o
     held_for = (asked_for board h k o number run.1 stands).0
 
@@ -126,15 +134,18 @@ module _ (board : Board) (valid : IsValid board) (h : List Event) (on : ℕ) (k 
     abbrev slot : Slot
     slot = held_for.slot
 
+    -- the slot is still held afterwards
     found_new : find (has_number number) (new k).held ≡ Some held_for.slot
     found_new =
         let here : both last k ≡ item_ends o outcome (both mid k) = moved_here (item_ends o outcome) k mid in
         let held_new : (new k).held ≡ (world k).held = ap (λ (w : World). (w k).held) is_new ∙ ap (λ (x : Both). x.here.held) here ∙ held_same in
         ap (find (has_number number)) held_new ∙ held_for.is_held
 
+    -- it is the slot of the operation afterwards
     own_new : Own board valid (Act on (ByLane k) o step place ∷ h) run k o held_for.slot
     own_new = own_by board valid (Act on (ByLane k) o step place ∷ h) run k o (has_number number) held_for.slot found_new held_for.is_for
 
+    -- and was before
     own_old : Own board valid h run.1 k o held_for.slot
     own_old = own_by board valid h run.1 k o (has_number number) held_for.slot held_for.is_held held_for.is_for
 
@@ -151,6 +162,7 @@ module _ (board : Board) (valid : IsValid board) (h : List Event) (on : ℕ) (k 
         let rest : ℕ = length (way board op (end_of board k)) in
         ap (stage rest (new k) (new (lane_back k))) own_new.found ∙ stage_done_flies (both new k) held_for.slot own_new.item rest flies
 
+    -- for other operations every lane is as it was
     others_new : (p : OpId) → same_op o p ≡ false → (l : BridgeLane) → Same p (both (world_of board h) l) (both (world_of board (Act on (ByLane k) o step place ∷ h)) l)
     others_new p other l =
         let x : Both = both mid k in
@@ -160,6 +172,7 @@ module _ (board : Board) (valid : IsValid board) (h : List Event) (on : ℕ) (k 
         let both_moves : Same p (both world l) (both last l) = λ rest. second rest ∙ others_same p other l rest in
         subst (λ w. Same p (both world l) (both w l)) (sym is_new) both_moves
 
+    -- posted writes and credits weigh no more
     still_new : (l : BridgeLane) → Still board h l (world_of board h l) (world_of board (Act on (ByLane k) o step place ∷ h) l)
     still_new l =
         let second = moved_still board h (item_ends o outcome) k mid (ends_still board h k o outcome number (both mid k) stands_mid) l in

@@ -47,6 +47,7 @@ latch_world : (board : Board) (h : List Event) (on : ℕ) (by : By) (o : OpId) (
 latch_world board h on Master o lane = refl
 latch_world board h on (ByLane k) o lane = refl
 
+-- no turn changes
 latch_turn : (board : Board) (h : List Event) (on : ℕ) (by : By) (o : OpId) (place : Place) (i : ℕ) → turn_of board (Act on by o Latch place ∷ h) i ≡ turn_of board h i
 latch_turn board h on Master o place i = refl
 latch_turn board h on (ByLane k) o place i = refl
@@ -58,15 +59,19 @@ flies rest here back slot is = rw is refl
 module _ (board : Board) (valid : IsValid board) (h : List Event) (on : ℕ) (by : By) (o : OpId) (op : Op) (lane : BridgeLane)
     (run : Run board (Act on by o Latch (Lane lane) ∷ h)) (is_op : op_of board o ≡ Some op) (delayed : same_command (command_of op) MemWrite ≡ false)
     (parts : (p : OpId) → parted_by p (Act on by o Latch (Lane lane)) ≡ 0) where
+  -- the event
   abbrev event : Event
   event = Act on by o Latch (Lane lane)
 
+  -- what was on the lanes before it
   abbrev world : World
   world = world_of board h
 
+  -- what is on the lanes after it
   abbrev new : World
   new = world_of board (Act on by o Latch (Lane lane) ∷ h)
 
+  -- the same, by the move of the one bridge
   abbrev last : World
   last = moved (ask_enters by o) lane (world_of board h)
 
@@ -74,27 +79,34 @@ module _ (board : Board) (valid : IsValid board) (h : List Event) (on : ℕ) (by
   abbrev pushed : Slot
   pushed = record { number = lowest_free (world_of board h lane).held; by = by; op = o }
 
+  -- the latch is that move
   is_new : world_of board (Act on by o Latch (Lane lane) ∷ h) ≡ last
   is_new = latch_world board h on by o lane
 
+  -- one more slot is held
   held_new : (new lane).held ≡ (world lane).held ++ pushed ∷ []
   held_new = ap (λ (w : World). (w lane).held) is_new ∙ ap (λ (x : Both). x.here.held) (moved_here (ask_enters by o) lane world)
 
+  -- it is held for the operation
   passes : is_slot_of o pushed ≡ true
   passes = same_op_self o
 
+  -- so a slot is held for it
   some_new : (slot : Slot) × (find (is_slot_of o) (new lane).held ≡ Some slot)
   some_new = any_some (is_slot_of o) (new lane).held (ap (list_any (is_slot_of o)) held_new ∙ any-push_here (is_slot_of o) (world lane).held pushed passes)
 
+  -- the lane is on its way, and this is its only slot there
   there : Stands board valid (Act on by o Latch (Lane lane) ∷ h) run lane o op
   there = let at = some_new in stands_of board valid (Act on by o Latch (Lane lane) ∷ h) run lane o op at.0 is_op (own_of board valid (Act on by o Latch (Lane lane) ∷ h) run lane o at.0 at.1)
 
+  -- so none was held before
   none_old : list_any (is_slot_of o) (world_of board h lane).held ≡ false
   none_old =
       let one : total (slots_of o) ((world lane).held ++ pushed ∷ []) ≡ 1 = subst (λ held. total (slots_of o) held ≡ 1) held_new there.only in
       let weighs : slots_of o pushed ≡ 1 = let is = passes in rw is refl in
       none_of o (world lane).held (omega (arith, total-push (slots_of o) (world lane).held pushed))
 
+  -- its request is in flight
   stage_new : stage_at board op o last lane ≡ 2
   stage_new =
       let rest : ℕ = length (way board op (end_of board lane)) in
@@ -107,14 +119,17 @@ module _ (board : Board) (valid : IsValid board) (h : List Event) (on : ℕ) (by
       let in_flight : list_any (is_ask_of pushed.number) (last lane).flight ≡ true = ap (list_any (is_ask_of pushed.number)) flight ∙ any-push_here (is_ask_of pushed.number) (world lane).flight (Ask o pushed.number) self in
       ap (stage rest (last lane) (last (lane_back lane))) found ∙ flies rest (last lane) (last (lane_back lane)) pushed in_flight
 
+  -- for other operations every lane is as it was
   others_new : (p : OpId) → same_op o p ≡ false → (l : BridgeLane) → Same p (both (world_of board h) l) (both (world_of board (Act on by o Latch (Lane lane) ∷ h)) l)
   others_new p other l =
       let x : Both = both world lane in
       subst (λ w. Same p (both world l) (both w l)) (sym is_new) (moved_same p (λ _. false) (ask_enters by o) lane world (λ _. latch_here p x by o other) (λ _. latch_back p x by o) l refl)
 
+  -- posted writes and credits weigh no more
   still_new : (l : BridgeLane) → Still board h l (world_of board h l) (world_of board (Act on by o Latch (Lane lane) ∷ h) l)
   still_new l = subst (λ (w : World). Still board h l (world l) (w l)) (sym is_new) (moved_still board h (ask_enters by o) lane world (latch_still board h lane by o (both world lane)) l)
 
+  -- so a latch lowers what is left
   pub latch_lowers : left_of board (Act on by o Latch (Lane lane) ∷ h) + 1 ≤ left_of board h
   latch_lowers =
       let at = there in

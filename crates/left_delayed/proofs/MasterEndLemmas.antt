@@ -47,12 +47,14 @@ module _ (board : Board) (valid : IsValid board) (h : List Event) (on : ℕ) (o 
       let self : eqb o.master o.master ≡ true = grind (arith, nat_tests) in
       ap (λ found. turn_after board o.master (turn_of board h o.master) (ending_of o found)) ends ∙ rw self refl
 
+  -- no other turn changes
   turn_others : (i : ℕ) → (i ≡ o.master → ⊥) → turn_of board (Act on Master o step place ∷ h) i ≡ turn_of board h i
   turn_others i other =
       let P : Bool → Type 0 = λ b. eqb o.master i ≡ b → b ≡ false in
       let apart : eqb o.master i ≡ false = (elim (eqb o.master i) as P [ true ↦ λ is. absurd (other (sym (eqb-true o.master i is))) | false ↦ λ _. refl ]) refl in
       ap (λ found. turn_after board i (turn_of board h i) (ending_of o found)) ends ∙ rw apart refl
 
+  -- where no slot comes to be held, the end of an operation at its master lowers what is left
   pub master_end_lowers : (mid : World) → at_place board on Master o step place (world_of board h) ≡ mid
       → ((p : OpId) → same_op o p ≡ false → (l : BridgeLane) → Same p (both (world_of board h) l) (both mid l))
       → ((l : BridgeLane) → Still board h l (world_of board h l) (mid l))

@@ -38,9 +38,11 @@ moved_there move lane world = both_back (moved move lane world) lane ∙ ap flip
 
 -- sums of stages over lanes
 module _ (board : Board) (op : Op) (o : OpId) (old new : World) where
+  -- a lane that is as it was
   stage_same : (lane : BridgeLane) → Same o (both old lane) (both new lane) → stage_at board op o new lane ≡ stage_at board op o old lane
   stage_same lane same = same (length (way board op (end_of board lane)))
 
+  -- where each lane is as it was
   pub sum_same : ((lane : BridgeLane) → Same o (both old lane) (both new lane)) → (lanes : List BridgeLane) → total (stage_at board op o new) lanes ≡ total (stage_at board op o old) lanes
   sum_same same lanes = total_same (stage_at board op o new) (stage_at board op o old) (λ lane. stage_same lane (same lane)) lanes
 
@@ -81,14 +83,17 @@ module _ (board : Board) (op : Op) (o : OpId) (old new : World) where
 
 -- as many delayed requests and completions came by, and posted writes and credits weigh no more
 module _ (board : Board) (h : List Event) where
+  -- of one lane
   pub record Still (lane : BridgeLane) (old new : LaneState) : Type 0 where
     pub asks : old.asks ≤ new.asks
     pub dones : old.dones ≤ new.dones
     pub lighter : total (flying_left board h lane) new.flight + total (standing_left board h lane) new.standing ≤ total (flying_left board h lane) old.flight + total (standing_left board h lane) old.standing
 
+  -- of a lane and the lane back
   abbrev pub StillBoth : BridgeLane → Both → Both → Type 0
   StillBoth lane x y = Still lane x.here y.here × Still (lane_back lane) x.back y.back
 
+  -- where nothing changes
   pub still_self : (lane : BridgeLane) (state : LaneState) → Still lane state state
   still_self lane state = record { asks = omega arith; dones = omega arith; lighter = omega arith }
 
@@ -96,23 +101,28 @@ module _ (board : Board) (h : List Event) where
   abbrev Weightless : Carried → Type 0
   Weightless item = (lane : BridgeLane) → (flying_left board h lane item ≡ 0) × (standing_left board h lane item ≡ 0)
 
+  -- one more that weighs nothing is in flight
   still_sent : (lane : BridgeLane) (state : LaneState) (item : Carried) → Weightless item → Still lane state (record state { flight = state.flight ++ item ∷ [] })
   still_sent lane state item none =
       record { asks = omega arith; dones = omega arith; lighter = omega (arith, total-push (flying_left board h lane) state.flight item, (none lane).0) }
 
+  -- one fewer stands
   still_less : (lane : BridgeLane) (state : LaneState) (test : Carried → Bool) → Still lane state (record state { standing = less test state.standing })
   still_less lane state test =
       record { asks = omega arith; dones = omega arith; lighter = omega (arith, total-less (standing_left board h lane) test state.standing) }
 
+  -- a latch
   pub latch_still : (lane : BridgeLane) (by : By) (o : OpId) (x : Both) → StillBoth lane x (ask_enters by o x)
   latch_still lane by o x =
       let item : Carried = Ask o (lowest_free x.here.held) in
       (record { asks = omega arith; dones = omega arith; lighter = omega (arith, total-push (flying_left board h lane) x.here.flight item) }, still_self (lane_back lane) x.back)
 
+  -- a completion is taken
   pub taken_still : (lane : BridgeLane) (number : ℕ) (x : Both) → StillBoth lane x (slot_taken number x)
   taken_still lane number x =
       (record { asks = omega arith; dones = omega arith; lighter = omega arith }, still_less (lane_back lane) x.back (is_done_for number))
 
+  -- a delayed request ends
   pub ends_still : (lane : BridgeLane) (o : OpId) (outcome : Outcome) (number : ℕ) (x : Both) → find (is_of o) x.here.standing ≡ Some (Ask o number) → StillBoth lane x (item_ends o outcome x)
   ends_still lane o outcome number x stands =
       let F : Option Carried → Type 0 = λ found. Still (lane_back lane) x.back (record (x.back) { flight = x.back.flight ++ reply_to outcome found }) in
@@ -121,19 +131,24 @@ module _ (board : Board) (h : List Event) where
 
   -- an item that weighs nothing comes off the lane
   module _ (lane : BridgeLane) (x : Both) (item : Carried) (rest : List Carried) (is : x.here.flight ≡ item ∷ rest) (none : Weightless item) where
+    -- what is in flight weighs no more
     off_lighter : total (flying_left board h lane) rest ≤ total (flying_left board h lane) x.here.flight
     off_lighter = rw is (omega (arith, (none lane).0))
 
+    -- one more came by
     off_still : Still lane x.here (came_off item rest x.here)
     off_still = record { asks = omega arith; dones = omega arith; lighter = omega (arith, off_lighter) }
 
+    -- it comes to stand
     pub stands_still : StillBoth lane x (takes_effect Stands item (record x { here = came_off item rest x.here }))
     stands_still =
         (record { asks = omega arith; dones = omega arith; lighter = omega (arith, off_lighter, total-push (standing_left board h lane) x.here.standing item, (none lane).1) }, still_self (lane_back lane) x.back)
 
+    -- it frees a slot
     pub frees_still : (number : ℕ) → StillBoth lane x (takes_effect (Frees number) item (record x { here = came_off item rest x.here }))
     frees_still number = (off_still, record { asks = omega arith; dones = omega arith; lighter = omega arith })
 
+    -- it is dropped
     pub drops_still : (number : ℕ) → StillBoth lane x (takes_effect (Drops number) item (record x { here = came_off item rest x.here }))
     drops_still number = (off_still, still_sent (lane_back lane) x.back (Gone number) (λ l. (refl, refl)))
 
@@ -143,9 +158,11 @@ module _ (board : Board) (h : List Event) where
       let P : BridgeLane → Both → Type 0 = λ k y. Still k (world k) y.here in
       moved_keeps P move lane world (λ k. still_self k (world k)) still.0 still.1
 
+  -- two moves
   pub still_both : (lane : BridgeLane) (a b c : LaneState) → Still lane a b → Still lane b c → Still lane a c
   still_both lane a b c first second =
       record { asks = omega (arith, first.asks, second.asks); dones = omega (arith, first.dones, second.dones); lighter = omega (arith, first.lighter, second.lighter) }
 
+  -- no fewer came by on any lane
   pub grown_still : (old new : World) → ((l : BridgeLane) → Still l (old l) (new l)) → Grown old new
   grown_still old new still = record { asks = λ lane. (still lane).asks; dones = λ lane. (still lane).dones }

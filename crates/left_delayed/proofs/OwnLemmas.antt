@@ -81,6 +81,7 @@ module _ (board : Board) (valid : IsValid board) (h : List Event) (run : Run boa
       let N : Slot → Type 0 = λ s. find (has_number s.number) (world_of board h lane).held ≡ Some s in
       Each-find N test (world_of board h lane).held slot (Each-found_itself (world_of board h lane).held slots.once) is
 
+  -- so is the slot of an operation
   pub own_number : (lane : BridgeLane) (o : OpId) (slot : Slot) → Own board valid h run lane o slot → find (has_number slot.number) (world_of board h lane).held ≡ Some slot
   own_number lane o slot own = by_number lane (is_slot_of o) slot own.found
 
@@ -111,6 +112,7 @@ module _ (board : Board) (valid : IsValid board) (h : List Event) (run : Run boa
     pub on_way : list_any (same_lane lane) (way board op master.bus) ≡ true
     pub only : total (slots_of o) (world_of board h lane).held ≡ 1
 
+  -- so it is of each slot
   pub stands_of : (lane : BridgeLane) (o : OpId) (op : Op) (slot : Slot) → op_of board o ≡ Some op → Own board valid h run lane o slot → Stands lane o op
   stands_of lane o op slot is_op own =
       let is_op_too : op_of board o ≡ Some own.reach.op = subst (λ p. op_of board p ≡ Some own.reach.op) own.is_for own.reach.is_op in

@@ -34,11 +34,13 @@ abbrev IsMasters : ℕ → Option OpId → Type 0
 IsMasters master None = Unit {0}
 IsMasters master (Some o) = o.master ≡ master
 
+-- an operation of the master that is presented if it is there
 present_masters : (board : Board) (master : ℕ) (o : OpId) → o.master ≡ master → IsMasters master (present board o)
 present_masters board master o is =
     let P : Bool → Type 0 = λ b. IsMasters master (cond b (Some o) None) in
     elim (is_some (op_of board o)) as P [ true ↦ is | false ↦ tt ]
 
+-- what follows an operation of the master
 follows_masters : (board : Board) (master : ℕ) (o : OpId) (outcome : Outcome) (op : Option Op) → o.master ≡ master → IsMasters master (follows_in board o outcome op)
 follows_masters board master o outcome None is = tt
 follows_masters board master o outcome (Some (ReadOp command address)) is = present_masters board master _ is
@@ -49,16 +51,19 @@ follows_masters board master o outcome (Some (Poll space address mask wanted tri
     let P : Bool → Type 0 = λ b. IsMasters master (cond b (next_op board o) (next_try board o)) in
     elim (meets mask wanted outcome) as P [ true ↦ present_masters board master _ is | false ↦ present_masters board master _ is ]
 
+-- the turn after one more event
 after_masters : (board : Board) (master : ℕ) (turn : Option OpId) (ending : Option Ending) → IsMasters master turn → IsMasters master (turn_after board master turn ending)
 after_masters board master turn None old = old
 after_masters board master turn (Some ending) old =
     let P : Bool → Type 0 = λ b. eqb ending.op.master master ≡ b → IsMasters master (cond b (follows board ending) turn) in
     (elim (ending.op.master == master) as P [ true ↦ λ is. follows_masters board master ending.op ending.outcome (op_of board ending.op) (eqb-true ending.op.master master is) | false ↦ λ _. old ]) refl
 
+-- the turn after a history
 turn_masters : (board : Board) (h : List Event) (master : ℕ) → IsMasters master (turn_of board h master)
 turn_masters board [] master = present_masters board master _ refl
 turn_masters board (e ∷ h) master = after_masters board master (turn_of board h master) (ended e) (turn_masters board h master)
 
+-- the operation that is a master's turn is its own
 pub turn_master : (board : Board) (h : List Event) (master : ℕ) (o : OpId) → turn_of board h master ≡ Some o → o.master ≡ master
 turn_master board h master o is = subst (IsMasters master) is (turn_masters board h master)
 
@@ -67,6 +72,7 @@ pub record Entry (o : OpId) (op : Op) (master : MasterAgent) : Type 0 where
   pub there : slice_get master.ops o.index ≡ Some op
   pub tries : o.attempt < tries_of op
 
+-- so does each operation that is there
 pub entry_of : (board : Board) (o : OpId) (op : Op) (master : MasterAgent) → op_of board o ≡ Some op → slice_get board.masters o.master ≡ Some master → Entry o op master
 entry_of board o op master is_op is_master =
     let here : Op → Option Op = λ p. cond (nat_lt o.attempt (tries_of p)) (Some p) None in
@@ -100,18 +106,21 @@ quotient : (burst a b : ℕ) → 1 ≤ burst → a ≤ b → a / burst ≤ b / b
 quotient burst a b some below = let within = div-mul-le_self a burst in le-div (a / burst) b burst (omega arith) (omega arith)
 
 module _ (board : Board) (valid : IsValid board) where
+  -- fewer data phases reach a target in no more pieces
   pieces_at_le : (request : Request) (place a b : ℕ) (found : Option TargetAgent) → slice_get board.targets place ≡ found → a ≤ b → pieces_at request a found ≤ pieces_at request b found
   pieces_at_le request place a b None is below = omega arith
   pieces_at_le request place a b (Some target) is below =
       let P : Bool → Type 0 = λ t. cond t 1 (pieces_in target.burst a) ≤ cond t 1 (pieces_in target.burst b) in
       elim (aborts_at target request) as P [ true ↦ omega arith | false ↦ quotient target.burst (a + (target.burst - 1)) (b + (target.burst - 1)) (some_burst board place target valid is) (omega arith) ]
 
+  -- and the end of a way
   pieces_by_le : (request : Request) (a b : ℕ) (place : Place) → a ≤ b → pieces_by board request a place ≤ pieces_by board request b place
   pieces_by_le request a b (Target place) below = pieces_at_le request place a b (slice_get board.targets place) refl below
   pieces_by_le request a b (Header bus) below = omega arith
   pieces_by_le request a b (Lane lane) below = omega arith
   pieces_by_le request a b Nobody below = omega arith
 
+  -- from any bus
   pieces_le : (op : Op) (on a b : ℕ) → a ≤ b → pieces_of board op on a ≤ pieces_of board op on b
   pieces_le op on a b below = let route = route_of board op on in pieces_by_le (request_on op route.bus) a b route.owner below
 
@@ -140,9 +149,11 @@ module _ (board : Board) (valid : IsValid board) where
   -- the next operation, or the next try, costs no more than what was behind the operation that ended
   module _ (h : List Event) (o : OpId) (op : Op) (master : MasterAgent) (is_op : op_of board o ≡ Some op) (is_master : slice_get board.masters o.master ≡ Some master)
       (none : (q : OpId) → q.master ≡ o.master → same_op o q ≡ false → (lane : BridgeLane) → list_any (is_slot_of q) (world_of board h lane).held ≡ false) where
+    -- the further tries, and the operations behind
     abbrev pub behind : ℕ
     behind = (tries_of op - (o.attempt + 1)) * cost_of_try board master.bus op + total (cost_of board master.bus) (drop (o.index + 1) master.ops)
 
+    -- one of these comes up
     comes_next : (q : OpId) → q.master ≡ o.master → same_op o q ≡ false
         → ((p : Op) → Entry q p master → (tries_of p - q.attempt) * cost_of_try board master.bus p + total (cost_of board master.bus) (drop (q.index + 1) master.ops) ≤ behind)
         → program_left board h master (present board q) ≤ behind
@@ -159,6 +170,7 @@ module _ (board : Board) (valid : IsValid board) where
               subst F (sym is) there
         ]) refl
 
+    -- the next operation
     next_op_left : program_left board h master (next_op board o) ≤ behind
     next_op_left =
         let q : OpId = record { master = o.master; index = o.index + 1; attempt = 0 } in
@@ -172,6 +184,7 @@ module _ (board : Board) (valid : IsValid board) where
         let whole : tries_of p - 0 ≡ tries_of p = omega arith in
         rw whole (omega arith))
 
+    -- the next try
     next_try_left : program_left board h master (next_try board o) ≤ behind
     next_try_left =
         let q : OpId = record { master = o.master; index = o.index; attempt = o.attempt + 1 } in
@@ -184,6 +197,7 @@ module _ (board : Board) (valid : IsValid board) where
         let same : p ≡ op = cc in
         rw same (omega arith))
 
+    -- what follows the operation that ended
     pub follows_left : (outcome : Outcome) → program_left board h master (follows board (record { op = o; outcome = outcome })) ≤ behind
     follows_left outcome =
         let F : Option Op → Type 0 = λ found. program_left board h master (follows_in board o outcome found) ≤ behind in

@@ -32,6 +32,7 @@ record Alike (number : ℕ) (x y : Both) : Type 0 where
   dones_standing : list_any (is_done_for number) y.back.standing ≡ list_any (is_done_for number) x.back.standing
   gones : list_any (is_gone_of number) y.back.flight ≡ list_any (is_gone_of number) x.back.flight
 
+-- where the slot of the operation is the same, and the items with its number are in the same places
 same_by : (o : OpId) (x y : Both) → find (is_slot_of o) y.here.held ≡ find (is_slot_of o) x.here.held → ((slot : Slot) → find (is_slot_of o) x.here.held ≡ Some slot → Alike slot.number x y) → Same o x y
 same_by o x y found alike rest =
     let Q : Option Slot → Type 0 = λ own. find (is_slot_of o) x.here.held ≡ own → stage rest y.here y.back own ≡ stage rest x.here x.back own in
@@ -51,6 +52,7 @@ same_by o x y found alike rest =
 abbrev pub Others : OpId → List Slot → ℕ → Type 0
 Others o held number = (slot : Slot) → find (is_slot_of o) held ≡ Some slot → eqb number slot.number ≡ false
 
+-- a test of two numbers goes both ways
 turned : (a b : ℕ) → eqb a b ≡ false → eqb b a ≡ false
 turned a b other = grind (arith, nat_tests)
 
@@ -58,10 +60,12 @@ turned a b other = grind (arith, nat_tests)
 done_apart : (number other : ℕ) → eqb number other ≡ false → (item : Carried) → is_done_for number item ≡ true → is_done_for other item ≡ false
 done_apart number other apart (Post op) is = refl
 done_apart number other apart (Ask op slot) is = refl
+-- completions of another number
 done_apart number other apart (Done op slot outcome) is = let same : slot ≡ number = eqb-true slot number is in subst (λ n. eqb n other ≡ false) (sym same) apart
 done_apart number other apart Room is = refl
 done_apart number other apart (Gone slot) is = refl
 
+-- a completion is no request
 done_no_ask : (number other : ℕ) (item : Carried) → is_done_for number item ≡ true → is_ask_of other item ≡ false
 done_no_ask number other (Post op) is = refl
 done_no_ask number other (Ask op slot) is = cc
@@ -104,6 +108,7 @@ module _ (o : OpId) (x : Both) where
         gones = refl;
       })
 
+  -- on the lane back nothing of a slot changes
   pub taken_back : (number : ℕ) → Same o (flip x) (flip (slot_taken number x))
   taken_back number =
       same_by o (flip x) (flip (slot_taken number x)) refl
@@ -129,6 +134,7 @@ module _ (o : OpId) (x : Both) where
         gones = ap (list_any (is_gone_of slot.number)) reply ∙ any-push_other (is_gone_of slot.number) x.back.flight item refl;
       })
 
+  -- on the lane back nothing of a slot changes
   pub ends_back : (p : OpId) (outcome : Outcome) (number : ℕ) → find (is_of p) x.here.standing ≡ Some (Ask p number) → Same o (flip x) (flip (item_ends p outcome x))
   ends_back p outcome number stands =
       let item : Carried = Done p number outcome in
@@ -144,6 +150,7 @@ module _ (o : OpId) (x : Both) where
 
   -- what comes off the lane
   module _ (rest : List Carried) where
+    -- an item that a test does not count
     off : (item : Carried) (test : Carried → Bool) → x.here.flight ≡ item ∷ rest → test item ≡ false → list_any test rest ≡ list_any test x.here.flight
     off item test is fails = let F : Bool → Type 0 = λ b. list_any test rest ≡ (b || list_any test rest) in let there : F (test item) = subst F (sym fails) refl in there ∙ sym (ap (list_any test) is)
 
@@ -160,6 +167,7 @@ module _ (o : OpId) (x : Both) where
           gones = refl;
         })
 
+    -- on the lane back nothing of a slot changes
     pub ask_back : (p : OpId) (number : ℕ) → x.here.flight ≡ Ask p number ∷ rest → Same o (flip x) (flip (takes_effect Stands (Ask p number) (record x { here = came_off (Ask p number) rest x.here })))
     ask_back p number is =
         let item : Carried = Ask p number in
@@ -185,6 +193,7 @@ module _ (o : OpId) (x : Both) where
           gones = any-push_other (is_gone_of slot.number) x.back.flight (Gone number) (others slot found);
         })
 
+    -- on the lane back nothing of a slot changes
     pub drop_back : (p : OpId) (number : ℕ) → x.here.flight ≡ Ask p number ∷ rest → Same o (flip x) (flip (takes_effect (Drops number) (Ask p number) (record x { here = came_off (Ask p number) rest x.here })))
     drop_back p number is =
         let item : Carried = Ask p number in
@@ -210,6 +219,7 @@ module _ (o : OpId) (x : Both) where
           gones = refl;
         })
 
+    -- on the lane back, where its slot is held, nothing of another slot changes
     pub done_back : (p : OpId) (number : ℕ) (outcome : Outcome) → x.here.flight ≡ Done p number outcome ∷ rest → Others o x.back.held number
         → Same o (flip x) (flip (takes_effect Stands (Done p number outcome) (record x { here = came_off (Done p number outcome) rest x.here })))
     done_back p number outcome is others =
@@ -229,6 +239,7 @@ module _ (o : OpId) (x : Both) where
         same_by o x (takes_effect (Frees number) item (record x { here = came_off item rest x.here })) refl
         (λ slot found. record { asks_flying = off item (is_ask_of slot.number) is (no_ask slot.number); asks_standing = refl; dones_flying = refl; dones_standing = refl; gones = refl })
 
+    -- on the lane back, where the slot is held, nothing of another slot changes
     pub frees_back : (item : Carried) (number : ℕ) → x.here.flight ≡ item ∷ rest
         → ((other : ℕ) → eqb number other ≡ false → is_done_for other item ≡ false) → ((other : ℕ) → eqb number other ≡ false → is_gone_of other item ≡ false) → Others o x.back.held number
         → Same o (flip x) (flip (takes_effect (Frees number) item (record x { here = came_off item rest x.here })))

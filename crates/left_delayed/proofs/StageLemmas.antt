@@ -69,6 +69,7 @@ ask_weighs number (Done op slot outcome) is = cc
 ask_weighs number Room is = cc
 ask_weighs number (Gone slot) is = cc
 
+-- so does a completion
 done_weighs : (number : ℕ) (item : Carried) → is_done_for number item ≡ true → 1 ≤ done_weight (hit number) item
 done_weighs number (Post op) is = cc
 done_weighs number (Ask op slot) is = cc
@@ -76,6 +77,7 @@ done_weighs number (Done op slot outcome) is = rw is (omega arith)
 done_weighs number Room is = cc
 done_weighs number (Gone slot) is = cc
 
+-- and the word that a request was dropped
 gone_weighs : (number : ℕ) (item : Carried) → is_gone_of number item ≡ true → 1 ≤ gone_weight (hit number) item
 gone_weighs number (Post op) is = cc
 gone_weighs number (Ask op slot) is = cc
@@ -85,27 +87,34 @@ gone_weighs number (Gone slot) is = rw is (omega arith)
 
 -- the stage of a lane by the one place of the item
 module _ (x : Both) (slot : Slot) (has : HasOneItem x slot) (rest : ℕ) where
+  -- where no request weighs in flight, none is
   no_ask_flies : total (ask_weight (hit slot.number)) x.here.flight ≡ 0 → list_any (is_ask_of slot.number) x.here.flight ≡ false
   no_ask_flies none = weigh_none (is_ask_of slot.number) (ask_weight (hit slot.number)) (ask_weighs slot.number) x.here.flight none
 
+  -- where no request weighs standing, none stands
   no_ask_stands : total (ask_weight (hit slot.number)) x.here.standing ≡ 0 → list_any (is_ask_of slot.number) x.here.standing ≡ false
   no_ask_stands none = weigh_none (is_ask_of slot.number) (ask_weight (hit slot.number)) (ask_weighs slot.number) x.here.standing none
 
+  -- where no completion weighs in flight, none is
   no_done_flies : total (done_weight (hit slot.number)) x.back.flight ≡ 0 → list_any (is_done_for slot.number) x.back.flight ≡ false
   no_done_flies none = weigh_none (is_done_for slot.number) (done_weight (hit slot.number)) (done_weighs slot.number) x.back.flight none
 
+  -- where no completion weighs standing, none stands
   no_done_stands : total (done_weight (hit slot.number)) x.back.standing ≡ 0 → list_any (is_done_for slot.number) x.back.standing ≡ false
   no_done_stands none = weigh_none (is_done_for slot.number) (done_weight (hit slot.number)) (done_weighs slot.number) x.back.standing none
 
+  -- the request is in flight
   pub stage_ask_flies : list_any (is_ask_of slot.number) x.here.flight ≡ true → stage rest x.here x.back (Some slot) ≡ 2
   stage_ask_flies is = rw is refl
 
+  -- the request stands
   pub stage_ask_stands : list_any (is_ask_of slot.number) x.here.standing ≡ true → stage rest x.here x.back (Some slot) ≡ 3
   stage_ask_stands is =
       let weighs = any_weighs (is_ask_of slot.number) (ask_weight (hit slot.number)) (ask_weighs slot.number) x.here.standing is in
       let a = no_ask_flies (omega (arith, has.one)) in
       rw (a, is) refl
 
+  -- the completion is in flight
   pub stage_done_flies : list_any (is_done_for slot.number) x.back.flight ≡ true → stage rest x.here x.back (Some slot) ≡ 4 * rest + 4
   stage_done_flies is =
       let weighs = any_weighs (is_done_for slot.number) (done_weight (hit slot.number)) (done_weighs slot.number) x.back.flight is in
@@ -113,6 +122,7 @@ module _ (x : Both) (slot : Slot) (has : HasOneItem x slot) (rest : ℕ) where
       let b = no_ask_stands (omega (arith, has.one)) in
       rw (a, b, is) refl
 
+  -- the completion stands
   pub stage_done_stands : list_any (is_done_for slot.number) x.back.standing ≡ true → stage rest x.here x.back (Some slot) ≡ 4 * rest + 5
   stage_done_stands is =
       let weighs = any_weighs (is_done_for slot.number) (done_weight (hit slot.number)) (done_weighs slot.number) x.back.standing is in
@@ -121,6 +131,7 @@ module _ (x : Both) (slot : Slot) (has : HasOneItem x slot) (rest : ℕ) where
       let c = no_done_flies (omega (arith, has.one)) in
       rw (a, b, c, is) refl
 
+  -- the word that the request was dropped is in flight
   pub stage_gone_flies : list_any (is_gone_of slot.number) x.back.flight ≡ true → stage rest x.here x.back (Some slot) ≡ 0
   stage_gone_flies is =
       let weighs = any_weighs (is_gone_of slot.number) (gone_weight (hit slot.number)) (gone_weighs slot.number) x.back.flight is in

@@ -60,15 +60,19 @@ abbrev at_line : Planned → BridgeLane
 at_line planned = record { bus = planned.bus; up = planned.up }
 
 module _ (board : Board) (old new : World) (grown : Grown old new) where
+  -- a line that names a completion has no more in store
   discard_le : (planned : Planned) → discard_left board new planned ≤ discard_left board old planned
   discard_le planned = fewer (old (at_line planned)).dones (new (at_line planned)).dones planned.count (4 * longest_way board) (grown.dones (at_line planned))
 
+  -- nor has one that names a request
   drop_le : (planned : Planned) → drop_left new planned ≤ drop_left old planned
   drop_le planned = fewer (old (at_line planned)).asks (new (at_line planned)).asks planned.count 3 (grown.asks (at_line planned))
 
+  -- nor have all lines that name completions
   pub discards_le : total (discard_left board new) board.discards ≤ total (discard_left board old) board.discards
   discards_le = total-le (discard_left board new) (discard_left board old) discard_le board.discards
 
+  -- nor have all that name requests
   pub drops_le : total (drop_left new) board.drops ≤ total (drop_left old) board.drops
   drops_le = total-le (drop_left new) (drop_left old) drop_le board.drops
 
@@ -86,6 +90,7 @@ module _ (board : Board) (old new : World) (grown : Grown old new) where
       subst F (sym same) there in
       total_falls (discard_left board new) (discard_left board old) (names lane ((old lane).dones + 1)) (4 * longest_way board) discard_le named board.discards is
 
+  -- the same of a request
   pub drops_fall : (lane : BridgeLane) → (new lane).asks ≡ (old lane).asks + 1 → list_any (names lane ((old lane).asks + 1)) board.drops ≡ true
       → total (drop_left new) board.drops + 3 ≤ total (drop_left old) board.drops
   drops_fall lane one is =
@@ -104,12 +109,14 @@ module _ (board : Board) (h : List Event) (e : Event) (parts : (o : OpId) → pa
   pub through_same : (o : OpId) → through (e ∷ h) o ≡ through h o
   through_same o = omega (arith, parts o)
 
+  -- of a posted write on a lane
   post_same : (lane : BridgeLane) (o : OpId) (op : Option Op) → post_left board (e ∷ h) lane o op ≡ post_left board h lane o op
   post_same lane o None = refl
   post_same lane o (Some op) =
       let on : ℕ = end_of board lane in
       ap (λ n. 3 * length (way board op on) + pieces_of board op on (length (phases_of op) - n)) (through_same o)
 
+  -- of what is in flight
   flying_same : (lane : BridgeLane) (item : Carried) → flying_left board (e ∷ h) lane item ≡ flying_left board h lane item
   flying_same lane (Post op) = ap (λ n. n + 2) (post_same lane op (op_of board op))
   flying_same lane (Ask op slot) = refl
@@ -117,6 +124,7 @@ module _ (board : Board) (h : List Event) (e : Event) (parts : (o : OpId) → pa
   flying_same lane Room = refl
   flying_same lane (Gone slot) = refl
 
+  -- and of what stands
   standing_same : (lane : BridgeLane) (item : Carried) → standing_left board (e ∷ h) lane item ≡ standing_left board h lane item
   standing_same lane (Post op) = ap (λ n. n + 1) (post_same lane op (op_of board op))
   standing_same lane (Ask op slot) = refl
@@ -129,6 +137,7 @@ module _ (board : Board) (h : List Event) (e : Event) (parts : (o : OpId) → pa
   Lighter lane old new =
       total (flying_left board h lane) new.flight + total (standing_left board h lane) new.standing ≤ total (flying_left board h lane) old.flight + total (standing_left board h lane) old.standing
 
+  -- so nothing more is left on the bridges
   pub bridges_le : ((lane : BridgeLane) → Lighter lane (world_of board h lane) (world_of board (e ∷ h) lane)) → (bridges : List Bridge) → total (bridge_left board (e ∷ h)) bridges ≤ total (bridge_left board h) bridges
   bridges_le lighter bridges =
       let one : (lane : BridgeLane) → lane_left board (e ∷ h) lane ≤ lane_left board h lane =
@@ -146,9 +155,11 @@ module _ (board : Board) (h : List Event) (e : Event) (parts : (o : OpId) → pa
 
 -- sums over the masters, where one of them changes by more
 module _ (board : Board) (new old : List Event) where
+  -- what is left of a master's program
   abbrev pub left_by : List Event → MasterAgent → ℕ → ℕ
   left_by h master index = program_left board h master (turn_of board h index)
 
+  -- where no program has more left
   programs_le : (index : ℕ) (masters : List MasterAgent) → ((i : ℕ) (m : MasterAgent) → slice_get masters i ≡ Some m → left_by new m (index + i) ≤ left_by old m (index + i)) → programs_left board new index masters ≤ programs_left board old index masters
   programs_le index [] each = omega arith
   programs_le index (master ∷ masters) each =
@@ -159,6 +170,7 @@ module _ (board : Board) (new old : List Event) where
       λ i m is. subst (λ n. left_by new m n ≤ left_by old m n) (next i) (each (suc i) m is) in
       omega (arith, here, programs_le (index + 1) masters later)
 
+  -- where one program changes by so much, and no other has more left
   pub programs_fall : (a b index place : ℕ) (masters : List MasterAgent) (master : MasterAgent) → slice_get masters place ≡ Some master → left_by new master (index + place) + a ≤ left_by old master (index + place) + b
       → ((i : ℕ) (m : MasterAgent) → slice_get masters i ≡ Some m → (i ≡ place → ⊥) → left_by new m (index + i) ≤ left_by old m (index + i)) → programs_left board new index masters + a ≤ programs_left board old index masters + b
   programs_fall a b index place [] master is falls each = cc

@@ -46,6 +46,7 @@ done_not_of number o (Gone slot) is = refl
 
 module _ (board : Board) (valid : IsValid board) (h : List Event) (on : ℕ) (by : By) (o : OpId) (op : Op) (outcome : Outcome) (lane : BridgeLane)
     (run : Run board (Act on by o (Take outcome) (Lane lane) ∷ h)) (is_op : op_of board o ≡ Some op) where
+  -- the completion is of the own slot, which was latched for the operation
   pub takes : TakesItsOwn board h on by o outcome lane
   takes = TakesItsOwn-run board h on by o outcome lane (WellFormed-numbers board valid.well_formed) (WellFormed-single board valid.well_formed) run
 
@@ -53,9 +54,11 @@ module _ (board : Board) (valid : IsValid board) (h : List Event) (on : ℕ) (by
   own : Own board valid h run.1 lane o takes.slot
   own = own_by board valid h run.1 lane o (is_own board on by o) takes.slot takes.is_own_slot takes.is_for
 
+  -- by its number
   held_for : IsHeldFor (world_of board h lane).held takes.slot.number o
   held_for = record { slot = takes.slot; is_held = own_number board valid h run.1 lane o takes.slot own; is_for = takes.is_for }
 
+  -- the lane is on the way of the operation
   there : Stands board valid h run.1 lane o op
   there = stands_of board valid h run.1 lane o op takes.slot is_op own
 
@@ -63,15 +66,18 @@ module _ (board : Board) (valid : IsValid board) (h : List Event) (on : ℕ) (by
   abbrev pub mid : World
   mid = moved (slot_taken takes.slot.number) lane (world_of board h)
 
+  -- the event makes it where it is claimed
   pub is_mid : at_place board on by o (Take outcome) (Lane lane) (world_of board h) ≡ mid
   is_mid = ap (λ slot. put (world_of board h) lane (slot_found slot (both (world_of board h) lane))) takes.is_own_slot
 
+  -- for other operations every lane is as it was
   pub others_mid : (p : OpId) → same_op o p ≡ false → (l : BridgeLane) → Same p (both (world_of board h) l) (both mid l)
   others_mid p other l =
       let x : Both = both (world_of board h) lane in
       moved_same p (λ _. false) (slot_taken takes.slot.number) lane (world_of board h)
       (λ _. taken_here p x takes.slot.number (others_of board valid h run.1 lane takes.slot.number o p held_for other)) (λ _. taken_back p x takes.slot.number) l refl
 
+  -- posted writes and credits weigh no more
   pub still_mid : (l : BridgeLane) → Still board h l (world_of board h l) (mid l)
   still_mid l = moved_still board h (slot_taken takes.slot.number) lane (world_of board h) (taken_still board h lane takes.slot.number (both (world_of board h) lane)) l
 
@@ -88,6 +94,7 @@ module _ (board : Board) (valid : IsValid board) (h : List Event) (on : ℕ) (by
       let stands : list_any (is_done_for takes.slot.number) (world_of board h (lane_back lane)).standing ≡ true = find_any (is_done_for takes.slot.number) (world_of board h (lane_back lane)).standing (Done o takes.slot.number outcome) takes.stands in
       ap (stage rest (world_of board h lane) (world_of board h (lane_back lane))) own.found ∙ stage_done_stands (both (world_of board h) lane) takes.slot own.item rest stands
 
+  -- afterwards it holds none
   stage_mid : stage_at board op o mid lane ≡ 1
   stage_mid =
       let rest : ℕ = length (way board op (end_of board lane)) in
@@ -95,11 +102,13 @@ module _ (board : Board) (valid : IsValid board) (h : List Event) (on : ℕ) (by
       let none = any_none (is_slot_of o) (less (has_number takes.slot.number) (world_of board h lane).held) (freed_none o (world_of board h lane).held takes.slot takes.slot.number there.only (own_number board valid h run.1 lane o takes.slot own) takes.is_for) in
       ap (stage rest (mid lane) (mid (lane_back lane))) (ap (find (is_slot_of o)) held ∙ none)
 
+  -- on every other lane nothing changes for the operation
   same_mid : (l : BridgeLane) → same_lane lane l ≡ false → Same o (both (world_of board h) l) (both mid l)
   same_mid =
       let x : Both = both (world_of board h) lane in
       moved_same o (same_lane lane) (slot_taken takes.slot.number) lane (world_of board h) (λ none. let self = same_lane_self lane in cc) (λ _. taken_back o x takes.slot.number)
 
+  -- so much less far is the operation
   pub sum_mid : (lanes : List BridgeLane) → IsDistinct same_bridge lanes → total (stage_at board op o (world_of board h)) lanes ≤ total (stage_at board op o mid) lanes + (4 * length (way board op (end_of board lane)) + 4)
   sum_mid lanes distinct =
       let old = stage_old in
@@ -108,6 +117,7 @@ module _ (board : Board) (valid : IsValid board) (h : List Event) (on : ℕ) (by
 
   -- by a lane: its own request ends as it takes
   module _ (k : BridgeLane) (passed_three : stage_at board op o (world_of board h) k ≡ 3) where
+    -- the lane that takes is another
     pub apart : same_lane lane k ≡ false
     apart =
         let old = stage_old in
@@ -120,16 +130,19 @@ module _ (board : Board) (valid : IsValid board) (h : List Event) (on : ℕ) (by
           | false ↦ λ _. refl
         ]) refl
 
+    -- its slots are as they were
     pub held_same : (mid k).held ≡ (world_of board h k).held
     held_same =
         let P : BridgeLane → Both → Type 0 = λ j y. same_lane lane j ≡ false → y.here.held ≡ (world_of board h j).held in
         moved_gives P (slot_taken takes.slot.number) lane (world_of board h) (λ j _ _. refl) (λ none. let self = same_lane_self lane in cc) (λ _. refl) k apart
 
+    -- its request stands as it did
     pub stands_same : find (is_of o) (mid k).standing ≡ find (is_of o) (world_of board h k).standing
     stands_same =
         let P : BridgeLane → Both → Type 0 = λ j y. find (is_of o) y.here.standing ≡ find (is_of o) (world_of board h j).standing in
         moved_keeps P (slot_taken takes.slot.number) lane (world_of board h) (λ j. refl) refl
         (find-less_other (is_done_for takes.slot.number) (is_of o) (done_not_of takes.slot.number o) (world_of board h (lane_back lane)).standing) k
 
+    -- and it has brought the operation as far
     pub stage_k : stage_at board op o mid k ≡ 3
     stage_k = same_mid k apart (length (way board op (end_of board k))) ∙ passed_three

@@ -105,6 +105,7 @@ module _ (board : Board) (tree : IsTree board) (distinct : DifferentNumbers boar
     waits : Waits board (turn_of board h) (world_of board h) (start_of board lane) by o
     delayed : same_command (command_of op) MemWrite ≡ false
 
+  -- by what the slot was latched for
   known : (lane : BridgeLane) (slot : Slot) (op : Op) → op_of board slot.op ≡ Some op → Latched board lane slot → Waits board (turn_of board h) (world_of board h) (start_of board lane) slot.by slot.op → Known lane slot.by slot.op op
   known lane slot op is_op latched waits =
       let on : ℕ = start_of board lane in
@@ -122,12 +123,14 @@ module _ (board : Board) (tree : IsTree board) (distinct : DifferentNumbers boar
   abbrev Facts : BridgeLane → Slot → Type 0
   Facts lane slot = Latched board lane slot × Waits board (turn_of board h) (world_of board h) (start_of board lane) slot.by slot.op
 
+  -- of each slot
   facts : (lane : BridgeLane) → AllByRecursion (Facts lane) (world_of board h lane).held
   facts lane =
       let owners = Owners-run board distinct single h run in
       Each-both (Latched board lane) (λ (slot : Slot). Waits board (turn_of board h) (world_of board h) (start_of board lane) slot.by slot.op) (world_of board h lane).held
       (Latched-run board h lane distinct single run) (owners.waits lane)
 
+  -- of the slot that an item names
   known_by_number : (lane : BridgeLane) (number : ℕ) (o : OpId) (op : Op) → op_of board o ≡ Some op → IsHeldFor (world_of board h lane).held number o → (by : By) × Known lane by o op
   known_by_number lane number o op is_op held =
       let both_facts = Each-find (Facts lane) (has_number number) (world_of board h lane).held held.slot (facts lane) held.is_held in
@@ -182,6 +185,7 @@ module _ (board : Board) (tree : IsTree board) (distinct : DifferentNumbers boar
     passed : AllByRecursion (Passed (world_of board h) o) (before (same_lane lane) (way board op master.bus))
     latched_by : by ≡ presenter (last_of (before (same_lane lane) (way board op master.bus)))
 
+  -- they are those that were traced
   placed : (lane : BridgeLane) (by : By) (o : OpId) (op : Op) (traced : Traced board h lane by o op) → Placed lane by o op traced.master
   placed lane by o op traced =
       let on : ℕ = traced.master.bus in
@@ -195,6 +199,7 @@ module _ (board : Board) (tree : IsTree board) (distinct : DifferentNumbers boar
         latched_by = traced.latched_by ∙ ap (λ lanes. presenter (last_of lanes)) (sym first);
       }
 
+  -- each slot is traced to its master
   trace : (lane : BridgeLane) (by : By) (o : OpId) (op : Op) → op_of board o ≡ Some op → Known lane by o op → Traced board h lane by o op
   trace lane by o op is_op known = back (length board.bridges) lane by o op [] is_op known tt (omega arith)
 
@@ -227,6 +232,7 @@ module _ (board : Board) (tree : IsTree board) (distinct : DifferentNumbers boar
         | false ↦ λ _. omega arith
       ]) refl
 
+  -- so each slot tells how its operation got there
   reaches : (lane : BridgeLane) (slot : Slot) → Facts lane slot → ((weight : Slot → ℕ) → weight slot ≤ total weight (world_of board h lane).held) → Reaches board h lane slot
   reaches lane slot both_facts within =
       let on : ℕ = start_of board lane in
@@ -253,6 +259,7 @@ module _ (board : Board) (tree : IsTree board) (distinct : DifferentNumbers boar
         only = omega (arith, one, within (slots_of slot.op), total_each (slots_of slot.op) (own_count board on slot.by slot.op) held each, owners.one_own lane slot.by slot.op);
       }
 
+  -- in every run
   pub Reaches-run : (lane : BridgeLane) → AllByRecursion (Reaches board h lane) (world_of board h lane).held
   Reaches-run lane =
       let held : List Slot = (world_of board h lane).held in
