@@ -96,6 +96,7 @@ lanes_give_none board gives lane none is =
   where
     eqb_self : (n : ℕ) → eqb n n ≡ true
     eqb_self n = grind (arith, nat_tests)
+
     joined : (a b : Bool) → a ≡ true → b ≡ true → (a && b) ≡ true
     joined true b first then = then
     joined false b first then = cc

@@ -110,13 +110,7 @@ fn act_of_items(
     None
 }
 
-fn act_of_item(
-    board: &Board,
-    before: &[Event],
-    bus: u8,
-    lane: Lane,
-    item: Carried,
-) -> Option<Event>
+fn act_of_item(board: &Board, before: &[Event], bus: u8, lane: Lane, item: Carried) -> Option<Event>
     requires formed { IsTrue (is_well_formed board.now) }
     requires run { Run board.now (history_of before.now) }
     ensures { result ≡ act_of_item board.now (history_of before.now) bus lane item }

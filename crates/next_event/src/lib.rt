@@ -47,3 +47,5 @@ fn next_on(board: &Board, events: &[Event]) -> Option<Event>
     }
 }
 
+#[cfg(test)]
+mod tests;
