@@ -4,6 +4,7 @@ use crate::next_event;
 use board_forms::well_formed;
 use board_model::{Board, Bridge, Lane, Master, Name, Op, Place, Range, Target, Window};
 use bus_tree::{Tree, validate};
+use history_core::allowed;
 use history_model::{By, Event, Mark, Step};
 use pci_command::{Command, List, OpId, Outcome, Phase, Phases, Space};
 use std::alloc::Global;
@@ -66,12 +67,17 @@ const READ: [Event; 13] = [
     event!(2 by By::Master, Step::Take(Outcome::Value(0)), Place::Lane(lane!(2 u))),
 ];
 
-/// Whether the next events of the board are these, in this order, and none after them.
+/// Whether the next events of the board are these, in this order, each of them allowed, and none
+/// after them.
 fn goes_so(tree: &Tree, events: &[Event]) -> bool {
+    let board = tree.board();
     for (index, event) in events.iter().enumerate() {
-        match next_event(tree, &events[..index]) {
-            Some(next) if next == *event => {}
-            _ => return false,
+        let before = &events[..index];
+        if next_event(tree, before) != Some(*event) {
+            return false;
+        }
+        if allowed(board, before, event).is_err() {
+            return false;
         }
     }
     next_event(tree, events).is_none()
