@@ -28,7 +28,7 @@ use plain_claim::{claim_in_space, is_in_ranges};
 
 /// What the operation is answered, presented on the bus by the initiator after these events, the
 /// first event first.
-pub(crate) fn answer(board: &Board, before: &[Event], presented: Presented) -> Answer
+pub fn answer(board: &Board, before: &[Event], presented: Presented) -> Answer
     requires formed { IsTrue (is_well_formed board.now) }
     requires run { Run board.now (history_of before.now) }
     ensures { result ≡ answer board.now (history_of before.now) presented.bus presented.by presented.op }

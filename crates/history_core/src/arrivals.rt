@@ -10,7 +10,7 @@ use lane_replay::{BridgeLanes, LaneTables};
 
 /// The mark of the next arrival on the lane after these events, the first event first; none where
 /// nothing is in flight.
-pub(crate) fn next_mark(board: &Board, before: &[Event], lane: Lane) -> Option<Mark>
+pub fn next_mark(board: &Board, before: &[Event], lane: Lane) -> Option<Mark>
     requires formed { IsTrue (is_well_formed board.now) }
     requires run { Run board.now (history_of before.now) }
     ensures { result ≡ next_mark board.now (history_of before.now) lane }

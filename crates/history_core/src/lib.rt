@@ -11,10 +11,13 @@ mod turns;
 mod words;
 
 pub use allowing::allowed;
+pub use answers::answer;
+pub use arrivals::next_mark;
 pub use completing::complete;
 pub use history_model::{
     Answer, By, Carried, Cause, Event, Lane, Mark, Place, Slot, Stamped, Step, Why,
 };
+pub use presenting::wants;
 pub use turns::turn_of;
 pub use words::{is_same_op, stalls_used, through};
 

@@ -19,7 +19,7 @@ use pci_command::{Kind, OpId};
 
 /// Whether the initiator presents the operation on the bus after these events, the first event
 /// first.
-pub(crate) fn wants(board: &Board, before: &[Event], presented: Presented) -> bool
+pub fn wants(board: &Board, before: &[Event], presented: Presented) -> bool
     requires formed { IsTrue (is_well_formed board.now) }
     requires run { Run board.now (history_of before.now) }
     ensures { result ≡ wants board.now (history_of before.now) presented.bus presented.by presented.op }

@@ -1,0 +1,4 @@
+pub mod FirstLemmas
+pub mod SoundLemmas
+pub mod NoneLemmas
+pub mod StopLemmas

@@ -1,0 +1,73 @@
+ghost use Rattle.std.specs.Prelude.{◌≡◌, IsTrue};
+ghost use Rattle.board_model.specs.WellFormed.{is_well_formed};
+ghost use Rattle.history_model.specs.Runs.{Run, history_of, next_mark};
+ghost use Rattle.next_event.specs.Next.{first_bus, up_from, given_on, first_lane, arrival_of, arrival_at, first_arrival};
+
+use crate::lanes::{down_to, ends_on, up_from};
+use board_model::{Board, Lane};
+use history_core::next_mark;
+use history_model::{Event, Mark};
+
+/// The first arrival, by increasing bus and there by line.
+#[tactic(auto, using(crate::proofs::FirstLemmas::first_more))]
+pub(crate) fn first_arrival(board: &Board, before: &[Event]) -> Option<Event>
+    requires formed { IsTrue (is_well_formed board.now) }
+    requires run { Run board.now (history_of before.now) }
+    ensures { result ≡ first_arrival board.now (history_of before.now) }
+{
+    for bus in 0..256u16 {
+        if let Some(event) = arrival_on(board, before, bus as u8) {
+            return Some(event);
+        }
+    }
+    None
+}
+
+/// The first arrival on the bus: on the lane of its own bridge, or on those of the bridges below.
+fn arrival_on(board: &Board, before: &[Event], bus: u8) -> Option<Event>
+    requires formed { IsTrue (is_well_formed board.now) }
+    requires run { Run board.now (history_of before.now) }
+    ensures { result ≡ first_lane board.now bus (arrival_at board.now (history_of before.now)) }
+{
+    match arrival_from(board, before, bus, down_to(bus)) {
+        Some(event) => Some(event),
+        None => arrival_from_below(board, before, bus),
+    }
+}
+
+/// The first arrival on the bus from a bridge below, by increasing number.
+#[tactic(auto, using(crate::proofs::FirstLemmas::first_more))]
+fn arrival_from_below(board: &Board, before: &[Event], bus: u8) -> Option<Event>
+    requires formed { IsTrue (is_well_formed board.now) }
+    requires run { Run board.now (history_of before.now) }
+    ensures { result ≡ first_bus (λ child. given_on board.now bus (arrival_at board.now (history_of before.now)) (up_from child)) }
+{
+    for child in 0..256u16 {
+        if let Some(event) = arrival_from(board, before, bus, up_from(child as u8)) {
+            return Some(event);
+        }
+    }
+    None
+}
+
+/// The next arrival from the lane, where that ends on the bus.
+fn arrival_from(board: &Board, before: &[Event], bus: u8, lane: Lane) -> Option<Event>
+    requires formed { IsTrue (is_well_formed board.now) }
+    requires run { Run board.now (history_of before.now) }
+    ensures { result ≡ given_on board.now bus (arrival_at board.now (history_of before.now)) lane }
+{
+    if ends_on(board, bus, lane) {
+        arrival_of(lane, next_mark(board, before, lane))
+    } else {
+        None
+    }
+}
+
+fn arrival_of(lane: Lane, next: Option<Mark>) -> Option<Event>
+    ensures { result ≡ arrival_of lane next }
+{
+    match next {
+        Some(mark) => Some(Event::Arrive { lane, mark }),
+        None => None,
+    }
+}
