@@ -1,0 +1,4 @@
+pub mod BeginsLemmas
+pub mod KindLemmas
+pub mod Premises
+pub mod FallLemmas
