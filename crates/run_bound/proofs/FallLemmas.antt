@@ -7,9 +7,9 @@ use Rattle.history_model.specs.declared.event.Event.{Event}
 use Rattle.history_model.specs.Runs.{Run}
 use Rattle.history_model.specs.Left.{left_of}
 use Rattle.left_posted.specs.PostedEvents.{IsPostedEvent}
+use Rattle.left_delayed.specs.Delayed.{IsDelayedEvent}
 use Rattle.run_bound.proofs.BeginsLemmas.{left-begins, Begins-formed}
 use Rattle.run_bound.proofs.KindLemmas.{event_kind}
-use Rattle.run_bound.proofs.Premises.{IsDelayedEvent}
 
 -- each event of a run of a valid board lowers what is left by at least one
 abbrev pub EachLowers : Type 0

@@ -24,7 +24,7 @@ use Rattle.run_order.specs.Order.{is_posted_in, is_posted_op}
 use Rattle.trace_text.specs.Events.{HasLine}
 use Rattle.run_lines.proofs.LineLemmas.{HasLine-run}
 use Rattle.left_posted.specs.PostedEvents.{is_stall, first_is_post_or_room, IsPostedEvent}
-use Rattle.run_bound.proofs.Premises.{is_delayed_first, IsDelayedEvent, is_other_stall}
+use Rattle.left_delayed.specs.Delayed.{is_stall as is_other_stall, is_delayed_first, IsDelayedEvent}
 
 -- both crates say alike which step is a stall
 same_stall : (step : Step) → is_other_stall step ≡ is_stall step

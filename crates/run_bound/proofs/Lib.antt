@@ -1,4 +1,3 @@
 pub mod BeginsLemmas
 pub mod KindLemmas
-pub mod Premises
 pub mod FallLemmas

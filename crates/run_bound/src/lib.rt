@@ -13,6 +13,7 @@ ghost use Rattle.history_model.specs.Runs.{Run};
 ghost use Rattle.history_model.specs.Left.{left_of};
 ghost use Rattle.run_bound.specs.Begins.{Begins};
 
+use left_delayed::delayed_events_lower_left;
 use left_posted::posted_events_lower_left;
 
 /// Before the first event as many are left as a run of the board has at most. A board needs no more
@@ -28,6 +29,7 @@ pub fn left_falls()
     ensures { (board : Board) (h : List Event) (e : Event) → IsValid board → Run board (e ∷ h) → left_of board (e ∷ h) + 1 ≤ left_of board h }
 {
     posted_events_lower_left();
+    delayed_events_lower_left();
 }
 
 /// So at most as many events follow as are left, and a run has at most as many as the board's bound.
