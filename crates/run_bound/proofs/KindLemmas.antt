@@ -1,5 +1,5 @@
 -- Each event of a run is one of posted writes, of credits and of stalls, or one of delayed requests.
-use Rattle.std.proofs.Common.{◌≡◌, ℕ, Bool, true, false, ◌&&◌, ◌||◌, List, [], ◌∷◌, Option, Some, None, is_some, refl, ◌∙◌, ◌⊎◌, inl, inr}
+use Rattle.std.proofs.Common.{◌≡◌, ℕ, Bool, true, false, List, [], ◌∷◌, Option, Some, None, is_some, refl, ◌∙◌, ◌⊎◌, inl, inr}
 use Rattle.pci_command.specs.declared.op_id.OpId.{OpId}
 use Rattle.board_model.specs.declared.bridge.Lane.{Lane as BridgeLane}
 use Rattle.board_model.specs.declared.bridge.Place.{Place}
@@ -11,7 +11,7 @@ use Rattle.bus_tree.proofs.FormLemmas.{front, back}
 use Rattle.history_model.specs.declared.event.By.{By}
 use Rattle.history_model.specs.declared.event.Mark.{Mark}
 use Rattle.history_model.specs.declared.event.Step.{Step}
-use Rattle.history_model.specs.declared.event.Step.TheVariants.{Land, Part, Read, Accept, Latch, Take, Stall, MasterAbort, TargetAbort}
+use Rattle.history_model.specs.declared.event.Step.TheVariants.{Stall}
 use Rattle.history_model.specs.declared.event.Event.{Event}
 use Rattle.history_model.specs.declared.event.Event.TheVariants.{Act, Arrive}
 use Rattle.history_model.specs.declared.item.Carried.{Carried}
@@ -50,9 +50,9 @@ act_kind board h on by o step place there =
     (elim (is_stall step) as P [
       | true ↦ λ stall. inl (rw stall refl)
       | false ↦ (elim (is_posted_op board o) as Q [
-          | true ↦ λ posted none. inl (rw (none, posted) refl)
-          | false ↦ λ other none. inr (named_other board o (op_of board o) refl there other, same_stall step ∙ none)
-        ]) refl
+        | true ↦ λ posted none. inl (rw (none, posted) refl)
+        | false ↦ λ other none. inr (named_other board o (op_of board o) refl there other, same_stall step ∙ none)
+      ]) refl
     ]) refl
 
 -- and an arrival, by what is the oldest in flight

@@ -1,5 +1,5 @@
 -- What a list of events of a board is, the first event first.
-use Rattle.std.specs.Prelude.{◌≡◌, ℕ, ◌+◌, ◌≤◌, List, [], ◌∷◌, ◌++◌, length, Some}
+use Rattle.std.specs.Prelude.{◌≡◌, ℕ, ◌+◌, ◌≤◌, List, ◌∷◌, ◌++◌, length, Some}
 use Rattle.board_model.specs.declared.board.Board.{Board}
 use Rattle.board_model.specs.Ways.{bound_of}
 use Rattle.history_model.specs.declared.event.Event.{Event}

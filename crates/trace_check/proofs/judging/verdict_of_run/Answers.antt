@@ -1,10 +1,9 @@
-use Rattle.std.proofs.Common.{rules, ◌++◌, List, arith}
-use Rattle.history_model.specs.declared.event.Event.{Event}
-use Rattle.history_model.specs.Runs.{Run, Complete, history_of}
+use Rattle.std.proofs.Common.{rules, arith}
+use Rattle.history_model.specs.Runs.{Complete, history_of}
 use Rattle.history_model.specs.Local.{Matched}
-use Rattle.trace_check.specs.Verdicts.{Judges, IncompleteRun}
 use Rattle.trace_check.proofs.judging.verdict_of_run.Goals as goal
 
+-- a run that goes on lowers what is left by the number of its events
 pub returns-else-complete : goal.returns-else-complete
 returns-else-complete c =
     let incomplete : ¬ Complete c.args.tree.now (history_of c.args.events.now) = search rules in
