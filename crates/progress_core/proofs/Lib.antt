@@ -1,4 +1,3 @@
 pub mod SumLemmas
 pub mod ProgramLemmas
 pub mod RunningLemmas
-pub mod BeginsLemmas

@@ -9,6 +9,7 @@ use bus_tree::Tree;
 use history_core::{allowed, complete};
 use history_model::Event;
 use progress_core::left;
+use run_bound::runs_end;
 use run_slots::{matched, well_formed_boards};
 
 /// What these events of a valid board are, the first event first. There are fewer than 2^32. Each
@@ -47,6 +48,7 @@ fn verdict_of_run(tree: &Tree, events: &[Event]) -> Verdict
 {
     matched();
     well_formed_boards();
+    runs_end();
     if complete(tree.board(), events) {
         Verdict::Complete
     } else {

@@ -1,5 +1,5 @@
-use Rattle.progress_core.proofs.BeginsLemmas.{left-begins, Begins-formed}
-use Rattle.progress_core.proofs.left_at_first.Goals as goal
+use Rattle.run_bound.proofs.BeginsLemmas.{left-begins, Begins-formed}
+use Rattle.run_bound.proofs.left_at_first.Goals as goal
 
 pub returns-clause-begins : goal.returns-clause-begins
 returns-clause-begins c = left-begins

@@ -21,7 +21,7 @@ use Rattle.bus_tree.proofs.FormLemmas.{front, back, at_most, Form-board}
 use Rattle.history_model.specs.World.{world_of}
 use Rattle.history_model.specs.Program.{turn_of}
 use Rattle.history_model.specs.Left.{bridge_left, delayed_left, op_left, program_left, programs_left, stalls_left, discard_left, drop_left, left_of}
-use Rattle.progress_core.specs.Begins.{IsTried, Begins}
+use Rattle.run_bound.specs.Begins.{IsTried, Begins}
 
 -- A posted write is tried once, and of a delayed request no lane holds a slot.
 
