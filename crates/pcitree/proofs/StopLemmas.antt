@@ -4,8 +4,9 @@ use Rattle.std.specs.Io.KnownBytes.{Consumes, IsAtEnd}
 use Rattle.program_status.specs.declared.status.Status.{Status}
 use Rattle.program_status.specs.declared.status.Status.TheVariants.{Done, NoMemory, Usage, ReadFault, WriteFault, TooLong, BadBoard, BadTrace, NotRun, Incomplete}
 use Rattle.pcitree.specs.declared.words.Form.{Form}
-use Rattle.pcitree.specs.declared.words.Form.TheVariants.{RunSteady, Headers, Check}
+use Rattle.pcitree.specs.declared.words.Form.TheVariants.{RunSteady, Headers, Check, Finish}
 use Rattle.trace_answers.proofs.ServedLemmas.{complete_is_answered}
+use Rattle.finish_answers.proofs.ServedLemmas.{run_is_answered}
 use Rattle.pcitree.specs.Answers.{limit_of, AnswersTo, Refuses, IsFaultless, IsServed, IsAnswered, Causes, Serves}
 use Rattle.pcitree.specs.Ends.{HoldsTooMuch, AnswersInput, RefusesInput, IsBeforeWriting, IsRefusal}
 use Rattle.pcitree.specs.Stops.{StopsServing, StopsRunning}
@@ -62,6 +63,7 @@ faultless Headers input (BadTrace line code) none refuses = absurd refuses
 faultless Headers input (NotRun event why) none refuses = absurd refuses
 faultless Headers input (Incomplete left) none refuses = absurd refuses
 faultless Check input status trace refuses = complete_is_answered input status trace refuses
+faultless Finish input status trace refuses = run_is_answered input status trace refuses
 
 -- an input that is served is answered, but for want of memory and the faults of ports
 pub served_by : (form : Form) (input : List ℕ) (status : Status) → IsServed form input → Causes form input status → Serves status

@@ -1,17 +1,28 @@
--- What `run` wrote is what `check` wants.
-use Rattle.std.proofs.Common.{◌≡◌, ℕ, List, Option, Some, None, IfSome}
-use Rattle.trace_answers.proofs.WrittenLemmas.{written_is_complete}
+-- What `run` and `finish` wrote is what `check` wants.
+use Rattle.std.proofs.Common.{◌≡◌, ℕ, true, List, Option, Some, None, IfSome, subst}
+use Rattle.board_answers.specs.Answers.{AnswersRun}
+use Rattle.trace_answers.specs.Traces.{IsCompleteTrace}
+use Rattle.finish_answers.specs.Finished.{AnswersFinish}
 use Rattle.pcitree.specs.declared.words.Form.{Form}
-use Rattle.pcitree.specs.declared.words.Form.TheVariants.{RunSteady, Headers, Check}
-use Rattle.pcitree.specs.Ends.{Finishes, WritesRun}
+use Rattle.pcitree.specs.declared.words.Form.TheVariants.{RunSteady, Headers, Check, Finish}
+use Rattle.pcitree.specs.Ends.{Finishes, writes_trace, WritesRun}
 
-pub run_is_written : (found : Option Form) (held left before after : Option (List ℕ)) → found ≡ Some RunSteady → IfSome found (λ form. Finishes form held left before after) → WritesRun before after
-run_is_written None held left before after is done = absurd cc
-run_is_written (Some RunSteady) held left before after is done =
-    record {
-      text = done.text;
-      complete = written_is_complete done.answers.input done.text done.answers.answers;
-      written = done.written;
-    }
-run_is_written (Some Headers) held left before after is done = absurd cc
-run_is_written (Some Check) held left before after is done = absurd cc
+-- what is written for a board or a trace is the text of a complete run
+Completes : Type 0
+Completes =
+    ((input text : List ℕ) → AnswersRun input text → IsCompleteTrace text)
+    × ((input text : List ℕ) → AnswersFinish input text → IsCompleteTrace text)
+
+by_form : Completes → (form : Form) (held left before after : Option (List ℕ)) → writes_trace form ≡ true → Finishes form held left before after → WritesRun before after
+unfolding Completes
+by_form laws RunSteady held left before after is done =
+    record { text = done.text; complete = laws.0 done.answers.input done.text done.answers.answers; written = done.written }
+by_form laws Headers held left before after is done = absurd cc
+by_form laws Check held left before after is done = absurd cc
+by_form laws Finish held left before after is done =
+    record { text = done.text; complete = laws.1 done.answers.input done.text done.answers.answers; written = done.written }
+
+pub run_is_written : ((input text : List ℕ) → AnswersRun input text → IsCompleteTrace text) → ((input text : List ℕ) → AnswersFinish input text → IsCompleteTrace text) → (form : Form) (found : Option Form) (held left before after : Option (List ℕ)) → found ≡ Some form → writes_trace form ≡ true → IfSome found (λ form. Finishes form held left before after) → WritesRun before after
+unfolding Completes
+run_is_written runs finished form found held left before after is writes done =
+    by_form (runs, finished) form held left before after writes (subst (λ f. IfSome f (λ form. Finishes form held left before after)) is done)

@@ -3,35 +3,40 @@ use Rattle.std.specs.Prelude.{◌≡◌, ℕ, ◌^◌, ◌≤◌, ◌<◌, List,
 use Rattle.board_answers.specs.Refusals.{board_refusal, run_refusal}
 use Rattle.board_answers.specs.Answers.{AnswersRun, AnswersHeaders, RefusesRun, RefusesHeaders}
 use Rattle.trace_answers.specs.Traces.{AnswersCheck, RefusesCheck, IsCompleteTrace}
+use Rattle.finish_answers.specs.Finished.{AnswersFinish, RefusesFinish, IsRunTrace}
 use Rattle.program_status.specs.declared.status.Status.{Status}
 use Rattle.program_status.specs.declared.status.Status.TheVariants.{Done, NoMemory, Usage, ReadFault, WriteFault, TooLong, BadBoard, BadTrace, NotRun, Incomplete}
 use Rattle.pcitree.specs.declared.words.Form.{Form}
-use Rattle.pcitree.specs.declared.words.Form.TheVariants.{RunSteady, Headers, Check}
+use Rattle.pcitree.specs.declared.words.Form.TheVariants.{RunSteady, Headers, Check, Finish}
 
 -- a board text may have 1 MiB, a trace text 64 MiB
 abbrev pub limit_of : Form → ℕ
 limit_of RunSteady = 2 ^ 20
 limit_of Headers = 2 ^ 20
 limit_of Check = 2 ^ 26
+limit_of Finish = 2 ^ 26
 
 -- the text that answers an input
 abbrev pub AnswersTo : Form → List ℕ → List ℕ → Type 0
 AnswersTo RunSteady input text = AnswersRun input text
 AnswersTo Headers input text = AnswersHeaders input text
 AnswersTo Check input text = AnswersCheck input text
+AnswersTo Finish input text = AnswersFinish input text
 
 -- the status that refuses an input
 abbrev pub Refuses : Form → List ℕ → Status → Type 0
 Refuses RunSteady input status = RefusesRun input status
 Refuses Headers input status = RefusesHeaders input status
 Refuses Check input status = RefusesCheck input status
+Refuses Finish input status = RefusesFinish input status
 
--- an input that is within its limit and has no fault: a board text, for `run` of a plain board, or the text of a
--- valid board and of a complete run of it
+-- an input has no fault: a board text, for `run` of a plain board; the text of a valid board and of a complete run of
+-- it; for `finish` of any run of it
 abbrev pub IsFaultless : Form → List ℕ → Type 0
 IsFaultless RunSteady input = run_refusal input ≡ None
 IsFaultless Headers input = board_refusal input ≡ None
 IsFaultless Check input = IsCompleteTrace input
+IsFaultless Finish input = IsRunTrace input
 
 abbrev pub IsServed : Form → List ℕ → Type 0
 IsServed form input = (length input ≤ limit_of form) × IsFaultless form input

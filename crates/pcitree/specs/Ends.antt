@@ -1,10 +1,10 @@
 -- How a call of the program ends, seen at its words, its source and its sink.
-use Rattle.std.specs.Prelude.{ℕ, ◌≤◌, ◌<◌, List, length, Option, IfSome}
+use Rattle.std.specs.Prelude.{ℕ, Bool, true, false, ◌≤◌, ◌<◌, List, length, Option, IfSome}
 use Rattle.std.specs.Io.KnownBytes.{Consumes, IsAtEnd, Appends}
 use Rattle.program_status.specs.declared.status.Status.{Status}
 use Rattle.program_status.specs.declared.status.Status.TheVariants.{Done, Usage, WriteFault, BadBoard, BadTrace, NotRun, Incomplete}
 use Rattle.pcitree.specs.declared.words.Form.{Form}
-use Rattle.pcitree.specs.declared.words.Form.TheVariants.{Check}
+use Rattle.pcitree.specs.declared.words.Form.TheVariants.{RunSteady, Headers, Check, Finish}
 use Rattle.pcitree.specs.Answers.{limit_of, AnswersTo, Refuses, IsFaultless}
 use Rattle.pcitree.specs.Writing.{WritesFront}
 
@@ -41,6 +41,13 @@ pub record StopsInText (form : Form) (held left before after : Option (List ℕ)
   pub text : List ℕ
   pub answers : AnswersInput form held left text
   pub front : WritesFront before after text
+
+-- the forms that write the trace of a run
+abbrev pub writes_trace : Form → Bool
+writes_trace RunSteady = true
+writes_trace Headers = false
+writes_trace Check = false
+writes_trace Finish = true
 
 -- the sink took the text of a valid board and of a complete run of it, as `check` wants it
 pub record WritesRun (before after : Option (List ℕ)) : Type 0 where

@@ -2,18 +2,19 @@
 use Rattle.std.specs.Prelude.{ℕ, ◌+◌, ◌==◌, ◌&&◌, not, max, Bool, true, false, List, [], ◌∷◌, Option, codes, nat_eq, if◌then◌else◌, find, fold, position, option_and_then}
 use Rattle.std.specs.Cmp.Lexicographic.{pointwise}
 use Rattle.pcitree.specs.declared.words.Part.{Part}
-use Rattle.pcitree.specs.declared.words.Part.TheVariants.{Run, Steady, HeadersWord, CheckWord, File}
+use Rattle.pcitree.specs.declared.words.Part.TheVariants.{Run, Steady, HeadersWord, CheckWord, FinishWord, File}
 use Rattle.pcitree.specs.declared.words.Form.{Form}
-use Rattle.pcitree.specs.declared.words.Form.TheVariants.{RunSteady, Headers, Check}
+use Rattle.pcitree.specs.declared.words.Form.TheVariants.{RunSteady, Headers, Check, Finish}
 
 -- the forms, and what each of their words has to be
 abbrev pub all_forms : List Form
-all_forms = RunSteady ∷ Headers ∷ Check ∷ []
+all_forms = RunSteady ∷ Headers ∷ Check ∷ Finish ∷ []
 
 abbrev pub parts_of : Form → List Part
 parts_of RunSteady = Run ∷ Steady ∷ File ∷ []
 parts_of Headers = HeadersWord ∷ File ∷ []
 parts_of Check = CheckWord ∷ File ∷ []
+parts_of Finish = FinishWord ∷ File ∷ []
 
 -- a word that names a file is not empty and does not begin with `-`
 abbrev pub names_file : List ℕ → Bool
@@ -26,6 +27,7 @@ fits Run word = pointwise nat_eq word (codes "run")
 fits Steady word = pointwise nat_eq word (codes "--steady")
 fits HeadersWord word = pointwise nat_eq word (codes "headers")
 fits CheckWord word = pointwise nat_eq word (codes "check")
+fits FinishWord word = pointwise nat_eq word (codes "finish")
 fits File word = names_file word
 
 -- how many words, from the first on, are as the form has them
@@ -59,3 +61,4 @@ file_place words = option_and_then (λ form. position is_file (parts_of form)) (
   is_file Steady = false
   is_file HeadersWord = false
   is_file CheckWord = false
+  is_file FinishWord = false

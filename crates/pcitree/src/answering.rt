@@ -3,6 +3,7 @@ ghost use Rattle.pcitree.specs.Answers.{limit_of, AnswersTo, Refuses};
 
 use crate::words::Form;
 use board_answers::{answer_headers, answer_run};
+use finish_answers::answer_finish;
 use program_status::Status;
 use std::alloc::Global;
 use trace_answers::answer_check;
@@ -14,7 +15,7 @@ pub(crate) fn limit_of(form: Form) -> usize
 {
     match form {
         Form::RunSteady | Form::Headers => 0x10_0000,
-        Form::Check => 0x400_0000,
+        Form::Check | Form::Finish => 0x400_0000,
     }
 }
 
@@ -28,5 +29,6 @@ pub(crate) fn answer(alloc: Global, form: Form, input: &[u8]) -> Result<Vec<u8>,
         Form::RunSteady => answer_run(alloc, input),
         Form::Headers => answer_headers(alloc, input),
         Form::Check => answer_check(alloc, input),
+        Form::Finish => answer_finish(alloc, input),
     }
 }

@@ -1,15 +1,16 @@
-ghost use Rattle.std.specs.Prelude.{◌≡◌, ◌↔◌, ℕ, List, Some, None, map, string_bytes, IsSome, OnOk, IfOk, IfErr, IfSome};
+ghost use Rattle.std.specs.Prelude.{◌≡◌, ◌↔◌, ℕ, true, List, Some, None, map, string_bytes, IsSome, OnOk, IfOk, IfErr, IfSome};
 ghost use Rattle.io_ports.specs.Faults.{Rose};
 ghost use Rattle.pcitree.specs.declared.words.Form.{Form as WordForm};
 ghost use Rattle.pcitree.specs.Words.{form_of, misfit};
 ghost use Rattle.pcitree.specs.Answers.{IsServed, Causes, Serves};
-ghost use Rattle.pcitree.specs.Ends.{IsUsage, IsRefusal, IsBeforeWriting, ReadsInput, HoldsTooMuch, AnswersInput, RefusesInput, Finishes, StopsInText, WritesRun};
+ghost use Rattle.pcitree.specs.Ends.{IsUsage, IsRefusal, IsBeforeWriting, ReadsInput, HoldsTooMuch, AnswersInput, RefusesInput, Finishes, StopsInText, WritesRun, writes_trace};
 ghost use Rattle.pcitree.specs.Stops.{StopsReading, StopsAnswering, StopsServing, StopsRunning};
 
 use crate::answering::{answer, limit_of};
 use crate::reading::{ReadError, read_all};
 use crate::words::{Form, form_of, misfit};
 use crate::writing::write_all;
+use finish_answers::finished_traces_are_complete;
 use io_ports::{Sink, Source};
 use program_status::Status;
 use std::alloc::Global;
@@ -44,9 +45,9 @@ pub fn pcitree<S: Source, K: Sink>(
     ensures done { result ≡ Status.Done → IfSome (form_of (map string_bytes words.now)) (λ form.
         Finishes form (S.held source.old) (S.held source.new) (K.taken sink.old) (K.taken sink.new)) }
 
-    // What `run` wrote is the text of a complete run, as `check` wants it.
-    ensures checked { result ≡ Status.Done → form_of (map string_bytes words.now) ≡ Some WordForm.RunSteady
-        → WritesRun (K.taken sink.old) (K.taken sink.new) }
+    // What `run` or `finish` wrote is the text of a complete run, as `check` wants it.
+    ensures checked { (form : WordForm) → result ≡ Status.Done → form_of (map string_bytes words.now) ≡ Some form
+        → writes_trace form ≡ true → WritesRun (K.taken sink.old) (K.taken sink.new) }
 
     // What was read.
     ensures refused { IsRefusal result → IfSome (form_of (map string_bytes words.now)) (λ form.
@@ -60,6 +61,7 @@ pub fn pcitree<S: Source, K: Sink>(
         → S.held source.old ≡ Some input → IsServed form input → Serves result }
 {
     written_runs_are_complete();
+    finished_traces_are_complete();
     match run(alloc, words, source, sink) {
         Ok(()) => Status::Done,
         Err(status) => status,

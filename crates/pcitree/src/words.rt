@@ -12,6 +12,8 @@ pub(crate) enum Part {
     HeadersWord,
     /// `check`
     CheckWord,
+    /// `finish`
+    FinishWord,
     /// A word that is not empty and does not begin with `-`.
     File,
 }
@@ -25,10 +27,12 @@ pub(crate) enum Form {
     Headers,
     /// `check FILE`
     Check,
+    /// `finish FILE`
+    Finish,
 }
 
 /// The forms.
-const FORMS: [Form; 3] = [Form::RunSteady, Form::Headers, Form::Check];
+const FORMS: [Form; 4] = [Form::RunSteady, Form::Headers, Form::Check, Form::Finish];
 
 impl Part {
     fn fits(self, word: &str) -> bool
@@ -39,6 +43,7 @@ impl Part {
             Part::Steady => word == "--steady",
             Part::HeadersWord => word == "headers",
             Part::CheckWord => word == "check",
+            Part::FinishWord => word == "finish",
             Part::File => names_file(word.as_bytes()),
         }
     }
@@ -62,6 +67,7 @@ impl Form {
             Form::RunSteady => &[Part::Run, Part::Steady, Part::File],
             Form::Headers => &[Part::HeadersWord, Part::File],
             Form::Check => &[Part::CheckWord, Part::File],
+            Form::Finish => &[Part::FinishWord, Part::File],
         }
     }
 }
