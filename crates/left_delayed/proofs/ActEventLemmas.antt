@@ -33,10 +33,11 @@ use Rattle.run_slots.proofs.AnswerLemmas.{answered_at}
 use Rattle.run_slots.proofs.LatchedLemmas.{wants-at}
 use Rattle.run_slots.proofs.RequestLemmas.{request_is_of}
 use Rattle.run_reach.proofs.PathLemmas.{way_goes}
-use Rattle.left_delayed.specs.Delayed.{is_stall}
-use Rattle.left_delayed.proofs.CountLemmas.{passed_stage}
-use Rattle.left_delayed.proofs.MoveLemmas.{still_self}
-use Rattle.left_delayed.proofs.ActLemmas.{IsEnd, nothing_parted, ends_there, lane_there}
+use Rattle.left_changes.specs.Steps.{is_stall}
+use Rattle.left_stages.proofs.CountLemmas.{passed_stage}
+use Rattle.left_changes.proofs.MoveLemmas.{still_self}
+use Rattle.left_changes.specs.Steps.{IsEnd}
+use Rattle.left_changes.proofs.ActLemmas.{nothing_parted, ends_there, lane_there}
 use Rattle.left_delayed.proofs.LaneEndLemmas.{one_op, asked_at, passed_at, lane_end_lowers}
 use Rattle.left_delayed.proofs.TakenLemmas.{mid, is_mid, others_mid, still_mid, none_mid, sum_mid, held_same, stands_same, stage_k}
 use Rattle.left_delayed.proofs.LatchLemmas.{latch_lowers}

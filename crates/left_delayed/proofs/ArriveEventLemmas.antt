@@ -32,15 +32,16 @@ use Rattle.run_slots.specs.Slots.{IsHeldFor, AskNamed, DoneNamed, Slots, GoneHel
 use Rattle.run_slots.proofs.BridgeLemmas.{flip, both_back, lane_back_back}
 use Rattle.run_slots.proofs.SlotsRunLemmas.{Slots-run}
 use Rattle.run_slots.proofs.OneItemLemmas.{GoneHeld-each}
-use Rattle.left_delayed.proofs.AnyLemmas.{any_none, any-push_here}
-use Rattle.left_delayed.proofs.StageLemmas.{stage, stage_at, stage_ask_flies, stage_ask_stands, stage_done_flies, stage_done_stands, stage_gone_flies}
-use Rattle.left_delayed.proofs.CountLemmas.{Own, own_by}
-use Rattle.left_delayed.proofs.SameLemmas.{ask_here, ask_back, drop_here, drop_back, done_here, done_back, frees_here, frees_back}
-use Rattle.left_delayed.proofs.StoreLemmas.{discards_le, drops_le, discards_fall, drops_fall}
-use Rattle.left_delayed.proofs.ProgramLemmas.{entry_of}
-use Rattle.left_delayed.proofs.MoveLemmas.{stands_still, frees_still, drops_still}
+use Rattle.left_stages.proofs.AnyLemmas.{any_none, any-push_here}
+use Rattle.left_stages.specs.Stages.{stage, stage_at}
+use Rattle.left_stages.proofs.StageLemmas.{stage_ask_flies, stage_ask_stands, stage_done_flies, stage_done_stands, stage_gone_flies}
+use Rattle.left_stages.proofs.CountLemmas.{Own, own_by}
+use Rattle.left_stages.proofs.SameLemmas.{ask_here, ask_back, drop_here, drop_back, done_here, done_back, frees_here, frees_back}
+use Rattle.left_changes.proofs.StoreLemmas.{discards_le, drops_le, discards_fall, drops_fall}
+use Rattle.left_changes.proofs.ProgramLemmas.{entry_of}
+use Rattle.left_changes.proofs.MoveLemmas.{stands_still, frees_still, drops_still}
 use Rattle.left_delayed.specs.Delayed.{is_delayed_first}
-use Rattle.left_delayed.proofs.OwnLemmas.{freed_none, others_of, Stands, stands_of, way_behind, way_at_most}
+use Rattle.left_stages.proofs.OwnLemmas.{freed_none, others_of, Stands, stands_of, way_behind, way_at_most}
 use Rattle.left_delayed.proofs.ArriveLemmas.{new_here, new_there, arrive_lowers, grown, falls_here, rises_here, falls_there, rises_there}
 
 -- the first of a list passes

@@ -24,12 +24,12 @@ use Rattle.history_model.specs.Program.{turn_of}
 use Rattle.history_model.specs.Runs.{Run}
 use Rattle.history_model.specs.Left.{delayed_left, discard_left, drop_left, left_of}
 use Rattle.run_slots.proofs.BridgeLemmas.{flip, same_lane_self}
-use Rattle.left_delayed.proofs.StageLemmas.{stage_at}
-use Rattle.left_delayed.proofs.CountLemmas.{delayed_sum}
-use Rattle.left_delayed.proofs.SameLemmas.{Same, moved_same}
-use Rattle.left_delayed.proofs.StoreLemmas.{Grown}
-use Rattle.left_delayed.proofs.MoveLemmas.{moved_here, moved_there, sum_up, sum_down, Still, StillBoth, moved_still, grown_still}
-use Rattle.left_delayed.proofs.ChangeLemmas.{own_stays, lowers}
+use Rattle.left_stages.specs.Stages.{stage_at}
+use Rattle.left_stages.proofs.CountLemmas.{delayed_sum}
+use Rattle.left_stages.proofs.SameLemmas.{Same, moved_same}
+use Rattle.left_changes.proofs.StoreLemmas.{Grown}
+use Rattle.left_changes.proofs.MoveLemmas.{moved_here, moved_there, sum_up, sum_down, Still, StillBoth, moved_still, grown_still}
+use Rattle.left_changes.proofs.ChangeLemmas.{own_stays, lowers}
 
 -- the first of a list passes
 first_any : {X : Type 0} (test : X → Bool) (xs : List X) (x : X) (rest : List X) → xs ≡ x ∷ rest → test x ≡ true → list_any test xs ≡ true

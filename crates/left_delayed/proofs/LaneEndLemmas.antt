@@ -40,14 +40,15 @@ use Rattle.run_slots.proofs.KindLemmas.{RightKind-run}
 use Rattle.run_slots.proofs.SlotsRunLemmas.{Slots-run}
 use Rattle.run_reach.specs.Reach.{Passed}
 use Rattle.run_reach.proofs.ReachLemmas.{ask_stands_first}
-use Rattle.left_delayed.proofs.AnyLemmas.{any-push_here}
-use Rattle.left_delayed.proofs.StageLemmas.{stage, stage_at, stage_done_flies}
-use Rattle.left_delayed.proofs.CountLemmas.{Own, own_by, delayed_sum}
-use Rattle.left_delayed.proofs.SameLemmas.{Same, Others, ends_here, ends_back, moved_same}
-use Rattle.left_delayed.proofs.StoreLemmas.{discards_le, drops_le}
-use Rattle.left_delayed.proofs.MoveLemmas.{moved_here, sum_up, Still, ends_still, moved_still, still_both, grown_still}
-use Rattle.left_delayed.proofs.ChangeLemmas.{own_stays, lowers}
-use Rattle.left_delayed.proofs.OwnLemmas.{others_of, stands_of}
+use Rattle.left_stages.proofs.AnyLemmas.{any-push_here}
+use Rattle.left_stages.specs.Stages.{stage, stage_at}
+use Rattle.left_stages.proofs.StageLemmas.{stage_done_flies}
+use Rattle.left_stages.proofs.CountLemmas.{Own, own_by, delayed_sum}
+use Rattle.left_stages.proofs.SameLemmas.{Same, Others, ends_here, ends_back, moved_same}
+use Rattle.left_changes.proofs.StoreLemmas.{discards_le, drops_le}
+use Rattle.left_changes.proofs.MoveLemmas.{moved_here, sum_up, Still, ends_still, moved_still, still_both, grown_still}
+use Rattle.left_changes.proofs.ChangeLemmas.{own_stays, lowers}
+use Rattle.left_stages.proofs.OwnLemmas.{others_of, stands_of}
 
 -- an operation has one meaning
 pub one_op : (found : Option Op) (a b : Op) → found ≡ Some a → found ≡ Some b → a ≡ b

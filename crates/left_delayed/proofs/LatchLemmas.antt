@@ -33,14 +33,14 @@ use Rattle.history_model.specs.Left.{is_slot_of, delayed_left, left_of}
 use Rattle.run_slots.proofs.BridgeLemmas.{same_lane_self}
 use Rattle.run_slots.proofs.RequestLemmas.{same_op_self}
 use Rattle.run_reach.specs.Reach.{slots_of}
-use Rattle.left_delayed.proofs.AnyLemmas.{any_none, any_some, any-push_here}
-use Rattle.left_delayed.proofs.StageLemmas.{stage, stage_at}
-use Rattle.left_delayed.proofs.CountLemmas.{own_of, stage_none, delayed_sum}
-use Rattle.left_delayed.proofs.SameLemmas.{Same, latch_here, latch_back, moved_same}
-use Rattle.left_delayed.proofs.StoreLemmas.{discards_le, drops_le}
-use Rattle.left_delayed.proofs.MoveLemmas.{moved_here, sum_up, Still, latch_still, moved_still, grown_still}
-use Rattle.left_delayed.proofs.ChangeLemmas.{own_stays, lowers}
-use Rattle.left_delayed.proofs.OwnLemmas.{none_of, Stands, stands_of}
+use Rattle.left_stages.proofs.AnyLemmas.{any_none, any_some, any-push_here}
+use Rattle.left_stages.specs.Stages.{stage, stage_at}
+use Rattle.left_stages.proofs.CountLemmas.{own_of, stage_none, delayed_sum}
+use Rattle.left_stages.proofs.SameLemmas.{Same, latch_here, latch_back, moved_same}
+use Rattle.left_changes.proofs.StoreLemmas.{discards_le, drops_le}
+use Rattle.left_changes.proofs.MoveLemmas.{moved_here, sum_up, Still, latch_still, moved_still, grown_still}
+use Rattle.left_changes.proofs.ChangeLemmas.{own_stays, lowers}
+use Rattle.left_stages.proofs.OwnLemmas.{none_of, Stands, stands_of}
 
 -- what a latch does, whoever presented the operation
 latch_world : (board : Board) (h : List Event) (on : ℕ) (by : By) (o : OpId) (lane : BridgeLane) → world_of board (Act on by o Latch (Lane lane) ∷ h) ≡ moved (ask_enters by o) lane (world_of board h)

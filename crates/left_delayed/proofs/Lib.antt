@@ -1,13 +1,3 @@
-pub mod AnyLemmas
-pub mod StageLemmas
-pub mod CountLemmas
-pub mod SameLemmas
-pub mod StoreLemmas
-pub mod ActLemmas
-pub mod ProgramLemmas
-pub mod MoveLemmas
-pub mod ChangeLemmas
-pub mod OwnLemmas
 pub mod LaneEndLemmas
 pub mod TakenLemmas
 pub mod LatchLemmas

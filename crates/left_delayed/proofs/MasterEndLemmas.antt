@@ -26,11 +26,11 @@ use Rattle.history_model.specs.Runs.{Run}
 use Rattle.history_model.specs.Left.{is_slot_of, left_of}
 use Rattle.run_slots.proofs.LatchedLemmas.{wants-at}
 use Rattle.run_slots.proofs.OwnersLatchLemmas.{wants-turn}
-use Rattle.left_delayed.proofs.SameLemmas.{Same}
-use Rattle.left_delayed.proofs.StoreLemmas.{discards_le, drops_le}
-use Rattle.left_delayed.proofs.MoveLemmas.{Still, grown_still}
-use Rattle.left_delayed.proofs.ChangeLemmas.{own_ends, lowers}
-use Rattle.left_delayed.proofs.OwnLemmas.{no_slots}
+use Rattle.left_stages.proofs.SameLemmas.{Same}
+use Rattle.left_changes.proofs.StoreLemmas.{discards_le, drops_le}
+use Rattle.left_changes.proofs.MoveLemmas.{Still, grown_still}
+use Rattle.left_changes.proofs.ChangeLemmas.{own_ends, lowers}
+use Rattle.left_stages.proofs.OwnLemmas.{no_slots}
 
 -- a master that is on a bus is there
 master_there : (on : ℕ) (found : Option MasterAgent) → is_on on found ≡ true → (master : MasterAgent) × (found ≡ Some master)

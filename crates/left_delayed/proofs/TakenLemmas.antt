@@ -29,12 +29,13 @@ use Rattle.run_slots.specs.Owners.{TakesItsOwn}
 use Rattle.run_slots.proofs.BridgeLemmas.{same_lane_true, same_lane_self, moved_gives, moved_keeps}
 use Rattle.run_slots.proofs.WellFormedLemmas.{WellFormed-numbers, WellFormed-single}
 use Rattle.run_slots.proofs.MatchedLemmas.{TakesItsOwn-run}
-use Rattle.left_delayed.proofs.AnyLemmas.{any_none, find_any, any-less_none}
-use Rattle.left_delayed.proofs.StageLemmas.{stage, stage_at, stage_done_stands}
-use Rattle.left_delayed.proofs.CountLemmas.{Own, own_by}
-use Rattle.left_delayed.proofs.SameLemmas.{Same, taken_here, taken_back, moved_same}
-use Rattle.left_delayed.proofs.MoveLemmas.{moved_here, sum_down, Still, taken_still, moved_still}
-use Rattle.left_delayed.proofs.OwnLemmas.{freed_none, own_number, others_of, Stands, stands_of}
+use Rattle.left_stages.proofs.AnyLemmas.{any_none, find_any, any-less_none}
+use Rattle.left_stages.specs.Stages.{stage, stage_at}
+use Rattle.left_stages.proofs.StageLemmas.{stage_done_stands}
+use Rattle.left_stages.proofs.CountLemmas.{Own, own_by}
+use Rattle.left_stages.proofs.SameLemmas.{Same, taken_here, taken_back, moved_same}
+use Rattle.left_changes.proofs.MoveLemmas.{moved_here, sum_down, Still, taken_still, moved_still}
+use Rattle.left_stages.proofs.OwnLemmas.{freed_none, own_number, others_of, Stands, stands_of}
 
 -- a completion is no request
 done_not_of : (number : ℕ) (o : OpId) (item : Carried) → is_done_for number item ≡ true → is_of o item ≡ false

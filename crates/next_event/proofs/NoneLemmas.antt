@@ -1,8 +1,8 @@
 -- Where a look in order gives nothing, nothing that it looks at gives anything.
-use Rattle.std.proofs.Common.{◌≡◌, ℕ, zero, suc, ◌<◌, Bool, true, false, cond, eqb, ◌&&◌, ◌||◌, List, [], ◌∷◌, Option, Some, None, refl, sym, subst, ⊎_elim, arith}
+use Rattle.std.proofs.Common.{◌≡◌, ℕ, zero, suc, ◌<◌, Bool, true, false, cond, eqb, ◌||◌, List, [], ◌∷◌, Option, Some, None, refl, sym, subst, ⊎_elim, arith}
 use Rattle.std.specs.List.{find, list_any}
 use Rattle.std.specs.Option.{option_or}
-use Rattle.std.proofs.lemmas.Bool.{eqb-true}
+use Rattle.std.proofs.lemmas.Bool.{and_from, eqb-true}
 use Rattle.std.proofs.lemmas.Bool.Decides.{nat_tests}
 use Rattle.list_facts.proofs.EachLemmas.{Each-find}
 use Rattle.list_facts.proofs.FindLemmas.{find_passes}
@@ -12,6 +12,7 @@ use Rattle.board_model.specs.declared.board.Board.{Board}
 use Rattle.board_model.specs.WellFormed.{has_bus}
 use Rattle.board_model.specs.Valid.{has_bridge_to}
 use Rattle.board_model.specs.Ways.{primary_in, end_of}
+use Rattle.bus_tree.proofs.FormLemmas.{back}
 use Rattle.history_model.specs.Answers.{bridge_to}
 use Rattle.next_event.specs.Fits.{BridgeFits, BusesFit}
 use Rattle.next_event.specs.Next.{first_below, first_bus, down_to, up_from, ends_on, given_on, first_lane}
@@ -37,11 +38,12 @@ pub bus_gives_none : {Y : Type 0} (gives : ℕ → Option Y) (k : ℕ) → first
 unfolding first_bus
 bus_gives_none gives k none below = below_none gives 256 k none below
 
--- of the lanes that end on a bus
+-- of a lane that is looked at where it ends on the bus
 given_none : {Y : Type 0} (board : Board) (bus : ℕ) (gives : BridgeLane → Option Y) (lane : BridgeLane) → given_on board bus gives lane ≡ None → ends_on board bus lane ≡ true → gives lane ≡ None
 given_none board bus gives lane none ends =
     subst (λ (b : Bool). cond b (gives lane) None ≡ None) ends none
 
+-- of a lane that ends on the bus: it is that of its own bridge, or of a bridge below
 lane_none : {Y : Type 0} (board : Board) (bus : ℕ) (gives : BridgeLane → Option Y) (lane : BridgeLane) → first_lane board bus gives ≡ None → ends_on board bus lane ≡ true → lane.bus < 256 → gives lane ≡ None
 lane_none {Y} board bus gives lane none ends below =
     let up : ℕ → Option Y = λ child. given_on board bus gives (up_from child) in
@@ -51,14 +53,10 @@ lane_none {Y} board bus gives lane none ends below =
     (elim lane.up as P [
       | true ↦ λ is. given_none board bus gives (up_from lane.bus) (bus_gives_none up lane.bus both.1 below) is
       | false ↦ λ is.
-          let same : lane.bus ≡ bus = eqb-true lane.bus bus (second (has_bridge_to board lane.bus) (eqb lane.bus bus) is) in
+          let same : lane.bus ≡ bus = eqb-true lane.bus bus (back (has_bridge_to board lane.bus) (eqb lane.bus bus) is) in
           let here : given_on board bus gives (down_to lane.bus) ≡ None = subst (λ (b : ℕ). given_on board bus gives (down_to b) ≡ None) (sym same) both.0 in
           given_none board bus gives (down_to lane.bus) here is
     ]) ends
-  where
-    second : (a b : Bool) → (a && b) ≡ true → b ≡ true
-    second true b e = e
-    second false b e = cc
 
 -- a lane of a bridge of the board, which ends on one of 256 buses
 pub record IsOnBoard (board : Board) (lane : BridgeLane) : Type 0 where
@@ -92,11 +90,8 @@ pub lanes_give_none : {Y : Type 0} (board : Board) (gives : ℕ → BridgeLane �
     → IsOnBoard board lane → gives (end_of board lane) lane ≡ None
 lanes_give_none board gives lane none is =
     let on : ℕ = end_of board lane in
-    lane_none board on (gives on) lane (none on is.end) (joined (has_bridge_to board lane.bus) (eqb on on) is.there (eqb_self on)) is.bus
+    lane_none board on (gives on) lane (none on is.end) (and_from (has_bridge_to board lane.bus) (eqb on on) is.there (eqb_self on)) is.bus
   where
+    -- a number is itself
     eqb_self : (n : ℕ) → eqb n n ≡ true
     eqb_self n = grind (arith, nat_tests)
-
-    joined : (a b : Bool) → a ≡ true → b ≡ true → (a && b) ≡ true
-    joined true b first then = then
-    joined false b first then = cc

@@ -39,12 +39,13 @@ bus_holds : {Y : Type 0} (P : Y → Type 0) (gives : ℕ → Option Y) → ((k :
 unfolding first_bus
 bus_holds P gives each = below_holds P gives each 256
 
--- of the lanes that end on a bus
+-- of a lane, where it ends on the bus
 given_holds : {Y : Type 0} (P : Y → Type 0) (board : Board) (bus : ℕ) (gives : BridgeLane → Option Y) → ((lane : BridgeLane) → IfSome (gives lane) P) → (lane : BridgeLane) → IfSome (given_on board bus gives lane) P
 given_holds P board bus gives each lane =
     let Q : Bool → Type 0 = λ b. IfSome (cond b (gives lane) None) P in
     elim (ends_on board bus lane) as Q [ true ↦ each lane | false ↦ tt ]
 
+-- of the lanes that end on the bus
 lane_holds : {Y : Type 0} (P : Y → Type 0) (board : Board) (bus : ℕ) (gives : BridgeLane → Option Y) → ((lane : BridgeLane) → IfSome (gives lane) P) → IfSome (first_lane board bus gives) P
 lane_holds {Y} P board bus gives each =
     let below : ℕ → Option Y = λ child. given_on board bus gives (up_from child) in
@@ -52,6 +53,7 @@ lane_holds {Y} P board bus gives each =
     (bus_holds P below (λ child. given_holds P board bus gives each (up_from child)))
 
 module _ (board : Board) (h : List Event) where
+  -- what is to hold of it
   abbrev Good : Event → Type 0
   Good = Allowed board h
 
@@ -60,6 +62,7 @@ module _ (board : Board) (h : List Event) where
   mark_allowed lane None is = tt
   mark_allowed lane (Some mark) is = is
 
+  -- so the first arrival is allowed
   arrivals_allowed : IfSome (first_arrival board h) Good
   arrivals_allowed =
       bus_holds Good (λ bus. first_lane board bus (arrival_at board h))
@@ -72,9 +75,11 @@ module _ (board : Board) (h : List Event) where
   given_allowed on by o true (Retry cause) is gives = tt
   given_allowed on by o false given is gives = tt
 
+  -- so it is allowed
   act_allowed : (on : ℕ) (by : By) (o : OpId) → IfSome (act_of board h on by o) Good
   act_allowed on by o = given_allowed on by o (wants board h on by o) (answer board h on by o) refl refl
 
+  -- of what stands on a lane
   item_allowed : (on : ℕ) (lane : BridgeLane) (item : Carried) → IfSome (act_of_item board h on lane item) Good
   item_allowed on lane (Post o) = act_allowed on (ByLane lane) o
   item_allowed on lane (Ask o slot) = act_allowed on (ByLane lane) o
@@ -82,10 +87,12 @@ module _ (board : Board) (h : List Event) where
   item_allowed on lane Room = tt
   item_allowed on lane (Gone slot) = tt
 
+  -- of a master
   turn_allowed : (on : ℕ) (turn : Option OpId) → IfSome (act_of_turn board h on turn) Good
   turn_allowed on None = tt
   turn_allowed on (Some o) = act_allowed on Master o
 
+  -- of a bus
   bus_allowed : (bus : ℕ) → IfSome (act_on board h bus) Good
   bus_allowed bus =
       or_holds Good (first_lane board bus (act_of_lane board h bus)) (act_of_masters board h bus)

@@ -7,7 +7,7 @@ use Rattle.pcitree.specs.declared.words.Form.{Form}
 use Rattle.pcitree.specs.declared.words.Form.TheVariants.{RunSteady, Headers, Check}
 use Rattle.trace_answers.proofs.ServedLemmas.{complete_is_answered}
 use Rattle.pcitree.specs.Answers.{limit_of, AnswersTo, Refuses, IsFaultless, IsServed, IsAnswered, Causes, Serves}
-use Rattle.pcitree.specs.Ends.{HoldsTooMuch, AnswersInput, RefusesInput, IsBeforeWriting, IsRefusal}
+use Rattle.pcitree.specs.Ends.{HoldsTooMuch, AnswersInput, RefusesInput, Finishes, IsBeforeWriting, IsRefusal}
 use Rattle.pcitree.specs.Stops.{StopsServing, StopsRunning}
 
 -- what was read to the end of a source is all that it held
@@ -28,6 +28,14 @@ answered form held left input text is answers =
       text = text;
       answers = subst (λ (l : List ℕ). AnswersTo form l text) (sym same) answers.answers;
     }
+
+-- an input whose answer the sink took
+pub finished : (known : Option Form) (form : Form) (held left before after : Option (List ℕ)) (input : List ℕ) → known ≡ Some form → held ≡ Some input
+    → IfSome known (λ f. Finishes f held left before after) → IsAnswered form input
+finished None form held left before after input there is done = cc
+finished (Some other) form held left before after input there is done =
+    let same : other ≡ form = cc in
+    subst (λ (f : Form). IsAnswered f input) same (answered other held left input done.text is done.answers)
 
 -- an input that was refused
 refused : (form : Form) (held left : Option (List ℕ)) (input : List ℕ) (status : Status) → held ≡ Some input → RefusesInput form held left status → (length input ≤ limit_of form) × Refuses form input status

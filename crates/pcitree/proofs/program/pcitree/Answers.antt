@@ -1,9 +1,12 @@
-use Rattle.pcitree.proofs.StopLemmas.{unwritten, refused_in, caused_by, served_by}
+use Rattle.pcitree.proofs.StopLemmas.{finished, unwritten, refused_in, caused_by, served_by}
 use Rattle.pcitree.proofs.WrittenLemmas.{run_is_written}
 use Rattle.pcitree.proofs.program.pcitree.Goals as goal
 
 pub returns-in-Ok-clause-checked : goal.returns-in-Ok-clause-checked
 returns-in-Ok-clause-checked g c = λ is form. run_is_written _ _ _ _ _ form c.in-Ok.ensures.done
+
+pub returns-in-Ok-clause-cause : goal.returns-in-Ok-clause-cause
+returns-in-Ok-clause-cause g c = λ form input there is. finished _ form _ _ _ _ input there is c.in-Ok.ensures.done
 
 pub returns-in-Err-clause-unwritten : goal.returns-in-Err-clause-unwritten
 returns-in-Err-clause-unwritten g c = λ before. unwritten _ _ _ _ _ _ _ _ _ _ _ _ c.in-Err.ensures.stopped before

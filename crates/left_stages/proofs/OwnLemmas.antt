@@ -29,9 +29,9 @@ use Rattle.run_slots.proofs.RequestLemmas.{same_op_true, same_op_self}
 use Rattle.run_slots.proofs.SlotsRunLemmas.{Slots-run}
 use Rattle.run_slots.proofs.OneItemLemmas.{Each-found_itself}
 use Rattle.run_reach.specs.Reach.{slots_of}
-use Rattle.left_delayed.proofs.AnyLemmas.{any_some, weigh_none}
-use Rattle.left_delayed.proofs.CountLemmas.{Own, own_of, way_cons}
-use Rattle.left_delayed.proofs.SameLemmas.{Others}
+use Rattle.left_stages.proofs.AnyLemmas.{any_some, weigh_none}
+use Rattle.left_stages.proofs.CountLemmas.{Own, own_of, way_cons}
+use Rattle.left_stages.proofs.SameLemmas.{Others}
 
 -- where no slot of the operation weighs, none is held
 pub none_of : (o : OpId) (held : List Slot) → total (slots_of o) held ≡ 0 → list_any (is_slot_of o) held ≡ false

@@ -26,7 +26,7 @@ use Rattle.history_model.specs.Answers.{stalls_by}
 use Rattle.history_model.specs.Runs.{names}
 use Rattle.history_model.specs.Left.{post_left, flying_left, standing_left, lane_left, bridge_left, program_left, programs_left, stalls_left, discard_left, drop_left}
 use Rattle.run_slots.proofs.BridgeLemmas.{same_lane_true}
-use Rattle.left_delayed.proofs.AnyLemmas.{total_same, total_falls}
+use Rattle.left_stages.proofs.AnyLemmas.{total_same, total_falls}
 
 -- no stall token is used
 pub stalls_same : (h : List Event) (e : Event) → ((target : ℕ) → stalls_by target e ≡ 0) → (index : ℕ) (targets : List TargetAgent) → stalls_left (e ∷ h) index targets ≡ stalls_left h index targets

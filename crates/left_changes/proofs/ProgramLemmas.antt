@@ -27,7 +27,7 @@ use Rattle.history_model.specs.World.{World, world_of}
 use Rattle.history_model.specs.Program.{Ending, ended, present, next_op, next_try, meets, follows_op, follows_in, follows, turn_after, turn_of}
 use Rattle.history_model.specs.Words.{through}
 use Rattle.history_model.specs.Left.{is_slot_of, delayed_left, op_left, turn_left, program_left}
-use Rattle.left_delayed.proofs.ActLemmas.{some_burst}
+use Rattle.left_changes.proofs.ActLemmas.{some_burst}
 
 -- a master's turn is one of its own operations
 abbrev IsMasters : ℕ → Option OpId → Type 0

@@ -38,8 +38,9 @@ use Rattle.run_slots.proofs.WellFormedLemmas.{WellFormed-numbers, WellFormed-sin
 use Rattle.run_reach.specs.Reach.{Passed, slots_of, Reaches}
 use Rattle.run_reach.proofs.PathLemmas.{other_bridge}
 use Rattle.run_reach.proofs.ReachLemmas.{Reaches-run}
-use Rattle.left_delayed.proofs.AnyLemmas.{any_some, any_none, find_any}
-use Rattle.left_delayed.proofs.StageLemmas.{stage, stage_at, chain, some_one, somewhere, stage_ask_stands}
+use Rattle.left_stages.proofs.AnyLemmas.{any_some, any_none, find_any}
+use Rattle.left_stages.specs.Stages.{stage, stage_at}
+use Rattle.left_stages.proofs.StageLemmas.{chain, some_one, somewhere, stage_ask_stands}
 
 -- where only one element has a weight, a test of those that weigh finds it
 found_only : (o : OpId) (test : Slot → Bool) (held : List Slot) (slot : Slot) → total (slots_of o) held ≤ 1 → find test held ≡ Some slot → is_slot_of o slot ≡ true → find (is_slot_of o) held ≡ Some slot

@@ -1,35 +1,15 @@
 -- What an operation has before it, by how far each lane of its way has brought it.
-use Rattle.std.proofs.Common.{◌≡◌, ℕ, ◌+◌, ◌*◌, ◌-◌, ◌≤◌, Bool, true, false, ◌||◌, cond, length, Option, Some, None, refl, arith, ◌⊎◌, inl, inr}
-use Rattle.std.specs.List.{find, list_any}
+use Rattle.std.proofs.Common.{◌≡◌, ℕ, ◌+◌, ◌*◌, ◌-◌, ◌≤◌, Bool, true, false, ◌||◌, cond, Some, refl, arith, ◌⊎◌, inl, inr}
+use Rattle.std.specs.List.{list_any}
 use Rattle.list_facts.specs.Lists.{total}
-use Rattle.pci_command.specs.declared.op_id.OpId.{OpId}
-use Rattle.board_model.specs.declared.bridge.Lane.{Lane as BridgeLane}
-use Rattle.board_model.specs.declared.op.Op.{Op}
-use Rattle.board_model.specs.declared.board.Board.{Board}
-use Rattle.board_model.specs.Ways.{end_of, way}
 use Rattle.history_model.specs.declared.item.Carried.{Carried}
 use Rattle.history_model.specs.declared.item.Carried.TheVariants.{Post, Ask, Done, Room, Gone}
 use Rattle.history_model.specs.declared.item.Slot.{Slot}
-use Rattle.history_model.specs.Lanes.{LaneState, Both, is_done_for}
-use Rattle.history_model.specs.World.{World, lane_back}
+use Rattle.history_model.specs.Lanes.{Both, is_done_for}
 use Rattle.history_model.specs.Local.{is_ask_of, is_gone_of}
-use Rattle.history_model.specs.Left.{is_slot_of}
+use Rattle.left_stages.specs.Stages.{stage}
 use Rattle.run_slots.specs.Slots.{hit, ask_weight, done_weight, gone_weight, ItemOf, ask_flies, ask_stands, done_flies, done_stands, gone_flies, HasOneItem}
-use Rattle.left_delayed.proofs.AnyLemmas.{find_any, weigh_none, any_weighs}
-
--- how far a lane has brought an operation, by the place of the item of its slot, where so many lanes are behind it
-abbrev pub stage : ℕ → LaneState → LaneState → Option Slot → ℕ
-stage rest here back None = 1
-stage rest here back (Some slot) =
-    cond (list_any (is_ask_of slot.number) here.flight) 2
-    (cond (list_any (is_ask_of slot.number) here.standing) 3
-    (cond (list_any (is_done_for slot.number) back.flight) (4 * rest + 4)
-    (cond (list_any (is_done_for slot.number) back.standing) (4 * rest + 5)
-    (cond (list_any (is_gone_of slot.number) back.flight) 0 1))))
-
--- on the lanes of its way
-abbrev pub stage_at : Board → Op → OpId → World → BridgeLane → ℕ
-stage_at board op o world lane = stage (length (way board op (end_of board lane))) (world lane) (world (lane_back lane)) (find (is_slot_of o) (world lane).held)
+use Rattle.left_stages.proofs.AnyLemmas.{find_any, weigh_none, any_weighs}
 
 -- what is left by the furthest slot and how far its lane has brought it
 pub chain : (long far rest : ℕ) (a b c d e : Bool) → far + rest ≡ long → 1 ≤ far → (a || (b || (c || (d || e)))) ≡ true

@@ -21,10 +21,10 @@ use Rattle.history_model.specs.World.{World, lane_back, same_lane, both, moved}
 use Rattle.history_model.specs.Left.{flying_left, standing_left}
 use Rattle.run_slots.proofs.BridgeLemmas.{flip, both_back, same_lane_true, same_lane_self, same_lane_back, same_lane_symm, moved_gives, moved_keeps}
 use Rattle.run_reach.proofs.PathLemmas.{other_bridge}
-use Rattle.left_delayed.proofs.AnyLemmas.{total_same, total_each, total_falls}
-use Rattle.left_delayed.proofs.StageLemmas.{stage_at}
-use Rattle.left_delayed.proofs.SameLemmas.{Same}
-use Rattle.left_delayed.proofs.StoreLemmas.{Grown}
+use Rattle.left_stages.proofs.AnyLemmas.{total_same, total_each, total_falls}
+use Rattle.left_stages.specs.Stages.{stage_at}
+use Rattle.left_stages.proofs.SameLemmas.{Same}
+use Rattle.left_changes.proofs.StoreLemmas.{Grown}
 
 -- what a move puts on its lane
 pub moved_here : (move : Both → Both) (lane : BridgeLane) (world : World) → both (moved move lane world) lane ≡ move (both world lane)

@@ -26,7 +26,7 @@ use Rattle.board_laws.proofs.StepLemmas.{Up, Down, steps}
 use Rattle.board_laws.proofs.ValidLemmas.{IsTree-valid, targets_formed}
 use Rattle.history_model.specs.declared.event.By.{By}
 use Rattle.history_model.specs.declared.event.Step.{Step}
-use Rattle.history_model.specs.declared.event.Step.TheVariants.{Land, Part, Read, Accept, Latch, Take, Stall, MasterAbort, TargetAbort}
+use Rattle.history_model.specs.declared.event.Step.TheVariants.{Land, Part, Read, Latch, Take, Stall, MasterAbort, TargetAbort}
 use Rattle.history_model.specs.declared.event.Event.{Event}
 use Rattle.history_model.specs.declared.event.Event.TheVariants.{Act}
 use Rattle.history_model.specs.declared.item.Answer.TheVariants.{Gives, Retry}
@@ -42,19 +42,7 @@ use Rattle.history_model.specs.Runs.{Run}
 use Rattle.run_slots.proofs.RequestLemmas.{Each-slice_get, same_op_self}
 use Rattle.run_slots.proofs.PartLemmas.{delayed-not_parted}
 use Rattle.run_slots.proofs.WellFormedLemmas.{WellFormed-single}
-use Rattle.left_delayed.specs.Delayed.{is_stall}
-
--- the steps by which an operation ends where its way ends
-abbrev pub IsEnd : Step → Type 0
-IsEnd Land = Unit {0}
-IsEnd (Part phases) = ⊥
-IsEnd (Read value) = Unit {0}
-IsEnd Accept = ⊥
-IsEnd Latch = ⊥
-IsEnd (Take outcome) = ⊥
-IsEnd Stall = ⊥
-IsEnd MasterAbort = Unit {0}
-IsEnd TargetAbort = Unit {0}
+use Rattle.left_changes.specs.Steps.{is_stall, IsEnd}
 
 -- no stall, and no part of a write but an empty one
 abbrev Whole : Step → Type 0

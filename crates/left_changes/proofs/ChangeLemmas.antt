@@ -23,11 +23,11 @@ use Rattle.history_model.specs.Runs.{Run}
 use Rattle.history_model.specs.Local.{is_ask_of, is_gone_of}
 use Rattle.history_model.specs.Left.{is_slot_of, lane_or, Reach, reach_of, slot_left, reach_left, delayed_left, op_left, turn_left, program_left, discard_left, drop_left, left_of}
 use Rattle.run_slots.proofs.RequestLemmas.{same_op_true}
-use Rattle.left_delayed.proofs.CountLemmas.{delayed_sum}
-use Rattle.left_delayed.proofs.SameLemmas.{Same}
-use Rattle.left_delayed.proofs.StoreLemmas.{stalls_same, through_same, bridges_le, left_by, programs_fall}
-use Rattle.left_delayed.proofs.ProgramLemmas.{turn_master, follows_left}
-use Rattle.left_delayed.proofs.MoveLemmas.{sum_same, Still}
+use Rattle.left_stages.proofs.CountLemmas.{delayed_sum}
+use Rattle.left_stages.proofs.SameLemmas.{Same}
+use Rattle.left_changes.proofs.StoreLemmas.{stalls_same, through_same, bridges_le, left_by, programs_fall}
+use Rattle.left_changes.proofs.ProgramLemmas.{turn_master, follows_left}
+use Rattle.left_changes.proofs.MoveLemmas.{sum_same, Still}
 
 -- where a lane holds a slot, the lanes that do are some
 some_reach : (world : World) (o : OpId) (lanes : List BridgeLane) (last : BridgeLane) → (reach_of world o lanes).last ≡ Some last → 1 ≤ (reach_of world o lanes).lanes

@@ -17,8 +17,8 @@ use Rattle.history_model.specs.Local.{is_ask_of, is_gone_of}
 use Rattle.history_model.specs.Left.{is_slot_of}
 use Rattle.run_slots.proofs.BridgeLemmas.{flip, both_back, moved_keeps}
 use Rattle.run_slots.proofs.LowestFreeLemmas.{lowest_free-free}
-use Rattle.left_delayed.proofs.AnyLemmas.{any-push_other, any-less_found, any-less_kind, find-push_other, find-less_same, found_fails}
-use Rattle.left_delayed.proofs.StageLemmas.{stage}
+use Rattle.left_stages.proofs.AnyLemmas.{any-push_other, any-less_found, any-less_kind, find-push_other, find-less_same, found_fails}
+use Rattle.left_stages.specs.Stages.{stage}
 
 -- the lane has brought the operation as far
 abbrev pub Same : OpId → Both → Both → Type 0

@@ -25,13 +25,6 @@ find_any test (x ∷ xs) y some =
     let P : Bool → Type 0 = λ b. cond b (Some x) (find test xs) ≡ Some y → (b || list_any test xs) ≡ true in
     (elim (test x) as P [ true ↦ λ _. refl | false ↦ λ e. find_any test xs y e ]) some
 
--- where none is found, none passes
-pub find_none : {X : Type 0} (test : X → Bool) (xs : List X) → find test xs ≡ None → list_any test xs ≡ false
-find_none test [] none = refl
-find_none test (x ∷ xs) none =
-    let P : Bool → Type 0 = λ b. cond b (Some x) (find test xs) ≡ None → (b || list_any test xs) ≡ false in
-    (elim (test x) as P [ true ↦ λ e. cc | false ↦ λ e. find_none test xs e ]) none
-
 -- where those that pass weigh and nothing does, none passes
 pub weigh_none : {X : Type 0} (test : X → Bool) (weight : X → ℕ) → ((x : X) → test x ≡ true → 1 ≤ weight x) → (xs : List X) → total weight xs ≡ 0 → list_any test xs ≡ false
 weigh_none test weight weighs [] none = refl
