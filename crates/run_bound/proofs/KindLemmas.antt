@@ -1,5 +1,5 @@
 -- Each event of a run is one of posted writes, of credits and of stalls, or one of delayed requests.
-use Rattle.std.proofs.Common.{◌≡◌, ℕ, Bool, true, false, List, [], ◌∷◌, Option, Some, None, is_some, refl, ◌∙◌, ◌⊎◌, inl, inr}
+use Rattle.std.proofs.Common.{◌≡◌, ℕ, Bool, true, false, List, [], ◌∷◌, Option, Some, None, is_some, refl, ◌⊎◌, inl, inr}
 use Rattle.pci_command.specs.declared.op_id.OpId.{OpId}
 use Rattle.board_model.specs.declared.bridge.Lane.{Lane as BridgeLane}
 use Rattle.board_model.specs.declared.bridge.Place.{Place}
@@ -24,12 +24,7 @@ use Rattle.run_order.specs.Order.{is_posted_in, is_posted_op}
 use Rattle.trace_text.specs.Events.{HasLine}
 use Rattle.run_lines.proofs.LineLemmas.{HasLine-run}
 use Rattle.left_posted.specs.PostedEvents.{is_stall, first_is_post_or_room, IsPostedEvent}
-use Rattle.left_delayed.specs.Delayed.{is_stall as is_other_stall, is_delayed_first, IsDelayedEvent}
-
--- both crates say alike which step is a stall
-same_stall : (step : Step) → is_other_stall step ≡ is_stall step
-same_stall Stall = refl
-same_stall step = refl
+use Rattle.left_delayed.specs.Delayed.{is_delayed_first, IsDelayedEvent}
 
 -- an operation that is there, and is no write in memory, is of the delayed kind
 named_other : (board : Board) (o : OpId) (found : Option Op) → op_of board o ≡ found → is_some found ≡ true → is_posted_in found ≡ false → NamesOp board false o
@@ -39,6 +34,11 @@ named_other board o (Some op) is there other = record { op = op; is_op = is; is_
 -- the operation of an act that has a line is there
 line_there : (board : Board) (on : ℕ) (by : By) (o : OpId) (step : Step) (place : Place) → HasLine board (Act on by o step place) → is_some (op_of board o) ≡ true
 line_there board on by o step place line = front _ _ (back _ _ (back _ _ line))
+
+-- an act of the delayed kind, other than a stall
+other_act : (board : Board) (h : List Event) (on : ℕ) (by : By) (o : OpId) (step : Step) (place : Place) → is_stall step ≡ false → NamesOp board false o → IsDelayedEvent board h (Act on by o step place)
+other_act board h on by o Stall place none named = cc
+other_act board h on by o step place none named = (named, refl)
 
 -- so an act is of the posted or of the delayed kind
 act_kind : (board : Board) (h : List Event) (on : ℕ) (by : By) (o : OpId) (step : Step) (place : Place) → is_some (op_of board o) ≡ true
@@ -51,7 +51,7 @@ act_kind board h on by o step place there =
       | true ↦ λ stall. inl (rw stall refl)
       | false ↦ (elim (is_posted_op board o) as Q [
         | true ↦ λ posted none. inl (rw (none, posted) refl)
-        | false ↦ λ other none. inr (named_other board o (op_of board o) refl there other, same_stall step ∙ none)
+        | false ↦ λ other none. inr (other_act board h on by o step place none (named_other board o (op_of board o) refl there other))
       ]) refl
     ]) refl
 

@@ -12,14 +12,14 @@ use Rattle.trace_reader.specs.declared.fault.TraceFault.{TraceFault}
 use Rattle.trace_reader.specs.Traces.{trace_read}
 use Rattle.program_status.specs.declared.status.Status.{Status}
 use Rattle.program_status.specs.declared.status.Status.TheVariants.{Done, NoMemory, Usage, ReadFault, WriteFault, TooLong, BadBoard, BadTrace, NotRun, Incomplete}
-use Rattle.trace_answers.specs.Traces.{trace_reading_refusal, trace_refusal, RefusesCheck, IsCompleteTrace}
+use Rattle.trace_answers.specs.Traces.{trace_reading_refusal, trace_refusal, ReadsTrace, RefusesCheck, IsCompleteTrace}
 
 history_split : (before : List Event) (e : Event) (after : List Event) → history_of (before ++ e ∷ after) ≡ reverse after ++ e ∷ history_of before
 history_split before e after =
     reverse-append before (e ∷ after) ∙ ap (λ (l : List Event). l ++ reverse before) (reverse-append (e ∷ []) after) ∙ append_assoc (reverse after) (e ∷ []) (reverse before)
 
 -- in a run no event is refused
-no_refused : (board : Board) (events : List Event) (number : ℕ) (why : Why) → Run board (history_of events) → FirstRefused board events number why → ⊥
+pub no_refused : (board : Board) (events : List Event) (number : ℕ) (why : Why) → Run board (history_of events) → FirstRefused board events number why → ⊥
 no_refused board events number why run refused =
     let P : List Event → Type 0 = λ l. Run board l in
     let whole = ap history_of refused.split ∙ history_split refused.before refused.event refused.after in
@@ -36,22 +36,24 @@ events_in : List Event → Result (Board × List Event) TraceFault → List Even
 events_in events (Ok read) = read.1
 events_in events (Err fault) = events
 
-same_trace : (input : List ℕ) (board other : Board) (events others : List Event) → trace_read input ≡ Ok (board, events) → trace_read input ≡ Ok (other, others) → (board ≡ other) × (events ≡ others)
+-- a text is read as one board and one list of events
+pub same_trace : (input : List ℕ) (board other : Board) (events others : List Event) → trace_read input ≡ Ok (board, events) → trace_read input ≡ Ok (other, others) → (board ≡ other) × (events ≡ others)
 unfolding board_in events_in
 same_trace input board other events others one two =
     (sym (ap (board_in board) one) ∙ ap (board_in board) two, sym (ap (events_in events) one) ∙ ap (events_in events) two)
 
-not_refused : (input : List ℕ) (status : Status) → IsCompleteTrace input → trace_refusal input ≡ Some status → ⊥
-not_refused input status trace refusal =
-    let read = trace.reads.read in
-    let tree = trace.reads.tree in
+-- a text that is read is not refused for a fault of its own
+pub not_refused : (input : List ℕ) (board : Board) (events : List Event) (status : Status) → ReadsTrace input board events → trace_refusal input ≡ Some status → ⊥
+not_refused input board events status reads refusal =
+    let read = reads.read in
+    let tree = reads.tree in
     let none : trace_refusal input ≡ None = ap trace_reading_refusal read ∙ rw tree refl in
     absurd cc
 
 pub complete_is_answered : (input : List ℕ) (status : Status) → IsCompleteTrace input → RefusesCheck input status → status ≡ NoMemory
 complete_is_answered input NoMemory trace refuses = refl
-complete_is_answered input (BadBoard line fault) trace refuses = absurd (not_refused input (BadBoard line fault) trace refuses)
-complete_is_answered input (BadTrace line code) trace refuses = absurd (not_refused input (BadTrace line code) trace refuses)
+complete_is_answered input (BadBoard line fault) trace refuses = absurd (not_refused input trace.board trace.events (BadBoard line fault) trace.reads refuses)
+complete_is_answered input (BadTrace line code) trace refuses = absurd (not_refused input trace.board trace.events (BadTrace line code) trace.reads refuses)
 complete_is_answered input (NotRun event why) trace refuses =
     let same = same_trace input trace.board refuses.board trace.events refuses.events trace.reads.read refuses.reads.read in
     let run = subst (λ (b : Board). Run b (history_of refuses.events)) same.0 (subst (λ (l : List Event). Run trace.board (history_of l)) same.1 trace.run) in

@@ -80,6 +80,19 @@ pub record IsCompleteTrace (input : List ℕ) : Type 0 where
   pub run : Run board (history_of events)
   pub complete : Complete board (history_of events)
 
+-- a text that is not read as a valid board and events of it: refused by its first fault, or for want of memory
+abbrev pub RefusesReading : List ℕ → Status → Type 0
+RefusesReading input NoMemory = Unit {0}
+RefusesReading input (BadBoard line fault) = trace_refusal input ≡ Some (BadBoard line fault)
+RefusesReading input (BadTrace line code) = trace_refusal input ≡ Some (BadTrace line code)
+RefusesReading input (NotRun event why) = ⊥
+RefusesReading input (Incomplete left) = ⊥
+RefusesReading input Done = ⊥
+RefusesReading input (Usage word) = ⊥
+RefusesReading input ReadFault = ⊥
+RefusesReading input WriteFault = ⊥
+RefusesReading input TooLong = ⊥
+
 -- what was read of a trace text: a valid board, and fewer than 2^32 events
 pub record ReadsTree (input : List ℕ) (read : TreeTrace) : Type 0 where
   pub reads : ReadsTrace input read.tree read.events

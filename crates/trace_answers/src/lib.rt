@@ -9,6 +9,7 @@ mod answer;
 mod read;
 
 pub use answer::answer_check;
+pub use read::{TreeTrace, read_tree_trace};
 
 /// What a run writes of a board is the text of a valid board and of a complete run of it.
 pub fn written_runs_are_complete()

@@ -1,5 +1,5 @@
 ghost use Rattle.std.specs.Prelude.{◌<◌, ◌^◌, length, IfOk, IfErr};
-ghost use Rattle.trace_answers.specs.Traces.{ReadsTree, RefusesCheck};
+ghost use Rattle.trace_answers.specs.Traces.{ReadsTree, RefusesReading};
 
 use board_answers::{line_fault, tree_of};
 use bus_tree::Tree;
@@ -11,16 +11,16 @@ use trace_reader::{TraceFault, read_trace};
 
 /// A valid board, and the events of a trace of it.
 #[derive(Debug, Drop)]
-pub(crate) struct TreeTrace {
-    pub(crate) tree: Tree,
-    pub(crate) events: List<Event>,
+pub struct TreeTrace {
+    pub tree: Tree,
+    pub events: List<Event>,
 }
 
 /// The board and the events whose text these bytes are, which are fewer than 2^31.
-pub(crate) fn read_tree_trace(alloc: Global, input: &[u8]) -> Result<TreeTrace, Status>
+pub fn read_tree_trace(alloc: Global, input: &[u8]) -> Result<TreeTrace, Status>
     requires { length input.now < 2 ^ 31 }
     ensures ok { IfOk result (ReadsTree input.now) }
-    ensures err { IfErr result (RefusesCheck input.now) }
+    ensures err { IfErr result (RefusesReading input.now) }
 {
     match read_trace(alloc, input) {
         Ok((board, events)) => match tree_of(board) {
