@@ -22,6 +22,7 @@ pub fn finish(tree: &Tree, events: List<Event>) -> Result<List<Event>, NoMemory>
     well_formed_boards();
     left_falls();
     runs_end();
+    // The board of a tree is valid, so that each event lowers what is left.
     let _valid = tree.board();
     let mut whole = events.into_vec();
     while let Some(event) = next_event(tree, whole.as_slice()) {
