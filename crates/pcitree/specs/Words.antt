@@ -52,13 +52,19 @@ form_of words = find (λ form. is_of (parts_of form) words) all_forms
 abbrev pub misfit : List (List ℕ) → ℕ
 misfit words = fold (λ longest form. max longest (fitting (parts_of form) words)) 0 all_forms
 
+-- the word that names the file
+abbrev pub is_file : Part → Bool
+is_file File = true
+is_file Run = false
+is_file Steady = false
+is_file HeadersWord = false
+is_file CheckWord = false
+is_file FinishWord = false
+
+-- its place, from 0, among the parts of a form
+abbrev pub file_in : List Part → Option ℕ
+file_in parts = position is_file parts
+
 -- the place, from 0, of the word that names the file
 abbrev pub file_place : List (List ℕ) → Option ℕ
-file_place words = option_and_then (λ form. position is_file (parts_of form)) (form_of words) where
-  is_file : Part → Bool
-  is_file File = true
-  is_file Run = false
-  is_file Steady = false
-  is_file HeadersWord = false
-  is_file CheckWord = false
-  is_file FinishWord = false
+file_place words = option_and_then (λ form. file_in (parts_of form)) (form_of words)

@@ -1,5 +1,5 @@
-ghost use Rattle.std.specs.Prelude.{◌≡◌, ◌≤◌, map, length, string_bytes};
-ghost use Rattle.pcitree.specs.Words.{names_file, fits, fitting, is_of, parts_of, form_of, misfit, file_place};
+ghost use Rattle.std.specs.Prelude.{◌≡◌, ◌≤◌, ◌<◌, IfSome, map, length, string_bytes};
+ghost use Rattle.pcitree.specs.Words.{names_file, fits, fitting, is_of, parts_of, form_of, misfit, is_file, file_in, file_place};
 
 /// What a word has to be.
 #[derive(Clone, Copy, Debug, PartialEq, Eq)]
@@ -46,6 +46,13 @@ impl Part {
             Part::FinishWord => word == "finish",
             Part::File => names_file(word.as_bytes()),
         }
+    }
+
+    /// Whether the word names the file.
+    fn is_file(self) -> bool
+        ensures { result ≡ is_file self }
+    {
+        matches!(self, Part::File)
     }
 }
 
@@ -125,6 +132,14 @@ pub fn file_word(words: &[String]) -> Option<u32>
     ensures { result ≡ file_place (map string_bytes words.now) }
 {
     let form = form_of(words)?;
-    let place = form.parts().iter().position(|part| *part == Part::File)?;
+    let place = file_in(form.parts())?;
     Some(place as u32)
+}
+
+/// The place, from 0, of the word that names the file among the parts of a form.
+fn file_in(parts: &[Part]) -> Option<usize>
+    ensures first { result ≡ file_in parts.now }
+    ensures within { IfSome result (λ place. place < length parts.now) }
+{
+    parts.iter().position(|part| part.is_file())
 }
