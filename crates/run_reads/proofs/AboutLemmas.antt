@@ -1,5 +1,5 @@
 -- Where the way of a delayed request ends, no completion of it is about.
-use Rattle.std.proofs.Common.{◌≡◌, ℕ, ◌+◌, ◌≤◌, Bool, true, false, ◌||◌, ◌&&◌, cond, eqb, List, [], ◌∷◌, Option, Some, None, refl, sym, ap, subst, ◌∙◌, arith, slice_get, ◌⊎◌, inl, inr, ⊎_elim}
+use Rattle.std.proofs.Common.{◌≡◌, ℕ, ◌+◌, ◌≤◌, Bool, true, false, ◌||◌, cond, eqb, List, [], ◌∷◌, Some, refl, sym, ap, subst, ◌∙◌, arith, slice_get, ◌⊎◌, inl, inr, ⊎_elim}
 use Rattle.std.specs.List.{find, list_any, AllByRecursion}
 use Rattle.std.proofs.lemmas.Bool.{eqb-true, and_parts}
 use Rattle.list_facts.specs.Lists.{before, total}
@@ -10,7 +10,6 @@ use Rattle.pci_command.specs.declared.op_id.OpId.{OpId}
 use Rattle.pci_command.specs.Same.{same_command, same_op}
 use Rattle.board_model.specs.declared.agents.Master.{Master as MasterAgent}
 use Rattle.board_model.specs.declared.bridge.Lane.{Lane as BridgeLane}
-use Rattle.board_model.specs.declared.bridge.Place.{Place}
 use Rattle.board_model.specs.declared.bridge.Place.TheVariants.{Lane}
 use Rattle.board_model.specs.declared.op.Op.{Op}
 use Rattle.board_model.specs.declared.board.Board.{Board}
@@ -28,19 +27,19 @@ use Rattle.history_model.specs.declared.item.Carried.{Carried}
 use Rattle.history_model.specs.declared.item.Carried.TheVariants.{Post, Ask, Done, Room, Gone}
 use Rattle.history_model.specs.declared.item.Slot.{Slot}
 use Rattle.history_model.specs.Lanes.{has_number}
-use Rattle.history_model.specs.World.{World, lane_back, same_lane, both, world_of}
+use Rattle.history_model.specs.World.{lane_back, same_lane, world_of}
 use Rattle.history_model.specs.Answers.{is_on, is_turn, wants, presents}
 use Rattle.history_model.specs.Program.{turn_of}
 use Rattle.history_model.specs.Runs.{Run}
 use Rattle.history_model.specs.Local.{is_ask_of, is_done_of}
 use Rattle.run_slots.specs.Slots.{hit, ask_weight, done_weight, DoneNamed, IsHeldFor}
-use Rattle.run_slots.proofs.BridgeLemmas.{same_lane_true, same_lane_self, lane_back_back}
+use Rattle.run_slots.proofs.BridgeLemmas.{same_lane_true, lane_back_back}
 use Rattle.run_slots.proofs.HeldLemmas.{hit-same}
 use Rattle.run_slots.proofs.RequestLemmas.{same_op_true}
 use Rattle.run_slots.proofs.SlotsRunLemmas.{Slots-run}
 use Rattle.run_reach.specs.Reach.{Passed}
-use Rattle.left_stages.proofs.CountLemmas.{Own, own_by, way_cons}
-use Rattle.left_stages.proofs.OwnLemmas.{Stands, stands_of}
+use Rattle.left_stages.proofs.CountLemmas.{own_by, way_cons}
+use Rattle.left_stages.proofs.OwnLemmas.{stands_of}
 use Rattle.left_delayed.proofs.LaneEndLemmas.{asked_at, passed_at}
 
 -- what holds of each lane holds of one of them
@@ -70,7 +69,7 @@ last_lane board op tree k lane (first ∷ lanes) on is none there other =
     let goes = way_cons board op on first lanes tree is in
     let P : Bool → Type 0 = λ b. same_lane k first ≡ b → (b || list_any (same_lane k) lanes) ≡ true → (lane ≡ k) ⊎ (list_any (same_lane lane) (cond b [] (first ∷ before (same_lane k) lanes)) ≡ true) in
     let Q : Bool → Type 0 = λ b. same_lane lane first ≡ b → (b || list_any (same_lane lane) lanes) ≡ true → list_any (same_lane k) lanes ≡ true
-        → (lane ≡ k) ⊎ ((b || list_any (same_lane lane) (before (same_lane k) lanes)) ≡ true) in
+    → (lane ≡ k) ⊎ ((b || list_any (same_lane lane) (before (same_lane k) lanes)) ≡ true) in
     let R : Bool → Type 0 = λ b. same_lane lane first ≡ b → (b || list_any (same_lane lane) lanes) ≡ true → lanes ≡ [] → first ≡ k → (lane ≡ k) ⊎ (list_any (same_lane lane) [] ≡ true) in
     (elim (same_lane k first) as P [
       | true ↦ λ same _.

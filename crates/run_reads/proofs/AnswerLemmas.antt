@@ -1,5 +1,5 @@
 -- How a read is answered where its way ends.
-use Rattle.std.proofs.Common.{◌≡◌, ℕ, ◌+◌, ◌*◌, ◌/◌, ◌%◌, ◌^◌, Bool, true, false, not, cond, nat_lt, List, length, drop, Option, Some, None, refl, sym, ap, subst, ◌∙◌, arith, slice_get}
+use Rattle.std.proofs.Common.{◌≡◌, ℕ, ◌+◌, ◌*◌, ◌/◌, ◌%◌, ◌^◌, Bool, true, false, not, cond, nat_lt, List, length, Option, Some, None, refl, sym, ap, subst, ◌∙◌, arith, slice_get}
 use Rattle.pci_command.specs.declared.request.Request.{Request}
 use Rattle.pci_command.specs.declared.op_id.OpId.{OpId}
 use Rattle.pci_command.specs.Command.{space_of, is_read}
@@ -50,7 +50,7 @@ given_what word step given place at same what =
     let places : place ≡ at = cc in
     subst (What word given) places (subst (λ s. What word s place) steps what)
 
--- of a target
+-- the step of a target says whether it aborts the read
 step_what : (board : Board) (h : List Event) (place : ℕ) (request : Request) (target : TargetAgent) → is_read request.command ≡ true → What (not (aborts_at target request)) (target_step board h place request target) (Target place)
 step_what board h place request target read =
     let gives : Step = Read (value_of board h (record { target = place; space = space_of request.command; address = address_in (space_of request.command) request.address })) in
@@ -62,19 +62,19 @@ step_what board h place request target read =
     let C : Bool → Type 0 = λ c. What (not (aborts_at target request)) (cond c Stall (cond (aborts_at target request) TargetAbort (cond (is_read request.command) gives writes))) (Target place) in
     elim (nat_lt (stalls_used h place) target.stalls) as C [ true ↦ tt | false ↦ b ]
 
--- of whoever is at the place of a target
+-- so does the answer at the place of a target
 target_what : (board : Board) (h : List Event) (place : ℕ) (request : Request) (found : Option TargetAgent) (step : Step) (at : Place) → is_read request.command ≡ true
     → target_answer board h place request found ≡ Gives step at → What (word_at request found) step at
 target_what board h place request None step at read gives = given_what false MasterAbort step Nobody at gives refl
 target_what board h place request (Some target) step at read gives =
     given_what (not (aborts_at target request)) (target_step board h place request target) step (Target place) at gives (step_what board h place request target read)
 
--- of a header
+-- the answer of a header says that there is no word
 header_what : (bus : ℕ) (request : Request) (found : Option Bridge) (step : Step) (at : Place) → header_answer bus request found ≡ Gives step at → What false step at
 header_what bus request None step at gives = given_what false MasterAbort step Nobody at gives refl
 header_what bus request (Some bridge) step at gives = given_what false (Read (header_word bridge (request.address % 2 ^ 8 / 4))) step (Header bus) at gives refl
 
--- of whoever claims
+-- the answer of whoever claims, where no lane does, says whether there is a word
 place_what : (board : Board) (h : List Event) (on : ℕ) (by : By) (o : OpId) (request : Request) (claimant : Place) (step : Step) (at : Place) → is_read request.command ≡ true → is_lane claimant ≡ false
     → answer_by board (world_of board h) h on by o request claimant ≡ Gives step at → What (word_by board request claimant) step at
 place_what board h on by o request (Target place) step at read none gives = target_what board h place request (slice_get board.targets place) step at read gives

@@ -16,7 +16,6 @@ use Rattle.history_model.specs.declared.event.By.TheVariants.{Master, Lane as By
 use Rattle.history_model.specs.declared.event.Mark.{Mark}
 use Rattle.history_model.specs.declared.event.Step.{Step}
 use Rattle.history_model.specs.declared.event.Step.TheVariants.{Land, Part, Read, Accept, Latch, Take, Stall, MasterAbort, TargetAbort}
-use Rattle.history_model.specs.declared.event.Event.{Event}
 use Rattle.history_model.specs.declared.event.Event.TheVariants.{Act, Arrive}
 use Rattle.history_model.specs.declared.item.Carried.{Carried}
 use Rattle.history_model.specs.declared.item.Carried.TheVariants.{Post, Ask, Done, Room, Gone}

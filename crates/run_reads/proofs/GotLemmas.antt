@@ -1,6 +1,5 @@
 -- What a read got is what it returned, and a read of a word that ended got something.
-use Rattle.std.proofs.Common.{◌≡◌, ◌≢◌, ℕ, Bool, true, false, ◌||◌, cond, List, [], ◌∷◌, Option, Some, None, is_some, refl, sym, ap, subst, ◌∙◌, slice_get, option_and_then}
-use Rattle.std.specs.List.{list_any}
+use Rattle.std.proofs.Common.{◌≡◌, ◌≢◌, ℕ, Bool, true, false, ◌||◌, cond, List, [], ◌∷◌, Option, Some, None, is_some, refl, sym, ap, subst, ◌∙◌, slice_get}
 use Rattle.pci_command.specs.declared.op_id.OpId.{OpId}
 use Rattle.pci_command.specs.declared.op_id.Outcome.{Outcome}
 use Rattle.pci_command.specs.declared.op_id.Outcome.TheVariants.{Value, Written, Aborted, Nobody as NobodyClaimed}
@@ -9,7 +8,6 @@ use Rattle.board_model.specs.declared.agents.Master.{Master as MasterAgent}
 use Rattle.board_model.specs.declared.op.Op.{Op}
 use Rattle.board_model.specs.declared.board.Board.{Board}
 use Rattle.board_model.specs.Requests.{command_of, op_of, reads, reads_in}
-use Rattle.board_model.specs.Ways.{Dword, words_of}
 use Rattle.board_model.specs.Valid.{IsValid}
 use Rattle.history_model.specs.declared.event.Event.{Event}
 use Rattle.history_model.specs.Knowledge.{Reading, value_of_ending, ends_as, ends_with, has_ended, or_else, given_value, up_to_end, last_reading, got, words_on, words_named}
@@ -52,7 +50,7 @@ module _ (board : Board) (valid : IsValid board) (o : OpId) (op : Op) (is_op : o
   abbrev has_word : Bool
   has_word = word_of board op master.bus
 
-  -- by how an event ended it
+  -- it returned what it got, where an event ended it with this outcome and it did so before
   returned_by : (e : Event) (h : List Event) (reading : Reading) (outcome : Outcome) → Good has_word (last_reading board o (e ∷ h)) outcome → (got board h o ≡ Some reading → given_value h o ≡ Some reading.value)
       → last_reading board o (cond (is_some (value_of_ending (Some outcome))) (e ∷ h) (up_to_end o h)) ≡ Some reading → or_else (value_of_ending (Some outcome)) (given_value h o) ≡ Some reading.value
   returned_by e h reading (Value value) good older is = ap Some (good_value has_word (last_reading board o (e ∷ h)) reading value is good)
@@ -71,7 +69,7 @@ module _ (board : Board) (valid : IsValid board) (o : OpId) (op : Op) (is_op : o
         | Some outcome ↦ λ ends is. returned_by e h reading outcome (ends_good board valid o op is_op read master is_master e h run outcome ends) older is
       ]) refl is
 
-  -- by how an event ended it
+  -- it got something, where it has a word and an event ended it with this outcome
   got_by : (e : Event) (h : List Event) (outcome : Outcome) → has_word ≡ true → Good has_word (last_reading board o (e ∷ h)) outcome → is_some (last_reading board o (cond (is_some (value_of_ending (Some outcome))) (e ∷ h) (up_to_end o h))) ≡ true
   got_by e h (Value value) has good = good_some has_word (last_reading board o (e ∷ h)) (Value value) has good
   got_by e h Written has good = good_not _ has_word (last_reading board o (e ∷ h)) Written has refl good

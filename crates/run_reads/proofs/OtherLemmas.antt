@@ -1,5 +1,5 @@
 -- Only reads read at targets.
-use Rattle.std.proofs.Common.{◌≡◌, ℕ, Bool, true, false, ◌&&◌, cond, nat_lt, List, [], ◌∷◌, length, Option, Some, None, refl, sym, ap, subst, ◌∙◌, slice_get, option_map}
+use Rattle.std.proofs.Common.{◌≡◌, ℕ, Bool, true, false, ◌&&◌, cond, nat_lt, List, [], ◌∷◌, length, Option, Some, None, refl, sym, subst, ◌∙◌, slice_get, option_map}
 use Rattle.std.specs.List.{find, list_any}
 use Rattle.list_facts.specs.Lists.{before}
 use Rattle.pci_command.specs.declared.request.Request.{Request}
@@ -13,7 +13,7 @@ use Rattle.board_model.specs.declared.bridge.Place.{Place}
 use Rattle.board_model.specs.declared.bridge.Place.TheVariants.{Target, Header, Lane, Nobody}
 use Rattle.board_model.specs.declared.op.Op.{Op}
 use Rattle.board_model.specs.declared.board.Board.{Board}
-use Rattle.board_model.specs.Requests.{op_of, request_on, request_of, reads, reads_in, is_posted}
+use Rattle.board_model.specs.Requests.{op_of, request_on, reads, reads_in, is_posted}
 use Rattle.board_model.specs.Claims.{claim}
 use Rattle.board_model.specs.Ways.{address_in, aborts_at}
 use Rattle.history_model.specs.declared.event.By.{By}
@@ -30,7 +30,7 @@ use Rattle.history_model.specs.declared.item.Cause.TheVariants.{Full, NoSlot, Be
 use Rattle.history_model.specs.Lanes.{is_done_for, is_post}
 use Rattle.history_model.specs.World.{World, lane_back, is_own, world_of}
 use Rattle.history_model.specs.Words.{through, without, value_of}
-use Rattle.history_model.specs.Knowledge.{Reading, reading_at, reading_by, reading_of, reading_or, last_reading}
+use Rattle.history_model.specs.Knowledge.{reading_at, reading_by, reading_of, reading_or, last_reading}
 use Rattle.history_model.specs.Answers.{stalls_used, target_step, target_answer, header_answer, completion_answer, delayed_answer, posted_answer, lane_answer, bridge_to, answer_by, answer_to, answer}
 use Rattle.history_model.specs.Runs.{Run}
 use Rattle.run_slots.proofs.RequestLemmas.{same_op_true}
@@ -50,11 +50,11 @@ step_reads board h place request target value is =
     let D : Bool → Type 0 = λ d. cond d Stall (cond (aborts_at target request) TargetAbort (cond (is_read request.command) gives writes)) ≡ Read value → X in
     (elim (nat_lt (stalls_used h place) target.stalls) as D [ true ↦ λ e. cc | false ↦ c ]) is
 
--- the answer of a lane is none at a target
+-- an answer with a value at a target
 abbrev AtTarget : ℕ → ℕ → Answer → Type 0
 AtTarget value target answer = answer ≡ Gives (Read value) (Target target)
 
--- of the completion of the own slot
+-- the answer with the completion of the own slot is none
 completion_none : (X : Type 0) (read : Bool) (lane : BridgeLane) (older : List Carried) (item : Option Carried) (value target : ℕ) → AtTarget value target (completion_answer read lane older item) → X
 completion_none X read lane older None value target is = cc
 completion_none X read lane older (Some (Post op)) value target is = cc
@@ -65,20 +65,20 @@ completion_none X read lane older (Some (Done op slot outcome)) value target is 
 completion_none X read lane older (Some Room) value target is = cc
 completion_none X read lane older (Some (Gone slot)) value target is = cc
 
--- of a delayed request
+-- nor that of a delayed request
 delayed_none : (X : Type 0) (read : Bool) (depth : ℕ) (lane : BridgeLane) (held : List Slot) (coming : List Carried) (own : Option Slot) (value target : ℕ) → AtTarget value target (delayed_answer read depth lane held coming own) → X
 delayed_none X read depth lane held coming None value target is =
     let P : Bool → Type 0 = λ b. AtTarget value target (cond b (Gives Latch (Lane lane)) (Retry NoSlot)) → X in
     (elim (nat_lt (length held) depth) as P [ true ↦ λ e. cc | false ↦ λ e. cc ]) is
 delayed_none X read depth lane held coming (Some slot) value target is = completion_none X read lane (before (is_done_for slot.number) coming) (find (is_done_for slot.number) coming) value target is
 
--- of a posted write
+-- nor that of a posted write
 posted_none : (X : Type 0) (owed depth : ℕ) (lane : BridgeLane) (value target : ℕ) → AtTarget value target (posted_answer owed depth lane) → X
 posted_none X owed depth lane value target is =
     let P : Bool → Type 0 = λ b. AtTarget value target (cond b (Gives Accept (Lane lane)) (Retry Full)) → X in
     (elim (nat_lt owed depth) as P [ true ↦ λ e. cc | false ↦ λ e. cc ]) is
 
--- of any request
+-- nor that of any request
 lane_none : (X : Type 0) (board : Board) (world : World) (on : ℕ) (by : By) (o : OpId) (request : Request) (lane : BridgeLane) (found : Option Bridge) (value target : ℕ) → AtTarget value target (lane_answer board world on by o request lane found) → X
 lane_none X board world on by o request lane None value target is = cc
 lane_none X board world on by o request lane (Some bridge) value target is =
@@ -91,7 +91,7 @@ lane_none X board world on by o request lane (Some bridge) value target is =
       | false ↦ λ e. delayed_none X (is_read request.command) bridge.delayed lane (world lane).held (world (lane_back lane)).standing own value target e
     ]) is
 
--- of whoever claims
+-- whoever claims a request, it gets a value at a target only where it reads
 place_reads : (board : Board) (h : List Event) (on : ℕ) (by : By) (o : OpId) (request : Request) (claimant : Place) (value target : ℕ) → AtTarget value target (answer_by board (world_of board h) h on by o request claimant) → is_read request.command ≡ true
 place_reads board h on by o request (Target place) value target is =
     let P : Option TargetAgent → Type 0 = λ found. AtTarget value target (target_answer board h place request found) → is_read request.command ≡ true in
@@ -115,14 +115,14 @@ read_none board h on by o (Some op) value target other is =
     let e : true ≡ false = sym read ∙ other in
     cc
 
--- by the place
+-- at whatever place it is answered with a value
 at_none : (board : Board) (h : List Event) (on : ℕ) (by : By) (o : OpId) (value : ℕ) (place : Place) → reads board o ≡ false → answer board h on by o ≡ Gives (Read value) place → reading_at board h on o value place ≡ None
 at_none board h on by o value (Target target) other is = read_none board h on by o (op_of board o) value target other is
 at_none board h on by o value (Header bus) other is = refl
 at_none board h on by o value (Lane lane) other is = refl
 at_none board h on by o value Nobody other is = refl
 
--- by the step
+-- with whatever step it is answered
 by_none : (board : Board) (h : List Event) (on : ℕ) (by : By) (o : OpId) (step : Step) (place : Place) → reads board o ≡ false → answer board h on by o ≡ Gives step place → reading_by board h on o step place ≡ None
 by_none board h on by o Land place other is = refl
 by_none board h on by o (Part phases) place other is = refl
@@ -134,7 +134,7 @@ by_none board h on by o Stall place other is = refl
 by_none board h on by o MasterAbort place other is = refl
 by_none board h on by o TargetAbort place other is = refl
 
--- in every run
+-- so it reads at no target in any run
 pub no_reading : (board : Board) (o : OpId) (h : List Event) → reads board o ≡ false → Run board h → last_reading board o h ≡ None
 no_reading board o [] other run = refl
 no_reading board o (Act on by p step place ∷ h) other run =

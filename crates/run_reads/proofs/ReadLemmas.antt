@@ -1,13 +1,12 @@
 -- Every completion of a read says what it last read, in every run.
-use Rattle.std.proofs.Common.{◌≡◌, ℕ, Bool, true, false, ◌&&◌, cond, List, [], ◌∷◌, Option, Some, None, refl, sym, ap, subst, ◌∙◌, slice_get}
-use Rattle.std.specs.List.{find, AllByRecursion}
+use Rattle.std.proofs.Common.{◌≡◌, ℕ, Bool, true, false, cond, List, [], ◌∷◌, Option, Some, None, refl, sym, ap, subst, ◌∙◌, slice_get}
+use Rattle.std.specs.List.{AllByRecursion}
 use Rattle.list_facts.proofs.EachLemmas.{Each-find, Each-weaker}
 use Rattle.pci_command.specs.declared.request.Request.{Request}
 use Rattle.pci_command.specs.declared.command.Command.{Command}
 use Rattle.pci_command.specs.declared.command.Command.TheVariants.{MemWrite}
 use Rattle.pci_command.specs.declared.op_id.OpId.{OpId}
 use Rattle.pci_command.specs.declared.op_id.Outcome.{Outcome}
-use Rattle.pci_command.specs.declared.op_id.Outcome.TheVariants.{Value, Written, Aborted, Nobody as NobodyClaimed}
 use Rattle.pci_command.specs.Command.{is_read}
 use Rattle.pci_command.specs.Same.{same_command, same_op}
 use Rattle.board_model.specs.declared.agents.Master.{Master as MasterAgent}
@@ -16,7 +15,7 @@ use Rattle.board_model.specs.declared.bridge.Place.{Place}
 use Rattle.board_model.specs.declared.bridge.Place.TheVariants.{Target, Header, Lane, Nobody}
 use Rattle.board_model.specs.declared.op.Op.{Op}
 use Rattle.board_model.specs.declared.board.Board.{Board}
-use Rattle.board_model.specs.Requests.{command_of, op_of, request_on, request_of, reads, is_posted}
+use Rattle.board_model.specs.Requests.{command_of, op_of, request_on, request_of, is_posted}
 use Rattle.board_model.specs.Claims.{claim}
 use Rattle.board_model.specs.Valid.{IsValid}
 use Rattle.board_laws.specs.WayEnds.{is_lane}
@@ -30,22 +29,22 @@ use Rattle.history_model.specs.declared.item.Carried.{Carried}
 use Rattle.history_model.specs.declared.item.Carried.TheVariants.{Post, Ask, Done, Room, Gone}
 use Rattle.history_model.specs.declared.item.Answer.TheVariants.{Gives}
 use Rattle.history_model.specs.Lanes.{is_done_for}
-use Rattle.history_model.specs.World.{World, lane_back, lane_outcome, unclaimed, mode_of, world_of}
+use Rattle.history_model.specs.World.{lane_back, lane_outcome, world_of}
 use Rattle.history_model.specs.Program.{master_outcome, ending_of}
 use Rattle.history_model.specs.Knowledge.{Reading, outcome_in, ends_as, reading_of, reading_by, reading_or, last_reading}
-use Rattle.history_model.specs.Answers.{wants, answer}
+use Rattle.history_model.specs.Answers.{answer}
 use Rattle.history_model.specs.Runs.{Run}
 use Rattle.run_slots.specs.Owners.{TakesItsOwn}
 use Rattle.run_slots.proofs.AnswerLemmas.{AtLane, answered_at}
 use Rattle.run_slots.proofs.MatchedLemmas.{TakesItsOwn-run}
-use Rattle.run_slots.proofs.RequestLemmas.{same_op_true, same_op_self}
+use Rattle.run_slots.proofs.RequestLemmas.{same_op_true}
 use Rattle.run_slots.proofs.WellFormedLemmas.{WellFormed-numbers, WellFormed-single}
 use Rattle.run_order.proofs.PostedLemmas.{write_not_read}
 use Rattle.left_changes.proofs.ActLemmas.{lane_there}
 use Rattle.left_changes.specs.Steps.{is_stall}
 use Rattle.run_reads.proofs.AboutLemmas.{NotDone, none_about}
-use Rattle.run_reads.proofs.WordLemmas.{word_by, word_of, word_there}
-use Rattle.run_reads.proofs.FitLemmas.{Good, Fits, LaneFits, WorldFits, Brings, BringsBy, act_fits, arrival_fits}
+use Rattle.run_reads.proofs.WordLemmas.{word_of, word_there}
+use Rattle.run_reads.proofs.FitLemmas.{Good, Fits, LaneFits, WorldFits, Brings, act_fits, arrival_fits}
 use Rattle.run_reads.proofs.AnswerLemmas.{What, read_answered}
 
 -- what was read has a word
@@ -236,7 +235,7 @@ module _ (board : Board) (valid : IsValid board) (o : OpId) (op : Op) (is_op : o
         let there : F (Lane lane) = lane_moves h on by step lane last known (answered_at board h on by o step lane gives) own in
         subst F (sym is) there
 
-    -- by who claims it
+    -- whoever claims it
     claimed_moves : (claimant : Place) → claim board on (request_on op on) ≡ claimant → is_stall step ≡ false → Moved
     claimed_moves (Target target) claims goes = ended_moves (ap is_lane claims)
     claimed_moves (Header bus) claims goes = ended_moves (ap is_lane claims)
@@ -244,7 +243,7 @@ module _ (board : Board) (valid : IsValid board) (o : OpId) (op : Op) (is_op : o
         at_lane_moves lane (lane_there board valid h on by o op step place run is_op (not_posted (command_of op) read) goes lane claims)
     claimed_moves Nobody claims goes = ended_moves (ap is_lane claims)
 
-    -- each act of it
+    -- every act of it does that
     act_moves : Moved
     act_moves =
         let P : Bool → Type 0 = λ b. is_stall step ≡ b → Moved in
@@ -253,7 +252,7 @@ module _ (board : Board) (valid : IsValid board) (o : OpId) (op : Op) (is_op : o
           | false ↦ λ goes. claimed_moves (claim board on (request_on op on)) refl goes
         ]) refl
 
-  -- each event
+  -- every event of a run keeps it
   event_after : (e : Event) (h : List Event) → Run board (e ∷ h) → Known (last_reading board o h) h → After e h (last_reading board o (e ∷ h))
   event_after (Act on by p step place) h run known =
       let last : Option Reading = last_reading board o h in
@@ -274,7 +273,7 @@ module _ (board : Board) (valid : IsValid board) (o : OpId) (op : Op) (is_op : o
         ends = λ outcome is. cc;
       }
 
-  -- every run
+  -- it holds in every run
   Known-run : (h : List Event) → Run board h → Known (last_reading board o h) h
   Known-run [] run = record { has = tt; fits = λ lane. (tt, tt) }
   Known-run (e ∷ h) run = (event_after e h run (Known-run h run.1)).known

@@ -1,5 +1,5 @@
 -- Whether the way of an operation ends at a target that does not abort it.
-use Rattle.std.proofs.Common.{◌≡◌, ℕ, Bool, true, false, ◌||◌, ◌&&◌, not, cond, eqb, List, [], ◌∷◌, Option, Some, None, refl, sym, ap, subst, ◌∙◌, slice_get}
+use Rattle.std.proofs.Common.{◌≡◌, ℕ, Bool, true, false, ◌||◌, not, cond, eqb, List, [], ◌∷◌, Option, Some, None, refl, sym, ap, subst, ◌∙◌, slice_get}
 use Rattle.std.specs.List.{list_any}
 use Rattle.std.proofs.lemmas.Bool.{eqb-true, and_parts}
 use Rattle.pci_command.specs.declared.request.Request.{Request}
@@ -15,7 +15,7 @@ use Rattle.board_model.specs.declared.op.Op.{Op}
 use Rattle.board_model.specs.declared.board.Board.{Board}
 use Rattle.board_model.specs.Requests.{op_of, command_of, request_on}
 use Rattle.board_model.specs.Claims.{claim}
-use Rattle.board_model.specs.Ways.{Route, Dword, end_of, route_by, route_of, way, aborts_at, words_at, words_by, words_of, dwords_of}
+use Rattle.board_model.specs.Ways.{Route, end_of, route_by, route_of, way, aborts_at, words_at, words_by, words_of, dwords_of}
 use Rattle.board_model.specs.Valid.{IsValid}
 use Rattle.board_laws.specs.Trees.{IsTree}
 use Rattle.board_laws.specs.WayEnds.{is_lane}
@@ -57,14 +57,14 @@ no_words_at place request (Some target) none =
     let P : Bool → Type 0 = λ b. not b ≡ false → cond b [] (dwords_of place request) ≡ [] in
     (elim (aborts_at target request) as P [ true ↦ λ _. refl | false ↦ λ e. cc ]) none
 
--- of whoever claims
+-- nor where whoever claims it is no such target
 no_words_by : (board : Board) (request : Request) (place : Place) → word_by board request place ≡ false → words_by board request place ≡ []
 no_words_by board request (Target place) none = no_words_at place request (slice_get board.targets place) none
 no_words_by board request (Header bus) none = refl
 no_words_by board request (Lane lane) none = refl
 no_words_by board request Nobody none = refl
 
--- at the end of its way
+-- so an operation has no word where its way ends so
 pub no_words : (board : Board) (op : Op) (on : ℕ) → word_of board op on ≡ false → words_of board op on ≡ []
 no_words board op on none = let route = route_of board op on in no_words_by board (request_on op route.bus) route.owner none
 
@@ -75,7 +75,7 @@ routed board op on place tree claims =
     let ends = WayEnds-tree board op tree on in
     ends.onwards ∙ ap (route_by onwards on) claims
 
--- of a route
+-- a route ends at a target that does not abort the operation
 abbrev word_in : Board → Op → Route → Bool
 word_in board op route = word_by board (request_on op route.bus) route.owner
 
