@@ -7,6 +7,7 @@ use Rattle.history_model.specs.declared.event.Event.{Event}
 use Rattle.history_model.specs.Runs.{Run, Complete, history_of}
 use Rattle.history_model.specs.Local.{Matched}
 use Rattle.board_parser.specs.Boards.{board_read}
+use Rattle.run_reads.specs.Returns.{ReadsReturn}
 use Rattle.trace_text.specs.Traces.{trace_of}
 use Rattle.trace_reader.specs.Traces.{trace_read}
 use Rattle.header_text.specs.Headers.{headers_text}
@@ -25,11 +26,13 @@ pub record ReadsBoard (input : List ℕ) (board : Board) : Type 0 where
   pub valid : IsValid board
 
 -- these events of the board, the first one first, are a run to the end of all programs, in which each completion is
--- taken by the operation that it was made for, with at most as many events as the board's bound
+-- taken by the operation that it was made for, and each read returns what it read at its target, with at most as many
+-- events as the board's bound
 pub record Runs (board : Board) (events : List Event) : Type 0 where
   pub run : Run board (history_of events)
   pub complete : Complete board (history_of events)
   pub matched : Matched board (history_of events)
+  pub returns : ReadsReturn board (history_of events)
   pub bound : length events ≤ bound_of board
 
 -- run: the input is the text of a valid plain board, and what is written is the trace of such a run of it, which is

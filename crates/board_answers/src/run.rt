@@ -1,6 +1,5 @@
-ghost use Rattle.std.specs.Prelude.{◌≡◌, false, ◌<◌, ◌^◌, length, IfOk, IfErr, IsTrue};
-ghost use Rattle.board_model.specs.WellFormed.{is_well_formed};
-ghost use Rattle.board_model.specs.Valid.{lacks_a_bus};
+ghost use Rattle.std.specs.Prelude.{◌<◌, ◌^◌, length, IfOk, IfErr, IsTrue};
+ghost use Rattle.board_model.specs.Valid.{IsValid};
 ghost use Rattle.plain_board.specs.Plain.{is_plain};
 ghost use Rattle.board_answers.specs.Answers.{AnswersRun, RefusesRun, RunsTo};
 
@@ -10,6 +9,7 @@ use pci_command::{List, NoMemory};
 use plain_board::is_plain;
 use plain_run::run_plain;
 use program_status::{BoardFault, Status};
+use run_reads::reads_return;
 use run_slots::{matched, well_formed_boards};
 use std::alloc::Global;
 use trace_laws::printed_trace_is_read;
@@ -37,12 +37,12 @@ pub fn answer_run(alloc: Global, input: &[u8]) -> Result<Vec<u8>, Status>
 /// The trace text of the run of a plain board.
 fn trace_of(alloc: Global, board: &Board) -> Result<List<u8>, NoMemory>
     requires plain { IsTrue (is_plain board.now) }
-    requires formed { IsTrue (is_well_formed board.now) }
-    requires buses { lacks_a_bus board.now ≡ false }
+    requires valid { IsValid board.now }
     ensures { IfOk result (RunsTo board.now) }
 {
     matched();
     well_formed_boards();
+    reads_return();
     let events = run_plain(alloc, board)?;
     printed_trace_is_read(board, events.as_slice());
     print_trace(alloc, board, events.as_slice())

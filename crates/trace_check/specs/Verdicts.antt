@@ -8,6 +8,7 @@ use Rattle.history_model.specs.Runs.{Run, Complete, history_of}
 use Rattle.history_model.specs.Local.{Matched}
 use Rattle.history_model.specs.Left.{left_of}
 use Rattle.history_core.specs.Verdicts.{Holds}
+use Rattle.run_reads.specs.Returns.{ReadsReturn}
 use Rattle.trace_check.specs.declared.verdict.Verdict.{Verdict as Judgement}
 use Rattle.trace_check.specs.declared.verdict.Verdict.TheVariants.{Complete as IsComplete, Incomplete, NotRun}
 
@@ -27,6 +28,7 @@ pub record CompleteRun (board : Board) (events : List Event) : Type 0 where
   pub run : Run board (history_of events)
   pub complete : Complete board (history_of events)
   pub matched : Matched board (history_of events)
+  pub returns : ReadsReturn board (history_of events)
   pub bound : length events ≤ bound_of board
 
 -- such a run that is not complete, and how many events can follow it at most: no run that goes on from it has more
@@ -34,6 +36,7 @@ pub record IncompleteRun (board : Board) (events : List Event) (left : ℕ) : Ty
   pub run : Run board (history_of events)
   pub incomplete : ¬ Complete board (history_of events)
   pub matched : Matched board (history_of events)
+  pub returns : ReadsReturn board (history_of events)
   pub left_is : left ≡ left_of board (history_of events)
   pub follow : (later : List Event) → Run board (later ++ history_of events) → length later ≤ left
 

@@ -10,6 +10,7 @@ use history_core::{allowed, complete};
 use history_model::Event;
 use progress_core::left;
 use run_bound::runs_end;
+use run_reads::reads_return;
 use run_slots::{matched, well_formed_boards};
 
 /// What these events of a valid board are, the first event first. There are fewer than 2^32. Each
@@ -49,6 +50,7 @@ fn verdict_of_run(tree: &Tree, events: &[Event]) -> Verdict
     matched();
     well_formed_boards();
     runs_end();
+    reads_return();
     if complete(tree.board(), events) {
         Verdict::Complete
     } else {

@@ -5,6 +5,7 @@ use Rattle.board_model.specs.Ways.{bound_of}
 use Rattle.history_model.specs.declared.event.Event.{Event}
 use Rattle.history_model.specs.Runs.{Run, Complete, history_of}
 use Rattle.history_model.specs.Local.{Matched}
+use Rattle.run_reads.specs.Returns.{ReadsReturn}
 use Rattle.next_event.specs.Next.{next_of}
 
 -- the events that go on from a run, each the next event of what stands before it
@@ -20,4 +21,5 @@ pub record Finishes (board : Board) (events whole : List Event) : Type 0 where
   pub run : Run board (history_of whole)
   pub complete : Complete board (history_of whole)
   pub matched : Matched board (history_of whole)
+  pub returns : ReadsReturn board (history_of whole)
   pub bound : length whole ≤ bound_of board

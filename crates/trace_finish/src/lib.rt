@@ -10,6 +10,7 @@ use history_model::Event;
 use next_event::next_event;
 use pci_command::{List, NoMemory};
 use run_bound::{left_falls, runs_end};
+use run_reads::reads_return;
 use run_slots::{matched, well_formed_boards};
 
 /// The events of a run, and behind them those with which it goes on to the end of all programs, each
@@ -22,6 +23,7 @@ pub fn finish(tree: &Tree, events: List<Event>) -> Result<List<Event>, NoMemory>
     well_formed_boards();
     left_falls();
     runs_end();
+    reads_return();
     // The board of a tree is valid, so that each event lowers what is left.
     let _valid = tree.board();
     let mut whole = events.into_vec();

@@ -12,6 +12,7 @@ returns-else-complete c =
       run = c.requires;
       incomplete = incomplete;
       matched = matched;
+      returns = c.reads_return.ensures c.args.tree.now (history_of c.args.events.now) c.board.ensures.valid c.requires;
       left_is = c.left.ensures;
       follow = λ later run. omega (arith, c.runs_end.ensures.follow c.args.tree.now later (history_of c.args.events.now) c.board.ensures.valid run, c.left.ensures);
     }
