@@ -15,7 +15,7 @@ use Rattle.board_model.specs.Requests.{tries_of}
 use Rattle.board_model.specs.WellFormed.{has_bus, children_on, registers_of}
 use Rattle.bridge_header.specs.declared.windows.Windows.{Windows}
 use Rattle.bridge_header.specs.declared.fault.HeaderFault.{HeaderFault}
-use Rattle.line_forms.specs.declared.fault.LineFault.{LineFault}
+use Rattle.board_statements.specs.declared.fault.LineFault.{LineFault}
 use Rattle.board_draft.specs.declared.draft.Draft.{Draft}
 use Rattle.board_draft.specs.declared.draft.Owner.{Owner}
 use Rattle.board_draft.specs.declared.draft.Owner.TheVariants.{Nobody, OfTarget, OfMaster}

@@ -13,9 +13,9 @@ use Rattle.board_model.specs.declared.board.Board.{Board}
 use Rattle.board_model.specs.declared.op.Op.{Op}
 use Rattle.board_model.specs.WellFormed.{is_target_named, is_master_named, agents_on, operations_in}
 use Rattle.bridge_header.specs.Windows.{reading_of}
-use Rattle.line_forms.specs.declared.fault.LineFault.{LineFault}
-use Rattle.line_forms.specs.declared.statement.Statement.{Statement}
-use Rattle.line_forms.specs.declared.statement.Statement.TheVariants.{NewBridge, NewHeader, NewTarget, Identifies, Stalls, Bursts, Claims, Aborts, Opens, NewMaster, Does, Discards, Drops}
+use Rattle.board_statements.specs.declared.fault.LineFault.{LineFault}
+use Rattle.board_statements.specs.declared.statement.Statement.{Statement}
+use Rattle.board_statements.specs.declared.statement.Statement.TheVariants.{NewBridge, NewHeader, NewTarget, Identifies, Stalls, Bursts, Claims, Aborts, Opens, NewMaster, Does, Discards, Drops}
 use Rattle.board_draft.specs.declared.counts.Counts.{Counts}
 use Rattle.board_draft.specs.declared.draft.Draft.{Draft}
 use Rattle.board_draft.specs.declared.draft.Owner.{Owner}

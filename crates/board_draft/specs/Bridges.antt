@@ -9,8 +9,8 @@ use Rattle.bridge_header.specs.declared.windows.Windows.{Windows}
 use Rattle.bridge_header.specs.declared.fault.HeaderFault.{HeaderFault}
 use Rattle.bridge_header.specs.declared.fault.HeaderFault.TheVariants.{H1, H2, H3}
 use Rattle.bridge_header.specs.Windows.{reading_of}
-use Rattle.line_forms.specs.declared.fault.LineFault.{LineFault}
-use Rattle.line_forms.specs.declared.fault.LineFault.TheVariants.{Unaligned, PastItsSpace, BusUsed, OverLimit, NotTypeOne, NotServed, NoBridgeNumbers, WideWindow}
+use Rattle.board_statements.specs.declared.fault.LineFault.{LineFault}
+use Rattle.board_statements.specs.declared.fault.LineFault.TheVariants.{Unaligned, PastItsSpace, BusUsed, OverLimit, NotTypeOne, NotServed, NoBridgeNumbers, WideWindow}
 use Rattle.board_draft.specs.declared.draft.Draft.{Draft}
 use Rattle.board_draft.specs.Drafts.{draft_of}
 

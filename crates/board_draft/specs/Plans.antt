@@ -2,8 +2,8 @@
 use Rattle.std.specs.Prelude.{Bool, [], ◌∷◌, ◌++◌, length, Result, Ok, Err, nat_le, if◌then◌else◌}
 use Rattle.board_model.specs.declared.board.Board.{Board}
 use Rattle.board_model.specs.declared.board.Planned.{Planned}
-use Rattle.line_forms.specs.declared.fault.LineFault.{LineFault}
-use Rattle.line_forms.specs.declared.fault.LineFault.TheVariants.{OverLimit}
+use Rattle.board_statements.specs.declared.fault.LineFault.{LineFault}
+use Rattle.board_statements.specs.declared.fault.LineFault.TheVariants.{OverLimit}
 use Rattle.board_draft.specs.declared.draft.Draft.{Draft}
 use Rattle.board_draft.specs.Drafts.{draft_of}
 

@@ -1,6 +1,6 @@
 -- Steps that may end with a fault of the line, one after the other.
 use Rattle.std.specs.Prelude.{◌≡◌, Result, Ok, Err}
-use Rattle.line_forms.specs.declared.fault.LineFault.{LineFault}
+use Rattle.board_statements.specs.declared.fault.LineFault.{LineFault}
 use Rattle.board_draft.specs.declared.fault.AddFault.{AddFault}
 use Rattle.board_draft.specs.declared.fault.AddFault.TheVariants.{Fault, NoMemory}
 

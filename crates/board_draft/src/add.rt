@@ -13,7 +13,7 @@ use crate::plans::{add_discard, add_drop};
 use crate::targets::add_target;
 use crate::{AddFault, Draft, Owner};
 use board_model::{Board, tries_of};
-use line_forms::Statement;
+use board_statements::Statement;
 use pci_command::NoMemory;
 use std::alloc::Global;
 

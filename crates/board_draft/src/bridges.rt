@@ -7,8 +7,8 @@ ghost use Rattle.board_draft.specs.Bridges.{is_whole, are_windows_whole, is_orde
 use crate::lists::push;
 use crate::{AddFault, Draft, Owner};
 use board_model::{Board, Bridge, Window};
+use board_statements::LineFault;
 use bridge_header::{HeaderFault, Windows, decode};
-use line_forms::LineFault;
 use std::alloc::Global;
 
 pub(crate) fn add_bridge(

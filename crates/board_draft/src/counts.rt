@@ -1,6 +1,6 @@
 use board_model::Name;
+use board_statements::{LineFault, Statement};
 use indexmap::IndexSet;
-use line_forms::{LineFault, Statement};
 use pci_command::NoMemory;
 use std::alloc::{AllocError, Global};
 

@@ -1,4 +1,4 @@
-use line_forms::LineFault;
+use board_statements::LineFault;
 use pci_command::NoMemory;
 use std::alloc::AllocFailed;
 use thiserror::Error;

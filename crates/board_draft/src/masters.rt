@@ -7,7 +7,7 @@ ghost use Rattle.board_draft.specs.Masters.{add_master, master_in, is_aligned, p
 use crate::lists::{empty, push};
 use crate::{AddFault, Draft, Owner};
 use board_model::{Board, Master, Name, Op, tries_of};
-use line_forms::LineFault;
+use board_statements::LineFault;
 use std::alloc::Global;
 
 /// A master, unless a name or a limit forbids it by that fault.

@@ -4,7 +4,7 @@ ghost use Rattle.board_draft.specs.Plans.{add_discard, add_drop};
 use crate::lists::push;
 use crate::{AddFault, Draft, Owner};
 use board_model::{Board, Planned};
-use line_forms::LineFault;
+use board_statements::LineFault;
 use std::alloc::Global;
 
 pub(crate) fn add_discard(

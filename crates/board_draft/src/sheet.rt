@@ -3,7 +3,7 @@ use crate::counts::{Agent, Counts};
 use crate::lists::empty;
 use crate::{AddFault, Draft, Owner};
 use board_model::Board;
-use line_forms::Statement;
+use board_statements::Statement;
 use pci_command::NoMemory;
 use std::alloc::Global;
 use std::marker::Model;

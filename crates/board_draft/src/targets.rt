@@ -7,7 +7,7 @@ ghost use Rattle.board_draft.specs.Targets.{agent_fault, new_target, add_target,
 use crate::lists::{empty, push};
 use crate::{AddFault, Draft, Owner};
 use board_model::{Board, Name, Opening, Range, Target};
-use line_forms::LineFault;
+use board_statements::LineFault;
 use pci_command::Space;
 use std::alloc::Global;
 

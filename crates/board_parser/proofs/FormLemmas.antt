@@ -13,12 +13,12 @@ use Rattle.board_model.specs.declared.agents.Range.{Range}
 use Rattle.board_model.specs.declared.board.Planned.{Planned}
 use Rattle.board_model.specs.WellFormed.{is_within, is_well_formed_phase, is_well_formed_plan, read_space, write_space}
 use Rattle.board_draft.specs.Formed.{ends_within, is_byte, is_target_space, is_address, is_size, is_formed_read, is_formed_write, is_formed}
-use Rattle.line_forms.specs.declared.statement.Statement.{Statement}
-use Rattle.line_forms.specs.declared.statement.Statement.TheVariants.{NewBridge}
-use Rattle.line_forms.specs.Words.{Reader, ◌>>=◌, ◌>>◌, give, one_word, choice, decimal, decimal_of, fixed, hex, hex_of, name, long, long_of, data_word, data_word_of, header_bytes, header_of}
-use Rattle.line_forms.specs.Bridges.{base_limit, window, depth, abort_mode, bridge_form, header_form}
-use Rattle.line_forms.specs.Targets.{is_wide_in, space_word, space_of_word, target_form, id_form, stall_form, burst_form, range_form, claim_form, abort_form, opening_form}
-use Rattle.line_forms.specs.Masters.{master_form, read_form, data_words, other_words, at_most_eight, burst_words, burst_write_form, port_write_form, register_read_form, register_write_form, poll_form, direction_of_word, planned_form, discard_form, drop_form}
+use Rattle.board_statements.specs.declared.statement.Statement.{Statement}
+use Rattle.board_statements.specs.declared.statement.Statement.TheVariants.{NewBridge}
+use Rattle.board_statements.specs.Words.{Reader, ◌>>=◌, ◌>>◌, give, one_word, choice, decimal, decimal_of, fixed, hex, hex_of, name, long, long_of, data_word, data_word_of, header_bytes, header_of}
+use Rattle.board_statements.specs.Bridges.{base_limit, window, depth, abort_mode, bridge_form, header_form}
+use Rattle.board_statements.specs.Targets.{is_wide_in, space_word, space_of_word, target_form, id_form, stall_form, burst_form, range_form, claim_form, abort_form, opening_form}
+use Rattle.board_statements.specs.Masters.{master_form, read_form, data_words, other_words, at_most_eight, burst_words, burst_write_form, port_write_form, register_read_form, register_write_form, poll_form, direction_of_word, planned_form, discard_form, drop_form}
 use Rattle.board_parser.proofs.ReaderLemmas.{Yields, on-ok, rest-ok, word-ok, give-ok, yields-give, yields-word, yields-choice, yields-optional}
 use Rattle.board_parser.proofs.WordKindLemmas.{part-ok, hex-below, narrow-below, long-below, decimal-within, decimal-most, phase-formed, header-bytes, space-of-target}
 

@@ -1,8 +1,8 @@
 -- What holds of the values that readers of words give.
 use Rattle.std.proofs.Common.{subst, ap, ◌≡◌, ℕ, Bool, true, false, cond, List, [], ◌∷◌, length, refl}
 use Rattle.std.specs.Prelude.{Result, Ok, Err, ◌==◌}
-use Rattle.line_forms.specs.declared.fault.LineFault.{LineFault}
-use Rattle.line_forms.specs.Words.{Reader, read_on, ◌>>=◌, ◌>>◌, give, with_rest, one_word, begins_with, behind_first, choice, optional, whole}
+use Rattle.board_statements.specs.declared.fault.LineFault.{LineFault}
+use Rattle.board_statements.specs.Words.{Reader, read_on, ◌>>=◌, ◌>>◌, give, with_rest, one_word, begins_with, behind_first, choice, optional, whole}
 
 -- each value that the reader gives has the property
 pub record Yields {A : Type 0} (reader : Reader A) (P : A → Type 0) : Type 0 where

@@ -5,8 +5,8 @@ use Rattle.board_model.specs.declared.board.Board.{Board}
 use Rattle.board_model.specs.WellFormed.{is_well_formed}
 use Rattle.board_text.specs.Lines.{lines_of, line_fault}
 use Rattle.board_text.specs.Tokens.{words_of}
-use Rattle.line_forms.specs.declared.fault.LineFault.{LineFault}
-use Rattle.line_forms.specs.Statements.{statement_of, first_line_of}
+use Rattle.board_statements.specs.declared.fault.LineFault.{LineFault}
+use Rattle.board_statements.specs.Statements.{statement_of, first_line_of}
 use Rattle.board_draft.specs.declared.draft.Draft.{Draft}
 use Rattle.board_draft.specs.Drafts.{board_of, first_draft}
 use Rattle.board_draft.specs.Add.{add}

@@ -7,14 +7,14 @@ use Rattle.pci_command.specs.declared.command.Space.TheVariants.{Mem, Io}
 use Rattle.pci_command.specs.Command.{space_of}
 use Rattle.board_model.specs.WellFormed.{read_space, write_space}
 use Rattle.board_draft.specs.Formed.{is_target_space, is_formed}
-use Rattle.line_forms.specs.declared.fault.LineFault.{LineFault}
-use Rattle.line_forms.specs.declared.fault.LineFault.TheVariants.{WrongWord}
-use Rattle.line_forms.specs.declared.keyword.Form.{Form}
-use Rattle.line_forms.specs.declared.keyword.Form.TheVariants.{Bridge, Header, Target, Id, Stall, Burst, Range, Abort, Word, Master, Reads, WritesBurst, WritesPort, ReadsRegister, WritesRegister, Polls, Discard, Drop}
-use Rattle.line_forms.specs.declared.statement.Statement.{Statement}
-use Rattle.line_forms.specs.Words.{one_word}
-use Rattle.line_forms.specs.Keywords.{form_of}
-use Rattle.line_forms.specs.Statements.{behind_word, statement_form, statement_of}
+use Rattle.board_statements.specs.declared.fault.LineFault.{LineFault}
+use Rattle.board_statements.specs.declared.fault.LineFault.TheVariants.{WrongWord}
+use Rattle.board_statements.specs.declared.keyword.Form.{Form}
+use Rattle.board_statements.specs.declared.keyword.Form.TheVariants.{Bridge, Header, Target, Id, Stall, Burst, Range, Abort, Word, Master, Reads, WritesBurst, WritesPort, ReadsRegister, WritesRegister, Polls, Discard, Drop}
+use Rattle.board_statements.specs.declared.statement.Statement.{Statement}
+use Rattle.board_statements.specs.Words.{one_word}
+use Rattle.board_statements.specs.Keywords.{form_of}
+use Rattle.board_statements.specs.Statements.{behind_word, statement_form, statement_of}
 use Rattle.board_parser.proofs.ReaderLemmas.{on-ok, word-ok, yields-whole}
 use Rattle.board_parser.proofs.FormLemmas.{is_space_of, bridge-formed, header-formed, target-formed, id-formed, stall-formed, burst-formed, claim-formed, abort-formed, opening-formed, master-formed, read-formed, burst_write-formed, port_write-formed, register_read-formed, register_write-formed, poll-formed, discard-formed, drop-formed}
 

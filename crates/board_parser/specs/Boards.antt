@@ -2,9 +2,9 @@
 use Rattle.std.specs.Prelude.{◌≡◌, ◌≤◌, ℕ, ◌+◌, List, [], ◌∷◌, Option, Some, None, Result, Ok, Err}
 use Rattle.board_model.specs.declared.board.Board.{Board}
 use Rattle.board_text.specs.Lines.{lines_of}
-use Rattle.line_forms.specs.declared.fault.LineFault.{LineFault}
-use Rattle.line_forms.specs.declared.fault.LineFault.TheVariants.{NoFirstLine}
-use Rattle.line_forms.specs.Faults.{family_of, code_of}
+use Rattle.board_statements.specs.declared.fault.LineFault.{LineFault}
+use Rattle.board_statements.specs.declared.fault.LineFault.TheVariants.{NoFirstLine}
+use Rattle.board_statements.specs.Faults.{family_of, code_of}
 use Rattle.board_draft.specs.declared.draft.Draft.{Draft}
 use Rattle.board_draft.specs.Drafts.{board_of}
 use Rattle.board_parser.specs.declared.fault.ParseFault.{ParseFault}

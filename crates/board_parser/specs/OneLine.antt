@@ -2,9 +2,9 @@
 use Rattle.std.specs.Prelude.{ℕ, Bool, List, length, Option, Some, None, Result, Ok, Err, nat_lt, ◌==◌, if◌then◌else◌}
 use Rattle.board_text.specs.Lines.{line_fault}
 use Rattle.board_text.specs.Tokens.{words_of}
-use Rattle.line_forms.specs.declared.fault.LineFault.{LineFault}
-use Rattle.line_forms.specs.declared.fault.LineFault.TheVariants.{BadByte, TooLong, NoFirstLine}
-use Rattle.line_forms.specs.Statements.{statement_of, first_line_of}
+use Rattle.board_statements.specs.declared.fault.LineFault.{LineFault}
+use Rattle.board_statements.specs.declared.fault.LineFault.TheVariants.{BadByte, TooLong, NoFirstLine}
+use Rattle.board_statements.specs.Statements.{statement_of, first_line_of}
 use Rattle.board_draft.specs.declared.draft.Draft.{Draft}
 use Rattle.board_draft.specs.Steps.{◌>>=◌}
 use Rattle.board_draft.specs.Drafts.{first_draft}

@@ -1,4 +1,4 @@
-use line_forms::Family;
+use board_statements::Family;
 use pci_command::NoMemory;
 use thiserror::Error;
 

@@ -1,12 +1,12 @@
 ghost use Rattle.std.specs.Prelude.{◌≡◌, nat_lt, length};
 ghost use Rattle.board_text.specs.Tokens.{words_of};
-ghost use Rattle.line_forms.specs.Statements.{statement_of, first_line_of};
+ghost use Rattle.board_statements.specs.Statements.{statement_of, first_line_of};
 ghost use Rattle.board_draft.specs.Steps.{Answers};
 ghost use Rattle.board_parser.specs.OneLine.{read_line, read_words, text_fault};
 
 use board_draft::{AddFault, Sheet};
+use board_statements::{LineFault, first_line, has_words, statement_of};
 use board_text::check_line;
-use line_forms::{LineFault, first_line, has_words, statement_of};
 use std::alloc::Global;
 
 /// The sheet behind one more line. There is none before the first line that has words.

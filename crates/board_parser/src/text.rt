@@ -5,8 +5,8 @@ use crate::ParseFault;
 use crate::line::read_line;
 use board_draft::AddFault;
 use board_model::Board;
+use board_statements::LineFault;
 use board_text::next_line;
-use line_forms::LineFault;
 use std::alloc::Global;
 
 /// The board of a text, or its first fault. A text has fewer than 2^31 bytes. Lines are numbered

@@ -5,7 +5,7 @@ use Rattle.board_model.specs.declared.board.Board.{Board}
 use Rattle.board_model.specs.WellFormed.{is_well_formed}
 use Rattle.board_model.specs.Ways.{bound_of}
 use Rattle.board_model.specs.Valid.{IsValid}
-use Rattle.tree_tests.specs.Faults.{first_fault_of}
+use Rattle.board_faults.specs.Faults.{first_fault_of}
 use Rattle.bus_tree.specs.Decodable.{IsDecodable}
 use Rattle.bus_tree.proofs.DecodableLemmas.{IsDecodable-tree}
 

@@ -2,7 +2,7 @@
 use Rattle.std.specs.Prelude.{ℕ, Option, Some, None}
 use Rattle.board_model.specs.declared.board.Board.{Board}
 use Rattle.board_model.specs.Ways.{bound_of}
-use Rattle.tree_tests.specs.Faults.{first_fault_of}
+use Rattle.board_faults.specs.Faults.{first_fault_of}
 use Rattle.bus_tree.specs.declared.refusal.TreeRefusal.{TreeRefusal}
 use Rattle.bus_tree.specs.declared.refusal.TreeRefusal.TheVariants.{Fault}
 

@@ -6,9 +6,9 @@ ghost use Rattle.bus_tree.specs.Refusals.{refusal_of};
 
 use crate::TreeRefusal;
 use crate::bound::bound_of;
+use board_faults::first_fault;
 use board_model::Board;
 use std::marker::Model;
-use tree_tests::first_fault;
 
 /// How many events a run may have.
 const MOST_EVENTS: u64 = 500_000;

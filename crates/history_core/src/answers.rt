@@ -17,6 +17,7 @@ ghost use Rattle.history_model.specs.Runs.{Run, history_of};
 ghost use Rattle.history_core.specs.Faces.{face_answer};
 
 use crate::words::{dword_address, left_of, stalls_used, through, value_of};
+use board_claim::{claim_in_space, is_in_ranges};
 use board_model::{Board, Bridge, Lane, Place, Target, bridge_to, request_of};
 use bridge_header::encode;
 use history_model::{Answer, Carried, Cause, Event, Slot, Step};
@@ -24,7 +25,6 @@ use lane_replay::{
     BridgeLanes, LaneTables, Presented, before_completion, own_slot, standing_completion,
 };
 use pci_command::{Command, Request};
-use plain_claim::{claim_in_space, is_in_ranges};
 
 /// What the operation is answered, presented on the bus by the initiator after these events, the
 /// first event first.

@@ -22,7 +22,7 @@ pub fn complete(board: &Board, events: &[Event]) -> bool
 }
 
 /// Whether the program of every master ended.
-#[tactic(auto, using(plain_claim::proofs::FewLemmas::few_masters_before, plain_claim::proofs::FewLemmas::master_more))]
+#[tactic(auto, using(board_claim::proofs::FewLemmas::few_masters_before, board_claim::proofs::FewLemmas::master_more))]
 fn have_ended(board: &Board, events: &[Event]) -> bool
     requires { IsTrue (is_well_formed board.now) }
     ensures { IsTrue result ↔ ((master : ℕ) → master < length board.now.masters → turn_of board.now (history_of events.now) master ≡ None) }

@@ -15,7 +15,7 @@ use Rattle.history_model.specs.Lanes.{is_of}
 use Rattle.history_model.specs.World.{world_of}
 use Rattle.history_model.specs.Program.{turn_of}
 use Rattle.history_model.specs.Answers.{is_on, is_turn, presents_item, presents, wants}
-use Rattle.run_slots.proofs.RequestLemmas.{same_op_true, Each-slice_get}
+use Rattle.law_slots.proofs.RequestLemmas.{same_op_true, Each-slice_get}
 use Rattle.next_event.specs.Fits.{MasterFits}
 use Rattle.bus_tree.proofs.FormLemmas.{front, back}
 

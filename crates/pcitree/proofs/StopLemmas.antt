@@ -5,8 +5,8 @@ use Rattle.program_status.specs.declared.status.Status.{Status}
 use Rattle.program_status.specs.declared.status.Status.TheVariants.{Done, NoMemory, Usage, ReadFault, WriteFault, TooLong, BadBoard, BadTrace, NotRun, Incomplete}
 use Rattle.pcitree.specs.declared.words.Form.{Form}
 use Rattle.pcitree.specs.declared.words.Form.TheVariants.{RunSteady, Headers, Check, Finish}
-use Rattle.trace_answers.proofs.ServedLemmas.{complete_is_answered}
-use Rattle.finish_answers.proofs.ServedLemmas.{run_is_answered}
+use Rattle.command_check.proofs.ServedLemmas.{complete_is_answered}
+use Rattle.command_finish.proofs.ServedLemmas.{run_is_answered}
 use Rattle.pcitree.specs.Answers.{limit_of, AnswersTo, Refuses, IsFaultless, IsServed, IsAnswered, Causes, Serves}
 use Rattle.pcitree.specs.Ends.{HoldsTooMuch, AnswersInput, RefusesInput, Finishes, IsBeforeWriting, IsRefusal}
 use Rattle.pcitree.specs.Stops.{StopsServing, StopsRunning}

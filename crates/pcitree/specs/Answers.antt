@@ -1,9 +1,9 @@
 -- What each form of the words asks for: how an input is answered, and with which status it is refused.
 use Rattle.std.specs.Prelude.{◌≡◌, ℕ, ◌^◌, ◌≤◌, ◌<◌, List, length, None}
-use Rattle.board_answers.specs.Refusals.{board_refusal, run_refusal}
-use Rattle.board_answers.specs.Answers.{AnswersRun, AnswersHeaders, RefusesRun, RefusesHeaders}
-use Rattle.trace_answers.specs.Traces.{AnswersCheck, RefusesCheck, IsCompleteTrace}
-use Rattle.finish_answers.specs.Finished.{AnswersFinish, RefusesFinish, IsRunTrace}
+use Rattle.command_run.specs.Refusals.{board_refusal, run_refusal}
+use Rattle.command_run.specs.Answers.{AnswersRun, AnswersHeaders, RefusesRun, RefusesHeaders}
+use Rattle.command_check.specs.Traces.{AnswersCheck, RefusesCheck, IsCompleteTrace}
+use Rattle.command_finish.specs.Finished.{AnswersFinish, RefusesFinish, IsRunTrace}
 use Rattle.program_status.specs.declared.status.Status.{Status}
 use Rattle.program_status.specs.declared.status.Status.TheVariants.{Done, NoMemory, Usage, ReadFault, WriteFault, TooLong, BadBoard, BadTrace, NotRun, Incomplete}
 use Rattle.pcitree.specs.declared.words.Form.{Form}

@@ -2,11 +2,11 @@ ghost use Rattle.std.specs.Prelude.{◌≡◌, ◌<◌, ◌≤◌, ◌^◌, IfOk
 ghost use Rattle.pcitree.specs.Answers.{limit_of, AnswersTo, Refuses};
 
 use crate::words::Form;
-use board_answers::{answer_headers, answer_run};
-use finish_answers::answer_finish;
+use command_check::answer_check;
+use command_finish::answer_finish;
+use command_run::{answer_headers, answer_run};
 use program_status::Status;
 use std::alloc::Global;
-use trace_answers::answer_check;
 
 /// How many bytes an input may have.
 pub(crate) fn limit_of(form: Form) -> usize

@@ -10,11 +10,11 @@ use crate::answering::{answer, limit_of};
 use crate::reading::{ReadError, read_all};
 use crate::words::{Form, form_of, misfit};
 use crate::writing::write_all;
-use finish_answers::finished_traces_are_complete;
+use command_check::written_runs_are_complete;
+use command_finish::finished_traces_are_complete;
 use io_ports::{Sink, Source};
 use program_status::Status;
 use std::alloc::Global;
-use trace_answers::written_runs_are_complete;
 
 /// Does what the words say: reads the source to its end, and writes the text that answers it to
 /// the sink. The first of these that holds is the answer: `Usage`, `ReadFault`, `TooLong`,

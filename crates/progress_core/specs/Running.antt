@@ -8,7 +8,7 @@ use Rattle.bus_tree.specs.Decodable.{IsDecodable}
 use Rattle.history_model.specs.declared.event.Event.{Event}
 use Rattle.history_model.specs.World.{world_of}
 use Rattle.history_model.specs.Runs.{Run}
-use Rattle.run_slots.specs.Depths.{Within}
+use Rattle.law_slots.specs.Depths.{Within}
 
 pub record IsRunning (board : Board) (h : List Event) : Type 0 where
   pub well_formed : IsTrue (is_well_formed board)

@@ -8,7 +8,7 @@ use Rattle.history_model.specs.Runs.{Run, Complete, history_of}
 use Rattle.history_model.specs.Local.{Matched}
 use Rattle.history_model.specs.Left.{left_of}
 use Rattle.history_core.specs.Verdicts.{Holds}
-use Rattle.run_reads.specs.Returns.{ReadsReturn}
+use Rattle.law_reads.specs.Returns.{ReadsReturn}
 use Rattle.trace_check.specs.declared.verdict.Verdict.{Verdict as Judgement}
 use Rattle.trace_check.specs.declared.verdict.Verdict.TheVariants.{Complete as IsComplete, Incomplete, NotRun}
 

@@ -8,10 +8,10 @@ use board_model::Board;
 use bus_tree::Tree;
 use history_core::{allowed, complete};
 use history_model::Event;
+use law_bound::runs_end;
+use law_reads::reads_return;
+use law_slots::{matched, well_formed_boards};
 use progress_core::left;
-use run_bound::runs_end;
-use run_reads::reads_return;
-use run_slots::{matched, well_formed_boards};
 
 /// What these events of a valid board are, the first event first. There are fewer than 2^32. Each
 /// is looked at after all before it, so that the time grows with the square of their number.

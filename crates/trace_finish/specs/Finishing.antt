@@ -5,7 +5,7 @@ use Rattle.board_model.specs.Ways.{bound_of}
 use Rattle.history_model.specs.declared.event.Event.{Event}
 use Rattle.history_model.specs.Runs.{Run, Complete, history_of}
 use Rattle.history_model.specs.Local.{Matched}
-use Rattle.run_reads.specs.Returns.{ReadsReturn}
+use Rattle.law_reads.specs.Returns.{ReadsReturn}
 use Rattle.next_event.specs.Next.{next_of}
 
 -- the events that go on from a run, each the next event of what stands before it

@@ -7,11 +7,11 @@ ghost use Rattle.trace_finish.specs.Finishing.{Finishes};
 
 use bus_tree::Tree;
 use history_model::Event;
+use law_bound::{left_falls, runs_end};
+use law_reads::reads_return;
+use law_slots::{matched, well_formed_boards};
 use next_event::next_event;
 use pci_command::{List, NoMemory};
-use run_bound::{left_falls, runs_end};
-use run_reads::reads_return;
-use run_slots::{matched, well_formed_boards};
 
 /// The events of a run, and behind them those with which it goes on to the end of all programs, each
 /// the next event of those before it. Each event lowers what is left, so that this ends.

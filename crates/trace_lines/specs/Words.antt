@@ -12,7 +12,7 @@ use Rattle.board_model.specs.Requests.{op_of}
 use Rattle.board_model.specs.WellFormed.{is_target_named, is_master_named}
 use Rattle.board_model.specs.Valid.{has_bridge_to, is_bus}
 use Rattle.board_text.specs.Numbers.{hex_answer, decimal_answer}
-use Rattle.line_forms.specs.Words.{has_mark, before_mark, behind_mark}
+use Rattle.board_statements.specs.Words.{has_mark, before_mark, behind_mark}
 use Rattle.history_model.specs.declared.event.By.{By}
 use Rattle.history_model.specs.declared.event.By.TheVariants.{Master, Lane as FromLane}
 use Rattle.trace_text.specs.Words.{names_poll}

@@ -7,7 +7,7 @@ ghost use Rattle.trace_text.specs.Words.{names_poll};
 
 use crate::words::number_of;
 use board_model::{Board, Op, op_of};
-use line_forms::parts;
+use board_statements::parts;
 use pci_command::OpId;
 
 /// An operation of the board: NAME.INDEX, for a poll NAME.INDEX.TRY.

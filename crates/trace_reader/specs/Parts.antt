@@ -3,8 +3,8 @@ use Rattle.std.specs.Prelude.{◌≡◌, ℕ, ◌+◌, ◌≤◌, ◌∷◌, ◌
 use Rattle.std.specs.List.{slice_range}
 use Rattle.board_model.specs.declared.board.Board.{Board}
 use Rattle.board_text.specs.Lines.{lines_of}
-use Rattle.line_forms.specs.declared.fault.LineFault.{LineFault}
-use Rattle.line_forms.specs.Faults.{family_of, code_of}
+use Rattle.board_statements.specs.declared.fault.LineFault.{LineFault}
+use Rattle.board_statements.specs.Faults.{family_of, code_of}
 use Rattle.trace_reader.specs.declared.fault.TraceFault.{TraceFault}
 use Rattle.trace_reader.specs.declared.fault.TraceFault.TheVariants.{Trace, Board as OfBoard, NoMemory}
 use Rattle.trace_reader.specs.declared.parts.EventsLine.{EventsLine}

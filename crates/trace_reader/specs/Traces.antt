@@ -4,8 +4,8 @@ use Rattle.std.specs.Str.{bytes_eq}
 use Rattle.board_model.specs.declared.board.Board.{Board}
 use Rattle.history_model.specs.declared.event.Event.{Event}
 use Rattle.board_text.specs.Lines.{lines_of}
-use Rattle.line_forms.specs.declared.fault.LineFault.{LineFault as BoardFault}
-use Rattle.line_forms.specs.Faults.{family_of, code_of as board_code_of}
+use Rattle.board_statements.specs.declared.fault.LineFault.{LineFault as BoardFault}
+use Rattle.board_statements.specs.Faults.{family_of, code_of as board_code_of}
 use Rattle.board_parser.specs.Boards.{read_lines, ended}
 use Rattle.trace_lines.specs.declared.line.TraceLine.{TraceLine}
 use Rattle.trace_lines.specs.declared.line.TraceLine.TheVariants.{Happens, Ends}

@@ -1,4 +1,4 @@
-use line_forms::Family;
+use board_statements::Family;
 use thiserror::Error;
 
 /// Why a text is not read as a trace. Lines are numbered from 1, in the whole text.

@@ -1,0 +1,36 @@
+-- The kinds of lines behind the first one, by their first words.
+use Rattle.std.specs.Prelude.{ℕ, List, Result, Ok, Err, codes, if◌then◌else◌}
+use Rattle.std.specs.Str.{bytes_eq}
+use Rattle.pci_command.specs.declared.command.Command.TheVariants.{IoRead, MemRead, MemWrite, MemReadMultiple, MemReadLine, MemWriteInvalidate}
+use Rattle.pci_command.specs.declared.command.Space.TheVariants.{Mem, Io}
+use Rattle.board_statements.specs.declared.fault.LineFault.{LineFault}
+use Rattle.board_statements.specs.declared.fault.LineFault.TheVariants.{WrongWord}
+use Rattle.board_statements.specs.declared.keyword.Form.{Form}
+use Rattle.board_statements.specs.declared.keyword.Form.TheVariants.{Bridge, Header, Target, Id, Stall, Burst, Range, Abort, Word, Master, Reads, WritesBurst, WritesPort, ReadsRegister, WritesRegister, Polls, Discard, Drop}
+
+unfoldable pub form_of : List ℕ → Result Form LineFault
+form_of word =
+    if bytes_eq word (codes "bridge") then Ok Bridge
+    else if bytes_eq word (codes "header") then Ok Header
+    else if bytes_eq word (codes "target") then Ok Target
+    else if bytes_eq word (codes "id") then Ok Id
+    else if bytes_eq word (codes "stall") then Ok Stall
+    else if bytes_eq word (codes "burst") then Ok Burst
+    else if bytes_eq word (codes "range") then Ok Range
+    else if bytes_eq word (codes "abort") then Ok Abort
+    else if bytes_eq word (codes "word") then Ok Word
+    else if bytes_eq word (codes "master") then Ok Master
+    else if bytes_eq word (codes "mr") then Ok (Reads MemRead)
+    else if bytes_eq word (codes "mrl") then Ok (Reads MemReadLine)
+    else if bytes_eq word (codes "mrm") then Ok (Reads MemReadMultiple)
+    else if bytes_eq word (codes "ior") then Ok (Reads IoRead)
+    else if bytes_eq word (codes "mw") then Ok (WritesBurst MemWrite)
+    else if bytes_eq word (codes "mwi") then Ok (WritesBurst MemWriteInvalidate)
+    else if bytes_eq word (codes "iow") then Ok WritesPort
+    else if bytes_eq word (codes "cfr") then Ok ReadsRegister
+    else if bytes_eq word (codes "cfw") then Ok WritesRegister
+    else if bytes_eq word (codes "poll") then Ok (Polls Mem)
+    else if bytes_eq word (codes "iopoll") then Ok (Polls Io)
+    else if bytes_eq word (codes "discard") then Ok Discard
+    else if bytes_eq word (codes "drop") then Ok Drop
+    else Err WrongWord

@@ -1,0 +1,93 @@
+ghost use Rattle.std.specs.Prelude.{false};
+ghost use Rattle.board_statements.specs.Words.{Gives, choice, give};
+ghost use Rattle.board_statements.specs.Bridges.{window, base_limit, depth, abort_mode, bridge_form, header_form};
+
+use crate::words::Words;
+use crate::{LineFault, Statement};
+use board_model::{Bridge, Window};
+
+/// `bridge B on Q dev D last S`, and then what may be left out, in its order.
+#[tactic(auto, unfolding(crate::specs::Bridges::bridge_form))]
+pub fn bridge(words: &mut Words, wide: bool) -> Result<Statement, LineFault>
+    ensures { Gives result words.new (bridge_form wide words.old) }
+{
+    let bus = words.decimal_byte(1, 255)?;
+    words.fixed(b"on")?;
+    let parent = words.decimal_byte(0, 255)?;
+    words.fixed(b"dev")?;
+    let device = words.decimal_byte(0, 31)?;
+    words.fixed(b"last")?;
+    let last = words.decimal_byte(0, 255)?;
+    let mem = window(words, b"mem", false)?;
+    let pref = window(words, b"pref", wide)?;
+    let io = window(words, b"io", false)?;
+    let posted = depth(words, b"posted")?;
+    let delayed = depth(words, b"delayed")?;
+    let mode = abort_mode(words)?;
+    Ok(Statement::NewBridge(Bridge {
+        bus,
+        parent,
+        device,
+        last,
+        mem,
+        pref,
+        io,
+        posted,
+        delayed,
+        mode,
+    }))
+}
+
+/// `header D BYTES`, and then what may be left out, in its order.
+#[tactic(auto, unfolding(crate::specs::Bridges::header_form))]
+pub fn header(words: &mut Words) -> Result<Statement, LineFault>
+    ensures { Gives result words.new (header_form words.old) }
+{
+    let device = words.decimal_byte(0, 31)?;
+    let bytes = words.header()?;
+    let posted = depth(words, b"posted")?;
+    let delayed = depth(words, b"delayed")?;
+    Ok(Statement::NewHeader {
+        device,
+        bytes,
+        posted,
+        delayed,
+    })
+}
+
+/// The window behind this word, if it is the next one.
+#[tactic(auto, unfolding(crate::specs::Bridges::window))]
+fn window(words: &mut Words, word: &[u8], wide: bool) -> Result<Option<Window>, LineFault>
+    ensures { Gives result words.new (window word.now wide words.old) }
+{
+    if !words.skips(word) || words.skips(b"none") {
+        return Ok(None);
+    }
+    let base = words.long(wide)?;
+    let limit = words.long(wide)?;
+    Ok(Some(Window { base, limit }))
+}
+
+/// The number of entries behind this word, if it is the next one.
+#[tactic(auto, unfolding(crate::specs::Bridges::depth))]
+fn depth(words: &mut Words, word: &[u8]) -> Result<u8, LineFault>
+    ensures { Gives result words.new (depth word.now words.old) }
+{
+    if words.skips(word) {
+        words.decimal_byte(1, 8)
+    } else {
+        Ok(4)
+    }
+}
+
+/// The master abort mode behind `abort`, if it is the next word.
+#[tactic(auto, unfolding(crate::specs::Bridges::abort_mode))]
+fn abort_mode(words: &mut Words) -> Result<bool, LineFault>
+    ensures { Gives result words.new (abort_mode words.old) }
+{
+    if !words.skips(b"abort") {
+        return Ok(false);
+    }
+    let bit = words.decimal_byte(0, 1)?;
+    Ok(bit == 1)
+}

@@ -1,0 +1,79 @@
+ghost use Rattle.std.specs.Prelude.{◌≡◌, nat_lt, length};
+ghost use Rattle.board_text.specs.Tokens.{words_of};
+ghost use Rattle.board_statements.specs.Words.{Gives};
+ghost use Rattle.board_statements.specs.Statements.{behind_word, statement_of, first_line_of};
+
+use crate::keyword::{Form, form_of};
+use crate::words::{Words, is_word};
+use crate::{LineFault, Statement, bridges, masters, targets};
+
+/// Whether a line has words. A line is given without its newline.
+pub fn has_words(line: &[u8]) -> bool
+    ensures { result ≡ nat_lt 0 (length (words_of line.now)) }
+{
+    !Words::new(line).is_done()
+}
+
+/// Whether a line is `pciboard 1` (false) or `pciboard 2` (true), by its words.
+#[tactic(auto, unfolding(crate::specs::Statements::first_line_of))]
+pub fn first_line(line: &[u8]) -> Option<bool>
+    ensures { result ≡ first_line_of (words_of line.now) }
+{
+    let mut words = Words::new(line);
+    let word = words.take().ok()?;
+    let version = words.take().ok()?;
+    if !words.is_done() || !is_word(word, b"pciboard") {
+        return None;
+    }
+    if is_word(version, b"1") {
+        Some(false)
+    } else if is_word(version, b"2") {
+        Some(true)
+    } else {
+        None
+    }
+}
+
+/// What a line behind the first one says, by its words, or its first fault: the words are looked at
+/// from left to right, and a word too many is found last. `wide` says that the text is a
+/// `pciboard 2` text, in which some numbers may have 64 bits. The line has words; of a line without
+/// words the first one is missing.
+#[tactic(auto, unfolding(crate::specs::Statements::statement_of, crate::specs::Statements::statement_form))]
+pub fn statement_of(wide: bool, line: &[u8]) -> Result<Statement, LineFault>
+    ensures { result ≡ statement_of wide (words_of line.now) }
+{
+    let mut words = Words::new(line);
+    let form = form_of(words.take()?)?;
+    let statement = behind_word(&mut words, wide, form)?;
+    if words.is_done() {
+        Ok(statement)
+    } else {
+        Err(LineFault::TooMany)
+    }
+}
+
+#[tactic(auto, unfolding(crate::specs::Statements::behind_word))]
+fn behind_word(words: &mut Words, wide: bool, form: Form) -> Result<Statement, LineFault>
+    ensures { Gives result words.new (behind_word wide form words.old) }
+{
+    match form {
+        Form::Bridge => bridges::bridge(words, wide),
+        Form::Header => bridges::header(words),
+        Form::Target => targets::target(words),
+        Form::Id => targets::identifies(words),
+        Form::Stall => targets::stalls(words),
+        Form::Burst => targets::bursts(words),
+        Form::Range => targets::claims(words, wide),
+        Form::Abort => targets::aborts(words, wide),
+        Form::Word => targets::opens(words, wide),
+        Form::Master => masters::master(words),
+        Form::Reads(command) => masters::read(words, wide, command),
+        Form::WritesBurst(command) => masters::burst_write(words, wide, command),
+        Form::WritesPort => masters::port_write(words),
+        Form::ReadsRegister => masters::register_read(words),
+        Form::WritesRegister => masters::register_write(words),
+        Form::Polls(space) => masters::poll(words, wide, space),
+        Form::Discard => masters::discards(words),
+        Form::Drop => masters::drops(words),
+    }
+}

@@ -1,0 +1,182 @@
+ghost use Rattle.std.specs.Prelude.{◌≡◌, false};
+ghost use Rattle.board_statements.specs.Words.{Gives, one_word};
+ghost use Rattle.board_statements.specs.Masters.{master_form, read_form, burst_words, burst_write_form, port_write_form, register_read_form, register_write_form, poll_form, planned_form, discard_form, drop_form, direction_of_word};
+
+use crate::targets::is_wide_in;
+use crate::words::{Words, is_word};
+use crate::{LineFault, Statement};
+use board_model::{Op, Planned};
+use pci_command::{Command, Phases, Space};
+
+/// `master NAME on B`
+#[tactic(auto, unfolding(crate::specs::Masters::master_form))]
+pub fn master(words: &mut Words) -> Result<Statement, LineFault>
+    ensures { Gives result words.new (master_form words.old) }
+{
+    let name = words.name()?;
+    words.fixed(b"on")?;
+    let bus = words.decimal_byte(0, 255)?;
+    Ok(Statement::NewMaster { name, bus })
+}
+
+/// A read of one dword: `ADDR`.
+#[tactic(auto, unfolding(crate::specs::Masters::read_form))]
+pub fn read(words: &mut Words, wide: bool, command: Command) -> Result<Statement, LineFault>
+    ensures { Gives result words.new (read_form wide command words.old) }
+{
+    let address = words.long(is_wide_in(wide, command.space()))?;
+    Ok(does(Op::Read { command, address }))
+}
+
+/// A write in memory: `ADDR WORD..`.
+#[tactic(auto, unfolding(crate::specs::Masters::burst_write_form))]
+pub fn burst_write(words: &mut Words, wide: bool, command: Command) -> Result<Statement, LineFault>
+    ensures { Gives result words.new (burst_write_form wide command words.old) }
+{
+    let address = words.long(wide)?;
+    let (phases, too_many) = burst_words(words)?;
+    Ok(Statement::Does {
+        op: Op::Write {
+            command,
+            address,
+            phases,
+        },
+        too_many,
+    })
+}
+
+/// A write in I/O space: `ADDR WORD`.
+#[tactic(auto, unfolding(crate::specs::Masters::port_write_form))]
+pub fn port_write(words: &mut Words) -> Result<Statement, LineFault>
+    ensures { Gives result words.new (port_write_form words.old) }
+{
+    let address = u64::from(words.hex()?);
+    let phase = words.data_word()?;
+    let mut phases = Phases::new();
+    phases.push(phase);
+    Ok(does(Op::Write {
+        command: Command::IoWrite,
+        address,
+        phases,
+    }))
+}
+
+/// A read in configuration space: `B D R`.
+#[tactic(auto, unfolding(crate::specs::Masters::register_read_form))]
+pub fn register_read(words: &mut Words) -> Result<Statement, LineFault>
+    ensures { Gives result words.new (register_read_form words.old) }
+{
+    let bus = words.decimal_byte(0, 255)?;
+    let device = words.decimal_byte(0, 31)?;
+    let register = words.decimal_byte(0, 63)?;
+    Ok(does(Op::CfgRead {
+        bus,
+        device,
+        register,
+    }))
+}
+
+/// A write in configuration space: `B D R WORD`.
+#[tactic(auto, unfolding(crate::specs::Masters::register_write_form))]
+pub fn register_write(words: &mut Words) -> Result<Statement, LineFault>
+    ensures { Gives result words.new (register_write_form words.old) }
+{
+    let bus = words.decimal_byte(0, 255)?;
+    let device = words.decimal_byte(0, 31)?;
+    let register = words.decimal_byte(0, 63)?;
+    let phase = words.data_word()?;
+    Ok(does(Op::CfgWrite {
+        bus,
+        device,
+        register,
+        phase,
+    }))
+}
+
+/// A poll in memory or in I/O space: `ADDR MASK VALUE TRIES`.
+#[tactic(auto, unfolding(crate::specs::Masters::poll_form))]
+pub fn poll(words: &mut Words, wide: bool, space: Space) -> Result<Statement, LineFault>
+    ensures { Gives result words.new (poll_form wide space words.old) }
+{
+    let address = words.long(is_wide_in(wide, space))?;
+    let mask = words.hex()?;
+    let value = words.hex()?;
+    let tries = words.decimal(1, 65_536)?;
+    Ok(does(Op::Poll {
+        space,
+        address,
+        mask,
+        value,
+        tries,
+    }))
+}
+
+/// `discard B down K` or `discard B up K`
+#[tactic(auto, unfolding(crate::specs::Masters::discard_form))]
+pub fn discards(words: &mut Words) -> Result<Statement, LineFault>
+    ensures { Gives result words.new (discard_form words.old) }
+{
+    let planned = planned(words)?;
+    Ok(Statement::Discards(planned))
+}
+
+/// `drop B down K` or `drop B up K`
+#[tactic(auto, unfolding(crate::specs::Masters::drop_form))]
+pub fn drops(words: &mut Words) -> Result<Statement, LineFault>
+    ensures { Gives result words.new (drop_form words.old) }
+{
+    let planned = planned(words)?;
+    Ok(Statement::Drops(planned))
+}
+
+fn does(op: Op) -> Statement
+    ensures { result ≡ Statement.Does op false }
+{
+    Statement::Does {
+        op,
+        too_many: false,
+    }
+}
+
+// The first eight of the data words that are left, of which there must be one, and whether there
+// are more.
+fn burst_words(words: &mut Words) -> Result<(Phases, bool), LineFault>
+    ensures { Gives result words.new (burst_words words.old) }
+{
+    let mut phases = Phases::new();
+    phases.push(words.data_word()?);
+    let mut too_many = false;
+    while !words.is_done() {
+        let phase = words.data_word()?;
+        if phases.len() < 8 {
+            phases.push(phase);
+        } else {
+            too_many = true;
+        }
+    }
+    Ok((phases, too_many))
+}
+
+#[tactic(auto, unfolding(crate::specs::Masters::planned_form))]
+fn planned(words: &mut Words) -> Result<Planned, LineFault>
+    ensures { Gives result words.new (planned_form words.old) }
+{
+    let bus = words.decimal_byte(0, 255)?;
+    let up = is_up(words)?;
+    let count = words.decimal(1, 1_000_000)?;
+    Ok(Planned { bus, up, count })
+}
+
+#[tactic(auto, unfolding(crate::specs::Masters::direction_of_word))]
+fn is_up(words: &mut Words) -> Result<bool, LineFault>
+    ensures { Gives result words.new (one_word direction_of_word words.old) }
+{
+    let word = words.take()?;
+    if is_word(word, b"down") {
+        Ok(false)
+    } else if is_word(word, b"up") {
+        Ok(true)
+    } else {
+        Err(LineFault::WrongWord)
+    }
+}

@@ -1,0 +1,25 @@
+-- The text of a valid board and of a run of it is not refused.
+use Rattle.std.proofs.Common.{◌≡◌, ℕ, List, refl, subst}
+use Rattle.board_model.specs.declared.board.Board.{Board}
+use Rattle.history_model.specs.declared.event.Event.{Event}
+use Rattle.history_model.specs.Runs.{Run, history_of}
+use Rattle.command_check.proofs.ServedLemmas.{no_refused, not_refused, same_trace}
+use Rattle.command_finish.specs.Finished.{RefusesFinish, IsRunTrace}
+use Rattle.program_status.specs.declared.status.Status.{Status}
+use Rattle.program_status.specs.declared.status.Status.TheVariants.{Done, NoMemory, Usage, ReadFault, WriteFault, TooLong, BadBoard, BadTrace, NotRun, Incomplete}
+
+-- it is refused only for want of memory
+pub run_is_answered : (input : List ℕ) (status : Status) → IsRunTrace input → RefusesFinish input status → status ≡ NoMemory
+run_is_answered input NoMemory trace refuses = refl
+run_is_answered input (BadBoard line fault) trace refuses = absurd (not_refused input trace.board trace.events (BadBoard line fault) trace.reads refuses)
+run_is_answered input (BadTrace line code) trace refuses = absurd (not_refused input trace.board trace.events (BadTrace line code) trace.reads refuses)
+run_is_answered input (NotRun event why) trace refuses =
+    let same = same_trace input trace.board refuses.board trace.events refuses.events trace.reads.read refuses.reads.read in
+    let run = subst (λ (b : Board). Run b (history_of refuses.events)) same.0 (subst (λ (l : List Event). Run trace.board (history_of l)) same.1 trace.run) in
+    absurd (no_refused refuses.board refuses.events event why run refuses.refused)
+run_is_answered input (Incomplete left) trace refuses = absurd refuses
+run_is_answered input Done trace refuses = absurd refuses
+run_is_answered input (Usage word) trace refuses = absurd refuses
+run_is_answered input ReadFault trace refuses = absurd refuses
+run_is_answered input WriteFault trace refuses = absurd refuses
+run_is_answered input TooLong trace refuses = absurd refuses

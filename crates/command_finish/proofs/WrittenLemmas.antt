@@ -1,0 +1,16 @@
+-- What finish writes is the text of a valid board and of a complete run of it.
+use Rattle.std.proofs.Common.{ℕ, List}
+use Rattle.command_check.specs.Traces.{IsCompleteTrace}
+use Rattle.command_check.proofs.WrittenLemmas.{faultless_tree}
+use Rattle.command_finish.specs.Finished.{AnswersFinish}
+
+-- the run that is written is that which went on to its end
+pub finished_is_complete : (input text : List ℕ) → AnswersFinish input text → IsCompleteTrace text
+finished_is_complete input text answers =
+    record {
+      board = answers.board;
+      events = answers.whole;
+      reads = record { read = answers.read_back; tree = faultless_tree answers.board answers.valid };
+      run = answers.finishes.run;
+      complete = answers.finishes.complete;
+    }

@@ -1,0 +1,31 @@
+-- What a valid board gives here.
+use Rattle.board_model.specs.declared.board.Board.{Board}
+use Rattle.board_model.specs.Valid.{IsValid}
+use Rattle.board_laws.specs.Trees.{IsTree}
+use Rattle.board_laws.proofs.ValidLemmas.{IsTree-valid}
+use Rattle.law_slots.specs.Depths.{DifferentNumbers}
+use Rattle.law_slots.proofs.WellFormedLemmas.{WellFormed-numbers}
+use Rattle.law_order.specs.OnWay.{WritesHaveOneClaimant}
+use Rattle.law_order.specs.Parts.{WritesAbortWhole}
+use Rattle.law_order.proofs.BurstLemmas.{AbortWhole-formed, OneClaimant-formed}
+use Rattle.law_posted.proofs.PieceLemmas.{AllTake}
+use Rattle.law_posted.proofs.FormLemmas.{all_take}
+
+-- a tree of different numbers, where writes go whole to one target, which takes something at a time
+pub record Fit (board : Board) : Type 0 where
+  pub tree : IsTree board
+  pub distinct : DifferentNumbers board
+  pub one : WritesHaveOneClaimant board
+  pub whole : WritesAbortWhole board
+  pub take : AllTake board
+
+-- a valid board is so
+pub Fit-valid : (board : Board) → IsValid board → Fit board
+Fit-valid board valid =
+    record {
+      tree = IsTree-valid board valid;
+      distinct = WellFormed-numbers board valid.well_formed;
+      one = OneClaimant-formed board valid.well_formed;
+      whole = AbortWhole-formed board valid.well_formed;
+      take = all_take board valid.well_formed;
+    }

@@ -1,0 +1,12 @@
+use Rattle.history_model.specs.World.{both, world_of}
+use Rattle.law_slots.proofs.SlotsRunLemmas.{Slots-run}
+use Rattle.law_slots.proofs.OneItemLemmas.{HasOneItem-each, GoneHeld-each}
+use Rattle.law_slots.proofs.slots.Goals as goal
+
+pub returns : goal.returns
+returns c =
+    record {
+      counted = Slots-run;
+      one_item = λ board h lane run. HasOneItem-each (both (world_of board h) lane) (Slots-run board h lane run);
+      dropped = λ board h lane run. GoneHeld-each (both (world_of board h) lane) (Slots-run board h lane run);
+    }

@@ -1,9 +1,0 @@
-use Rattle.std.proofs.Common.{◌∙◌, eqb, rules, tests}
-use Rattle.std.proofs.lemmas.Iterator.{YieldsList-from_slice}
-use Rattle.std.proofs.lemmas.Iterator.Search.{position_from_yields_List}
-use Rattle.line_forms.proofs.CutLemmas.{first_or_length}
-use Rattle.line_forms.proofs.kinds.length_before.Goals as goal
-
-pub returns-clause-value : goal.returns-clause-value
-returns-clause-value c =
-    c.unwrap_or.ensures ∙ first_or_length (λ byte. eqb byte c.args.mark) c.args.word.now _ (position_from_yields_List _ _ _ _ c.position.ensures.ran (YieldsList-from_slice c.args.word.now cc) (λ x b q k. search (rules, tests)))

@@ -1,0 +1,11 @@
+use Rattle.roundtrip_lines.proofs.Laws.{claim_law, abort_law, opening_law}
+use Rattle.roundtrip_lines.proofs.ranges_are_read.Goals as goal
+
+pub returns-clause-claim : goal.returns-clause-claim
+returns-clause-claim c = claim_law
+
+pub returns-clause-abort : goal.returns-clause-abort
+returns-clause-abort c = abort_law
+
+pub returns-clause-opening : goal.returns-clause-opening
+returns-clause-opening c = opening_law

@@ -1,5 +1,0 @@
-use Rattle.run_slots.proofs.CreditsLemmas.{Credits-run}
-use Rattle.run_slots.proofs.credits.Goals as goal
-
-pub returns : goal.returns
-returns c = Credits-run

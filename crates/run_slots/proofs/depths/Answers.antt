@@ -1,5 +1,0 @@
-use Rattle.run_slots.proofs.DepthsLemmas.{Within-run, Within-each, Within-eight}
-use Rattle.run_slots.proofs.depths.Goals as goal
-
-pub returns : goal.returns
-returns c = record { of_bridge = Within-run; of_each = Within-each; to_eight = Within-eight }

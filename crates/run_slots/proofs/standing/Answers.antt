@@ -1,5 +1,0 @@
-use Rattle.run_slots.proofs.StandingLemmas.{CanStand-run}
-use Rattle.run_slots.proofs.standing.Goals as goal
-
-pub returns : goal.returns
-returns c = CanStand-run
