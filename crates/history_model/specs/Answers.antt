@@ -33,7 +33,9 @@ use Rattle.history_model.specs.declared.item.Answer.{Answer}
 use Rattle.history_model.specs.declared.item.Answer.TheVariants.{Gives, Retry}
 use Rattle.history_model.specs.declared.item.Cause.TheVariants.{Full, NoSlot, Waiting, Behind}
 use Rattle.history_model.specs.Lanes.{is_of, is_done_for, is_post}
-use Rattle.history_model.specs.World.{World, lane_back, is_own, world_of}
+use Rattle.history_model.specs.declared.rule.Rule.{Rule}
+use Rattle.history_model.specs.declared.rule.Rule.TheVariants.{Tagged, Untagged}
+use Rattle.history_model.specs.World.{World, noted, lane_back, is_own, world_by, world_of}
 use Rattle.history_model.specs.Program.{turn_of}
 use Rattle.history_model.specs.Words.{through, without, value_of}
 
@@ -67,19 +69,32 @@ asks_same board on None other = false
 asks_same board on (Some o) None = false
 asks_same board on (Some o) (Some p) = same_requests board on o p
 
--- an item may go before an older one where the table lets it pass; but of two delayed requests that are
--- the same on the bus the younger waits
-abbrev pub goes_before : Board → ℕ → Carried → Carried → Bool
-goes_before board on item older =
-    may_pass (kind_of board item) (kind_of board older) && not (asks_same board on (asked item) (asked older))
+abbrev pub waits_for_equal : Rule → Bool
+waits_for_equal Tagged = true
+waits_for_equal Untagged = false
 
-abbrev pub presents_item : Board → ℕ → List Carried → Option Carried → Bool
-presents_item board on older None = false
-presents_item board on older (Some item) = list_all (goes_before board on item) older
+-- an item may go before an older one where the table lets it pass; but of two delayed requests that are
+-- the same on the bus the younger waits, where local masters are kept
+abbrev pub goes_before_by : Rule → Board → ℕ → Carried → Carried → Bool
+goes_before_by rule board on item older =
+    may_pass (kind_of board item) (kind_of board older) && not (waits_for_equal rule && asks_same board on (asked item) (asked older))
+
+abbrev pub presents_item_by : Rule → Board → ℕ → List Carried → Option Carried → Bool
+presents_item_by rule board on older None = false
+presents_item_by rule board on older (Some item) = list_all (goes_before_by rule board on item) older
 
 -- a lane presents a standing posted write or delayed request that may go before every older standing item
+abbrev pub presents_by : Rule → Board → ℕ → OpId → List Carried → Bool
+presents_by rule board on o standing = presents_item_by rule board on (before (is_of o) standing) (find (is_of o) standing)
+
+abbrev pub goes_before : Board → ℕ → Carried → Carried → Bool
+goes_before board on item older = goes_before_by Tagged board on item older
+
+abbrev pub presents_item : Board → ℕ → List Carried → Option Carried → Bool
+presents_item board on older item = presents_item_by Tagged board on older item
+
 abbrev pub presents : Board → ℕ → OpId → List Carried → Bool
-presents board on o standing = presents_item board on (before (is_of o) standing) (find (is_of o) standing)
+presents board on o standing = presents_by Tagged board on o standing
 
 abbrev pub is_on : ℕ → Option MasterAgent → Bool
 is_on bus None = false
@@ -90,13 +105,19 @@ is_turn o None = false
 is_turn o (Some turn) = same_op turn o
 
 -- whether the initiator presents the operation on the bus, with this on the lanes and after this history
+abbrev pub wants_in_by : Rule → Board → World → List Event → ℕ → By → OpId → Bool
+wants_in_by rule board world h on Master o = is_on on (slice_get board.masters o.master) && is_turn o (turn_of board h o.master)
+wants_in_by rule board world h on (ByLane lane) o = end_of board lane == on && presents_by rule board on o (world lane).standing
+
 abbrev pub wants_in : Board → World → List Event → ℕ → By → OpId → Bool
-wants_in board world h on Master o = is_on on (slice_get board.masters o.master) && is_turn o (turn_of board h o.master)
-wants_in board world h on (ByLane lane) o = end_of board lane == on && presents board on o (world lane).standing
+wants_in board world h on by o = wants_in_by Tagged board world h on by o
 
 -- whether the initiator presents the operation on the bus now
+abbrev pub wants_by : Rule → Board → List Event → ℕ → By → OpId → Bool
+wants_by rule board h on by o = wants_in_by rule board (world_by rule board h) h on by o
+
 abbrev pub wants : Board → List Event → ℕ → By → OpId → Bool
-wants board h on by o = wants_in board (world_of board h) h on by o
+wants board h on by o = wants_by Tagged board h on by o
 
 -- how many stall tokens of the target are used
 abbrev pub stalls_at : ℕ → Place → ℕ
@@ -194,5 +215,8 @@ abbrev pub answer_in : Board → World → List Event → ℕ → By → OpId �
 answer_in board world h on by o = answer_to board world h on by o (request_of board o on)
 
 -- what the operation is answered, presented on the bus by the initiator now
+abbrev pub answer_by_rule : Rule → Board → List Event → ℕ → By → OpId → Answer
+answer_by_rule rule board h on by o = answer_in board (world_by rule board h) h on (noted rule by) o
+
 abbrev pub answer : Board → List Event → ℕ → By → OpId → Answer
-answer board h on by o = answer_in board (world_of board h) h on by o
+answer board h on by o = answer_by_rule Tagged board h on by o

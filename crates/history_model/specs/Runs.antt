@@ -14,9 +14,11 @@ use Rattle.history_model.specs.declared.item.Carried.{Carried}
 use Rattle.history_model.specs.declared.item.Carried.TheVariants.{Post, Ask, Done, Room, Gone}
 use Rattle.history_model.specs.declared.item.Answer.TheVariants.{Gives}
 use Rattle.history_model.specs.Lanes.{LaneState}
-use Rattle.history_model.specs.World.{World, same_lane, world_of}
+use Rattle.history_model.specs.declared.rule.Rule.{Rule}
+use Rattle.history_model.specs.declared.rule.Rule.TheVariants.{Tagged}
+use Rattle.history_model.specs.World.{World, same_lane, world_by, world_of}
 use Rattle.history_model.specs.Program.{turn_of}
-use Rattle.history_model.specs.Answers.{wants, answer}
+use Rattle.history_model.specs.Answers.{wants_by, answer_by_rule}
 
 -- a line of the board names this item, by its number among those of its kind on the lane
 abbrev pub names : BridgeLane → ℕ → Planned → Bool
@@ -44,14 +46,21 @@ next_mark board h lane = next_mark_in board (world_of board h) lane
 
 -- an act is allowed where its initiator presents the operation and this is its answer; an arrival where
 -- something is in flight, with the mark that the board gives it
-abbrev pub Allowed : Board → List Event → Event → Type 0
-Allowed board h (Act on by o step place) = (wants board h on by o ≡ true) × (answer board h on by o ≡ Gives step place)
-Allowed board h (Arrive lane mark) = next_mark board h lane ≡ Some mark
+abbrev pub AllowedBy : Rule → Board → List Event → Event → Type 0
+AllowedBy rule board h (Act on by o step place) = (wants_by rule board h on by o ≡ true) × (answer_by_rule rule board h on by o ≡ Gives step place)
+AllowedBy rule board h (Arrive lane mark) = next_mark_in board (world_by rule board h) lane ≡ Some mark
 
 -- each event is allowed after its prefix
+abbrev pub RunBy : Rule → Board → List Event → Type 0
+RunBy rule board [] = Unit {0}
+RunBy rule board (e ∷ h) = AllowedBy rule board h e × RunBy rule board h
+
+-- on bridges that keep the local master
+abbrev pub Allowed : Board → List Event → Event → Type 0
+Allowed board h e = AllowedBy Tagged board h e
+
 abbrev pub Run : Board → List Event → Type 0
-Run board [] = Unit {0}
-Run board (e ∷ h) = Allowed board h e × Run board h
+Run board h = RunBy Tagged board h
 
 -- nothing is in flight on a lane, and nothing stands
 abbrev pub IsIdle : LaneState → Type 0

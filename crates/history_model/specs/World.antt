@@ -17,6 +17,8 @@ use Rattle.history_model.specs.declared.event.Step.TheVariants.{Land, Part, Read
 use Rattle.history_model.specs.declared.event.Event.{Event}
 use Rattle.history_model.specs.declared.event.Event.TheVariants.{Act, Arrive}
 use Rattle.history_model.specs.declared.item.Slot.{Slot}
+use Rattle.history_model.specs.declared.rule.Rule.{Rule}
+use Rattle.history_model.specs.declared.rule.Rule.TheVariants.{Tagged, Untagged}
 use Rattle.history_model.specs.Lanes.{LaneState, Both, empty_lane, post_enters, ask_enters, item_ends, slot_taken, arrives}
 
 abbrev pub World : Type 0
@@ -114,12 +116,27 @@ abbrev pub at_initiator : Board → By → OpId → Step → World → World
 at_initiator board Master o step world = world
 at_initiator board (ByLane lane) o step world = leaves lane o (lane_outcome board lane o step) world
 
+-- the one name under which a bridge that keeps no local master notes down each
+abbrev pub anyone : By
+anyone = ByLane (record { bus = 0; up = false })
+
+abbrev pub noted : Rule → By → By
+noted Tagged by = by
+noted Untagged by = anyone
+
 -- the world after one more event
-abbrev pub after : Board → World → Event → World
-after board world (Act on by o step place) = at_initiator board by o step (at_place board on by o step place world)
-after board world (Arrive lane mark) = moved (arrives mark) lane world
+abbrev pub after_by : Rule → Board → World → Event → World
+after_by rule board world (Act on by o step place) = at_initiator board by o step (at_place board on (noted rule by) o step place world)
+after_by rule board world (Arrive lane mark) = moved (arrives mark) lane world
 
 -- the world after a history
+abbrev pub world_by : Rule → Board → List Event → World
+world_by rule board [] lane = empty_lane
+world_by rule board (e ∷ h) lane = after_by rule board (world_by rule board h) e lane
+
+-- bridges that keep the local master
+abbrev pub after : Board → World → Event → World
+after board world e = after_by Tagged board world e
+
 abbrev pub world_of : Board → List Event → World
-world_of board [] lane = empty_lane
-world_of board (e ∷ h) lane = after board (world_of board h) e lane
+world_of board h = world_by Tagged board h

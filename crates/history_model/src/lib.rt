@@ -4,9 +4,11 @@
 
 mod event;
 mod item;
+mod rule;
 mod why;
 
 pub use board_model::{Lane, Place};
 pub use event::{By, Event, Mark, Stamped, Step};
 pub use item::{Answer, Carried, Cause, Slot};
+pub use rule::Rule;
 pub use why::Why;

@@ -72,7 +72,7 @@ op_block (Poll Io address mask value tries) on well posted = cc
 op_block (Poll Cfg address mask value tries) on well posted = cc
 
 -- the operation of a name is one of its master's
-op_formed : (board : Board) (o : OpId) (op : Op) → AllByRecursion (λ (master : Master). AllByRecursion (λ (p : Op). is_well_formed_op p ≡ true) master.ops) board.masters → op_of board o ≡ Some op → is_well_formed_op op ≡ true
+pub op_formed : (board : Board) (o : OpId) (op : Op) → AllByRecursion (λ (master : Master). AllByRecursion (λ (p : Op). is_well_formed_op p ≡ true) master.ops) board.masters → op_of board o ≡ Some op → is_well_formed_op op ≡ true
 op_formed board o op formed is =
     let W : Op → Type 0 = λ p. is_well_formed_op p ≡ true in
     let E : Master → Type 0 = λ master. AllByRecursion W master.ops in
@@ -106,7 +106,7 @@ parts board formed =
     let three = front _ _ four in
     record { bridges = (and_parts _ _ (front _ _ three)).1; targets = (and_parts _ _ four).1; masters = (and_parts _ _ five).1 }
 
-masters_formed : (board : Board) → is_well_formed board ≡ true → AllByRecursion (λ (master : Master). AllByRecursion (λ (p : Op). is_well_formed_op p ≡ true) master.ops) board.masters
+pub masters_formed : (board : Board) → is_well_formed board ≡ true → AllByRecursion (λ (master : Master). AllByRecursion (λ (p : Op). is_well_formed_op p ≡ true) master.ops) board.masters
 masters_formed board formed =
     Each-weaker (λ (master : Master). is_well_formed_master master ≡ true) (λ (master : Master). AllByRecursion (λ (p : Op). is_well_formed_op p ≡ true) master.ops)
     (λ master well. Each-list_all is_well_formed_op master.ops (and_parts _ _ well).1) board.masters (Each-list_all is_well_formed_master board.masters (parts board formed).masters)

@@ -99,11 +99,11 @@ ask_stands_first held standing test number o named some =
 
 module _ (board : Board) (tree : IsTree board) (distinct : DifferentNumbers board) (single : DelayedAreSingle board) (h : List Event) (run : Run board h) where
   -- what is known of a slot on a lane for the operation, by its initiator
-  record Known (lane : BridgeLane) (by : By) (o : OpId) (op : Op) : Type 0 where
-    claims : claim board (start_of board lane) (request_on op (start_of board lane)) ≡ Lane lane
-    at : IsAt board (start_of board lane) by o
-    waits : Waits board (turn_of board h) (world_of board h) (start_of board lane) by o
-    delayed : same_command (command_of op) MemWrite ≡ false
+  pub record Known (lane : BridgeLane) (by : By) (o : OpId) (op : Op) : Type 0 where
+    pub claims : claim board (start_of board lane) (request_on op (start_of board lane)) ≡ Lane lane
+    pub at : IsAt board (start_of board lane) by o
+    pub waits : Waits board (turn_of board h) (world_of board h) (start_of board lane) by o
+    pub delayed : same_command (command_of op) MemWrite ≡ false
 
   -- by what the slot was latched for
   known : (lane : BridgeLane) (slot : Slot) (op : Op) → op_of board slot.op ≡ Some op → Latched board lane slot → Waits board (turn_of board h) (world_of board h) (start_of board lane) slot.by slot.op → Known lane slot.by slot.op op
@@ -180,13 +180,13 @@ module _ (board : Board) (tree : IsTree board) (distinct : DifferentNumbers boar
       (back n k there.0 o op (lane ∷ later) is_op there.1 path (omega arith))
 
   -- the lanes before one on the way of an operation, from where its slot was traced
-  record Placed (lane : BridgeLane) (by : By) (o : OpId) (op : Op) (master : MasterAgent) : Type 0 where
-    on_way : list_any (same_lane lane) (way board op master.bus) ≡ true
-    passed : AllByRecursion (Passed (world_of board h) o) (before (same_lane lane) (way board op master.bus))
-    latched_by : by ≡ presenter (last_of (before (same_lane lane) (way board op master.bus)))
+  pub record Placed (lane : BridgeLane) (by : By) (o : OpId) (op : Op) (master : MasterAgent) : Type 0 where
+    pub on_way : list_any (same_lane lane) (way board op master.bus) ≡ true
+    pub passed : AllByRecursion (Passed (world_of board h) o) (before (same_lane lane) (way board op master.bus))
+    pub latched_by : by ≡ presenter (last_of (before (same_lane lane) (way board op master.bus)))
 
   -- they are those that were traced
-  placed : (lane : BridgeLane) (by : By) (o : OpId) (op : Op) (traced : Traced board h lane by o op) → Placed lane by o op traced.master
+  pub placed : (lane : BridgeLane) (by : By) (o : OpId) (op : Op) (traced : Traced board h lane by o op) → Placed lane by o op traced.master
   placed lane by o op traced =
       let on : ℕ = traced.master.bus in
       let later : List BridgeLane = way board op (end_of board lane) in
@@ -200,11 +200,11 @@ module _ (board : Board) (tree : IsTree board) (distinct : DifferentNumbers boar
       }
 
   -- each slot is traced to its master
-  trace : (lane : BridgeLane) (by : By) (o : OpId) (op : Op) → op_of board o ≡ Some op → Known lane by o op → Traced board h lane by o op
+  pub trace : (lane : BridgeLane) (by : By) (o : OpId) (op : Op) → op_of board o ≡ Some op → Known lane by o op → Traced board h lane by o op
   trace lane by o op is_op known = back (length board.bridges) lane by o op [] is_op known tt (omega arith)
 
   -- two slots of one operation on one lane have one initiator
-  one_initiator : (lane : BridgeLane) (a b : By) (o : OpId) (op : Op) → op_of board o ≡ Some op → Known lane a o op → Known lane b o op → a ≡ b
+  pub one_initiator : (lane : BridgeLane) (a b : By) (o : OpId) (op : Op) → op_of board o ≡ Some op → Known lane a o op → Known lane b o op → a ≡ b
   one_initiator lane a b o op is_op known_a known_b =
       let traced_a = trace lane a o op is_op known_a in
       let traced_b = trace lane b o op is_op known_b in

@@ -101,7 +101,7 @@ module _ (board : Board) (valid : IsValid board) (o : OpId) (op : Op) (is_op : o
       ]) refl
 
 -- the master of an operation that is there
-master_there : (board : Board) (o : OpId) (op : Op) → op_of board o ≡ Some op → (master : MasterAgent) × (slice_get board.masters o.master ≡ Some master)
+pub master_there : (board : Board) (o : OpId) (op : Op) → op_of board o ≡ Some op → (master : MasterAgent) × (slice_get board.masters o.master ≡ Some master)
 master_there board o op is_op =
     let here : Option MasterAgent → Type 0 = λ found. slice_get board.masters o.master ≡ found → (master : MasterAgent) × (slice_get board.masters o.master ≡ Some master) in
     (elim (slice_get board.masters o.master) as here [
@@ -110,7 +110,7 @@ master_there board o op is_op =
     ]) refl
 
 -- what an operation is: no read, or a read of a master
-read_or_not : (board : Board) (X : Type 0) (o : OpId) → (reads board o ≡ false → X)
+pub read_or_not : (board : Board) (X : Type 0) (o : OpId) → (reads board o ≡ false → X)
     → ((op : Op) → op_of board o ≡ Some op → is_read (command_of op) ≡ true → (master : MasterAgent) → slice_get board.masters o.master ≡ Some master → X) → X
 read_or_not board X o is_other is_read_of =
     let P : Option Op → Type 0 = λ found. op_of board o ≡ found → X in

@@ -66,7 +66,7 @@ not_done_fits o word last Room none = tt
 not_done_fits o word last (Gone slot) none = tt
 
 -- a read is no write in memory
-not_posted : (command : Command) → is_read command ≡ true → same_command command MemWrite ≡ false
+pub not_posted : (command : Command) → is_read command ≡ true → same_command command MemWrite ≡ false
 not_posted command read =
     let P : Bool → Type 0 = λ b. same_command command MemWrite ≡ b → b ≡ false in
     (elim (same_command command MemWrite) as P [
@@ -274,7 +274,7 @@ module _ (board : Board) (valid : IsValid board) (o : OpId) (op : Op) (is_op : o
       }
 
   -- it holds in every run
-  Known-run : (h : List Event) → Run board h → Known (last_reading board o h) h
+  pub Known-run : (h : List Event) → Run board h → Known (last_reading board o h) h
   Known-run [] run = record { has = tt; fits = λ lane. (tt, tt) }
   Known-run (e ∷ h) run = (event_after e h run (Known-run h run.1)).known
 

@@ -87,13 +87,13 @@ here_by board op on (Lane lane) none = cc
 here_by board op on Nobody none = refl
 
 -- so at the end of the way
-word_here : (board : Board) (op : Op) (on : ℕ) → IsTree board → is_lane (claim board on (request_on op on)) ≡ false → word_of board op on ≡ word_by board (request_on op on) (claim board on (request_on op on))
+pub word_here : (board : Board) (op : Op) (on : ℕ) → IsTree board → is_lane (claim board on (request_on op on)) ≡ false → word_of board op on ≡ word_by board (request_on op on) (claim board on (request_on op on))
 word_here board op on tree none =
     let place : Place = claim board on (request_on op on) in
     ap (word_in board op) (routed board op on place tree refl) ∙ here_by board op on place none
 
 -- it is the same from the end of each lane of the way
-word_on : (board : Board) (op : Op) (tree : IsTree board) (k : BridgeLane) (lanes : List BridgeLane) (on : ℕ) → lanes ≡ way board op on → list_any (same_lane k) lanes ≡ true → word_of board op on ≡ word_of board op (end_of board k)
+pub word_on : (board : Board) (op : Op) (tree : IsTree board) (k : BridgeLane) (lanes : List BridgeLane) (on : ℕ) → lanes ≡ way board op on → list_any (same_lane k) lanes ≡ true → word_of board op on ≡ word_of board op (end_of board k)
 word_on board op tree k [] on is any = cc
 word_on board op tree k (first ∷ lanes) on is any =
     let goes = way_cons board op on first lanes tree is in

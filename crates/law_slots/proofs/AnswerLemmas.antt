@@ -28,7 +28,7 @@ use Rattle.history_model.specs.declared.item.Cause.TheVariants.{Full, NoSlot, Be
 use Rattle.history_model.specs.Lanes.{is_done_for, is_post}
 use Rattle.history_model.specs.World.{World, lane_back, is_own, world_of}
 use Rattle.history_model.specs.Words.{through, without}
-use Rattle.history_model.specs.Answers.{target_answer, header_answer, completion_answer, delayed_answer, posted_answer, lane_answer, bridge_to, answer_by, answer_to, answer}
+use Rattle.history_model.specs.Answers.{target_answer, header_answer, completion_answer, delayed_answer, posted_answer, lane_answer, bridge_to, answer_by, answer_to, answer_in, answer}
 
 -- a completion is taken: its slot is the own one, it stands, and a read's has no posted write before it
 pub record Taken (read : Bool) (own : Option Slot) (coming : List Carried) (outcome : Outcome) : Type 0 where
@@ -52,14 +52,14 @@ Gives_at bridge owed held coming request own MasterAbort = ⊥
 Gives_at bridge owed held coming request own TargetAbort = ⊥
 
 -- a lane answers with an event: it claims what is left of the request, its bridge is there, and the step has its cause
-pub record AtLane (board : Board) (h : List Event) (on : ℕ) (by : By) (o : OpId) (step : Step) (lane : BridgeLane) : Type 0 where
+pub record AtLaneIn (board : Board) (world : World) (h : List Event) (on : ℕ) (by : By) (o : OpId) (step : Step) (lane : BridgeLane) : Type 0 where
   pub request : Request
   pub is_request : request_of board o on ≡ Some request
   pub claims : claim board on (without (through h o) request) ≡ Lane lane
   pub bridge : Bridge
   pub is_bridge : bridge_to board lane.bus ≡ Some bridge
-  pub gives : Gives_at bridge (world_of board h lane).owed (world_of board h lane).held (world_of board h (lane_back lane)).standing request
-      (find (is_own board on by o) (world_of board h lane).held) step
+  pub gives : Gives_at bridge (world lane).owed (world lane).held (world (lane_back lane)).standing request
+      (find (is_own board on by o) (world lane).held) step
 
 -- the step is from the lane that claims
 posted_gives : (bridge : Bridge) (owed : ℕ) (held : List Slot) (coming : List Carried) (request : Request) (own : Option Slot) (at lane : BridgeLane) (step : Step)
@@ -108,13 +108,12 @@ delayed_gives bridge owed held coming request own at lane step (Some slot) delay
     let taken = completion_gives (is_read request.command) at lane coming own slot step (find (is_done_for slot.number) coming) is_some refl gives in
     (taken.0, subst F (sym taken.1.1) (delayed, taken.1.2))
 
-lane_gives : (board : Board) (h : List Event) (on : ℕ) (by : By) (o : OpId) (request : Request) (step : Step) (at lane : BridgeLane) (found : Option Bridge)
+lane_gives : (board : Board) (world : World) (h : List Event) (on : ℕ) (by : By) (o : OpId) (request : Request) (step : Step) (at lane : BridgeLane) (found : Option Bridge)
     → bridge_to board at.bus ≡ found → request_of board o on ≡ Some request → claim board on (without (through h o) request) ≡ Lane at
-    → lane_answer board (world_of board h) on by o (without (through h o) request) at found ≡ Gives step (Lane lane)
-    → AtLane board h on by o step lane
-lane_gives board h on by o request step at lane None is_bridge is_request claims gives = cc
-lane_gives board h on by o request step at lane (Some bridge) is_bridge is_request claims gives =
-    let world : World = world_of board h in
+    → lane_answer board (world) on by o (without (through h o) request) at found ≡ Gives step (Lane lane)
+    → AtLaneIn board world h on by o step lane
+lane_gives board world h on by o request step at lane None is_bridge is_request claims gives = cc
+lane_gives board world h on by o request step at lane (Some bridge) is_bridge is_request claims gives =
     let own : Option Slot = find (is_own board on by o) (world at).held in
     let F : Step → Type 0 = Gives_at bridge (world at).owed (world at).held (world (lane_back at)).standing request own in
     let one : Answer = posted_answer (world at).owed bridge.posted at in
@@ -124,29 +123,37 @@ lane_gives board h on by o request step at lane (Some bridge) is_bridge is_reque
       | true ↦ λ posted e. posted_gives bridge (world at).owed (world at).held (world (lane_back at)).standing request own at lane step posted e
       | false ↦ λ delayed e. delayed_gives bridge (world at).owed (world at).held (world (lane_back at)).standing request own at lane step own delayed refl e
     ]) refl gives in
-    let G : BridgeLane → Type 0 = λ l. AtLane board h on by o step l in
+    let G : BridgeLane → Type 0 = λ l. AtLaneIn board world h on by o step l in
     subst G gave.0 record { request = request; is_request = is_request; claims = claims; bridge = bridge; is_bridge = is_bridge; gives = gave.1 }
 
-place_gives : (board : Board) (h : List Event) (on : ℕ) (by : By) (o : OpId) (request : Request) (step : Step) (lane : BridgeLane) (place : Place)
+place_gives : (board : Board) (world : World) (h : List Event) (on : ℕ) (by : By) (o : OpId) (request : Request) (step : Step) (lane : BridgeLane) (place : Place)
     → request_of board o on ≡ Some request → claim board on (without (through h o) request) ≡ place
-    → answer_by board (world_of board h) h on by o (without (through h o) request) place ≡ Gives step (Lane lane)
-    → AtLane board h on by o step lane
-place_gives board h on by o request step lane (Target target) is_request claims gives =
-    let P : Option TargetAgent → Type 0 = λ found. target_answer board h target (without (through h o) request) found ≡ Gives step (Lane lane) → AtLane board h on by o step lane in
+    → answer_by board (world) h on by o (without (through h o) request) place ≡ Gives step (Lane lane)
+    → AtLaneIn board world h on by o step lane
+place_gives board world h on by o request step lane (Target target) is_request claims gives =
+    let P : Option TargetAgent → Type 0 = λ found. target_answer board h target (without (through h o) request) found ≡ Gives step (Lane lane) → AtLaneIn board world h on by o step lane in
     (elim (slice_get board.targets target) as P [ None ↦ λ e. cc | Some agent ↦ λ e. cc ]) gives
-place_gives board h on by o request step lane (Header bus) is_request claims gives =
-    let P : Option Bridge → Type 0 = λ found. header_answer bus (without (through h o) request) found ≡ Gives step (Lane lane) → AtLane board h on by o step lane in
+place_gives board world h on by o request step lane (Header bus) is_request claims gives =
+    let P : Option Bridge → Type 0 = λ found. header_answer bus (without (through h o) request) found ≡ Gives step (Lane lane) → AtLaneIn board world h on by o step lane in
     (elim (bridge_to board bus) as P [ None ↦ λ e. cc | Some bridge ↦ λ e. cc ]) gives
-place_gives board h on by o request step lane (Lane at) is_request claims gives =
-    lane_gives board h on by o request step at lane (bridge_to board at.bus) refl is_request claims gives
-place_gives board h on by o request step lane Nobody is_request claims gives = cc
+place_gives board world h on by o request step lane (Lane at) is_request claims gives =
+    lane_gives board world h on by o request step at lane (bridge_to board at.bus) refl is_request claims gives
+place_gives board world h on by o request step lane Nobody is_request claims gives = cc
 
-request_gives : (board : Board) (h : List Event) (on : ℕ) (by : By) (o : OpId) (step : Step) (lane : BridgeLane) (some : Option Request)
-    → request_of board o on ≡ some → answer_to board (world_of board h) h on by o some ≡ Gives step (Lane lane) → AtLane board h on by o step lane
-request_gives board h on by o step lane None is_request gives = cc
-request_gives board h on by o step lane (Some request) is_request gives =
-    place_gives board h on by o request step lane (claim board on (without (through h o) request)) is_request refl gives
+request_gives : (board : Board) (world : World) (h : List Event) (on : ℕ) (by : By) (o : OpId) (step : Step) (lane : BridgeLane) (some : Option Request)
+    → request_of board o on ≡ some → answer_to board (world) h on by o some ≡ Gives step (Lane lane) → AtLaneIn board world h on by o step lane
+request_gives board world h on by o step lane None is_request gives = cc
+request_gives board world h on by o step lane (Some request) is_request gives =
+    place_gives board world h on by o request step lane (claim board on (without (through h o) request)) is_request refl gives
+
+pub answered_in : (board : Board) (world : World) (h : List Event) (on : ℕ) (by : By) (o : OpId) (step : Step) (lane : BridgeLane)
+    → answer_in board world h on by o ≡ Gives step (Lane lane) → AtLaneIn board world h on by o step lane
+answered_in board world h on by o step lane gives = request_gives board world h on by o step lane (request_of board o on) refl gives
+
+-- on the lanes after a history
+abbrev pub AtLane : Board → List Event → ℕ → By → OpId → Step → BridgeLane → Type 0
+AtLane board h on by o step lane = AtLaneIn board (world_of board h) h on by o step lane
 
 pub answered_at : (board : Board) (h : List Event) (on : ℕ) (by : By) (o : OpId) (step : Step) (lane : BridgeLane)
     → answer board h on by o ≡ Gives step (Lane lane) → AtLane board h on by o step lane
-answered_at board h on by o step lane gives = request_gives board h on by o step lane (request_of board o on) refl gives
+answered_at board h on by o step lane gives = answered_in board (world_of board h) h on by o step lane gives

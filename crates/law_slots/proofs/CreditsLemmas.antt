@@ -13,14 +13,16 @@ use Rattle.history_model.specs.declared.item.Carried.TheVariants.{Post, Ask, Don
 use Rattle.board_model.specs.declared.bridge.Lane.{Lane as BridgeLane}
 use Rattle.board_model.specs.declared.board.Board.{Board}
 use Rattle.history_model.specs.declared.event.Event.{Event}
-use Rattle.history_model.specs.World.{both, world_of}
-use Rattle.history_model.specs.Runs.{Run}
+use Rattle.history_model.specs.declared.rule.Rule.{Rule}
+use Rattle.history_model.specs.declared.rule.Rule.TheVariants.{Tagged}
+use Rattle.history_model.specs.World.{both, world_of, noted, world_by}
+use Rattle.history_model.specs.Runs.{RunBy, Run}
 use Rattle.history_model.specs.Lanes.{Both, lowest_free, is_of, is_done_for, reply_to, post_enters, ask_enters, item_ends, slot_taken, Effect, Stands, Credits as CreditsBack, Frees, Drops, effect_of, takes_effect, came_off, arrives_first}
 use Rattle.law_slots.specs.Credits.{post_count, room_count, Credits}
 use Rattle.law_slots.specs.Standing.{CanStand}
 use Rattle.law_slots.proofs.BridgeLemmas.{flip}
 use Rattle.law_slots.proofs.EffectLemmas.{IsRoom, IsLastOf, IsAskOf, Fits, effect_fits}
-use Rattle.law_slots.proofs.KeptLemmas.{Kept, runs_keep}
+use Rattle.law_slots.proofs.KeptLemmas.{KeptBy, runs_keep_by}
 
 -- a credit goes back for a posted write, and nothing that is posted goes back
 reply-room_count : (outcome : Outcome) (item : Option Carried) → total room_count (reply_to outcome item) ≡ found post_count item
@@ -127,16 +129,19 @@ arrives_first-keeps mark (item ∷ rest) x same old =
     let rooms = ap (total room_count) same in
     effect-keeps (effect_of mark item) item (record x { here = came_off item rest x.here }) (effect_fits mark item) (omega (arith, old.0.owed)) (omega (arith, old.1.owed))
 
-Credits-kept : (board : Board) → Kept board (λ lane x. Credits x)
-Credits-kept board =
+Credits-kept : (rule : Rule) (board : Board) → KeptBy rule board (λ lane x. Credits x)
+Credits-kept rule board =
     record {
       empty = λ lane. record { owed = refl };
-      accepts = λ h on by o lane _ _ _ old. Credits-post_enters o (both (world_of board h) lane) old;
-      latches = λ h on by o lane _ _ _ old. Credits-ask_enters by o (both (world_of board h) lane) old;
+      accepts = λ h on by o lane _ _ _ old. Credits-post_enters o (both (world_by rule board h) lane) old;
+      latches = λ h on by o lane _ _ _ old. Credits-ask_enters (noted rule by) o (both (world_by rule board h) lane) old;
       takes = λ lane number op slot outcome x stands old. Credits-slot_taken number x old;
       ends = λ lane o outcome x old. Credits-item_ends o outcome x old;
       comes = λ lane mark x old. arrives_first-keeps mark x.here.flight x refl old;
     }
 
+pub Credits-run_by : (rule : Rule) (board : Board) (h : List Event) (lane : BridgeLane) → RunBy rule board h → Credits (both (world_by rule board h) lane)
+Credits-run_by rule board h lane run = runs_keep_by rule board (λ lane x. Credits x) (Credits-kept rule board) h run lane
+
 pub Credits-run : (board : Board) (h : List Event) (lane : BridgeLane) → Run board h → Credits (both (world_of board h) lane)
-Credits-run board h lane run = runs_keep board (λ lane x. Credits x) (Credits-kept board) h run lane
+Credits-run board h lane run = Credits-run_by Tagged board h lane run

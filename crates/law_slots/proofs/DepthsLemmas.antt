@@ -16,9 +16,11 @@ use Rattle.board_model.specs.declared.bridge.Bridge.{Bridge}
 use Rattle.board_model.specs.declared.bridge.Lane.{Lane as BridgeLane}
 use Rattle.board_model.specs.declared.board.Board.{Board}
 use Rattle.history_model.specs.declared.event.Event.{Event}
-use Rattle.history_model.specs.World.{World, lane_back, both, world_of}
+use Rattle.history_model.specs.declared.rule.Rule.{Rule}
+use Rattle.history_model.specs.declared.rule.Rule.TheVariants.{Tagged}
+use Rattle.history_model.specs.World.{World, lane_back, both, world_of, noted, world_by}
 use Rattle.history_model.specs.Answers.{bridge_to}
-use Rattle.history_model.specs.Runs.{Run}
+use Rattle.history_model.specs.Runs.{RunBy, Run}
 use Rattle.history_model.specs.Lanes.{LaneState, Both, empty_lane, has_number, lowest_free, post_enters, ask_enters, Effect, Stands, Credits as CreditsBack, Frees, Drops, effect_of, takes_effect, came_off, arrives_first}
 use Rattle.law_slots.specs.Slots.{slot_weight, ask_weight, done_weight, gone_weight, Slots}
 use Rattle.law_slots.specs.Credits.{post_count, room_count, Credits}
@@ -27,10 +29,10 @@ use Rattle.law_slots.specs.Depths.{Within, DifferentNumbers, DepthsToEight}
 use Rattle.law_slots.proofs.NumberLemmas.{bridge_found}
 use Rattle.law_slots.proofs.BridgeLemmas.{flip, both_back}
 use Rattle.law_slots.proofs.LowestFreeLemmas.{lowest_free-le}
-use Rattle.law_slots.proofs.KeptLemmas.{Pair, Kept, runs_keep}
-use Rattle.law_slots.proofs.SlotsRunLemmas.{Slots-run}
-use Rattle.law_slots.proofs.CreditsLemmas.{Credits-run}
-use Rattle.law_slots.proofs.StandingLemmas.{CanStand-run}
+use Rattle.law_slots.proofs.KeptLemmas.{Pair, KeptBy, runs_keep_by}
+use Rattle.law_slots.proofs.SlotsRunLemmas.{Slots-run_by}
+use Rattle.law_slots.proofs.CreditsLemmas.{Credits-run_by}
+use Rattle.law_slots.proofs.StandingLemmas.{CanStand-run_by}
 use Rattle.law_slots.proofs.QuietLemmas.{Quiet-empty, run_no_bridge}
 
 -- what the answers of a bridge keep of one of its lanes
@@ -97,12 +99,12 @@ arrives_first-keeps board mark (item ∷ rest) lane x old =
     effect-keeps board (effect_of mark item) item lane (record x { here = came_off item rest x.here })
     (λ bridge is. let w = old.0 bridge is in record { owed = w.owed; held = w.held; numbers = w.numbers }, old.1)
 
-InDepth-kept : (board : Board) → Kept board (InDepth board)
-InDepth-kept board =
+InDepth-kept : (rule : Rule) (board : Board) → KeptBy rule board (InDepth board)
+InDepth-kept rule board =
     record {
       empty = λ lane bridge is. record { owed = omega arith; held = omega arith; numbers = tt };
-      accepts = λ h on by o lane _ _ at old. post-keeps board lane o at.bridge (both (world_of board h) lane) at.is_bridge at.gives.1 old;
-      latches = λ h on by o lane _ _ at old. latch-keeps board lane by o at.bridge (both (world_of board h) lane) at.is_bridge at.gives.2 old;
+      accepts = λ h on by o lane _ _ at old. post-keeps board lane o at.bridge (both (world_by rule board h) lane) at.is_bridge at.gives.1 old;
+      latches = λ h on by o lane _ _ at old. latch-keeps board lane (noted rule by) o at.bridge (both (world_by rule board h) lane) at.is_bridge at.gives.2 old;
       takes = λ lane number op slot outcome x _ old. (λ bridge is. within-less bridge x.here number (old.0 bridge is), λ bridge is. let w = old.1 bridge is in record { owed = w.owed; held = w.held; numbers = w.numbers });
       ends = λ lane o outcome x old. (λ bridge is. let w = old.0 bridge is in record { owed = w.owed; held = w.held; numbers = w.numbers }, λ bridge is. let w = old.1 bridge is in record { owed = w.owed; held = w.held; numbers = w.numbers });
       comes = λ lane mark x old. arrives_first-keeps board mark x.here.flight lane x old;
@@ -142,17 +144,20 @@ within_of bridge x slots slots_back credits credits_back stand kept kept_back =
       standing = omega (arith, length-by_kind x.here.standing, slots.one_place one, slots_back.one_place one, credits.owed, kept.held, kept_back.held, kept.owed);
     }
 
-InDepth-run : (board : Board) (h : List Event) (lane : BridgeLane) → Run board h → InDepth board lane (both (world_of board h) lane)
-InDepth-run board h lane run = runs_keep board (InDepth board) (InDepth-kept board) h run lane
+InDepth-run : (rule : Rule) (board : Board) (h : List Event) (lane : BridgeLane) → RunBy rule board h → InDepth board lane (both (world_by rule board h) lane)
+InDepth-run rule board h lane run = runs_keep_by rule board (InDepth board) (InDepth-kept rule board) h run lane
 
-pub Within-run : (board : Board) (h : List Event) (lane : BridgeLane) (bridge : Bridge) → bridge_to board lane.bus ≡ Some bridge → Run board h → Within bridge.posted bridge.delayed (world_of board h lane)
-Within-run board h lane bridge is run =
-    let world : World = world_of board h in
+pub Within-run_by : (rule : Rule) (board : Board) (h : List Event) (lane : BridgeLane) (bridge : Bridge) → bridge_to board lane.bus ≡ Some bridge → RunBy rule board h → Within bridge.posted bridge.delayed (world_by rule board h lane)
+Within-run_by rule board h lane bridge is run =
+    let world : World = world_by rule board h in
     let x : Both = both world lane in
     let turned : both world (lane_back lane) ≡ flip x = both_back world lane in
-    within_of bridge x (Slots-run board h lane run) (subst Slots turned (Slots-run board h (lane_back lane) run))
-    (Credits-run board h lane run) (subst Credits turned (Credits-run board h (lane_back lane) run)) (CanStand-run board h lane run)
-    (InDepth-run board h lane run bridge is) (InDepth-run board h (lane_back lane) run bridge is)
+    within_of bridge x (Slots-run_by rule board h lane run) (subst Slots turned (Slots-run_by rule board h (lane_back lane) run))
+    (Credits-run_by rule board h lane run) (subst Credits turned (Credits-run_by rule board h (lane_back lane) run)) (CanStand-run_by rule board h lane run)
+    (InDepth-run rule board h lane run bridge is) (InDepth-run rule board h (lane_back lane) run bridge is)
+
+pub Within-run : (board : Board) (h : List Event) (lane : BridgeLane) (bridge : Bridge) → bridge_to board lane.bus ≡ Some bridge → Run board h → Within bridge.posted bridge.delayed (world_of board h lane)
+Within-run board h lane bridge is run = Within-run_by Tagged board h lane bridge is run
 
 pub Within-each : (board : Board) (h : List Event) → DifferentNumbers board → Run board h
     → AllByRecursion (λ (bridge : Bridge). (up : Bool) → Within bridge.posted bridge.delayed (world_of board h (record { bus = bridge.bus; up = up }))) board.bridges

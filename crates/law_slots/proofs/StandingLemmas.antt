@@ -7,12 +7,14 @@ use Rattle.history_model.specs.declared.item.Carried.{Carried}
 use Rattle.board_model.specs.declared.bridge.Lane.{Lane as BridgeLane}
 use Rattle.board_model.specs.declared.board.Board.{Board}
 use Rattle.history_model.specs.declared.event.Event.{Event}
-use Rattle.history_model.specs.World.{world_of}
-use Rattle.history_model.specs.Runs.{Run}
+use Rattle.history_model.specs.declared.rule.Rule.{Rule}
+use Rattle.history_model.specs.declared.rule.Rule.TheVariants.{Tagged}
+use Rattle.history_model.specs.World.{world_of, world_by}
+use Rattle.history_model.specs.Runs.{RunBy, Run}
 use Rattle.history_model.specs.Lanes.{Both, is_of, is_done_for, Effect, Stands, Credits, Frees, Drops, effect_of, takes_effect, came_off, arrives_first}
 use Rattle.law_slots.specs.Standing.{CanStand}
 use Rattle.law_slots.proofs.EffectLemmas.{Fits, effect_fits}
-use Rattle.law_slots.proofs.KeptLemmas.{Pair, Kept, runs_keep}
+use Rattle.law_slots.proofs.KeptLemmas.{Pair, KeptBy, runs_keep_by}
 
 abbrev AllStand : BridgeLane → Both → Type 0
 AllStand lane x = AllByRecursion CanStand x.here.standing
@@ -27,8 +29,8 @@ arrives_first-keeps : (mark : Mark) (flight : List Carried) (lane : BridgeLane) 
 arrives_first-keeps mark [] lane x old = old
 arrives_first-keeps mark (item ∷ rest) lane x old = effect-keeps (effect_of mark item) item lane (record x { here = came_off item rest x.here }) (effect_fits mark item) old
 
-AllStand-kept : (board : Board) → Kept board AllStand
-AllStand-kept board =
+AllStand-kept : (rule : Rule) (board : Board) → KeptBy rule board AllStand
+AllStand-kept rule board =
     record {
       empty = λ lane. tt;
       accepts = λ h on by o lane _ _ _ old. old;
@@ -38,5 +40,8 @@ AllStand-kept board =
       comes = λ lane mark x old. arrives_first-keeps mark x.here.flight lane x old;
     }
 
+pub CanStand-run_by : (rule : Rule) (board : Board) (h : List Event) (lane : BridgeLane) → RunBy rule board h → AllByRecursion CanStand (world_by rule board h lane).standing
+CanStand-run_by rule board h lane run = runs_keep_by rule board AllStand (AllStand-kept rule board) h run lane
+
 pub CanStand-run : (board : Board) (h : List Event) (lane : BridgeLane) → Run board h → AllByRecursion CanStand (world_of board h lane).standing
-CanStand-run board h lane run = runs_keep board AllStand (AllStand-kept board) h run lane
+CanStand-run board h lane run = CanStand-run_by Tagged board h lane run
