@@ -39,12 +39,12 @@ use Rattle.history_model.specs.World.{World, noted, lane_back, is_own, world_by,
 use Rattle.history_model.specs.Program.{turn_of}
 use Rattle.history_model.specs.Words.{through, without, value_of}
 
--- which row and column of the ordering table a standing item is
+-- the row and column of the ordering table of a delayed request, to read or to write
 abbrev pub request_kind : Bool → Kind
 request_kind true = Drr
 request_kind false = Dwr
 
--- the row and column of a completion, of a read or of a write
+-- and of a completion
 abbrev pub completion_kind : Bool → Kind
 completion_kind true = Drc
 completion_kind false = Dwc

@@ -132,8 +132,9 @@ at_initiator board (ByLane lane) o step world = leaves lane o (lane_outcome boar
 -- are told apart by local master and request, and a younger request waits for an older one that is the same on
 -- its bus. An uncorrected one (`Untagged`) notes one and the same name for all, so that slots are told apart by
 -- their request alone, and does not let a younger equal request wait (`waits_for_equal` in Answers).
--- A definition whose name ends in `_by` or `By` says its meaning under either rule; the name without it, which
--- stands beside it, is of bridges of the revised kind, and is meant wherever no rule is named.
+-- A definition that takes a rule (`world_by`, `answer_by_rule`, `RunBy` ..) has its meaning under either; the name
+-- that stands beside it (`world_of`, `answer`, `Run` ..) is of bridges of the revised kind, and is what is meant
+-- wherever no rule is named.
 
 -- the one name that an uncorrected bridge notes for all
 abbrev pub anyone : By
