@@ -19,4 +19,4 @@ abbrev pub face_answer : Board → ℕ → By → OpId → Request → BridgeLan
 face_answer board on by o request lane bridge here back =
     if is_posted request
     then posted_answer here.owed bridge.posted lane
-    else delayed_answer (is_read request.command) bridge.delayed lane here.held back.standing (find (is_own board on by o) here.held)
+    else delayed_answer board (is_read request.command) bridge.delayed lane here.held back.standing (find (is_own board on by o) here.held)

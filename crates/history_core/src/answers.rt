@@ -1,6 +1,6 @@
 ghost use Rattle.std.specs.Prelude.{◌≡◌, ◌+◌, ◌*◌, ◌/◌, ◌%◌, ◌^◌, ◌≤◌, ◌<◌, IsTrue, length, slice_get, slice_index, if◌then◌else◌, nat_lt};
 ghost use Rattle.std.specs.Option.{option_copied};
-ghost use Rattle.std.specs.List.{find, list_any};
+ghost use Rattle.std.specs.List.{find, list_all};
 ghost use Rattle.list_facts.specs.Lists.{before};
 ghost use Rattle.pci_command.specs.declared.request.Request.{Request};
 ghost use Rattle.pci_command.specs.Command.{is_read};
@@ -9,13 +9,14 @@ ghost use Rattle.board_model.specs.Requests.{request_of, is_posted};
 ghost use Rattle.board_model.specs.Claims.{claim};
 ghost use Rattle.board_model.specs.Ways.{aborts_at};
 ghost use Rattle.bridge_header.specs.HeaderBytes.{header_word, header_bytes, register_2, register_4};
-ghost use Rattle.history_model.specs.Lanes.{is_done_for, is_post};
+ghost use Rattle.history_model.specs.Lanes.{is_done_for};
 ghost use Rattle.history_model.specs.World.{lane_back, is_own, world_of};
 ghost use Rattle.history_model.specs.Words.{without};
-ghost use Rattle.history_model.specs.Answers.{answer, answer_in, answer_to, answer_by, target_answer, target_step, header_answer, lane_answer, posted_answer, delayed_answer, completion_answer, bridge_to};
+ghost use Rattle.history_model.specs.Answers.{answer, answer_in, answer_to, answer_by, target_answer, target_step, header_answer, lane_answer, posted_answer, delayed_answer, completion_answer, completion_passes, bridge_to};
 ghost use Rattle.history_model.specs.Runs.{Run, history_of};
 ghost use Rattle.history_core.specs.Faces.{face_answer};
 
+use crate::presenting::{completion_kind, kind_of};
 use crate::words::{dword_address, left_of, stalls_used, through, value_of};
 use board_claim::{claim_in_space, is_in_ranges};
 use board_model::{Board, Bridge, Lane, Place, Target, bridge_to, request_of};
@@ -24,6 +25,7 @@ use history_model::{Answer, Carried, Cause, Event, Slot, Step};
 use lane_replay::{
     BridgeLanes, LaneTables, Presented, before_completion, own_slot, standing_completion,
 };
+use order_table::may_pass;
 use pci_command::{Command, Request};
 
 /// What the operation is answered, presented on the bus by the initiator after these events, the
@@ -219,7 +221,7 @@ fn face_answer(
         posted_answer(here.owed(), bridge.posted, lane)
     } else {
         let own = own_slot(board, presented, here.held());
-        delayed_answer(request, bridge, lane, here, back.standing(), own)
+        delayed_answer(board, request, bridge, lane, here, back.standing(), own)
     }
 }
 
@@ -231,6 +233,7 @@ fn is_posted(request: &Request) -> bool
 
 /// A delayed request: the completion of the own slot, or a new slot while there is one.
 fn delayed_answer(
+    board: &Board,
     request: &Request,
     bridge: &Bridge,
     lane: Lane,
@@ -238,10 +241,12 @@ fn delayed_answer(
     coming: &[Carried],
     own: Option<Slot>,
 ) -> Answer
-    ensures { result ≡ delayed_answer (is_read request.now.command) bridge.now.delayed lane here.now.held coming.now own }
+    ensures { result ≡ delayed_answer board.now (is_read request.now.command) bridge.now.delayed lane here.now.held coming.now own }
 {
     match own {
-        Some(slot) => completion_answer(request.command.is_read(), lane, coming, slot.number),
+        Some(slot) => {
+            completion_answer(board, request.command.is_read(), lane, coming, slot.number)
+        }
         None => latch_answer(here.held().len(), bridge.delayed, lane),
     }
 }
@@ -276,20 +281,21 @@ fn latch_answer(held: usize, depth: u8, lane: Lane) -> Answer
     }
 }
 
-/// The completion of a slot is given, but that of a read not before an older posted write.
-fn completion_answer(read: bool, lane: Lane, coming: &[Carried], slot: u8) -> Answer
-    ensures { result ≡ completion_answer read lane (before (is_done_for slot) coming.now) (find (is_done_for slot) coming.now) }
+/// The completion for the slot, where it stands: it is given if it may pass all that stands before
+/// it.
+fn completion_answer(board: &Board, read: bool, lane: Lane, coming: &[Carried], slot: u8) -> Answer
+    ensures { result ≡ completion_answer board.now read lane (before (is_done_for slot) coming.now) (find (is_done_for slot) coming.now) }
 {
     match standing_completion(coming, slot) {
         Some(Carried::Done { outcome, .. }) => {
-            if read && has_post(before_completion(coming, slot)) {
-                Answer::Retry {
-                    cause: Cause::Behind,
-                }
-            } else {
+            if passes_all(board, read, before_completion(coming, slot)) {
                 Answer::Gives {
                     step: Step::Take(outcome),
                     place: Place::Lane(lane),
+                }
+            } else {
+                Answer::Retry {
+                    cause: Cause::Behind,
                 }
             }
         }
@@ -299,17 +305,17 @@ fn completion_answer(read: bool, lane: Lane, coming: &[Carried], slot: u8) -> An
     }
 }
 
-fn has_post(items: &[Carried]) -> bool
-    ensures { result ≡ list_any is_post items.now }
+/// Whether the completion of a read or a write may pass each of the items.
+fn passes_all(board: &Board, read: bool, older: &[Carried]) -> bool
+    ensures { result ≡ list_all (completion_passes board.now read) older.now }
 {
-    items.iter().any(|item| is_post(*item))
+    older
+        .iter()
+        .all(|item| completion_passes(board, read, *item))
 }
 
-fn is_post(item: Carried) -> bool
-    ensures { result ≡ is_post item }
+fn completion_passes(board: &Board, read: bool, older: Carried) -> bool
+    ensures { result ≡ completion_passes board.now read older }
 {
-    match item {
-        Carried::Post { .. } => true,
-        Carried::Ask { .. } | Carried::Done { .. } | Carried::Room | Carried::Gone { .. } => false,
-    }
+    may_pass(completion_kind(read), kind_of(board, older))
 }

@@ -88,7 +88,7 @@ fn goes_before(board: &Board, bus: u8, item: Carried, older: Carried) -> bool
     may_pass(kind_of(board, item), kind_of(board, older)) && !asks_same(board, bus, item, older)
 }
 
-fn kind_of(board: &Board, item: Carried) -> Kind
+pub(crate) fn kind_of(board: &Board, item: Carried) -> Kind
     ensures { result ≡ kind_of board.now item }
 {
     match item {
@@ -104,7 +104,7 @@ fn request_kind(reads: bool) -> Kind
     if reads { Kind::Drr } else { Kind::Dwr }
 }
 
-fn completion_kind(reads: bool) -> Kind
+pub(crate) fn completion_kind(reads: bool) -> Kind
     ensures { result ≡ completion_kind reads }
 {
     if reads { Kind::Drc } else { Kind::Dwc }

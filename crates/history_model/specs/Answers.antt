@@ -1,6 +1,6 @@
 -- Which operations are presented on a bus, and how each is answered.
 use Rattle.std.specs.Prelude.{ℕ, Bool, true, false, ◌+◌, ◌/◌, ◌%◌, ◌^◌, List, [], ◌∷◌, length, Option, Some, None, not, ◌&&◌, ◌==◌, nat_lt, if◌then◌else◌, slice_get}
-use Rattle.std.specs.List.{find, list_all, list_any}
+use Rattle.std.specs.List.{find, list_all}
 use Rattle.list_facts.specs.Lists.{before}
 use Rattle.pci_command.specs.declared.command.Kind.{Kind}
 use Rattle.pci_command.specs.declared.command.Kind.TheVariants.{Pmw, Drr, Dwr, Drc, Dwc}
@@ -32,22 +32,25 @@ use Rattle.history_model.specs.declared.item.Slot.{Slot}
 use Rattle.history_model.specs.declared.item.Answer.{Answer}
 use Rattle.history_model.specs.declared.item.Answer.TheVariants.{Gives, Retry}
 use Rattle.history_model.specs.declared.item.Cause.TheVariants.{Full, NoSlot, Waiting, Behind}
-use Rattle.history_model.specs.Lanes.{is_of, is_done_for, is_post}
+use Rattle.history_model.specs.Lanes.{is_of, is_done_for}
 use Rattle.history_model.specs.declared.rule.Rule.{Rule}
 use Rattle.history_model.specs.declared.rule.Rule.TheVariants.{Tagged, Untagged}
 use Rattle.history_model.specs.World.{World, noted, lane_back, is_own, world_by, world_of}
 use Rattle.history_model.specs.Program.{turn_of}
 use Rattle.history_model.specs.Words.{through, without, value_of}
 
--- which row and column of the ordering table a standing item is
+-- the row and column of the ordering table of a delayed request, to read or to write
 abbrev pub request_kind : Bool → Kind
 request_kind true = Drr
 request_kind false = Dwr
 
+-- and of a completion
 abbrev pub completion_kind : Bool → Kind
 completion_kind true = Drc
 completion_kind false = Dwc
 
+-- the row and column of an item; a credit and the word that a request was dropped never stand, and block
+-- like posted writes
 abbrev pub kind_of : Board → Carried → Kind
 kind_of board (Post op) = Pmw
 kind_of board (Ask op slot) = request_kind (reads board op)
@@ -69,53 +72,63 @@ asks_same board on None other = false
 asks_same board on (Some o) None = false
 asks_same board on (Some o) (Some p) = same_requests board on o p
 
+-- by the rule of the bridge: of two delayed requests that are the same on the bus the younger waits
 abbrev pub waits_for_equal : Rule → Bool
 waits_for_equal Tagged = true
 waits_for_equal Untagged = false
 
--- an item may go before an older one where the table lets it pass; but of two delayed requests that are
--- the same on the bus the younger waits, where local masters are kept
+-- under a rule: an item may go before an older one
 abbrev pub goes_before_by : Rule → Board → ℕ → Carried → Carried → Bool
 goes_before_by rule board on item older =
     may_pass (kind_of board item) (kind_of board older) && not (waits_for_equal rule && asks_same board on (asked item) (asked older))
 
+-- an item may go before an older one where the ordering table lets it pass, but a delayed request not before an
+-- older one that is the same on the bus
+abbrev pub goes_before : Board → ℕ → Carried → Carried → Bool
+goes_before board on item older = goes_before_by Tagged board on item older
+
+-- under a rule: the item, where there is one, may go before all these older ones
 abbrev pub presents_item_by : Rule → Board → ℕ → List Carried → Option Carried → Bool
 presents_item_by rule board on older None = false
 presents_item_by rule board on older (Some item) = list_all (goes_before_by rule board on item) older
 
--- a lane presents a standing posted write or delayed request that may go before every older standing item
-abbrev pub presents_by : Rule → Board → ℕ → OpId → List Carried → Bool
-presents_by rule board on o standing = presents_item_by rule board on (before (is_of o) standing) (find (is_of o) standing)
-
-abbrev pub goes_before : Board → ℕ → Carried → Carried → Bool
-goes_before board on item older = goes_before_by Tagged board on item older
-
+-- the item, where there is one, may go before all these older ones
 abbrev pub presents_item : Board → ℕ → List Carried → Option Carried → Bool
 presents_item board on older item = presents_item_by Tagged board on older item
 
+-- under a rule: a lane presents what stands of the operation
+abbrev pub presents_by : Rule → Board → ℕ → OpId → List Carried → Bool
+presents_by rule board on o standing = presents_item_by rule board on (before (is_of o) standing) (find (is_of o) standing)
+
+-- a lane presents a posted write or delayed request that stands, if it may go before every older item that stands
 abbrev pub presents : Board → ℕ → OpId → List Carried → Bool
 presents board on o standing = presents_by Tagged board on o standing
 
+-- the master is there and on the bus
 abbrev pub is_on : ℕ → Option MasterAgent → Bool
 is_on bus None = false
 is_on bus (Some master) = master.bus == bus
 
+-- the operation is the turn
 abbrev pub is_turn : OpId → Option OpId → Bool
 is_turn o None = false
 is_turn o (Some turn) = same_op turn o
 
--- whether the initiator presents the operation on the bus, with this on the lanes and after this history
+-- under a rule: the initiator presents the operation on the bus, with this on the lanes and after this history
 abbrev pub wants_in_by : Rule → Board → World → List Event → ℕ → By → OpId → Bool
 wants_in_by rule board world h on Master o = is_on on (slice_get board.masters o.master) && is_turn o (turn_of board h o.master)
 wants_in_by rule board world h on (ByLane lane) o = end_of board lane == on && presents_by rule board on o (world lane).standing
 
+-- the initiator presents the operation on the bus, with this on the lanes and after this history: a master its
+-- turn, on its own bus, and a lane what stands where it ends
 abbrev pub wants_in : Board → World → List Event → ℕ → By → OpId → Bool
 wants_in board world h on by o = wants_in_by Tagged board world h on by o
 
--- whether the initiator presents the operation on the bus now
+-- under a rule: the initiator presents the operation on the bus now
 abbrev pub wants_by : Rule → Board → List Event → ℕ → By → OpId → Bool
 wants_by rule board h on by o = wants_in_by rule board (world_by rule board h) h on by o
 
+-- the initiator presents the operation on the bus now
 abbrev pub wants : Board → List Event → ℕ → By → OpId → Bool
 wants board h on by o = wants_by Tagged board h on by o
 
@@ -126,6 +139,7 @@ stalls_at target (Header bus) = 0
 stalls_at target (Lane lane) = 0
 stalls_at target Nobody = 0
 
+-- a Stall event uses one of the target that claims, and no other step uses any
 abbrev pub stalls_in : ℕ → Place → Step → ℕ
 stalls_in target place Land = 0
 stalls_in target place (Part phases) = 0
@@ -137,10 +151,12 @@ stalls_in target place Stall = stalls_at target place
 stalls_in target place MasterAbort = 0
 stalls_in target place TargetAbort = 0
 
+-- and by an event
 abbrev pub stalls_by : ℕ → Event → ℕ
 stalls_by target (Act on by o step place) = stalls_in target place step
 stalls_by target (Arrive lane mark) = 0
 
+-- and in a history
 abbrev pub stalls_used : List Event → ℕ → ℕ
 stalls_used [] target = 0
 stalls_used (e ∷ h) target = stalls_by target e + stalls_used h target
@@ -156,6 +172,7 @@ target_step board h place request target =
     else if nat_lt target.burst (length request.phases) then Part target.burst
     else Land
 
+-- the answer of a target that claims
 abbrev pub target_answer : Board → List Event → ℕ → Request → Option TargetAgent → Answer
 target_answer board h place request None = Gives MasterAbort Nobody
 target_answer board h place request (Some target) = Gives (target_step board h place request target) (Target place)
@@ -165,36 +182,41 @@ abbrev pub header_answer : ℕ → Request → Option Bridge → Answer
 header_answer bus request None = Gives MasterAbort Nobody
 header_answer bus request (Some bridge) = Gives (Read (header_word bridge (request.address % 2 ^ 8 / 4))) (Header bus)
 
--- the completion of the own slot is given, but that of a read not before an older posted write
-abbrev pub completion_answer : Bool → BridgeLane → List Carried → Option Carried → Answer
-completion_answer read lane older None = Retry Waiting
-completion_answer read lane older (Some (Post op)) = Retry Waiting
-completion_answer read lane older (Some (Ask op slot)) = Retry Waiting
-completion_answer read lane older (Some (Done op slot outcome)) =
-    if read && list_any is_post older then Retry Behind else Gives (Take outcome) (Lane lane)
-completion_answer read lane older (Some Room) = Retry Waiting
-completion_answer read lane older (Some (Gone slot)) = Retry Waiting
+-- the completion of a read or a write may pass an item that stands before it
+abbrev pub completion_passes : Board → Bool → Carried → Bool
+completion_passes board read older = may_pass (completion_kind read) (kind_of board older)
+
+-- the completion for the own slot, where it stands: it is given if it may pass all that stands before it
+abbrev pub completion_answer : Board → Bool → BridgeLane → List Carried → Option Carried → Answer
+completion_answer board read lane older None = Retry Waiting
+completion_answer board read lane older (Some (Post op)) = Retry Waiting
+completion_answer board read lane older (Some (Ask op slot)) = Retry Waiting
+completion_answer board read lane older (Some (Done op slot outcome)) =
+    if list_all (completion_passes board read) older then Gives (Take outcome) (Lane lane) else Retry Behind
+completion_answer board read lane older (Some Room) = Retry Waiting
+completion_answer board read lane older (Some (Gone slot)) = Retry Waiting
 
 -- a delayed request: the completion of the own slot, or a new slot while there is one
-abbrev pub delayed_answer : Bool → ℕ → BridgeLane → List Slot → List Carried → Option Slot → Answer
-delayed_answer read depth lane held coming None =
+abbrev pub delayed_answer : Board → Bool → ℕ → BridgeLane → List Slot → List Carried → Option Slot → Answer
+delayed_answer board read depth lane held coming None =
     if nat_lt (length held) depth then Gives Latch (Lane lane) else Retry NoSlot
-delayed_answer read depth lane held coming (Some slot) =
-    completion_answer read lane (before (is_done_for slot.number) coming) (find (is_done_for slot.number) coming)
+delayed_answer board read depth lane held coming (Some slot) =
+    completion_answer board read lane (before (is_done_for slot.number) coming) (find (is_done_for slot.number) coming)
 
 -- a posted write: accepted while fewer are owed than the bridge holds
 abbrev pub posted_answer : ℕ → ℕ → BridgeLane → Answer
 posted_answer owed depth lane = if nat_lt owed depth then Gives Accept (Lane lane) else Retry Full
 
--- the face of a bridge where the lane begins
+-- the face of a bridge where the lane begins, of a posted write or a delayed request
 abbrev pub lane_answer : Board → World → ℕ → By → OpId → Request → BridgeLane → Option Bridge → Answer
 lane_answer board world on by o request lane None = Gives MasterAbort Nobody
 lane_answer board world on by o request lane (Some bridge) =
     if is_posted request
     then posted_answer (world lane).owed bridge.posted lane
-    else delayed_answer (is_read request.command) bridge.delayed lane (world lane).held
+    else delayed_answer board (is_read request.command) bridge.delayed lane (world lane).held
     (world (lane_back lane)).standing (find (is_own board on by o) (world lane).held)
 
+-- the bridge whose secondary bus has the number
 abbrev pub bridge_to : Board → ℕ → Option Bridge
 bridge_to board bus = find (λ bridge. bridge.bus == bus) board.bridges
 
@@ -205,6 +227,8 @@ answer_by board world h on by o request (Header bus) = header_answer bus request
 answer_by board world h on by o request (Lane lane) = lane_answer board world on by o request lane (bridge_to board lane.bus)
 answer_by board world h on by o request Nobody = Gives MasterAbort Nobody
 
+-- of what is left of the request, by whoever claims it on the bus; an operation without a request is
+-- claimed by nobody
 abbrev pub answer_to : Board → World → List Event → ℕ → By → OpId → Option Request → Answer
 answer_to board world h on by o None = Gives MasterAbort Nobody
 answer_to board world h on by o (Some request) =
@@ -214,9 +238,10 @@ answer_to board world h on by o (Some request) =
 abbrev pub answer_in : Board → World → List Event → ℕ → By → OpId → Answer
 answer_in board world h on by o = answer_to board world h on by o (request_of board o on)
 
--- what the operation is answered, presented on the bus by the initiator now
+-- under a rule: what the operation is answered, presented on the bus by the initiator now
 abbrev pub answer_by_rule : Rule → Board → List Event → ℕ → By → OpId → Answer
 answer_by_rule rule board h on by o = answer_in board (world_by rule board h) h on (noted rule by) o
 
+-- what the operation is answered, presented on the bus by the initiator now
 abbrev pub answer : Board → List Event → ℕ → By → OpId → Answer
 answer board h on by o = answer_by_rule Tagged board h on by o

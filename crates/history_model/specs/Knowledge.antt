@@ -23,12 +23,14 @@ use Rattle.history_model.specs.Words.{Landing, landed}
 
 -- How operations ended.
 
+-- the value of an outcome, where it has one
 abbrev pub value_in : Outcome → Option ℕ
 value_in (Value value) = Some value
 value_in Written = None
 value_in Aborted = None
 value_in NobodyClaimed = None
 
+-- the outcome of an ending, where it is of the operation
 abbrev pub outcome_in : OpId → Option Ending → Option Outcome
 outcome_in o None = None
 outcome_in o (Some ending) = if same_op ending.op o then Some ending.outcome else None
@@ -37,9 +39,11 @@ outcome_in o (Some ending) = if same_op ending.op o then Some ending.outcome els
 abbrev pub ends_as : OpId → Event → Option Outcome
 ends_as o e = outcome_in o (ended e)
 
+-- the operation ended at its master
 abbrev pub has_ended : List Event → OpId → Bool
 has_ended h o = list_any (λ e. is_some (ends_as o e)) h
 
+-- the value of an ending, where it has one
 abbrev pub value_of_ending : Option Outcome → Option ℕ
 value_of_ending None = None
 value_of_ending (Some outcome) = value_in outcome
@@ -48,6 +52,7 @@ value_of_ending (Some outcome) = value_in outcome
 abbrev pub ends_with : OpId → Event → Option ℕ
 ends_with r e = value_of_ending (ends_as r e)
 
+-- the first value, or else the other
 abbrev pub or_else : Option ℕ → Option ℕ → Option ℕ
 or_else None other = other
 or_else (Some value) other = Some value
@@ -70,18 +75,22 @@ pub record Reading : Type 0 where
   pub value : ℕ
   pub before : List Event
 
+-- what a read of the value at the target is, of the request and after the history
 abbrev pub reading_of : ℕ → ℕ → List Event → Option Request → Option Reading
 reading_of target value h None = None
 reading_of target value h (Some request) =
     let space = space_of request.command in
     Some (record { word = record { target = target; space = space; address = address_in space request.address }; value = value; before = h })
 
+-- where a target claimed: the header of a bridge and a completion that is taken are no Read event at a
+-- target
 abbrev pub reading_at : Board → List Event → ℕ → OpId → ℕ → Place → Option Reading
 reading_at board h on r value (Target target) = reading_of target value h (request_of board r on)
 reading_at board h on r value (Header bus) = None
 reading_at board h on r value (Lane lane) = None
 reading_at board h on r value Nobody = None
 
+-- where the step is a read
 abbrev pub reading_by : Board → List Event → ℕ → OpId → Step → Place → Option Reading
 reading_by board h on r Land place = None
 reading_by board h on r (Part phases) place = None
@@ -98,6 +107,7 @@ abbrev pub reading_in : Board → List Event → OpId → Event → Option Readi
 reading_in board h r (Act on by o step place) = if same_op o r then reading_by board h on o step place else None
 reading_in board h r (Arrive lane mark) = None
 
+-- the first reading, or else the other
 abbrev pub reading_or : Option Reading → Option Reading → Option Reading
 reading_or None other = other
 reading_or (Some reading) other = Some reading
@@ -113,6 +123,7 @@ got board h r = last_reading board r (up_to_end r h)
 
 -- What it saw.
 
+-- a step in which all that is left of a write lands
 abbrev pub is_land_step : Step → Bool
 is_land_step Land = true
 is_land_step (Part phases) = false
@@ -129,12 +140,15 @@ abbrev pub is_land_of : OpId → Event → Bool
 is_land_of w (Act on by o step place) = same_op o w && is_land_step step
 is_land_of w (Arrive lane mark) = false
 
+-- the write landed whole
 abbrev pub has_landed : List Event → OpId → Bool
 has_landed h w = list_any (is_land_of w) h
 
+-- the data phase belongs to the write
 abbrev pub is_landing_of : OpId → Landing → Bool
 is_landing_of w landing = same_op landing.op w
 
+-- a reading saw a write, as `saw` says of a read
 abbrev pub saw_in : Board → OpId → Option Reading → Bool
 saw_in board w None = false
 saw_in board w (Some reading) =
@@ -146,6 +160,7 @@ saw board h r w = saw_in board w (got board h r)
 
 -- Who was told of what.
 
+-- behind it in the order of a program: a later operation, or a later try of the same poll
 abbrev pub stands_after : OpId → OpId → Bool
 stands_after p q = nat_lt p.index q.index || (p.index == q.index && nat_lt p.attempt q.attempt)
 
@@ -162,6 +177,7 @@ pub data Chain (board : Board) (h : List Event) : OpId → OpId → Type 0 where
   one : (p q : OpId) → tells board h p q ≡ true → Chain board h p q
   more : (p q r : OpId) → tells board h p q ≡ true → Chain board h q r → Chain board h p r
 
+-- an operation of the board that writes
 abbrev pub is_write : Board → OpId → Bool
 is_write board o = is_some (op_of board o) && not (reads board o)
 
@@ -171,6 +187,7 @@ Told board h w r = (is_write board w ≡ true) × Chain board h w r
 
 -- Freshness.
 
+-- the words of an operation of a master, where both are there
 abbrev pub words_on : Board → Option Op → Option MasterAgent → List Dword
 words_on board None master = []
 words_on board (Some op) None = []

@@ -1,5 +1,5 @@
 -- What is on the two lanes of a bridge, and how an event moves it: PCI-to-PCI Bridge Architecture
--- Specification 1.1, chapter 5 (buffer management).
+-- Specification 1.1, chapter 5 (buffer management; chapter from memory).
 use Rattle.std.specs.Prelude.{ℕ, Bool, true, false, ◌+◌, ◌-◌, suc, zero, List, [], ◌∷◌, ◌++◌, length, Option, Some, None, ◌==◌, if◌then◌else◌}
 use Rattle.std.specs.List.{find, list_any}
 use Rattle.list_facts.specs.Lists.{less}
@@ -27,6 +27,7 @@ pub record LaneState : Type 0 where
   -- the posted writes accepted at the near face, less the credits that came back
   pub owed : ℕ
 
+-- before the first event nothing is on a lane
 abbrev pub empty_lane : LaneState
 empty_lane = record { asks = 0; dones = 0; flight = []; standing = []; held = []; owed = 0 }
 
@@ -51,6 +52,7 @@ is_done_for number (Done op slot outcome) = slot == number
 is_done_for number Room = false
 is_done_for number (Gone slot) = false
 
+-- a posted write
 abbrev pub is_post : Carried → Bool
 is_post (Post op) = true
 is_post (Ask op slot) = false
@@ -58,6 +60,7 @@ is_post (Done op slot outcome) = false
 is_post Room = false
 is_post (Gone slot) = false
 
+-- the slot has the number
 abbrev pub has_number : ℕ → Slot → Bool
 has_number number slot = slot.number == number
 
@@ -123,16 +126,19 @@ pub data Effect : Type 0 where
   -- a delayed request is dropped, and the near face is told so
   Drops : ℕ → Effect
 
+-- of a delayed request: it stands, or is dropped where the board says so
 abbrev pub effect_on_ask : Mark → ℕ → Effect
 effect_on_ask Plain slot = Stands
 effect_on_ask Discard slot = Stands
 effect_on_ask Drop slot = Drops slot
 
+-- of a completion: it stands, or is discarded and its slot freed where the board says so
 abbrev pub effect_on_done : Mark → ℕ → Effect
 effect_on_done Plain slot = Stands
 effect_on_done Discard slot = Frees slot
 effect_on_done Drop slot = Stands
 
+-- of any item, by the mark of its arrival
 abbrev pub effect_of : Mark → Carried → Effect
 effect_of mark (Post op) = Stands
 effect_of mark (Ask op slot) = effect_on_ask mark slot
@@ -140,12 +146,14 @@ effect_of mark (Done op slot outcome) = effect_on_done mark slot
 effect_of mark Room = Credits
 effect_of mark (Gone slot) = Frees slot
 
+-- what the effect does to the lane of the arrival and to the lane back
 abbrev pub takes_effect : Effect → Carried → Both → Both
 takes_effect Stands item x = record x { here = record (x.here) { standing = x.here.standing ++ item ∷ [] } }
 takes_effect Credits item x = record x { back = record (x.back) { owed = x.back.owed - 1 } }
 takes_effect (Frees slot) item x = record x { back = record (x.back) { held = less (has_number slot) x.back.held } }
 takes_effect (Drops slot) item x = record x { back = record (x.back) { flight = x.back.flight ++ Gone slot ∷ [] } }
 
+-- 1 for a delayed request
 abbrev pub asks_in : Carried → ℕ
 asks_in (Post op) = 0
 asks_in (Ask op slot) = 1
@@ -153,6 +161,7 @@ asks_in (Done op slot outcome) = 0
 asks_in Room = 0
 asks_in (Gone slot) = 0
 
+-- 1 for a completion
 abbrev pub dones_in : Carried → ℕ
 dones_in (Post op) = 0
 dones_in (Ask op slot) = 0
@@ -165,6 +174,7 @@ abbrev pub came_off : Carried → List Carried → LaneState → LaneState
 came_off item rest lane =
     record lane { asks = lane.asks + asks_in item; dones = lane.dones + dones_in item; flight = rest }
 
+-- the first of these items in flight arrives
 abbrev pub arrives_first : Mark → List Carried → Both → Both
 arrives_first mark [] x = x
 arrives_first mark (item ∷ rest) x = takes_effect (effect_of mark item) item (record x { here = came_off item rest x.here })

@@ -60,10 +60,12 @@ is_done_of o (Done op slot outcome) = same_op op o
 is_done_of o Room = false
 is_done_of o (Gone slot) = false
 
+-- an item, where there is one, is a completion of the operation
 abbrev pub completes : OpId → Option Carried → Bool
 completes o None = false
 completes o (Some item) = is_done_of o item
 
+-- the slot is held for the operation, and the completion that comes for it is of the operation
 abbrev pub slot_completes : List Carried → OpId → Option Slot → Bool
 slot_completes coming o None = false
 slot_completes coming o (Some slot) = same_op slot.op o && completes o (find (is_done_for slot.number) coming)
@@ -73,12 +75,14 @@ abbrev pub takes_its_own : Board → World → ℕ → By → OpId → BridgeLan
 takes_its_own board world on by o lane =
     slot_completes (world (lane_back lane)).standing o (find (is_own board on by o) (world lane).held)
 
+-- the same of the place that claims; only a lane gives completions
 abbrev pub takes_at : Board → World → ℕ → By → OpId → Place → Bool
 takes_at board world on by o (Target target) = true
 takes_at board world on by o (Header bus) = true
 takes_at board world on by o (Lane lane) = takes_its_own board world on by o lane
 takes_at board world on by o Nobody = true
 
+-- the same of a step; only a take is meant
 abbrev pub is_matched_step : Board → World → ℕ → By → OpId → Step → Place → Bool
 is_matched_step board world on by o Land place = true
 is_matched_step board world on by o (Part phases) place = true
@@ -90,6 +94,7 @@ is_matched_step board world on by o Stall place = true
 is_matched_step board world on by o MasterAbort place = true
 is_matched_step board world on by o TargetAbort place = true
 
+-- the event takes no completion that was made for another operation
 abbrev pub is_matched : Board → List Event → Event → Bool
 is_matched board h (Act on by o step place) = is_matched_step board (world_of board h) on by o step place
 is_matched board h (Arrive lane mark) = true
@@ -101,6 +106,7 @@ Matched board (e ∷ h) = (is_matched board h e ≡ true) × Matched board h
 
 -- Lawful peers.
 
+-- a delayed request
 abbrev pub is_ask : Carried → Bool
 is_ask (Post op) = false
 is_ask (Ask op slot) = true
@@ -108,6 +114,7 @@ is_ask (Done op slot outcome) = false
 is_ask Room = false
 is_ask (Gone slot) = false
 
+-- the delayed request of the slot
 abbrev pub is_ask_of : ℕ → Carried → Bool
 is_ask_of number (Post op) = false
 is_ask_of number (Ask op slot) = slot == number
@@ -115,6 +122,7 @@ is_ask_of number (Done op slot outcome) = false
 is_ask_of number Room = false
 is_ask_of number (Gone slot) = false
 
+-- the word that the request of the slot was dropped
 abbrev pub is_gone_of : ℕ → Carried → Bool
 is_gone_of number (Post op) = false
 is_gone_of number (Ask op slot) = false
@@ -122,6 +130,7 @@ is_gone_of number (Done op slot outcome) = false
 is_gone_of number Room = false
 is_gone_of number (Gone slot) = slot == number
 
+-- the slot has the number and is held for the operation
 abbrev pub is_held_for : ℕ → OpId → Slot → Bool
 is_held_for number o slot = has_number number slot && same_op slot.op o
 
@@ -137,6 +146,7 @@ is_lawful posted delayed standing held owed Room = nat_lt 0 owed
 is_lawful posted delayed standing held owed (Gone slot) =
     list_any (has_number slot) held && not (list_any (is_done_for slot) standing)
 
+-- the same with the depths of the bridge, where it is there
 abbrev pub is_lawful_at : LaneState → LaneState → Carried → Option Bridge → Bool
 is_lawful_at here back item None = false
 is_lawful_at here back item (Some bridge) = is_lawful bridge.posted bridge.delayed here.standing back.held back.owed item

@@ -31,10 +31,12 @@ pub record Ending : Type 0 where
   pub op : OpId
   pub outcome : Outcome
 
+-- the operation ended with the outcome, where there is one
 abbrev pub ending_of : OpId → Option Outcome → Option Ending
 ending_of o None = None
 ending_of o (Some outcome) = Some (record { op = o; outcome = outcome })
 
+-- an operation ends at its master: what a lane presents ends no operation there
 abbrev pub ended_by : By → OpId → Step → Option Ending
 ended_by Master o step = ending_of o (master_outcome step)
 ended_by (ByLane lane) o step = None
@@ -52,6 +54,7 @@ present board o = if is_some (op_of board o) then Some o else None
 abbrev pub next_op : Board → OpId → Option OpId
 next_op board o = present board (record { master = o.master; index = o.index + 1; attempt = 0 })
 
+-- the next try of the same poll
 abbrev pub next_try : Board → OpId → Option OpId
 next_try board o = present board (record { master = o.master; index = o.index; attempt = o.attempt + 1 })
 
@@ -72,13 +75,16 @@ follows_op board o outcome (CfgWrite bus device register phase) = next_op board 
 follows_op board o outcome (Poll space address mask wanted tries) =
     if meets mask wanted outcome then next_op board o else next_try board o
 
+-- where the operation is there
 abbrev pub follows_in : Board → OpId → Outcome → Option Op → Option OpId
 follows_in board o outcome None = None
 follows_in board o outcome (Some op) = follows_op board o outcome op
 
+-- what follows an ending in the program of its master
 abbrev pub follows : Board → Ending → Option OpId
 follows board ending = follows_in board ending.op ending.outcome (op_of board ending.op)
 
+-- the turn of a master after an event that ended an operation, or none
 abbrev pub turn_after : Board → ℕ → Option OpId → Option Ending → Option OpId
 turn_after board master turn None = turn
 turn_after board master turn (Some ending) = if ending.op.master == master then follows board ending else turn

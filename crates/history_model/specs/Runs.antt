@@ -33,6 +33,7 @@ mark_of board lane state (Done op slot outcome) =
 mark_of board lane state Room = Plain
 mark_of board lane state (Gone slot) = Plain
 
+-- the mark of the first of these items, where there is one
 abbrev pub mark_of_first : Board → BridgeLane → LaneState → List Carried → Option Mark
 mark_of_first board lane state [] = None
 mark_of_first board lane state (item ∷ rest) = Some (mark_of board lane state item)
@@ -41,24 +42,26 @@ mark_of_first board lane state (item ∷ rest) = Some (mark_of board lane state 
 abbrev pub next_mark_in : Board → World → BridgeLane → Option Mark
 next_mark_in board world lane = mark_of_first board lane (world lane) (world lane).flight
 
+-- the mark of the next arrival on the lane after the history
 abbrev pub next_mark : Board → List Event → BridgeLane → Option Mark
 next_mark board h lane = next_mark_in board (world_of board h) lane
 
--- an act is allowed where its initiator presents the operation and this is its answer; an arrival where
--- something is in flight, with the mark that the board gives it
+-- under a rule: the event may be the next after the history
 abbrev pub AllowedBy : Rule → Board → List Event → Event → Type 0
 AllowedBy rule board h (Act on by o step place) = (wants_by rule board h on by o ≡ true) × (answer_by_rule rule board h on by o ≡ Gives step place)
 AllowedBy rule board h (Arrive lane mark) = next_mark_in board (world_by rule board h) lane ≡ Some mark
 
--- each event is allowed after its prefix
+-- the event may be the next after the history: an act where its initiator presents the operation and this is its
+-- answer; an arrival where something is in flight on the lane, with the mark that the board gives it
+abbrev pub Allowed : Board → List Event → Event → Type 0
+Allowed board h e = AllowedBy Tagged board h e
+
+-- under a rule: the history is a run
 abbrev pub RunBy : Rule → Board → List Event → Type 0
 RunBy rule board [] = Unit {0}
 RunBy rule board (e ∷ h) = AllowedBy rule board h e × RunBy rule board h
 
--- on bridges that keep the local master
-abbrev pub Allowed : Board → List Event → Event → Type 0
-Allowed board h e = AllowedBy Tagged board h e
-
+-- the history is a run: each event is allowed after those before it
 abbrev pub Run : Board → List Event → Type 0
 Run board h = RunBy Tagged board h
 

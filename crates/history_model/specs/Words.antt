@@ -32,6 +32,7 @@ phases_parted Stall = 0
 phases_parted MasterAbort = 0
 phases_parted TargetAbort = 0
 
+-- and of this write, by an event
 abbrev pub parted_by : OpId → Event → ℕ
 parted_by o (Act on by op step place) = if same_op op o then phases_parted step else 0
 parted_by o (Arrive lane mark) = 0
@@ -69,16 +70,19 @@ landings_at o address at [] = []
 landings_at o address at (phase ∷ phases) =
     (if at == address then record { op = o; phase = phase } ∷ [] else []) ++ landings_at o address (at + 4) phases
 
+-- of data phases in the space and from the address on, those for the dword: it is in one space only
 abbrev pub landings_in : OpId → Dword → Space → ℕ → List Phase → List Landing
 landings_in o word space address phases =
     if same_space space word.space then landings_at o word.address (address_in space address) phases else []
 
+-- of a step of a write of which so many data phases went through before, where it has a request
 abbrev pub landings_of : OpId → Step → ℕ → Dword → Option Request → List Landing
 landings_of o step gone word None = []
 landings_of o step gone word (Some request) =
     let rest = without gone request in
     landings_in o word (space_of rest.command) rest.address (brings step rest.phases)
 
+-- of a step at a place: only at the target that the dword is in
 abbrev pub landings_by : Board → List Event → ℕ → OpId → Step → Dword → Place → List Landing
 landings_by board h on o step word (Target target) =
     if target == word.target then landings_of o step (through h o) word (request_of board o on) else []
@@ -103,11 +107,14 @@ opening_word space address value (word ∷ words) =
     opening_word space address
     (if same_space word.space space && word.address == address then word.value else value) words
 
+-- what the target holds at the address before the first event: an opening word in memory and I/O space, a
+-- register of its header in configuration space
 abbrev pub opens_in : Space → ℕ → TargetAgent → ℕ
 opens_in Mem address target = opening_word Mem address 0 target.openings
 opens_in Io address target = opening_word Io address 0 target.openings
 opens_in Cfg address target = opening_of target (address / 4)
 
+-- and where the target is there
 abbrev pub opens_at : Dword → Option TargetAgent → ℕ
 opens_at word None = 0
 opens_at word (Some target) = opens_in word.space word.address target

@@ -8,7 +8,7 @@ pub enum Mark {
     #[default]
     Plain,
     /// A delayed completion is thrown away, as by a discard timer (PCI-to-PCI Bridge Architecture
-    /// 1.1, section 5.4).
+    /// 1.1, section 5.4; section from memory).
     Discard,
     /// A delayed request that was never presented on the far bus is thrown away.
     Drop,

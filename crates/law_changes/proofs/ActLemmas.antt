@@ -1,6 +1,6 @@
 -- How a delayed request is answered: by who claims it, at the end of its way or at a lane.
 use Rattle.std.proofs.Common.{◌≡◌, ℕ, ◌+◌, ◌*◌, ◌/◌, ◌%◌, ◌^◌, ◌≤◌, Bool, true, false, ◌&&◌, cond, nat_lt, List, [], ◌∷◌, length, Option, Some, None, refl, sym, ap, subst, ◌∙◌, arith, slice_get, ⊎_elim}
-use Rattle.std.specs.List.{find, list_any, list_all, AllByRecursion}
+use Rattle.std.specs.List.{find, list_all, AllByRecursion}
 use Rattle.std.proofs.lemmas.Bool.{and_parts}
 use Rattle.std.proofs.lemmas.Bool.Decides.{nat_tests}
 use Rattle.list_facts.specs.Lists.{before}
@@ -34,10 +34,10 @@ use Rattle.history_model.specs.declared.item.Cause.TheVariants.{NoSlot, Behind}
 use Rattle.history_model.specs.declared.item.Carried.{Carried}
 use Rattle.history_model.specs.declared.item.Carried.TheVariants.{Post, Ask, Done, Room, Gone}
 use Rattle.history_model.specs.declared.item.Slot.{Slot}
-use Rattle.history_model.specs.Lanes.{is_done_for, is_post}
+use Rattle.history_model.specs.Lanes.{is_done_for}
 use Rattle.history_model.specs.World.{World, lane_back, is_own, world_of}
 use Rattle.history_model.specs.Words.{phases_parted, parted_by, through, without, value_of}
-use Rattle.history_model.specs.Answers.{stalls_used, target_step, target_answer, header_answer, completion_answer, delayed_answer, posted_answer, lane_answer, bridge_to, answer_by, answer_to}
+use Rattle.history_model.specs.Answers.{stalls_used, target_step, target_answer, header_answer, completion_passes, completion_answer, delayed_answer, posted_answer, lane_answer, bridge_to, answer_by, answer_to}
 use Rattle.history_model.specs.Runs.{Run}
 use Rattle.law_slots.proofs.RequestLemmas.{Each-slice_get, same_op_self}
 use Rattle.law_slots.proofs.PartLemmas.{delayed-not_parted}
@@ -69,22 +69,22 @@ some_burst board place target valid is =
     from_one target.burst ((and_parts _ _ (front _ _ (front _ _ (front _ _ (front _ _ (front _ _ (front _ _ well))))))).1)
 
 -- a lane answers at itself
-completion_place : (read : Bool) (lane : BridgeLane) (older : List Carried) (item : Option Carried) (step : Step) (place : Place) → completion_answer read lane older item ≡ Gives step place → place ≡ Lane lane
-completion_place read lane older None step place gives = cc
-completion_place read lane older (Some (Post op)) step place gives = cc
-completion_place read lane older (Some (Ask op slot)) step place gives = cc
-completion_place read lane older (Some (Done op slot outcome)) step place gives =
-    let P : Bool → Type 0 = λ b. cond b (Retry Behind) (Gives (Take outcome) (Lane lane)) ≡ Gives step place → place ≡ Lane lane in
-    (elim (read && list_any is_post older) as P [ true ↦ λ e. cc | false ↦ λ e. cc ]) gives
-completion_place read lane older (Some Room) step place gives = cc
-completion_place read lane older (Some (Gone slot)) step place gives = cc
+completion_place : (board : Board) (read : Bool) (lane : BridgeLane) (older : List Carried) (item : Option Carried) (step : Step) (place : Place) → completion_answer board read lane older item ≡ Gives step place → place ≡ Lane lane
+completion_place board read lane older None step place gives = cc
+completion_place board read lane older (Some (Post op)) step place gives = cc
+completion_place board read lane older (Some (Ask op slot)) step place gives = cc
+completion_place board read lane older (Some (Done op slot outcome)) step place gives =
+    let P : Bool → Type 0 = λ b. cond b (Gives (Take outcome) (Lane lane)) (Retry Behind) ≡ Gives step place → place ≡ Lane lane in
+    (elim (list_all (completion_passes board read) older) as P [ true ↦ λ e. cc | false ↦ λ e. cc ]) gives
+completion_place board read lane older (Some Room) step place gives = cc
+completion_place board read lane older (Some (Gone slot)) step place gives = cc
 
 -- so does it for every delayed request
-delayed_place : (depth : ℕ) (read : Bool) (lane : BridgeLane) (held : List Slot) (coming : List Carried) (own : Option Slot) (step : Step) (place : Place) → delayed_answer read depth lane held coming own ≡ Gives step place → place ≡ Lane lane
-delayed_place depth read lane held coming None step place gives =
+delayed_place : (board : Board) (depth : ℕ) (read : Bool) (lane : BridgeLane) (held : List Slot) (coming : List Carried) (own : Option Slot) (step : Step) (place : Place) → delayed_answer board read depth lane held coming own ≡ Gives step place → place ≡ Lane lane
+delayed_place board depth read lane held coming None step place gives =
     let P : Bool → Type 0 = λ b. cond b (Gives Latch (Lane lane)) (Retry NoSlot) ≡ Gives step place → place ≡ Lane lane in
     (elim (nat_lt (length held) depth) as P [ true ↦ λ e. cc | false ↦ λ e. cc ]) gives
-delayed_place depth read lane held coming (Some slot) step place gives = completion_place read lane (before (is_done_for slot.number) coming) (find (is_done_for slot.number) coming) step place gives
+delayed_place board depth read lane held coming (Some slot) step place gives = completion_place board read lane (before (is_done_for slot.number) coming) (find (is_done_for slot.number) coming) step place gives
 
 module _ (board : Board) (valid : IsValid board) where
   -- a target that takes no part ends what it answers
@@ -198,5 +198,5 @@ module _ (board : Board) (valid : IsValid board) where
         let by_lane : lane_answer board world on by o rest lane (bridge_to board lane.bus) ≡ Gives step place = subst F (claims_rest ∙ claims) answered in
         let G : Option Bridge → Type 0 = λ found. lane_answer board world on by o rest lane found ≡ Gives step place in
         let by_bridge : lane_answer board world on by o rest lane (Some there.0) ≡ Gives step place = subst G there.1 by_lane in
-        delayed_place there.0.delayed (is_read rest.command) lane (world lane).held (world (lane_back lane)).standing (find (is_own board on by o) (world lane).held) step place
-        (let H : Bool → Type 0 = λ b. cond b (posted_answer (world lane).owed there.0.posted lane) (delayed_answer (is_read rest.command) there.0.delayed lane (world lane).held (world (lane_back lane)).standing (find (is_own board on by o) (world lane).held)) ≡ Gives step place in subst H delayed by_bridge)
+        delayed_place board there.0.delayed (is_read rest.command) lane (world lane).held (world (lane_back lane)).standing (find (is_own board on by o) (world lane).held) step place
+        (let H : Bool → Type 0 = λ b. cond b (posted_answer (world lane).owed there.0.posted lane) (delayed_answer board (is_read rest.command) there.0.delayed lane (world lane).held (world (lane_back lane)).standing (find (is_own board on by o) (world lane).held)) ≡ Gives step place in subst H delayed by_bridge)

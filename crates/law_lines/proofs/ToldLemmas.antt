@@ -1,6 +1,6 @@
 -- What an answer with an event tells of its step and its place.
-use Rattle.std.proofs.Common.{◌≡◌, ℕ, Bool, true, false, ◌&&◌, ◌||◌, cond, nat_lt, List, length, Option, Some, None, refl, slice_get}
-use Rattle.std.specs.List.{find, list_any, AllByRecursion}
+use Rattle.std.proofs.Common.{◌≡◌, ℕ, Bool, true, false, ◌||◌, cond, nat_lt, List, length, Option, Some, None, refl, slice_get}
+use Rattle.std.specs.List.{find, list_all, AllByRecursion}
 use Rattle.list_facts.specs.Lists.{before}
 use Rattle.list_facts.proofs.EachLemmas.{Each-find}
 use Rattle.pci_command.specs.declared.request.Request.{Request}
@@ -25,10 +25,10 @@ use Rattle.history_model.specs.declared.item.Slot.{Slot}
 use Rattle.history_model.specs.declared.item.Answer.{Answer}
 use Rattle.history_model.specs.declared.item.Answer.TheVariants.{Gives, Retry}
 use Rattle.history_model.specs.declared.item.Cause.TheVariants.{Full, NoSlot, Behind}
-use Rattle.history_model.specs.Lanes.{is_done_for, is_post}
+use Rattle.history_model.specs.Lanes.{is_done_for}
 use Rattle.history_model.specs.World.{World, lane_back, is_own, world_of}
 use Rattle.history_model.specs.Words.{through, without, value_of}
-use Rattle.history_model.specs.Answers.{stalls_used, target_step, target_answer, header_answer, completion_answer, delayed_answer, posted_answer, lane_answer, bridge_to, answer_by, answer_to, answer}
+use Rattle.history_model.specs.Answers.{stalls_used, target_step, target_answer, header_answer, completion_passes, completion_answer, delayed_answer, posted_answer, lane_answer, bridge_to, answer_by, answer_to, answer}
 use Rattle.trace_text.specs.Events.{is_target, is_header, is_lane, is_nobody, is_completion}
 use Rattle.law_lines.specs.Completions.{SaysHow}
 
@@ -100,19 +100,19 @@ header_told board bus request (Some bridge) is = ((bridge, is), refl)
 
 -- a completion that is given says how its request ended, as it did while it stood
 completion_told : (board : Board) (read : Bool) (lane : BridgeLane) (older : List Carried) (item : Option Carried) (bridge : Bridge) → bridge_to board lane.bus ≡ Some bridge
-    → ((found : Carried) → item ≡ Some found → SaysHow found) → Told board (completion_answer read lane older item)
+    → ((found : Carried) → item ≡ Some found → SaysHow found) → Told board (completion_answer board read lane older item)
 completion_told board read lane older None bridge is says = tt
 completion_told board read lane older (Some (Post op)) bridge is says = tt
 completion_told board read lane older (Some (Ask op slot)) bridge is says = tt
 completion_told board read lane older (Some (Done op slot outcome)) bridge is says =
-    either (Told board) (read && list_any is_post older) (Retry Behind) (Gives (Take outcome) (Lane lane)) tt
-    ((bridge, is), (refl, says (Done op slot outcome) refl))
+    either (Told board) (list_all (completion_passes board read) older) (Gives (Take outcome) (Lane lane)) (Retry Behind)
+    ((bridge, is), (refl, says (Done op slot outcome) refl)) tt
 completion_told board read lane older (Some Room) bridge is says = tt
 completion_told board read lane older (Some (Gone slot)) bridge is says = tt
 
 -- a delayed request is latched, or its completion given
 delayed_told : (board : Board) (read : Bool) (depth : ℕ) (lane : BridgeLane) (held : List Slot) (coming : List Carried) (own : Option Slot) (bridge : Bridge)
-    → bridge_to board lane.bus ≡ Some bridge → AllByRecursion SaysHow coming → Told board (delayed_answer read depth lane held coming own)
+    → bridge_to board lane.bus ≡ Some bridge → AllByRecursion SaysHow coming → Told board (delayed_answer board read depth lane held coming own)
 delayed_told board read depth lane held coming None bridge is says =
     either (Told board) (nat_lt (length held) depth) (Gives Latch (Lane lane)) (Retry NoSlot) ((bridge, is), refl) tt
 delayed_told board read depth lane held coming (Some slot) bridge is says =
@@ -125,7 +125,7 @@ lane_told : (board : Board) (world : World) (on : ℕ) (by : By) (o : OpId) (req
 lane_told board world on by o request lane None is says = (tt, refl)
 lane_told board world on by o request lane (Some bridge) is says =
     let posted : Answer = posted_answer (world lane).owed bridge.posted lane in
-    let delayed : Answer = delayed_answer (is_read request.command) bridge.delayed lane (world lane).held (world (lane_back lane)).standing (find (is_own board on by o) (world lane).held) in
+    let delayed : Answer = delayed_answer board (is_read request.command) bridge.delayed lane (world lane).held (world (lane_back lane)).standing (find (is_own board on by o) (world lane).held) in
     either (Told board) (is_posted request) posted delayed
     (either (Told board) (nat_lt (world lane).owed bridge.posted) (Gives Accept (Lane lane)) (Retry Full) ((bridge, is), refl) tt)
     (delayed_told board (is_read request.command) bridge.delayed lane (world lane).held (world (lane_back lane)).standing (find (is_own board on by o) (world lane).held) bridge is (says (lane_back lane)))

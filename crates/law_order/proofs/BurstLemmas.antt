@@ -51,7 +51,7 @@ write_block MemWriteInvalidate address phases well posted =
     let within : nat_le (address % 64 + 4 * length phases) 64 ≡ true = burst in
     le_true (address % 64 + 4 * length phases) 64 within
 
-read_not_posted : (command : Command) (address : ℕ) → is_well_formed_read address (read_space command) ≡ true → same_command (plain_of command) MemWrite ≡ true → ⊥
+pub read_not_posted : (command : Command) (address : ℕ) → is_well_formed_read address (read_space command) ≡ true → same_command (plain_of command) MemWrite ≡ true → ⊥
 read_not_posted IoRead address well posted = cc
 read_not_posted IoWrite address well posted = cc
 read_not_posted MemRead address well posted = cc

@@ -17,3 +17,4 @@ pub mod BurstLemmas
 pub mod DirectLemmas
 pub mod WordLemmas
 pub mod PartsLemmas
+pub mod RestLemmas

@@ -117,7 +117,7 @@ lane_answers : (board : Board) (world : World) (on : ℕ) (by : By) (o : OpId) (
     → lane_answer board world on by o request lane found ≡ Gives step at → PostedAt step at
 lane_answers board world on by o request lane None step at posted gives = gives_posted MasterAbort step Nobody at gives tt
 lane_answers board world on by o request lane (Some bridge) step at posted gives =
-    let other : Answer = delayed_answer (is_read request.command) bridge.delayed lane (world lane).held (world (lane_back lane)).standing (find (is_own board on by o) (world lane).held) in
+    let other : Answer = delayed_answer board (is_read request.command) bridge.delayed lane (world lane).held (world (lane_back lane)).standing (find (is_own board on by o) (world lane).held) in
     let one : Answer = posted_answer (world lane).owed bridge.posted lane in
     let F : Bool → Type 0 = λ b. cond b one other ≡ Gives step at in
     let P : Bool → Type 0 = λ b. cond b (Gives Accept (Lane lane)) (Retry Full) ≡ Gives step at → PostedAt step at in

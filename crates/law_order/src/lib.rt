@@ -2,7 +2,7 @@
 //! contract of a function that does nothing.
 #![tactic(auto)]
 
-ghost use Rattle.std.specs.Prelude.{◌≡◌, ◌++◌, ◌+◌, ◌≤◌, List, [], Some, true, length, slice_get};
+ghost use Rattle.std.specs.Prelude.{◌≡◌, ◌++◌, ◌+◌, ◌<◌, ◌≤◌, List, [], Some, true, length, slice_get};
 ghost use Rattle.std.specs.List.{AllByRecursion};
 ghost use Rattle.list_facts.specs.Lists.{total};
 ghost use Rattle.pci_command.specs.declared.op_id.OpId.{OpId};
@@ -10,7 +10,7 @@ ghost use Rattle.board_model.specs.declared.board.Board.{Board};
 ghost use Rattle.board_model.specs.declared.bridge.Lane.{Lane as BridgeLane};
 ghost use Rattle.board_model.specs.declared.agents.Master.{Master};
 ghost use Rattle.board_model.specs.declared.op.Op.{Op};
-ghost use Rattle.board_model.specs.Requests.{op_of};
+ghost use Rattle.board_model.specs.Requests.{op_of, phases_of};
 ghost use Rattle.board_model.specs.Ways.{way};
 ghost use Rattle.board_model.specs.WellFormed.{is_well_formed};
 ghost use Rattle.board_laws.specs.Trees.{IsTree};
@@ -90,7 +90,11 @@ pub fn posts_are_on_their_way()
 /// is, or at the end of a lane as the oldest posted write that stands there, and there a target
 /// claims it and does not abort it; or it landed. This needs that all data phases of a write are
 /// claimed by whom the first one is, and aborted as it is, which holds on every well-formed board.
+/// On any board fewer data phases go through in parts than an operation has, if it has one, as every
+/// write in memory has on a well-formed board: the last ones land.
 pub fn parts_wait_for_the_rest()
     ensures waits { (board : Board) (h : List Event) (o : OpId) (op : Op) (master : Master) → WritesHaveOneClaimant board → WritesAbortWhole board → op_of board o ≡ Some op → slice_get board.masters o.master ≡ Some master → is_posted_op board o ≡ true → Run board h → 1 ≤ through h o → PartsAt board h o op master.bus }
+    ensures fewer { (board : Board) (h : List Event) (o : OpId) (op : Op) → op_of board o ≡ Some op → Run board h → 1 ≤ length (phases_of op) → through h o < length (phases_of op) }
+    ensures some_phase { (board : Board) (o : OpId) (op : Op) → is_well_formed board ≡ true → op_of board o ≡ Some op → is_posted_op board o ≡ true → 1 ≤ length (phases_of op) }
     ensures well_formed { (board : Board) → is_well_formed board ≡ true → WritesAbortWhole board }
 {}

@@ -1,6 +1,6 @@
 -- A stall uses up a stall token of the target that claims.
-use Rattle.std.proofs.Common.{◌≡◌, ℕ, ◌+◌, ◌-◌, ◌<◌, ◌≤◌, Bool, true, false, ◌&&◌, cond, eqb, nat_lt, List, ◌∷◌, length, Option, Some, None, refl, sym, ap, subst, ◌∙◌, arith, slice_get}
-use Rattle.std.specs.List.{find, list_any}
+use Rattle.std.proofs.Common.{◌≡◌, ℕ, ◌+◌, ◌-◌, ◌<◌, ◌≤◌, Bool, true, false, cond, eqb, nat_lt, List, ◌∷◌, length, Option, Some, None, refl, sym, ap, subst, ◌∙◌, arith, slice_get}
+use Rattle.std.specs.List.{find, list_all}
 use Rattle.std.proofs.lemmas.Bool.Decides.{nat_tests}
 use Rattle.list_facts.specs.Lists.{before, total}
 use Rattle.pci_command.specs.declared.request.Request.{Request}
@@ -27,11 +27,11 @@ use Rattle.history_model.specs.declared.item.Slot.{Slot}
 use Rattle.history_model.specs.declared.item.Answer.{Answer}
 use Rattle.history_model.specs.declared.item.Answer.TheVariants.{Gives, Retry}
 use Rattle.history_model.specs.declared.item.Cause.TheVariants.{Full, NoSlot, Behind}
-use Rattle.history_model.specs.Lanes.{is_done_for, is_post}
+use Rattle.history_model.specs.Lanes.{is_done_for}
 use Rattle.history_model.specs.World.{World, lane_back, is_own, world_of}
 use Rattle.history_model.specs.Program.{turn_of}
 use Rattle.history_model.specs.Words.{through, without, value_of}
-use Rattle.history_model.specs.Answers.{stalls_used, target_step, target_answer, header_answer, completion_answer, delayed_answer, posted_answer, lane_answer, bridge_to, answer_by, answer_to, answer}
+use Rattle.history_model.specs.Answers.{stalls_used, target_step, target_answer, header_answer, completion_passes, completion_answer, delayed_answer, posted_answer, lane_answer, bridge_to, answer_by, answer_to, answer}
 use Rattle.history_model.specs.Left.{bridge_left, stalls_left, left_of}
 use Rattle.law_posted.specs.PostedEvents.{is_stall}
 use Rattle.law_posted.proofs.SumLemmas.{from-one, stalls_from}
@@ -46,23 +46,23 @@ NoStall (Gives step place) = is_stall step ≡ false
 NoStall (Retry cause) = Unit {0}
 
 -- the answer of a completion is none
-completion_no_stall : (read : Bool) (lane : BridgeLane) (older : List Carried) (item : Option Carried) → NoStall (completion_answer read lane older item)
-completion_no_stall read lane older None = tt
-completion_no_stall read lane older (Some (Post op)) = tt
-completion_no_stall read lane older (Some (Ask op slot)) = tt
-completion_no_stall read lane older (Some (Done op slot outcome)) =
-    let P : Bool → Type 0 = λ b. NoStall (cond b (Retry Behind) (Gives (Take outcome) (Lane lane))) in
-    elim (read && list_any is_post older) as P [ true ↦ tt | false ↦ refl ]
-completion_no_stall read lane older (Some Room) = tt
-completion_no_stall read lane older (Some (Gone slot)) = tt
+completion_no_stall : (board : Board) (read : Bool) (lane : BridgeLane) (older : List Carried) (item : Option Carried) → NoStall (completion_answer board read lane older item)
+completion_no_stall board read lane older None = tt
+completion_no_stall board read lane older (Some (Post op)) = tt
+completion_no_stall board read lane older (Some (Ask op slot)) = tt
+completion_no_stall board read lane older (Some (Done op slot outcome)) =
+    let P : Bool → Type 0 = λ b. NoStall (cond b (Gives (Take outcome) (Lane lane)) (Retry Behind)) in
+    elim (list_all (completion_passes board read) older) as P [ true ↦ refl | false ↦ tt ]
+completion_no_stall board read lane older (Some Room) = tt
+completion_no_stall board read lane older (Some (Gone slot)) = tt
 
 -- nor is what a bridge answers a delayed request
-delayed_no_stall : (read : Bool) (depth : ℕ) (lane : BridgeLane) (held : List Slot) (coming : List Carried) (own : Option Slot) → NoStall (delayed_answer read depth lane held coming own)
-delayed_no_stall read depth lane held coming None =
+delayed_no_stall : (board : Board) (read : Bool) (depth : ℕ) (lane : BridgeLane) (held : List Slot) (coming : List Carried) (own : Option Slot) → NoStall (delayed_answer board read depth lane held coming own)
+delayed_no_stall board read depth lane held coming None =
     let P : Bool → Type 0 = λ b. NoStall (cond b (Gives Latch (Lane lane)) (Retry NoSlot)) in
     elim (nat_lt (length held) depth) as P [ true ↦ refl | false ↦ tt ]
-delayed_no_stall read depth lane held coming (Some slot) =
-    completion_no_stall read lane (before (is_done_for slot.number) coming) (find (is_done_for slot.number) coming)
+delayed_no_stall board read depth lane held coming (Some slot) =
+    completion_no_stall board read lane (before (is_done_for slot.number) coming) (find (is_done_for slot.number) coming)
 
 -- nor what it answers a posted write
 posted_no_stall : (owed depth : ℕ) (lane : BridgeLane) → NoStall (posted_answer owed depth lane)
@@ -76,10 +76,10 @@ lane_no_stall board world on by o request lane None = refl
 lane_no_stall board world on by o request lane (Some bridge) =
     let coming : List Carried = (world (lane_back lane)).standing in
     let own : Option Slot = find (is_own board on by o) (world lane).held in
-    let P : Bool → Type 0 = λ b. NoStall (cond b (posted_answer (world lane).owed bridge.posted lane) (delayed_answer (is_read request.command) bridge.delayed lane (world lane).held coming own)) in
+    let P : Bool → Type 0 = λ b. NoStall (cond b (posted_answer (world lane).owed bridge.posted lane) (delayed_answer board (is_read request.command) bridge.delayed lane (world lane).held coming own)) in
     elim (is_posted request) as P [
       | true ↦ posted_no_stall (world lane).owed bridge.posted lane
-      | false ↦ delayed_no_stall (is_read request.command) bridge.delayed lane (world lane).held coming own
+      | false ↦ delayed_no_stall board (is_read request.command) bridge.delayed lane (world lane).held coming own
     ]
 
 -- nor does a header

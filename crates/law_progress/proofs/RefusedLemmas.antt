@@ -33,12 +33,12 @@ use Rattle.law_progress.specs.Next.{Next}
 
 -- why a lane refuses: as many posted writes are owed as it keeps; as many slots are held and none is the own one; or
 -- the own slot waits for its completion
-pub data Refusal (bridge : Bridge) (owed : ℕ) (held : List Slot) (coming : List Carried) (lane : BridgeLane) (request : Request) (own : Option Slot) : Type 0 where
-  full : is_posted request ≡ true → bridge.posted ≤ owed → Refusal bridge owed held coming lane request own
-  no_slot : is_posted request ≡ false → own ≡ None → bridge.delayed ≤ length held → Refusal bridge owed held coming lane request own
+pub data Refusal (board : Board) (bridge : Bridge) (owed : ℕ) (held : List Slot) (coming : List Carried) (lane : BridgeLane) (request : Request) (own : Option Slot) : Type 0 where
+  full : is_posted request ≡ true → bridge.posted ≤ owed → Refusal board bridge owed held coming lane request own
+  no_slot : is_posted request ≡ false → own ≡ None → bridge.delayed ≤ length held → Refusal board bridge owed held coming lane request own
   waits : is_posted request ≡ false → (slot : Slot) → own ≡ Some slot → (cause : Cause)
-      → completion_answer (is_read request.command) lane (before (is_done_for slot.number) coming) (find (is_done_for slot.number) coming) ≡ Retry cause
-      → Refusal bridge owed held coming lane request own
+      → completion_answer board (is_read request.command) lane (before (is_done_for slot.number) coming) (find (is_done_for slot.number) coming) ≡ Retry cause
+      → Refusal board bridge owed held coming lane request own
 
 -- the lane that claims what is left of the request refuses it
 pub record Refused (board : Board) (h : List Event) (on : ℕ) (by : By) (o : OpId) : Type 0 where
@@ -48,22 +48,22 @@ pub record Refused (board : Board) (h : List Event) (on : ℕ) (by : By) (o : Op
   pub claims : claim board on (without (through h o) request) ≡ Lane lane
   pub bridge : Bridge
   pub is_bridge : bridge_to board lane.bus ≡ Some bridge
-  pub why : Refusal bridge (world_of board h lane).owed (world_of board h lane).held (world_of board h (lane_back lane)).standing lane request
+  pub why : Refusal board bridge (world_of board h lane).owed (world_of board h lane).held (world_of board h (lane_back lane)).standing lane request
       (find (is_own board on by o) (world_of board h lane).held)
 
-module _ (bridge : Bridge) (owed : ℕ) (held : List Slot) (coming : List Carried) (lane : BridgeLane) (request : Request) (own : Option Slot) where
+module _ (board : Board) (bridge : Bridge) (owed : ℕ) (held : List Slot) (coming : List Carried) (lane : BridgeLane) (request : Request) (own : Option Slot) where
   -- no more is owed than the bridge keeps
-  posted_refused : (cause : Cause) → is_posted request ≡ true → posted_answer owed bridge.posted lane ≡ Retry cause → Refusal bridge owed held coming lane request own
+  posted_refused : (cause : Cause) → is_posted request ≡ true → posted_answer owed bridge.posted lane ≡ Retry cause → Refusal board bridge owed held coming lane request own
   posted_refused cause posted refuses =
-      let R : Type 0 = Refusal bridge owed held coming lane request own in
+      let R : Type 0 = Refusal board bridge owed held coming lane request own in
       let P : Bool → Type 0 = λ b. nat_lt owed bridge.posted ≡ b → cond b (Gives Accept (Lane lane)) (Retry Full) ≡ Retry cause → R in
       (elim (nat_lt owed bridge.posted) as P [ true ↦ λ _ e. cc | false ↦ λ above _. full posted (grind (arith, nat_tests)) ]) refl refuses
 
   -- no slot is left, or the own one waits
   delayed_refused : (cause : Cause) (some : Option Slot) → is_posted request ≡ false → own ≡ some
-      → delayed_answer (is_read request.command) bridge.delayed lane held coming some ≡ Retry cause → Refusal bridge owed held coming lane request own
+      → delayed_answer board (is_read request.command) bridge.delayed lane held coming some ≡ Retry cause → Refusal board bridge owed held coming lane request own
   delayed_refused cause None delayed is refuses =
-      let R : Type 0 = Refusal bridge owed held coming lane request own in
+      let R : Type 0 = Refusal board bridge owed held coming lane request own in
       let P : Bool → Type 0 = λ b. nat_lt (length held) bridge.delayed ≡ b → cond b (Gives Latch (Lane lane)) (Retry NoSlot) ≡ Retry cause → R in
       (elim (nat_lt (length held) bridge.delayed) as P [ true ↦ λ _ e. cc | false ↦ λ above _. no_slot delayed is (grind (arith, nat_tests)) ]) refl refuses
   delayed_refused cause (Some slot) delayed is refuses = waits delayed slot is cause refuses
@@ -79,12 +79,12 @@ module _ (board : Board) (h : List Event) (on : ℕ) (by : By) (o : OpId) (cause
       let own : Option Slot = find (is_own board on by o) (world lane).held in
       let coming : List Carried = (world (lane_back lane)).standing in
       let one : Answer = posted_answer (world lane).owed bridge.posted lane in
-      let other : Answer = delayed_answer (is_read request.command) bridge.delayed lane (world lane).held coming own in
-      let R : Type 0 = Refusal bridge (world lane).owed (world lane).held coming lane request own in
+      let other : Answer = delayed_answer board (is_read request.command) bridge.delayed lane (world lane).held coming own in
+      let R : Type 0 = Refusal board bridge (world lane).owed (world lane).held coming lane request own in
       let P : Bool → Type 0 = λ b. is_posted request ≡ b → cond b one other ≡ Retry cause → R in
       let why : R = (elim (is_posted request) as P [
-        | true ↦ λ posted e. posted_refused bridge (world lane).owed (world lane).held coming lane request own cause posted e
-        | false ↦ λ delayed e. delayed_refused bridge (world lane).owed (world lane).held coming lane request own cause own delayed refl e
+        | true ↦ λ posted e. posted_refused board bridge (world lane).owed (world lane).held coming lane request own cause posted e
+        | false ↦ λ delayed e. delayed_refused board bridge (world lane).owed (world lane).held coming lane request own cause own delayed refl e
       ]) refl refuses in
       record { request = request; is_request = is_request; lane = lane; claims = claims; bridge = bridge; is_bridge = is_bridge; why = why }
 

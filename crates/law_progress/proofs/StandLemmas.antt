@@ -1,13 +1,17 @@
 -- What stands on a lane: a posted write, a completion, or delayed requests alone.
-use Rattle.std.proofs.Common.{◌≡◌, ℕ, ◌≤◌, Bool, true, false, ◌||◌, cond, eqb, List, [], ◌∷◌, Some, refl, ◌⊎◌, inl, inr, ⊎_elim, arith}
-use Rattle.std.specs.List.{find, list_any, AllByRecursion}
+use Rattle.std.proofs.Common.{◌≡◌, ℕ, ◌≤◌, Bool, true, false, ◌&&◌, cond, eqb, List, [], ◌∷◌, Some, refl, ◌⊎◌, inl, inr, ⊎_elim, arith}
+use Rattle.std.specs.List.{find, list_all, AllByRecursion}
 use Rattle.std.proofs.lemmas.Bool.Decides.{nat_tests}
 use Rattle.list_facts.specs.Lists.{before, total}
 use Rattle.pci_command.specs.declared.op_id.OpId.{OpId}
 use Rattle.pci_command.specs.declared.op_id.Outcome.{Outcome}
+use Rattle.order_table.specs.Order.{may_pass}
+use Rattle.board_model.specs.declared.board.Board.{Board}
+use Rattle.board_model.specs.Requests.{reads}
 use Rattle.history_model.specs.declared.item.Carried.{Carried}
 use Rattle.history_model.specs.declared.item.Carried.TheVariants.{Post, Ask, Done, Room, Gone}
-use Rattle.history_model.specs.Lanes.{is_post, is_done_for}
+use Rattle.history_model.specs.Lanes.{is_done_for}
+use Rattle.history_model.specs.Answers.{request_kind, completion_kind, kind_of, completion_passes}
 use Rattle.law_slots.specs.Credits.{post_count}
 use Rattle.law_slots.specs.Standing.{CanStand}
 use Rattle.law_order.specs.Order.{posts}
@@ -33,23 +37,38 @@ post_or_none xs =
     let P : List OpId → Type 0 = λ found. posts xs ≡ found → SomePost xs ⊎ (posts xs ≡ []) in
     (elim (posts xs) as P [ [] ↦ λ none. inr none | op ∷ later ↦ λ is. inl (record { op = op; later = later; is = is }) ]) refl
 
--- where there is none, the first item is none, and there is none behind it
-none_of : (x : Carried) (xs : List Carried) → posts (x ∷ xs) ≡ [] → (is_post x ≡ false) × (posts xs ≡ [])
-none_of (Post op) xs none = cc
-none_of (Ask op slot) xs none = (refl, none)
-none_of (Done op slot outcome) xs none = (refl, none)
-none_of Room xs none = (refl, none)
-none_of (Gone slot) xs none = (refl, none)
+-- a completion may pass every delayed request
+passes_request : (read asks : Bool) → may_pass (completion_kind read) (request_kind asks) ≡ true
+passes_request false false = refl
+passes_request false true = refl
+passes_request true false = refl
+passes_request true true = refl
 
--- and none before any item
-pub none_before : (test : Carried → Bool) (xs : List Carried) → posts xs ≡ [] → list_any is_post (before test xs) ≡ false
-none_before test [] none = refl
-none_before test (x ∷ xs) none =
-    let parts = none_of x xs none in
-    let P : Bool → Type 0 = λ b. list_any is_post (cond b [] (x ∷ before test xs)) ≡ false in
-    let rest = none_before test xs parts.1 in
-    let behind : (is_post x || list_any is_post (before test xs)) ≡ false = rw parts.0 rest in
-    elim (test x) as P [ true ↦ refl | false ↦ behind ]
+-- and every completion
+passes_completion : (read gave : Bool) → may_pass (completion_kind read) (completion_kind gave) ≡ true
+passes_completion false false = refl
+passes_completion false true = refl
+passes_completion true false = refl
+passes_completion true true = refl
+
+module _ (board : Board) (read : Bool) where
+  -- where no posted write stands, a completion may pass the first item, and no posted write is behind it
+  none_of : (x : Carried) (xs : List Carried) → posts (x ∷ xs) ≡ [] → CanStand x → (completion_passes board read x ≡ true) × (posts xs ≡ [])
+  none_of (Post op) xs none stands = cc
+  none_of (Ask op slot) xs none stands = (passes_request read (reads board op), none)
+  none_of (Done op slot outcome) xs none stands = (passes_completion read (reads board op), none)
+  none_of Room xs none stands = absurd stands
+  none_of (Gone slot) xs none stands = absurd stands
+
+  -- and all that stands before any item
+  pub none_before : (test : Carried → Bool) (xs : List Carried) → posts xs ≡ [] → AllByRecursion CanStand xs → list_all (completion_passes board read) (before test xs) ≡ true
+  none_before test [] none stands = refl
+  none_before test (x ∷ xs) none stands =
+      let parts = none_of x xs none stands.0 in
+      let P : Bool → Type 0 = λ b. list_all (completion_passes board read) (cond b [] (x ∷ before test xs)) ≡ true in
+      let rest = none_before test xs parts.1 stands.1 in
+      let behind : (completion_passes board read x && list_all (completion_passes board read) (before test xs)) ≡ true = rw parts.0 rest in
+      elim (test x) as P [ true ↦ refl | false ↦ behind ]
 
 -- an item is no completion
 abbrev pub NotDone : Carried → Type 0

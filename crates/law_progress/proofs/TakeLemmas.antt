@@ -1,6 +1,6 @@
 -- Where no posted write stands and a completion does, it is taken.
 use Rattle.std.proofs.Common.{◌≡◌, ℕ, ◌+◌, ◌*◌, ◌≤◌, Bool, true, false, ◌==◌, cond, eqb, List, [], ◌∷◌, Some, is_some, refl, sym, ap, subst, ◌∙◌, ◌⊎◌, inl, inr, ⊎_elim, arith, slice_get}
-use Rattle.std.specs.List.{find, list_any, AllByRecursion}
+use Rattle.std.specs.List.{find, list_all, AllByRecursion}
 use Rattle.std.proofs.lemmas.Bool.{eqb-true}
 use Rattle.std.proofs.lemmas.Bool.Decides.{nat_tests}
 use Rattle.list_facts.specs.Lists.{before, total}
@@ -28,15 +28,16 @@ use Rattle.history_model.specs.declared.item.Slot.{Slot}
 use Rattle.history_model.specs.declared.item.Answer.TheVariants.{Gives, Retry}
 use Rattle.history_model.specs.declared.item.Cause.{Cause}
 use Rattle.history_model.specs.declared.item.Cause.TheVariants.{Behind}
-use Rattle.history_model.specs.Lanes.{has_number, is_post, is_done_for}
+use Rattle.history_model.specs.Lanes.{has_number, is_done_for}
 use Rattle.history_model.specs.World.{World, lane_back, both, same_initiator, is_own, world_of}
 use Rattle.history_model.specs.Program.{turn_of}
 use Rattle.history_model.specs.Words.{through, without}
-use Rattle.history_model.specs.Answers.{is_on, is_turn, presents, wants, completion_answer}
+use Rattle.history_model.specs.Answers.{is_on, is_turn, presents, wants, completion_passes, completion_answer}
 use Rattle.history_model.specs.Runs.{Run}
 use Rattle.law_slots.specs.Slots.{IsHeldFor, DoneNamed, Slots}
 use Rattle.law_slots.specs.Latched.{IsAt, LatchedOn, Latched}
 use Rattle.law_slots.specs.Owners.{Waits, Owners}
+use Rattle.law_slots.specs.Standing.{CanStand}
 use Rattle.law_slots.proofs.EqualLemmas.{same_initiator-self, same_requests-self}
 use Rattle.law_slots.proofs.FoundLemmas.{Each-found}
 use Rattle.law_slots.proofs.LatchedLemmas.{Latched-run}
@@ -77,24 +78,24 @@ one_found {X} test other (z ∷ xs) x y one is_x is_y passes =
       ]) refl is_y fails (omega (arith, few)) e
     ]) refl one is_x
 
--- a completion with no posted write before it is not refused
-never_refused : (read : Bool) (lane : BridgeLane) (older : List Carried) (op : OpId) (number : ℕ) (outcome : Outcome) (cause : Cause) → list_any is_post older ≡ false
-    → completion_answer read lane older (Some (Done op number outcome)) ≡ Retry cause → ⊥
-never_refused true lane older op number outcome cause none refuses =
-    let given : Gives (Take outcome) (Lane lane) ≡ Retry cause = subst (λ b. cond b (Retry Behind) (Gives (Take outcome) (Lane lane)) ≡ Retry cause) none refuses in
+-- a completion that may pass all that stands before it is not refused
+never_refused : (board : Board) (read : Bool) (lane : BridgeLane) (older : List Carried) (op : OpId) (number : ℕ) (outcome : Outcome) (cause : Cause)
+    → list_all (completion_passes board read) older ≡ true → completion_answer board read lane older (Some (Done op number outcome)) ≡ Retry cause → ⊥
+never_refused board read lane older op number outcome cause passes refuses =
+    let given : Gives (Take outcome) (Lane lane) ≡ Retry cause = subst (λ b. cond b (Gives (Take outcome) (Lane lane)) (Retry Behind) ≡ Retry cause) passes refuses in
     cc
-never_refused false lane older op number outcome cause none refuses = cc
 
 -- the completion for the slot of this number is refused
-abbrev RefusesAt : Bool → BridgeLane → List Carried → Cause → ℕ → Type 0
-RefusesAt read lane coming cause number = completion_answer read lane (before (is_done_for number) coming) (find (is_done_for number) coming) ≡ Retry cause
+abbrev RefusesAt : Board → Bool → BridgeLane → List Carried → Cause → ℕ → Type 0
+RefusesAt board read lane coming cause number = completion_answer board read lane (before (is_done_for number) coming) (find (is_done_for number) coming) ≡ Retry cause
 
 -- it is not, where it stands and no posted write does
-done_given : (read : Bool) (lane : BridgeLane) (coming : List Carried) (some : SomeDone coming) (cause : Cause) → posts coming ≡ [] → RefusesAt read lane coming cause some.number → ⊥
-done_given read lane coming some cause none refuses =
+done_given : (board : Board) (read : Bool) (lane : BridgeLane) (coming : List Carried) (some : SomeDone coming) (cause : Cause) → posts coming ≡ [] → AllByRecursion CanStand coming
+    → RefusesAt board read lane coming cause some.number → ⊥
+done_given board read lane coming some cause none stands refuses =
     let older : List Carried = before (is_done_for some.number) coming in
-    let by_done = subst (λ item. completion_answer read lane older item ≡ Retry cause) some.is refuses in
-    never_refused read lane older some.op some.number some.outcome cause (none_before (is_done_for some.number) coming none) by_done
+    let by_done = subst (λ item. completion_answer board read lane older item ≡ Retry cause) some.is refuses in
+    never_refused board read lane older some.op some.number some.outcome cause (none_before board read (is_done_for some.number) coming none stands) by_done
 
 -- a request of which nothing went through is claimed as a whole
 pub claims_whole : (board : Board) (on : ℕ) (request : Request) (gone : ℕ) (place : Place) → gone ≡ 0 → claim board on (without gone request) ≡ place → claim board on request ≡ place
@@ -175,7 +176,7 @@ module _ (board : Board) (h : List Event) (run : Run board h) (sound : Sound boa
       let own : test slot ≡ true = awaited_own lane some.number awaited in
       let here = refused_here lane some.number awaited refused in
       let delayed : is_posted refused.request ≡ false = here.0 in
-      let why = subst (λ l. Refusal refused.bridge (world l).owed (world l).held (world (lane_back l)).standing l refused.request (find test (world l).held)) here.1 refused.why in
+      let why = subst (λ l. Refusal board refused.bridge (world l).owed (world l).held (world (lane_back l)).standing l refused.request (find test (world l).held)) here.1 refused.why in
       elim why as (λ _. ⊥) [
         | full posted _ ↦ cc
         | no_slot _ missing _ ↦
@@ -187,8 +188,8 @@ module _ (board : Board) (h : List Event) (run : Run board h) (sound : Sound boa
             let owners : Owners board (turn_of board h) world = Owners-run board sound.distinct sound.single h run in
             let one : other ≡ slot = one_found test (has_number some.number) held other slot (owners.one_own lane slot.by slot.op) is awaited.is_held own in
             let number : other.number ≡ some.number = ap (λ (s : Slot). s.number) one ∙ eqb-true slot.number some.number (find_passes (has_number some.number) held slot awaited.is_held) in
-            done_given (is_read refused.request.command) lane coming some cause (no_posts (lane_back lane))
-            (subst (RefusesAt (is_read refused.request.command) lane coming cause) number refuses)
+            done_given board (is_read refused.request.command) lane coming some cause (no_posts (lane_back lane)) (CanStand-run board h (lane_back lane) run)
+            (subst (RefusesAt board (is_read refused.request.command) lane coming cause) number refuses)
       ]
 
   -- the completion for a lane's slot is taken

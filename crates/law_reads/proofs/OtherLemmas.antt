@@ -1,6 +1,6 @@
 -- Only reads read at targets.
-use Rattle.std.proofs.Common.{◌≡◌, ℕ, Bool, true, false, ◌&&◌, cond, nat_lt, List, [], ◌∷◌, length, Option, Some, None, refl, sym, subst, ◌∙◌, slice_get, option_map}
-use Rattle.std.specs.List.{find, list_any}
+use Rattle.std.proofs.Common.{◌≡◌, ℕ, Bool, true, false, cond, nat_lt, List, [], ◌∷◌, length, Option, Some, None, refl, sym, subst, ◌∙◌, slice_get, option_map}
+use Rattle.std.specs.List.{find, list_all}
 use Rattle.list_facts.specs.Lists.{before}
 use Rattle.pci_command.specs.declared.request.Request.{Request}
 use Rattle.pci_command.specs.declared.op_id.OpId.{OpId}
@@ -27,11 +27,11 @@ use Rattle.history_model.specs.declared.item.Slot.{Slot}
 use Rattle.history_model.specs.declared.item.Answer.{Answer}
 use Rattle.history_model.specs.declared.item.Answer.TheVariants.{Gives, Retry}
 use Rattle.history_model.specs.declared.item.Cause.TheVariants.{Full, NoSlot, Behind}
-use Rattle.history_model.specs.Lanes.{is_done_for, is_post}
+use Rattle.history_model.specs.Lanes.{is_done_for}
 use Rattle.history_model.specs.World.{World, lane_back, is_own, world_of}
 use Rattle.history_model.specs.Words.{through, without, value_of}
 use Rattle.history_model.specs.Knowledge.{reading_at, reading_by, reading_of, reading_or, last_reading}
-use Rattle.history_model.specs.Answers.{stalls_used, target_step, target_answer, header_answer, completion_answer, delayed_answer, posted_answer, lane_answer, bridge_to, answer_by, answer_to, answer}
+use Rattle.history_model.specs.Answers.{stalls_used, target_step, target_answer, header_answer, completion_passes, completion_answer, delayed_answer, posted_answer, lane_answer, bridge_to, answer_by, answer_to, answer}
 use Rattle.history_model.specs.Runs.{Run}
 use Rattle.law_slots.proofs.RequestLemmas.{same_op_true}
 
@@ -55,22 +55,22 @@ abbrev AtTarget : ℕ → ℕ → Answer → Type 0
 AtTarget value target answer = answer ≡ Gives (Read value) (Target target)
 
 -- the answer with the completion of the own slot is none
-completion_none : (X : Type 0) (read : Bool) (lane : BridgeLane) (older : List Carried) (item : Option Carried) (value target : ℕ) → AtTarget value target (completion_answer read lane older item) → X
-completion_none X read lane older None value target is = cc
-completion_none X read lane older (Some (Post op)) value target is = cc
-completion_none X read lane older (Some (Ask op slot)) value target is = cc
-completion_none X read lane older (Some (Done op slot outcome)) value target is =
-    let P : Bool → Type 0 = λ b. AtTarget value target (cond b (Retry Behind) (Gives (Take outcome) (Lane lane))) → X in
-    (elim (read && list_any is_post older) as P [ true ↦ λ e. cc | false ↦ λ e. cc ]) is
-completion_none X read lane older (Some Room) value target is = cc
-completion_none X read lane older (Some (Gone slot)) value target is = cc
+completion_none : (X : Type 0) (board : Board) (read : Bool) (lane : BridgeLane) (older : List Carried) (item : Option Carried) (value target : ℕ) → AtTarget value target (completion_answer board read lane older item) → X
+completion_none X board read lane older None value target is = cc
+completion_none X board read lane older (Some (Post op)) value target is = cc
+completion_none X board read lane older (Some (Ask op slot)) value target is = cc
+completion_none X board read lane older (Some (Done op slot outcome)) value target is =
+    let P : Bool → Type 0 = λ b. AtTarget value target (cond b (Gives (Take outcome) (Lane lane)) (Retry Behind)) → X in
+    (elim (list_all (completion_passes board read) older) as P [ true ↦ λ e. cc | false ↦ λ e. cc ]) is
+completion_none X board read lane older (Some Room) value target is = cc
+completion_none X board read lane older (Some (Gone slot)) value target is = cc
 
 -- nor that of a delayed request
-delayed_none : (X : Type 0) (read : Bool) (depth : ℕ) (lane : BridgeLane) (held : List Slot) (coming : List Carried) (own : Option Slot) (value target : ℕ) → AtTarget value target (delayed_answer read depth lane held coming own) → X
-delayed_none X read depth lane held coming None value target is =
+delayed_none : (X : Type 0) (board : Board) (read : Bool) (depth : ℕ) (lane : BridgeLane) (held : List Slot) (coming : List Carried) (own : Option Slot) (value target : ℕ) → AtTarget value target (delayed_answer board read depth lane held coming own) → X
+delayed_none X board read depth lane held coming None value target is =
     let P : Bool → Type 0 = λ b. AtTarget value target (cond b (Gives Latch (Lane lane)) (Retry NoSlot)) → X in
     (elim (nat_lt (length held) depth) as P [ true ↦ λ e. cc | false ↦ λ e. cc ]) is
-delayed_none X read depth lane held coming (Some slot) value target is = completion_none X read lane (before (is_done_for slot.number) coming) (find (is_done_for slot.number) coming) value target is
+delayed_none X board read depth lane held coming (Some slot) value target is = completion_none X board read lane (before (is_done_for slot.number) coming) (find (is_done_for slot.number) coming) value target is
 
 -- nor that of a posted write
 posted_none : (X : Type 0) (owed depth : ℕ) (lane : BridgeLane) (value target : ℕ) → AtTarget value target (posted_answer owed depth lane) → X
@@ -84,11 +84,11 @@ lane_none X board world on by o request lane None value target is = cc
 lane_none X board world on by o request lane (Some bridge) value target is =
     let own : Option Slot = find (is_own board on by o) (world lane).held in
     let posted : Answer = posted_answer (world lane).owed bridge.posted lane in
-    let delayed : Answer = delayed_answer (is_read request.command) bridge.delayed lane (world lane).held (world (lane_back lane)).standing own in
+    let delayed : Answer = delayed_answer board (is_read request.command) bridge.delayed lane (world lane).held (world (lane_back lane)).standing own in
     let P : Bool → Type 0 = λ b. AtTarget value target (cond b posted delayed) → X in
     (elim (is_posted request) as P [
       | true ↦ λ e. posted_none X (world lane).owed bridge.posted lane value target e
-      | false ↦ λ e. delayed_none X (is_read request.command) bridge.delayed lane (world lane).held (world (lane_back lane)).standing own value target e
+      | false ↦ λ e. delayed_none X board (is_read request.command) bridge.delayed lane (world lane).held (world (lane_back lane)).standing own value target e
     ]) is
 
 -- whoever claims a request, it gets a value at a target only where it reads

@@ -1,6 +1,6 @@
 -- Where an initiator ends an operation, no slot is held for it.
 use Rattle.std.proofs.Common.{◌≡◌, ℕ, ◌+◌, ◌≤◌, Bool, true, false, ◌&&◌, cond, is_some, List, Option, Some, None, refl, sym, ap, subst, ◌∙◌, arith, slice_get}
-use Rattle.std.specs.List.{find, list_any, AllByRecursion}
+use Rattle.std.specs.List.{find, list_all, AllByRecursion}
 use Rattle.std.proofs.lemmas.Bool.{eqb-true}
 use Rattle.std.proofs.lemmas.Bool.Decides.{nat_tests}
 use Rattle.list_facts.specs.Lists.{less, total, before}
@@ -38,10 +38,10 @@ use Rattle.pci_command.specs.Command.{is_read, space_of}
 use Rattle.board_model.specs.declared.agents.Master.{Master as MasterAgent}
 use Rattle.board_model.specs.Claims.{claim_in_space}
 use Rattle.history_model.specs.declared.item.Cause.TheVariants.{Behind}
-use Rattle.history_model.specs.Lanes.{empty_lane, is_post}
+use Rattle.history_model.specs.Lanes.{empty_lane}
 use Rattle.history_model.specs.Words.{through, without}
 use Rattle.history_model.specs.declared.item.Answer.{Answer}
-use Rattle.history_model.specs.Answers.{posted_answer, delayed_answer, completion_answer, lane_answer, answer_by, answer_to}
+use Rattle.history_model.specs.Answers.{completion_passes, posted_answer, delayed_answer, completion_answer, lane_answer, answer_by, answer_to}
 use Rattle.law_slots.specs.Slots.{hit, slot_weight}
 use Rattle.law_slots.specs.Depths.{DifferentNumbers}
 use Rattle.law_slots.specs.Phases.{DelayedAreSingle}
@@ -84,15 +84,15 @@ same_bus board a b (ByLane k) p (ByLane l) q first second same =
     sym first ∙ ap (end_of board) one ∙ second
 
 -- a completion is taken, or there is no event
-completion_takes : (read : Bool) (at : BridgeLane) (older : List Carried) (item : Option Carried) (step : Step) (place : Place) → completion_answer read at older item ≡ Gives step place → (outcome : Outcome) × (step ≡ Take outcome) × (place ≡ Lane at)
-completion_takes read at older None step place gives = cc
-completion_takes read at older (Some (Post op)) step place gives = cc
-completion_takes read at older (Some (Ask op slot)) step place gives = cc
-completion_takes read at older (Some (Done op slot outcome)) step place gives =
-    let P : Bool → Type 0 = λ b. cond b (Retry Behind) (Gives (Take outcome) (Lane at)) ≡ Gives step place → (outcome : Outcome) × (step ≡ Take outcome) × (place ≡ Lane at) in
-    (elim (read && list_any is_post older) as P [ true ↦ λ e. cc | false ↦ λ e. (outcome, cc, cc) ]) gives
-completion_takes read at older (Some Room) step place gives = cc
-completion_takes read at older (Some (Gone slot)) step place gives = cc
+completion_takes : (board : Board) (read : Bool) (at : BridgeLane) (older : List Carried) (item : Option Carried) (step : Step) (place : Place) → completion_answer board read at older item ≡ Gives step place → (outcome : Outcome) × (step ≡ Take outcome) × (place ≡ Lane at)
+completion_takes board read at older None step place gives = cc
+completion_takes board read at older (Some (Post op)) step place gives = cc
+completion_takes board read at older (Some (Ask op slot)) step place gives = cc
+completion_takes board read at older (Some (Done op slot outcome)) step place gives =
+    let P : Bool → Type 0 = λ b. cond b (Gives (Take outcome) (Lane at)) (Retry Behind) ≡ Gives step place → (outcome : Outcome) × (step ≡ Take outcome) × (place ≡ Lane at) in
+    (elim (list_all (completion_passes board read) older) as P [ true ↦ λ e. (outcome, cc, cc) | false ↦ λ e. cc ]) gives
+completion_takes board read at older (Some Room) step place gives = cc
+completion_takes board read at older (Some (Gone slot)) step place gives = cc
 
 -- who has an own slot at the lane that claims, takes its completion
 own_takes : (board : Board) (h : List Event) (on : ℕ) (by : By) (o : OpId) (lane : BridgeLane) (request : Request) (bridge : Bridge) (own : Slot) (step : Step) (place : Place)
@@ -106,11 +106,11 @@ own_takes board h on by o lane request bridge own step place is_request delayed 
     let claims_rest : claim board on rest ≡ Lane lane = ap (claim_in_space board on (space_of request.command)) whole ∙ claims in
     let coming : List Carried = (world (lane_back lane)).standing in
     let posted : Answer = posted_answer (world lane).owed bridge.posted lane in
-    let other : Option Slot → Answer = λ found. delayed_answer (is_read request.command) bridge.delayed lane (world lane).held coming found in
+    let other : Option Slot → Answer = λ found. delayed_answer board (is_read request.command) bridge.delayed lane (world lane).held coming found in
     let first : answer board h on by o ≡ answer_by board world h on by o rest (Lane lane) = ap (answer_to board world h on by o) is_request ∙ ap (answer_by board world h on by o rest) claims_rest in
     let second : answer_by board world h on by o rest (Lane lane) ≡ other (Some own) =
     ap (lane_answer board world on by o rest lane) is_bridge ∙ ap (λ (b : Bool). cond b posted (other (find (is_own board on by o) (world lane).held))) delayed ∙ ap other is_own_slot in
-    completion_takes (is_read request.command) lane (before (is_done_for own.number) coming) (find (is_done_for own.number) coming) step place (sym (first ∙ second) ∙ gives)
+    completion_takes board (is_read request.command) lane (before (is_done_for own.number) coming) (find (is_done_for own.number) coming) step place (sym (first ∙ second) ∙ gives)
 
 some_of : {X : Type 0} (found : Option X) → is_some found ≡ true → (x : X) × (found ≡ Some x)
 some_of None is = cc

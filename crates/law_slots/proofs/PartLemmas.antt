@@ -1,6 +1,6 @@
 -- Only a write with several data phases is taken in parts.
-use Rattle.std.proofs.Common.{◌≡◌, ℕ, ◌<◌, ◌≤◌, Bool, true, false, ◌&&◌, cond, nat_lt, List, [], ◌∷◌, length, drop, Option, Some, None, refl, ap, subst, ◌∙◌, arith, slice_get}
-use Rattle.std.specs.List.{find, list_any}
+use Rattle.std.proofs.Common.{◌≡◌, ℕ, ◌<◌, ◌≤◌, Bool, true, false, cond, nat_lt, List, [], ◌∷◌, length, drop, Option, Some, None, refl, ap, subst, ◌∙◌, arith, slice_get}
+use Rattle.std.specs.List.{find, list_all}
 use Rattle.std.proofs.lemmas.Bool.Decides.{nat_tests}
 use Rattle.list_facts.specs.Lists.{before}
 use Rattle.pci_command.specs.declared.request.Request.{Request}
@@ -28,31 +28,31 @@ use Rattle.history_model.specs.declared.item.Slot.{Slot}
 use Rattle.history_model.specs.declared.item.Answer.{Answer}
 use Rattle.history_model.specs.declared.item.Answer.TheVariants.{Gives, Retry}
 use Rattle.history_model.specs.declared.item.Cause.TheVariants.{Full, NoSlot, Behind}
-use Rattle.history_model.specs.Lanes.{is_done_for, is_post}
+use Rattle.history_model.specs.Lanes.{is_done_for}
 use Rattle.history_model.specs.World.{World, lane_back, is_own, world_of}
 use Rattle.history_model.specs.Words.{phases_parted, parted_by, through, without, value_of}
-use Rattle.history_model.specs.Answers.{stalls_used, target_step, target_answer, header_answer, completion_answer, delayed_answer, posted_answer, lane_answer, bridge_to, answer_by, answer_to, answer}
+use Rattle.history_model.specs.Answers.{stalls_used, target_step, target_answer, header_answer, completion_passes, completion_answer, delayed_answer, posted_answer, lane_answer, bridge_to, answer_by, answer_to, answer}
 use Rattle.history_model.specs.Runs.{Allowed, Run}
 use Rattle.law_slots.specs.Phases.{DelayedAreSingle}
 use Rattle.law_slots.proofs.RequestLemmas.{same_op_true, request_is_of, op_single}
 
 -- no lane of a bridge takes a part
-completion_no_part : (read : Bool) (at : BridgeLane) (older : List Carried) (item : Option Carried) (phases : ℕ) (place : Place) → completion_answer read at older item ≡ Gives (Part phases) place → ⊥
-completion_no_part read at older None phases place gives = cc
-completion_no_part read at older (Some (Post op)) phases place gives = cc
-completion_no_part read at older (Some (Ask op slot)) phases place gives = cc
-completion_no_part read at older (Some (Done op slot outcome)) phases place gives =
-    let P : Bool → Type 0 = λ b. cond b (Retry Behind) (Gives (Take outcome) (Lane at)) ≡ Gives (Part phases) place → ⊥ in
-    (elim (read && list_any is_post older) as P [ true ↦ λ e. cc | false ↦ λ e. cc ]) gives
-completion_no_part read at older (Some Room) phases place gives = cc
-completion_no_part read at older (Some (Gone slot)) phases place gives = cc
+completion_no_part : (board : Board) (read : Bool) (at : BridgeLane) (older : List Carried) (item : Option Carried) (phases : ℕ) (place : Place) → completion_answer board read at older item ≡ Gives (Part phases) place → ⊥
+completion_no_part board read at older None phases place gives = cc
+completion_no_part board read at older (Some (Post op)) phases place gives = cc
+completion_no_part board read at older (Some (Ask op slot)) phases place gives = cc
+completion_no_part board read at older (Some (Done op slot outcome)) phases place gives =
+    let P : Bool → Type 0 = λ b. cond b (Gives (Take outcome) (Lane at)) (Retry Behind) ≡ Gives (Part phases) place → ⊥ in
+    (elim (list_all (completion_passes board read) older) as P [ true ↦ λ e. cc | false ↦ λ e. cc ]) gives
+completion_no_part board read at older (Some Room) phases place gives = cc
+completion_no_part board read at older (Some (Gone slot)) phases place gives = cc
 
-delayed_no_part : (read : Bool) (depth : ℕ) (at : BridgeLane) (held : List Slot) (coming : List Carried) (own : Option Slot) (phases : ℕ) (place : Place) → delayed_answer read depth at held coming own ≡ Gives (Part phases) place → ⊥
-delayed_no_part read depth at held coming None phases place gives =
+delayed_no_part : (board : Board) (read : Bool) (depth : ℕ) (at : BridgeLane) (held : List Slot) (coming : List Carried) (own : Option Slot) (phases : ℕ) (place : Place) → delayed_answer board read depth at held coming own ≡ Gives (Part phases) place → ⊥
+delayed_no_part board read depth at held coming None phases place gives =
     let P : Bool → Type 0 = λ b. cond b (Gives Latch (Lane at)) (Retry NoSlot) ≡ Gives (Part phases) place → ⊥ in
     (elim (nat_lt (length held) depth) as P [ true ↦ λ e. cc | false ↦ λ e. cc ]) gives
-delayed_no_part read depth at held coming (Some slot) phases place gives =
-    completion_no_part read at (before (is_done_for slot.number) coming) (find (is_done_for slot.number) coming) phases place gives
+delayed_no_part board read depth at held coming (Some slot) phases place gives =
+    completion_no_part board read at (before (is_done_for slot.number) coming) (find (is_done_for slot.number) coming) phases place gives
 
 posted_no_part : (owed depth : ℕ) (at : BridgeLane) (phases : ℕ) (place : Place) → posted_answer owed depth at ≡ Gives (Part phases) place → ⊥
 posted_no_part owed depth at phases place gives =
@@ -65,11 +65,11 @@ lane_no_part board world on by o request at None phases place gives = cc
 lane_no_part board world on by o request at (Some bridge) phases place gives =
     let own : Option Slot = find (is_own board on by o) (world at).held in
     let one : Answer = posted_answer (world at).owed bridge.posted at in
-    let other : Answer = delayed_answer (is_read request.command) bridge.delayed at (world at).held (world (lane_back at)).standing own in
+    let other : Answer = delayed_answer board (is_read request.command) bridge.delayed at (world at).held (world (lane_back at)).standing own in
     let P : Bool → Type 0 = λ b. cond b one other ≡ Gives (Part phases) place → ⊥ in
     (elim (is_posted request) as P [
       | true ↦ λ e. posted_no_part (world at).owed bridge.posted at phases place e
-      | false ↦ λ e. delayed_no_part (is_read request.command) bridge.delayed at (world at).held (world (lane_back at)).standing own phases place e
+      | false ↦ λ e. delayed_no_part board (is_read request.command) bridge.delayed at (world at).held (world (lane_back at)).standing own phases place e
     ]) gives
 
 -- a target takes fewer data phases in a part than are left
@@ -109,12 +109,12 @@ place_part board h on by o rest (Lane at) phases place gives = absurd (lane_no_p
 place_part board h on by o rest Nobody phases place gives = cc
 
 -- the request that is taken in parts has more data phases left
-record PartLeft (board : Board) (h : List Event) (on : ℕ) (o : OpId) (phases : ℕ) : Type 0 where
-  request : Request
-  is_request : request_of board o on ≡ Some request
-  fewer : phases < length (drop (through h o) request.phases)
+pub record PartLeft (board : Board) (h : List Event) (on : ℕ) (o : OpId) (phases : ℕ) : Type 0 where
+  pub request : Request
+  pub is_request : request_of board o on ≡ Some request
+  pub fewer : phases < length (drop (through h o) request.phases)
 
-answered_part : (board : Board) (h : List Event) (on : ℕ) (by : By) (o : OpId) (phases : ℕ) (place : Place) → answer board h on by o ≡ Gives (Part phases) place → PartLeft board h on o phases
+pub answered_part : (board : Board) (h : List Event) (on : ℕ) (by : By) (o : OpId) (phases : ℕ) (place : Place) → answer board h on by o ≡ Gives (Part phases) place → PartLeft board h on o phases
 answered_part board h on by o phases place gives =
     let P : Option Request → Type 0 = λ found. request_of board o on ≡ found → answer_to board (world_of board h) h on by o found ≡ Gives (Part phases) place → PartLeft board h on o phases in
     (elim (request_of board o on) as P [

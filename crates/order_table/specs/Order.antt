@@ -1,4 +1,5 @@
--- The ordering table: PCI Local Bus Specification 2.2, appendix E.
+-- The ordering table of the bridges here, after PCI Local Bus Specification 2.2, appendix E. It is stated once, and
+-- asked of everything that may pass: what a lane presents, and the completion that a bridge gives.
 use Rattle.std.specs.Prelude.{Bool, true, false}
 use Rattle.pci_command.specs.declared.command.Kind.{Kind}
 use Rattle.pci_command.specs.declared.command.Kind.TheVariants.{Pmw, Drr, Dwr, Drc, Dwc}

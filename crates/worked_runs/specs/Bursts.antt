@@ -141,3 +141,10 @@ between_events =
     Act 0 Master (op 1 1 0) (Read 0x0) (Target 0) ∷
     Act 0 Master (op 0 0 0) Land (Target 0) ∷
     []
+
+-- the write in parts, and the read of the dword that the first part brought
+abbrev pub parted_write : OpId
+parted_write = op 0 0 0
+
+abbrev pub read_between : OpId
+read_between = op 1 0 0

@@ -10,3 +10,5 @@ pub mod Wide
 pub mod Stealing
 pub mod Wrong
 pub mod Relay
+pub mod Passing
+pub mod Crossing

@@ -72,3 +72,10 @@ first_write = op 0 0 0
 
 abbrev pub last_read : OpId
 last_read = op 2 1 0
+
+-- the write of the flag by the first master, and by the second
+abbrev pub first_flag : OpId
+first_flag = op 0 1 0
+
+abbrev pub second_write : OpId
+second_write = op 1 1 0

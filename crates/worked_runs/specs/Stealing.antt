@@ -17,7 +17,7 @@ use Rattle.history_model.specs.declared.event.Event.TheVariants.{Act, Arrive}
 abbrev op : ℕ → ℕ → ℕ → OpId
 op master index attempt = record { master = master; index = index; attempt = attempt }
 
--- the completion of the older read is given to the younger one, which has not come to the bridge
+-- two masters on one bus read one address
 abbrev pub stealing_board : Board
 stealing_board =
     record {
@@ -69,6 +69,7 @@ stealing_board =
       drops = [];
     }
 
+-- the completion of the older read is given to the younger one, which has not come to the bridge
 abbrev pub stealing_events : List Event
 stealing_events =
     Act 2 Master (op 1 0 0) Latch (Lane (record { bus = 2; up = true })) ∷
@@ -89,58 +90,7 @@ stealing_events =
     Act 1 (ByLane (record { bus = 2; up = true })) (op 2 1 0) (Take (Value 0x0)) (Lane (record { bus = 1; up = true })) ∷
     []
 
--- the same, where it has
-abbrev pub held_back_board : Board
-held_back_board =
-    record {
-      bridges =
-          record { bus = 1; parent = 0; device = 1; last = 2; mem = Some (record { base = 0x80000000; limit = 0x800fffff }); pref = None; io = None; posted = 4; delayed = 4; mode = false } ∷
-          record { bus = 2; parent = 1; device = 1; last = 2; mem = Some (record { base = 0x80000000; limit = 0x800fffff }); pref = None; io = None; posted = 4; delayed = 4; mode = false } ∷ [];
-      targets =
-          record {
-            name = codes "ram";
-            bus = 0;
-            device = 2;
-            vendor = 0x1234;
-            model = 0x1;
-            stalls = 0;
-            burst = 8;
-            ranges = record { space = Mem; base = 0x10000000; size = 0x1000 } ∷ [];
-            aborts = [];
-            openings = [];
-          } ∷
-          record {
-            name = codes "box";
-            bus = 2;
-            device = 1;
-            vendor = 0x1234;
-            model = 0x1;
-            stalls = 0;
-            burst = 8;
-            ranges = record { space = Mem; base = 0x80000000; size = 0x1000 } ∷ [];
-            aborts = [];
-            openings = [];
-          } ∷ [];
-      masters =
-          record {
-            name = codes "prod";
-            bus = 0;
-            ops = WriteOp MemWrite 0x10000000 (record { value = 0x7; enables = 15 } ∷ []) ∷ WriteOp MemWrite 0x80000000 (record { value = 0x1; enables = 15 } ∷ []) ∷ [];
-          } ∷
-          record {
-            name = codes "early";
-            bus = 2;
-            ops = ReadOp MemRead 0x10000000 ∷ [];
-          } ∷
-          record {
-            name = codes "late";
-            bus = 2;
-            ops = PollOp Mem 0x80000000 0xffffffff 0x1 40 ∷ ReadOp MemRead 0x10000000 ∷ [];
-          } ∷ [];
-      discards = [];
-      drops = [];
-    }
-
+-- the same, where the younger read has come to the bridge
 abbrev pub held_back_events : List Event
 held_back_events =
     Act 2 Master (op 1 0 0) Latch (Lane (record { bus = 2; up = true })) ∷

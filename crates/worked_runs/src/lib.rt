@@ -1,24 +1,26 @@
 //! Worked traces, computed to be runs by the definitions alone, and beside them events that are none.
 #![tactic(auto)]
 
-ghost use Rattle.std.specs.Prelude.{◌≡◌, ℕ, IsTrue, [], ◌∷◌, ◌++◌, map, take, reverse};
+ghost use Rattle.std.specs.Prelude.{◌≡◌, ℕ, false, IsTrue, [], ◌∷◌, ◌++◌, map, take, reverse};
 ghost use Rattle.board_model.specs.Ways.{bound_of};
 ghost use Rattle.history_model.specs.Runs.{Run, Complete, history_of};
 ghost use Rattle.history_model.specs.Local.{Matched};
 ghost use Rattle.history_model.specs.Knowledge.{Told, saw};
 ghost use Rattle.history_model.specs.Left.{left_of};
-ghost use Rattle.worked_runs.specs.Relay.{relay_board, relay_events, first_write, last_read};
+ghost use Rattle.worked_runs.specs.Relay.{relay_board, relay_events, first_write, first_flag, second_write, last_read};
 ghost use Rattle.worked_runs.specs.Wrong.{wrong_value, early_completion, second_accept, all_at_once, plain_arrival, marked_arrival};
 ghost use Rattle.worked_runs.specs.OneBus.{one_word_board, one_word_events, answers_board, answers_events};
 ghost use Rattle.worked_runs.specs.ThreeBridges.{three_bridges_board, three_bridges_events};
-ghost use Rattle.worked_runs.specs.Bursts.{burst_board, burst_events, parted_board, parted_events, between_board, between_events};
+ghost use Rattle.worked_runs.specs.Bursts.{burst_board, burst_events, parted_board, parted_events, between_board, between_events, parted_write, read_between};
 ghost use Rattle.worked_runs.specs.Flags.{flag_board, flag_events};
 ghost use Rattle.worked_runs.specs.Credits.{credits_board, credits_events};
 ghost use Rattle.worked_runs.specs.Unclaimed.{unclaimed_board, unclaimed_events, aborted_board, aborted_events};
 ghost use Rattle.worked_runs.specs.Discards.{discarded_board, discarded_events, landed_twice_board, landed_twice_events, dropped_board, dropped_events};
 ghost use Rattle.worked_runs.specs.Registers.{registers_board, registers_events};
 ghost use Rattle.worked_runs.specs.Wide.{wide_board, wide_events};
-ghost use Rattle.worked_runs.specs.Stealing.{stealing_board, stealing_events, held_back_board, held_back_events};
+ghost use Rattle.worked_runs.specs.Passing.{passing_board, passing_events, behind_board, behind_events};
+ghost use Rattle.worked_runs.specs.Crossing.{crossing_board, crossing_events, crossing_posted_board, crossing_posted_events};
+ghost use Rattle.worked_runs.specs.Stealing.{stealing_board, stealing_events, held_back_events};
 
 /// A write, and a read of what it wrote.
 pub fn one_word()
@@ -50,10 +52,11 @@ pub fn parted()
     ensures complete { Complete parted_board (history_of parted_events) }
 {}
 
-/// A read between the parts of a write.
+/// A read between the parts of a write: it saw nothing of the write, though it read a part of it.
 pub fn between()
     ensures run { Run between_board (history_of between_events) }
     ensures complete { Complete between_board (history_of between_events) }
+    ensures unseen { saw between_board (history_of between_events) read_between parted_write ≡ false }
 {}
 
 /// Data and flag on two buses, the consumer on a third.
@@ -125,9 +128,38 @@ pub fn wrong_reads()
     ensures turn { ¬ Run one_word_board (history_of (reverse one_word_events)) }
 {}
 
-/// A completion of a read does not pass a posted write that stands before it.
+/// A completion of a read does not pass a posted write that stands before it. It guards the entry of
+/// the ordering table for a read's completion behind a posted write: No.
 pub fn completion_waits_for_posted_write()
-    ensures { ¬ Run flag_board (history_of (take 11 flag_events ++ early_completion ∷ [])) }
+    ensures before { Run flag_board (history_of (take 11 flag_events)) }
+    ensures behind { ¬ Run flag_board (history_of (take 11 flag_events ++ early_completion ∷ [])) }
+{}
+
+/// Neither does a delayed read request. It guards the entry for a read request behind a posted
+/// write: No.
+pub fn request_waits_for_posted_write()
+    ensures before { Run behind_board (history_of (take 4 behind_events)) }
+    ensures behind { ¬ Run behind_board (history_of behind_events) }
+{}
+
+/// A write's completion passes a posted write that its target stalls. It guards the entry for a
+/// write's completion behind a posted write: Yes or No, and passed.
+pub fn write_completion_passes_posted_write()
+    ensures run { Run passing_board (history_of passing_events) }
+    ensures complete { Complete passing_board (history_of passing_events) }
+{}
+
+/// Four crossing reads, through bridges that hold one delayed request each way: a read's completion
+/// passes the delayed request that stands before it.
+pub fn crossing()
+    ensures run { Run crossing_board (history_of crossing_events) }
+    ensures complete { Complete crossing_board (history_of crossing_events) }
+{}
+
+/// The same with a posted write, which passes the delayed request that stands before it.
+pub fn crossing_posted()
+    ensures run { Run crossing_posted_board (history_of crossing_posted_events) }
+    ensures complete { Complete crossing_posted_board (history_of crossing_posted_events) }
 {}
 
 /// A bridge that owes as many posted writes as it holds accepts no other.
@@ -153,6 +185,11 @@ pub fn relay()
     ensures complete { Complete relay_board (history_of relay_events) }
     ensures told { Told relay_board (history_of relay_events) first_write last_read }
     ensures seen { IsTrue (saw relay_board (history_of relay_events) last_read first_write) }
+{}
+
+/// But the first master is told of nothing: not of the write by which the second one told the third.
+pub fn relay_goes_one_way()
+    ensures { ¬ Told relay_board (history_of relay_events) second_write first_flag }
 {}
 
 /// The bounds of worked boards.
