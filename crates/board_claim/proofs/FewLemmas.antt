@@ -1,6 +1,7 @@
 -- A well-formed board has at most eight agents on a bus, so at most 2,048 targets and as many masters.
 use Rattle.std.proofs.Common.{◌≡◌, ℕ, Bool, true, false, ◌+◌, ◌*◌, ◌<◌, ◌≤◌, List, [], ◌∷◌, take, get_or, length, suc, zero, refl, subst, arith, lit≤, ◌&&◌, ◌==◌, nat_le, nat_lt, count_by, cond, ◌⊎◌, inl, inr}
 use Rattle.std.specs.List.{list_all, AllByRecursion}
+use Rattle.std.proofs.lemmas.Bool.{and_parts, leb-true}
 use Rattle.std.proofs.lemmas.Bool.Decides.{nat_tests}
 use Rattle.std.proofs.lemmas.List.{take_more, length-take-le}
 use Rattle.std.proofs.lemmas.List.Sums.{sum_by-take-le}
@@ -8,52 +9,9 @@ use Rattle.std.proofs.lemmas.List.Recursion.{is_sum_by}
 use Rattle.list_facts.proofs.EachLemmas.{Each-push}
 use Rattle.board_model.specs.declared.agents.Target.{Target}
 use Rattle.board_model.specs.declared.agents.Master.{Master}
-use Rattle.board_model.specs.declared.bridge.Bridge.{Bridge}
 use Rattle.board_model.specs.declared.board.Board.{Board}
-use Rattle.board_model.specs.WellFormed.{children_on, agents_on, are_few, is_well_formed, is_well_formed_bridge, are_numbered_apart, is_well_formed_target, is_well_formed_master, are_targets_named_apart, are_masters_named_apart, operations_in, is_well_formed_plan}
-
-left_of : (x y : Bool) → (x && y) ≡ true → x ≡ true
-left_of true y h = refl
-left_of false y h = cc
-
-right_of : (x y : Bool) → (x && y) ≡ true → y ≡ true
-right_of true y h = h
-right_of false y h = cc
-
--- the sixth of thirteen
-sixth : (a b c d e f g i j k l m n : Bool) → (a && b && c && d && e && f && g && i && j && k && l && m && n) ≡ true → f ≡ true
-sixth a b c d e f g i j k l m n h =
-    let h12 = left_of (a && b && c && d && e && f && g && i && j && k && l && m) n h in
-    let h11 = left_of (a && b && c && d && e && f && g && i && j && k && l) m h12 in
-    let h10 = left_of (a && b && c && d && e && f && g && i && j && k) l h11 in
-    let h9 = left_of (a && b && c && d && e && f && g && i && j) k h10 in
-    let h8 = left_of (a && b && c && d && e && f && g && i) j h9 in
-    let h7 = left_of (a && b && c && d && e && f && g) i h8 in
-    right_of (a && b && c && d && e) f (left_of (a && b && c && d && e && f) g h7)
-
-are_few_formed : (board : Board) → is_well_formed board ≡ true → are_few board ≡ true
-are_few_formed board h =
-    sixth (nat_le (length board.bridges) 31) (list_all is_well_formed_bridge board.bridges) (are_numbered_apart board.bridges)
-    (list_all is_well_formed_target board.targets) (list_all is_well_formed_master board.masters) (are_few board)
-    (are_targets_named_apart board.masters board.targets) (are_masters_named_apart board.masters)
-    (nat_le (operations_in board.masters) 65536)
-    (nat_le (length board.discards) 1024) (list_all is_well_formed_plan board.discards)
-    (nat_le (length board.drops) 1024) (list_all is_well_formed_plan board.drops) h
-
-few_by_targets : (board : Board) → is_well_formed board ≡ true → list_all (λ (target : Target). nat_le (agents_on board target.bus) 8) board.targets ≡ true
-few_by_targets board h =
-    let few = are_few_formed board h in
-    right_of (list_all (λ (bridge : Bridge). nat_le (children_on board bridge.parent) 8) board.bridges)
-    (list_all (λ (target : Target). nat_le (agents_on board target.bus) 8) board.targets)
-    (left_of (list_all (λ (bridge : Bridge). nat_le (children_on board bridge.parent) 8) board.bridges
-    && list_all (λ (target : Target). nat_le (agents_on board target.bus) 8) board.targets)
-    (list_all (λ (master : Master). nat_le (agents_on board master.bus) 8) board.masters) few)
-
-few_by_masters : (board : Board) → is_well_formed board ≡ true → list_all (λ (master : Master). nat_le (agents_on board master.bus) 8) board.masters ≡ true
-few_by_masters board h =
-    right_of (list_all (λ (bridge : Bridge). nat_le (children_on board bridge.parent) 8) board.bridges
-    && list_all (λ (target : Target). nat_le (agents_on board target.bus) 8) board.targets)
-    (list_all (λ (master : Master). nat_le (agents_on board master.bus) 8) board.masters) (are_few_formed board h)
+use Rattle.board_model.specs.WellFormed.{agents_on, is_well_formed}
+use Rattle.board_model.proofs.FormLemmas.{WellFormed-parts}
 
 -- how many of the agents are on the bus, by the bus of each
 abbrev on_bus : {X : Type 0} → (X → ℕ) → ℕ → List X → ℕ
@@ -72,9 +30,9 @@ none_or_few : {X : Type 0} (bus_of : X → ℕ) (count : ℕ → ℕ) (agents : 
     (bus : ℕ) → (on_bus bus_of bus agents ≡ 0) ⊎ (count bus ≤ 8)
 none_or_few bus_of count [] all bus = inl refl
 none_or_few bus_of count (agent ∷ agents) all bus =
-    let here = left_of (nat_le (count (bus_of agent)) 8) (list_all (λ x. nat_le (count (bus_of x)) 8) agents) all in
-    let rest = none_or_few bus_of count agents (right_of (nat_le (count (bus_of agent)) 8) (list_all (λ x. nat_le (count (bus_of x)) 8) agents) all) bus in
-    let at_most : count (bus_of agent) ≤ 8 = grind (arith, nat_tests) in
+    let parts = and_parts (nat_le (count (bus_of agent)) 8) (list_all (λ x. nat_le (count (bus_of x)) 8) agents) all in
+    let rest = none_or_few bus_of count agents parts.1 bus in
+    let at_most : count (bus_of agent) ≤ 8 = leb-true _ _ parts.0 in
     let P : Bool → Type 0 = λ b. (bus_of agent == bus) ≡ b → (cond b 1 0 + on_bus bus_of bus agents ≡ 0) ⊎ (count bus ≤ 8) in
     (elim (bus_of agent == bus) as P [
       | true ↦ λ same. let is : bus_of agent ≡ bus = grind (arith, nat_tests) in inr (let Q : ℕ → Type 0 = λ n. count n ≤ 8 in subst Q is at_most)
@@ -85,7 +43,7 @@ few_targets : (board : Board) → is_well_formed board ≡ true → (bus : ℕ) 
 few_targets board formed bus =
     let bus_of : Target → ℕ = λ target. target.bus in
     let counted = on_bus-count bus_of bus board.targets in
-    elim (none_or_few bus_of (agents_on board) board.targets (few_by_targets board formed) bus) as (λ _. on_bus bus_of bus board.targets ≤ 8) [
+    elim (none_or_few bus_of (agents_on board) board.targets (WellFormed-parts board formed).few.targets bus) as (λ _. on_bus bus_of bus board.targets ≤ 8) [
       | inl none ↦ omega arith
       | inr few ↦ omega arith
     ]
@@ -94,7 +52,7 @@ few_masters : (board : Board) → is_well_formed board ≡ true → (bus : ℕ) 
 few_masters board formed bus =
     let bus_of : Master → ℕ = λ master. master.bus in
     let counted = on_bus-count bus_of bus board.masters in
-    elim (none_or_few bus_of (agents_on board) board.masters (few_by_masters board formed) bus) as (λ _. on_bus bus_of bus board.masters ≤ 8) [
+    elim (none_or_few bus_of (agents_on board) board.masters (WellFormed-parts board formed).few.masters bus) as (λ _. on_bus bus_of bus board.masters ≤ 8) [
       | inl none ↦ omega arith
       | inr few ↦ omega arith
     ]

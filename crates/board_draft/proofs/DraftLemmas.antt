@@ -1,8 +1,8 @@
 -- A statement that its words saw to, added to a sound draft, leaves a sound draft.
-use Rattle.std.proofs.Common.{subst, sym, ◌≡◌, ℕ, ◌+◌, Bool, true, List, length, refl, arith}
+use Rattle.std.proofs.Common.{subst, sym, ◌≡◌, ℕ, ◌+◌, Bool, true, List, length, refl, arith, lit≤}
 use Rattle.std.specs.Prelude.{Result, Ok, nat_le, nat_lt}
 use Rattle.std.specs.List.{list_all}
-use Rattle.std.proofs.lemmas.Bool.{and_from, and_parts, or_parts, not-false, leb-false, ltb-false, le-leb}
+use Rattle.std.proofs.lemmas.Bool.{and_from, and_parts, or_parts, not-false, leb-false, leb-true, ltb-false, le-leb}
 use Rattle.list_facts.specs.Lists.{total}
 use Rattle.list_facts.proofs.TotalLemmas.{total-push}
 use Rattle.board_model.specs.declared.bridge.Bridge.{Bridge}
@@ -12,6 +12,7 @@ use Rattle.board_model.specs.declared.board.Board.{Board}
 use Rattle.board_model.specs.declared.op.Op.{Op}
 use Rattle.board_model.specs.Requests.{tries_of}
 use Rattle.board_model.specs.WellFormed.{is_well_formed_bridge, is_well_formed_target, is_well_formed_op, operations_in}
+use Rattle.board_model.proofs.FormLemmas.{Target-from, Master-parts}
 use Rattle.bridge_header.specs.Windows.{reading_of}
 use Rattle.board_statements.specs.declared.fault.LineFault.{LineFault}
 use Rattle.board_statements.specs.declared.statement.Statement.{Statement}
@@ -29,7 +30,6 @@ use Rattle.board_draft.proofs.CountLemmas.{owner_count}
 use Rattle.board_draft.proofs.PushLemmas.{all-push, length-push}
 use Rattle.board_draft.proofs.BridgeLemmas.{bridge_formed}
 use Rattle.board_draft.proofs.HeaderLemmas.{header_formed}
-use Rattle.board_draft.proofs.PartLemmas.{formed_by}
 use Rattle.board_draft.proofs.TargetLemmas.{IsDetailed, range_detail, abort_detail, opening_detail, identity_detail, stalls_detail, burst_detail}
 use Rattle.board_draft.proofs.OpLemmas.{op_formed}
 use Rattle.board_draft.proofs.SoundLemmas.{IsSound, HasPlace, place_by, TargetSound, MasterSound, OwnerSound, owner_closed, with_bridge, with_discard, with_drop}
@@ -68,16 +68,16 @@ bridge_sound wide board bridge added sound formed put =
     subst P (sym put.is) (record { board = with_bridge board bridge sound formed put.apart put.few; owner = tt })
 
 new_target_formed : (name : List ℕ) (bus device : ℕ) → nat_le device 31 ≡ true → is_well_formed_target (new_target name bus device) ≡ true
-new_target_formed name bus device formed = formed_by (new_target name bus device) (record {
-  device = formed;
-  stalls = refl;
-  burst = refl;
+new_target_formed name bus device formed = Target-from (new_target name bus device) (record {
+  device = leb-true _ _ formed;
+  stalls = lit≤ tt;
+  burst = record { from = lit≤ tt; to = lit≤ tt };
   ranges = refl;
-  registers = refl;
+  registers = lit≤ tt;
   aborts = refl;
-  few_aborts = refl;
+  few_aborts = lit≤ tt;
   openings = refl;
-  few_openings = refl;
+  few_openings = lit≤ tt;
 })
 
 detail_sound : (draft : Draft) (change : Target → Result Target LineFault) (added : Draft) → IsDraftSound draft → on_target draft change ≡ Ok added → ((target changed : Target) → is_well_formed_target target ≡ true → change target ≡ Ok changed → IsDetailed target changed) → IsDraftSound added
@@ -103,14 +103,14 @@ does_sound draft op too_many added formed sound h =
     owner_count draft.board draft.owner done.master done.was in
     let limits = or_parts (nat_le 1024 (length done.master.ops)) (nat_lt 65536 (operations_in (board_of draft).masters + tries_of op)) put.few in
     let in_all = ltb-false 65536 (operations_in (board_of draft).masters + tries_of op) limits.1 in
-    let parts = and_parts (nat_le (length done.master.ops) 1024) (list_all is_well_formed_op done.master.ops) before.formed in
+    let parts = Master-parts done.master before.formed in
     let one = op_formed op formed (not-false _ put.aligned) (or_parts _ _ put.within).1 in
     let own = leb-false 1024 (length done.master.ops) limits.0 in
     let longer = length-push done.master.ops op in
     let tries = total-push tries_of done.master.ops op in
     let M : Master → Type 0 = λ m. MasterSound draft.board m in
     let after : MasterSound draft.board done.changed = subst M (sym put.is) (record {
-      formed = and_from _ _ (le-leb _ _ (omega (arith, own, longer))) (all-push is_well_formed_op done.master.ops op parts.1 one);
+      formed = and_from _ _ (le-leb _ _ (omega (arith, own, longer))) (all-push is_well_formed_op done.master.ops op parts.ops one);
       place = before.place;
       operations = omega (arith, counted, in_all, tries);
     }) in

@@ -2,7 +2,6 @@ pub mod StepLemmas
 pub mod AddedLemmas
 pub mod CountLemmas
 pub mod PushLemmas
-pub mod PartLemmas
 pub mod BridgeLemmas
 pub mod TargetLemmas
 pub mod OpLemmas

@@ -11,7 +11,8 @@ use Rattle.board_model.specs.declared.agents.Master.{Master}
 use Rattle.board_model.specs.declared.board.Board.{Board}
 use Rattle.board_model.specs.declared.board.Planned.{Planned}
 use Rattle.board_model.specs.Requests.{tries_of}
-use Rattle.board_model.specs.WellFormed.{is_well_formed, is_well_formed_bridge, is_well_formed_target, is_well_formed_master, is_well_formed_plan, are_numbered_apart, are_targets_named_apart, are_masters_named_apart, is_target_named, is_master_named, has_bus, children_on, agents_on, are_few, operations_in}
+use Rattle.board_model.specs.WellFormed.{is_well_formed, is_well_formed_bridge, is_well_formed_target, is_well_formed_master, is_well_formed_plan, are_numbered_apart, are_targets_named_apart, are_masters_named_apart, is_target_named, is_master_named, has_bus, children_on, agents_on, operations_in}
+use Rattle.board_model.proofs.FormLemmas.{WellFormed-from}
 use Rattle.board_statements.specs.declared.fault.LineFault.{LineFault}
 use Rattle.board_draft.specs.declared.draft.Owner.{Owner}
 use Rattle.board_draft.specs.declared.draft.Owner.TheVariants.{Nobody, OfTarget, OfMaster}
@@ -39,19 +40,27 @@ all_pass : {X : Type 0} (test : X → Bool) → ((x : X) → test x ≡ true) �
 all_pass test each [] = refl
 all_pass test each (x ∷ xs) = and_from (test x) (list_all test xs) (each x) (all_pass test each xs)
 
-few_by : (board : Board) → IsSound board → are_few board ≡ true
-few_by board sound =
-    and_from _ _
-    (and_from _ _
-    (all_pass (λ (bridge : Bridge). nat_le (children_on board bridge.parent) 8) (λ bridge. le-leb _ _ (sound.children bridge.parent)) board.bridges)
-    (all_pass (λ (target : Target). nat_le (agents_on board target.bus) 8) (λ target. le-leb _ _ (sound.agents target.bus)) board.targets))
-    (all_pass (λ (master : Master). nat_le (agents_on board master.bus) 8) (λ master. le-leb _ _ (sound.agents master.bus)) board.masters)
-
 pub well_formed_by : (board : Board) → IsSound board → is_well_formed board ≡ true
 well_formed_by board sound =
-    and_from _ _ (and_from _ _ (and_from _ _ (and_from _ _ (and_from _ _ (and_from _ _ (and_from _ _ (and_from _ _ (and_from _ _ (and_from _ _ (and_from _ _ (and_from _ _
-    (le-leb _ _ sound.few_bridges) sound.bridges) sound.numbered) sound.targets) sound.masters) (few_by board sound)) sound.targets_named) sound.masters_named)
-    (le-leb _ _ sound.operations)) (le-leb _ _ sound.few_discards)) sound.discards) (le-leb _ _ sound.few_drops)) sound.drops
+    WellFormed-from board (record {
+      bridges_fit = sound.few_bridges;
+      bridges = sound.bridges;
+      numbered_apart = sound.numbered;
+      targets = sound.targets;
+      masters = sound.masters;
+      few = record {
+        bridges = all_pass (λ (bridge : Bridge). nat_le (children_on board bridge.parent) 8) (λ bridge. le-leb _ _ (sound.children bridge.parent)) board.bridges;
+        targets = all_pass (λ (target : Target). nat_le (agents_on board target.bus) 8) (λ target. le-leb _ _ (sound.agents target.bus)) board.targets;
+        masters = all_pass (λ (master : Master). nat_le (agents_on board master.bus) 8) (λ master. le-leb _ _ (sound.agents master.bus)) board.masters;
+      };
+      targets_named_apart = sound.targets_named;
+      masters_named_apart = sound.masters_named;
+      operations = sound.operations;
+      discards_fit = sound.few_discards;
+      discards = sound.discards;
+      drops_fit = sound.few_drops;
+      drops = sound.drops;
+    })
 
 -- What is open.
 

@@ -1,7 +1,7 @@
 -- A target stays well formed by each detail.
-use Rattle.std.proofs.Common.{subst, sym, ap, ◌∙◌, ◌≡◌, ℕ, ◌+◌, ◌%◌, ◌^◌, Bool, true, false, not, [], ◌∷◌, ◌++◌, length, Ok, refl, arith}
+use Rattle.std.proofs.Common.{subst, sym, ◌≡◌, ℕ, ◌+◌, ◌%◌, ◌^◌, ◌≤◌, Bool, true, false, not, [], ◌∷◌, ◌++◌, length, Ok, refl, arith}
 use Rattle.std.specs.Prelude.{◌==◌, nat_le, nat_lt}
-use Rattle.std.proofs.lemmas.Bool.{and_from, not-false, ltb-false, leb-false, le-leb}
+use Rattle.std.proofs.lemmas.Bool.{and_from, not-false, ltb-false, leb-false, leb-true, le-leb}
 use Rattle.std.proofs.lemmas.Bool.Decides.{nat_tests}
 use Rattle.list_facts.specs.Lists.{total}
 use Rattle.list_facts.proofs.TotalLemmas.{total-push}
@@ -11,11 +11,11 @@ use Rattle.board_model.specs.declared.agents.Range.{Range}
 use Rattle.board_model.specs.declared.agents.Opening.{Opening}
 use Rattle.board_model.specs.declared.agents.Target.{Target}
 use Rattle.board_model.specs.WellFormed.{is_within, is_range_in, is_well_formed_range, is_dword_in, is_well_formed_opening, registers_of, is_well_formed_target}
+use Rattle.board_model.proofs.FormLemmas.{Within-parts, Target-parts, Target-from}
 use Rattle.board_draft.specs.Targets.{unit_of, end_of, is_in_units, set_identity, set_stalls, set_burst, add_range, add_abort, add_opening}
 use Rattle.board_draft.specs.Formed.{is_size, is_address}
 use Rattle.board_draft.proofs.AddedLemmas.{RangeFits, add_range-ok, add_abort-ok, add_opening-ok}
 use Rattle.board_draft.proofs.PushLemmas.{all-push, length-push}
-use Rattle.board_draft.proofs.PartLemmas.{parts_of, formed_by}
 
 -- the target as before, with its name and bus, and well formed
 pub record IsDetailed (target changed : Target) : Type 0 where
@@ -36,23 +36,18 @@ range_by wide Cfg base size small units within = absurd (cc)
 range_formed : (wide : Bool) (range : Range) → is_size range.space range.size ≡ true → RangeFits wide range → is_well_formed_range range ≡ true
 range_formed wide range small fits = range_by wide range.space range.base range.size small fits.units fits.within
 
-total_few : (n more : ℕ) → nat_lt 6 (n + more) ≡ false → nat_le (n + more) 6 ≡ true
-total_few n more few = le-leb _ _ (ltb-false _ _ few)
-
-length_few : (most n : ℕ) → nat_le most n ≡ false → nat_le (n + 1) most ≡ true
-length_few most n few = let fewer = leb-false most n few in le-leb _ _ (omega arith)
-
 pub range_detail : (wide : Bool) (range : Range) (target changed : Target) → is_size range.space range.size ≡ true → is_well_formed_target target ≡ true → add_range wide range target ≡ Ok changed → IsDetailed target changed
 range_detail wide range target changed small formed h =
     let added = add_range-ok wide range target changed h in
-    let parts = parts_of target formed in
+    let parts = Target-parts target formed in
     let P : Target → Type 0 = λ t. IsDetailed target t in
-    let fewer : nat_le (total registers_of (target.ranges ++ range ∷ [])) 6 ≡ true =
-    ap (λ n. nat_le n 6) (total-push registers_of target.ranges range) ∙ total_few _ _ added.few in
+    let sum = total-push registers_of target.ranges range in
+    let few = ltb-false _ _ added.few in
+    let fewer : total registers_of (target.ranges ++ range ∷ []) ≤ 6 = omega (arith, sum, few) in
     subst P (sym added.is) (record {
       name = refl;
       bus = refl;
-      formed = formed_by (record target { ranges = target.ranges ++ range ∷ [] }) (record {
+      formed = Target-from (record target { ranges = target.ranges ++ range ∷ [] }) (record {
         device = parts.device;
         stalls = parts.stalls;
         burst = parts.burst;
@@ -68,14 +63,15 @@ range_detail wide range target changed small formed h =
 pub abort_detail : (wide : Bool) (range : Range) (target changed : Target) → is_size range.space range.size ≡ true → is_well_formed_target target ≡ true → add_abort wide range target ≡ Ok changed → IsDetailed target changed
 abort_detail wide range target changed small formed h =
     let added = add_abort-ok wide range target changed h in
-    let parts = parts_of target formed in
+    let parts = Target-parts target formed in
     let P : Target → Type 0 = λ t. IsDetailed target t in
-    let fewer : nat_le (length (target.aborts ++ range ∷ [])) 6 ≡ true =
-    ap (λ n. nat_le n 6) (length-push target.aborts range) ∙ length_few 6 (length target.aborts) added.few in
+    let long = length-push target.aborts range in
+    let few = leb-false _ _ added.few in
+    let fewer : length (target.aborts ++ range ∷ []) ≤ 6 = omega (arith, long, few) in
     subst P (sym added.is) (record {
       name = refl;
       bus = refl;
-      formed = formed_by (record target { aborts = target.aborts ++ range ∷ [] }) (record {
+      formed = Target-from (record target { aborts = target.aborts ++ range ∷ [] }) (record {
         device = parts.device;
         stalls = parts.stalls;
         burst = parts.burst;
@@ -96,14 +92,15 @@ dword_by Cfg address formed aligned = formed
 pub opening_detail : (opening : Opening) (target changed : Target) → is_address opening.space opening.address ≡ true → is_well_formed_target target ≡ true → add_opening opening target ≡ Ok changed → IsDetailed target changed
 opening_detail opening target changed named formed h =
     let added = add_opening-ok opening target changed h in
-    let parts = parts_of target formed in
+    let parts = Target-parts target formed in
     let P : Target → Type 0 = λ t. IsDetailed target t in
-    let fewer : nat_le (length (target.openings ++ opening ∷ [])) 256 ≡ true =
-    ap (λ n. nat_le n 256) (length-push target.openings opening) ∙ length_few 256 (length target.openings) added.few in
+    let long = length-push target.openings opening in
+    let few = leb-false _ _ added.few in
+    let fewer : length (target.openings ++ opening ∷ []) ≤ 256 = omega (arith, long, few) in
     subst P (sym added.is) (record {
       name = refl;
       bus = refl;
-      formed = formed_by (record target { openings = target.openings ++ opening ∷ [] }) (record {
+      formed = Target-from (record target { openings = target.openings ++ opening ∷ [] }) (record {
         device = parts.device;
         stalls = parts.stalls;
         burst = parts.burst;
@@ -125,14 +122,14 @@ identity_detail vendor model target changed formed h =
 pub stalls_detail : (tokens : ℕ) (target changed : Target) → nat_le tokens 1000000 ≡ true → is_well_formed_target target ≡ true → set_stalls tokens target ≡ Ok changed → IsDetailed target changed
 stalls_detail tokens target changed few formed h =
     let is : changed ≡ record target { stalls = tokens } = cc in
-    let parts = parts_of target formed in
+    let parts = Target-parts target formed in
     let P : Target → Type 0 = λ t. IsDetailed target t in
     subst P (sym is) (record {
       name = refl;
       bus = refl;
-      formed = formed_by (record target { stalls = tokens }) (record {
+      formed = Target-from (record target { stalls = tokens }) (record {
         device = parts.device;
-        stalls = few;
+        stalls = leb-true _ _ few;
         burst = parts.burst;
         ranges = parts.ranges;
         registers = parts.registers;
@@ -146,15 +143,15 @@ stalls_detail tokens target changed few formed h =
 pub burst_detail : (phases : ℕ) (target changed : Target) → is_within 1 8 phases ≡ true → is_well_formed_target target ≡ true → set_burst phases target ≡ Ok changed → IsDetailed target changed
 burst_detail phases target changed few formed h =
     let is : changed ≡ record target { burst = phases } = cc in
-    let parts = parts_of target formed in
+    let parts = Target-parts target formed in
     let P : Target → Type 0 = λ t. IsDetailed target t in
     subst P (sym is) (record {
       name = refl;
       bus = refl;
-      formed = formed_by (record target { burst = phases }) (record {
+      formed = Target-from (record target { burst = phases }) (record {
         device = parts.device;
         stalls = parts.stalls;
-        burst = few;
+        burst = Within-parts 1 8 phases few;
         ranges = parts.ranges;
         registers = parts.registers;
         aborts = parts.aborts;

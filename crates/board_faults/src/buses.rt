@@ -5,7 +5,8 @@ ghost use Rattle.board_model.specs.Valid.{has_bridge_to, is_bus, lacks_a_bus, is
 
 use board_model::{Board, Bridge, Planned, bridge_to, has_bridge_to, is_bus};
 
-/// V1.
+/// V1: whether the primary bus of a bridge, the bus of an agent, or the bridge of a discard or a drop
+/// is not there.
 pub(crate) fn lacks_a_bus(board: &Board) -> bool
     ensures { result ≡ lacks_a_bus board.now }
 {
@@ -54,7 +55,8 @@ fn plan_lacks_a_bridge(board: &Board, plans: &[Planned]) -> bool
         .any(|planned| !has_bridge_to(board, planned.bus))
 }
 
-/// V2.
+/// V2: whether the bus numbers are not those of a tree: a bridge has not primary < secondary <=
+/// subordinate, its buses are not behind the bridge above it, or those of two bridges of one bus meet.
 pub(crate) fn is_no_tree(board: &Board) -> bool
     ensures { result ≡ is_no_tree board.now }
 {

@@ -4,7 +4,7 @@ ghost use Rattle.board_model.specs.Valid.{targets_share_a_device, bridges_share_
 
 use board_model::{Board, Bridge, Op, Target};
 
-/// V7.
+/// V7: whether two targets, two bridges, or a target and a bridge on one bus have one device number.
 pub(crate) fn has_devices_that_meet(board: &Board) -> bool
     ensures { result ≡ has_devices_that_meet board.now }
 {
@@ -57,7 +57,7 @@ fn is_device_of_one(target: &Target, bridges: &[Bridge]) -> bool
     bridges.iter().any(|bridge| bridge.parent == target.bus && bridge.device == target.device)
 }
 
-/// V8.
+/// V8: whether a configuration write of a program names the bus and the device of a bridge.
 pub(crate) fn writes_a_header(board: &Board) -> bool
     ensures { result ≡ writes_a_header board.now }
 {

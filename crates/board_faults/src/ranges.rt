@@ -7,7 +7,7 @@ use crate::windows::window_meets;
 use board_model::{Board, Bridge, Range, Target};
 use pci_command::Space;
 
-/// V5.
+/// V5: whether a range of a target shares an address with a window of a bridge below its bus.
 pub(crate) fn has_range_in_window(board: &Board) -> bool
     ensures { result ≡ has_range_in_window board.now }
 {
@@ -52,7 +52,7 @@ fn range_meets(range: &Range, bridge: &Bridge) -> bool
     }
 }
 
-/// V6.
+/// V6: whether two ranges on one bus share an address of one space, also two of one target.
 pub(crate) fn has_ranges_that_meet(board: &Board) -> bool
     ensures { result ≡ has_ranges_that_meet board.now }
 {

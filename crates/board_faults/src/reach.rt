@@ -6,7 +6,7 @@ use crate::spans::last_of;
 use board_model::{Board, Bridge, Target, Window, bridge_to};
 use pci_command::Space;
 
-/// V4.
+/// V4: whether a range or a window behind a bridge lies in no one window of that bridge.
 pub(crate) fn is_out_of_reach(board: &Board) -> bool
     ensures { result ≡ is_out_of_reach board.now }
 {

@@ -5,6 +5,7 @@ use Rattle.std.proofs.lemmas.Bool.{and_parts, and_from, or_parts, or_cases}
 use Rattle.std.proofs.lemmas.Bool.Decides.{nat_tests}
 use Rattle.list_facts.proofs.FindLemmas.{find_passes}
 use Rattle.list_facts.proofs.EachLemmas.{Each-find}
+use Rattle.list_facts.proofs.TestLemmas.{Each-list_all, Each-list_any}
 use Rattle.pci_command.specs.declared.command.Space.{Space}
 use Rattle.pci_command.specs.declared.command.Space.TheVariants.{Mem, Io, Cfg}
 use Rattle.pci_command.specs.declared.request.Request.{Request}
@@ -19,16 +20,11 @@ use Rattle.board_model.specs.declared.board.Board.{Board}
 use Rattle.board_model.specs.Claims.{range_holds, window_holds, bridge_holds, decodes_down, claim_upwards, claim_by_bridge, claim_by_address, claim_by_header, claim_by_device, claim_by_bus, is_type_0, device_in, bus_in, claim_in_configuration, claim_in_space, claim}
 use Rattle.board_model.specs.WellFormed.{has_bus, are_numbered_apart}
 use Rattle.board_model.specs.Valid.{some_two, are_beside, is_numbered, is_nested, bridges_meet, own_covers, is_reached, window_is_reached, windows_are_reached, last_of, ranges_are_reached, child_meets, targets_meet, ranges_meet, targets_share_a_device, bridges_share_a_device, is_device_of, IsValid}
+use Rattle.board_model.proofs.FormLemmas.{WellFormed-parts}
 use Rattle.board_laws.specs.Claimants.{decodes, decodes_up, is_target_device, is_bridge_device, leads_to, targets_from, lanes_down_that, headers_that, claimants_by_address, claimants_in_configuration, claimants_in, claimants, one_of, OneClaimant}
 use Rattle.board_laws.proofs.StepLemmas.{own_of}
-use Rattle.board_laws.proofs.ValidLemmas.{Each-none, numbered_apart}
 use Rattle.board_laws.proofs.OneLemmas.{Found, found_any, found_place, filter_none, filter_one, target_list, targets_one}
 use Rattle.board_laws.proofs.SpanLemmas.{Inside, inside_window, Holds, Holds-range, bridge-covers, bridges-meet, targets-meet, child-meets}
-
--- where all pass, each does
-Each-pass : {X : Type 0} (test : X → Bool) (xs : List X) → list_all test xs ≡ true → AllByRecursion (λ x. test x ≡ true) xs
-Each-pass test [] all = tt
-Each-pass test (x ∷ xs) all = let parts = and_parts (test x) (list_all test xs) all in (parts.0, Each-pass test xs parts.1)
 
 -- where no element passes one test, none passes a narrower one
 none_narrower : {X : Type 0} (wide narrow : X → Bool) → ((x : X) → wide x ≡ false → narrow x ≡ false) → (xs : List X) → list_any wide xs ≡ false → list_any narrow xs ≡ false
@@ -103,7 +99,7 @@ up_covered bus space address base limit (Some own) inside covers = rw (bridge-co
 
 module _ (board : Board) (valid : IsValid board) where
   apart : are_numbered_apart board.bridges ≡ true
-  apart = numbered_apart board valid.well_formed
+  apart = (WellFormed-parts board valid.well_formed).numbered_apart
 
   -- a range of a target on the bus, and a window of a bridge below it, lie in a window of the bridge above
   target_up : (bus : ℕ) (space : Space) (address : ℕ) → Found (decodes bus space address) board.targets → up_list bus space address (own_of board bus) ≡ []
@@ -118,9 +114,9 @@ module _ (board : Board) (valid : IsValid board) where
       let unreached : TargetAgent → Bool = λ t. not (ranges_are_reached board t) in
       let fault = or_parts (list_any unreached board.targets) (list_any (λ (bridge : Bridge). not (windows_are_reached board bridge)) board.bridges) valid.reach in
       let all : ranges_are_reached board target ≡ true =
-      not_false (ranges_are_reached board target) (Each-find (λ t. unreached t ≡ false) (decodes bus space address) board.targets target (Each-none unreached board.targets fault.0) found.is) in
+      not_false (ranges_are_reached board target) (Each-find (λ t. unreached t ≡ false) (decodes bus space address) board.targets target (Each-list_any unreached board.targets fault.0) found.is) in
       let reached : Range → Bool = λ r. is_reached board target.bus r.space r.base (last_of r) in
-      let own_here : reached range ≡ true = Each-find (λ r. reached r ≡ true) (range_holds space address) target.ranges range (Each-pass reached target.ranges all) held.is in
+      let own_here : reached range ≡ true = Each-find (λ r. reached r ≡ true) (range_holds space address) target.ranges range (Each-list_all reached target.ranges all) held.is in
       let in_space : is_reached board target.bus space range.base (last_of range) ≡ true = subst (λ s. is_reached board target.bus s range.base (last_of range) ≡ true) holds.in_space own_here in
       let covered : is_reached board bus space range.base (last_of range) ≡ true = subst (λ n. is_reached board n space range.base (last_of range) ≡ true) on_bus in_space in
       up_covered bus space address range.base (last_of range) (own_of board bus) holds.inside covered
@@ -157,7 +153,7 @@ module _ (board : Board) (valid : IsValid board) where
       let unreached : Bridge → Bool = λ b. not (windows_are_reached board b) in
       let fault = or_parts (list_any (λ (target : TargetAgent). not (ranges_are_reached board target)) board.targets) (list_any unreached board.bridges) valid.reach in
       let reached : windows_are_reached board child ≡ true =
-      not_false (windows_are_reached board child) (Each-find (λ b. unreached b ≡ false) (decodes_down bus space address) board.bridges child (Each-none unreached board.bridges fault.1) is) in
+      not_false (windows_are_reached board child) (Each-find (λ b. unreached b ≡ false) (decodes_down bus space address) board.bridges child (Each-list_any unreached board.bridges fault.1) is) in
       bridge_up bus space address child (eqb-true child.parent bus parts.0) parts.1 reached
 
   -- no range of a target on the bus meets a window of a bridge below it
@@ -166,9 +162,9 @@ module _ (board : Board) (valid : IsValid board) where
       let target : TargetAgent = found.one in
       let test : TargetAgent → Bool = λ t. list_any (child_meets t) board.bridges in
       let none : list_any (child_meets target) board.bridges ≡ false =
-      Each-find (λ t. test t ≡ false) (decodes bus space address) board.targets target (Each-none test board.targets valid.ranges_beside_windows) found.is in
+      Each-find (λ t. test t ≡ false) (decodes bus space address) board.targets target (Each-list_any test board.targets valid.ranges_beside_windows) found.is in
       let clear : child_meets target child ≡ false =
-      Each-find (λ b. child_meets target b ≡ false) (decodes_down bus space address) board.bridges child (Each-none (child_meets target) board.bridges none) is in
+      Each-find (λ b. child_meets target b ≡ false) (decodes_down bus space address) board.bridges child (Each-list_any (child_meets target) board.bridges none) is in
       let meets : child_meets target child ≡ true =
       child-meets bus space address target child (find_passes (decodes bus space address) board.targets target found.is) (find_passes (decodes_down bus space address) board.bridges child is) in
       cc
@@ -252,12 +248,12 @@ module _ (board : Board) (valid : IsValid board) (bus : ℕ) where
       let t : TargetAgent = found.one in
       let test : TargetAgent → Bool = λ x. list_any (is_device_of x) board.bridges in
       let none : list_any (is_device_of t) board.bridges ≡ false =
-      Each-find (λ x. test x ≡ false) (is_target_device bus device) board.targets t (Each-none test board.targets clear) found.is in
+      Each-find (λ x. test x ≡ false) (is_target_device bus device) board.targets t (Each-list_any test board.targets clear) found.is in
       let P : Option Bridge → Type 0 = λ header. find (is_bridge_device bus device) board.bridges ≡ header → One (Target target ∷ header_list header) (Target target) in
       (elim (find (is_bridge_device bus device) board.bridges) as P [
         | None ↦ λ _. one_claims (Target target)
         | Some bridge ↦ λ some.
-            let apart : is_device_of t bridge ≡ false = Each-find (λ b. is_device_of t b ≡ false) (is_bridge_device bus device) board.bridges bridge (Each-none (is_device_of t) board.bridges none) some in
+            let apart : is_device_of t bridge ≡ false = Each-find (λ b. is_device_of t b ≡ false) (is_bridge_device bus device) board.bridges bridge (Each-list_any (is_device_of t) board.bridges none) some in
             let meets : is_device_of t bridge ≡ true =
             both_equal bridge.parent bridge.device t.bus t.device bus device
             (find_passes (is_bridge_device bus device) board.bridges bridge some) (find_passes (is_target_device bus device) board.targets t found.is) in

@@ -1,5 +1,5 @@
 -- Who claims a request on a bus: PCI-to-PCI Bridge Architecture Specification 1.1, chapter 4 (address
--- decoding) and section 3.1 (configuration transactions).
+-- decoding) and section 3.1 (configuration transactions); the chapter and section numbers are from memory.
 use Rattle.std.specs.Prelude.{ℕ, Bool, true, false, ◌+◌, ◌/◌, ◌%◌, ◌^◌, Option, Some, None, ◌&&◌, ◌||◌, ◌==◌, nat_lt, nat_le, if◌then◌else◌}
 use Rattle.std.specs.List.{find, list_any, position_from}
 use Rattle.pci_command.specs.declared.command.Space.{Space}
@@ -72,13 +72,15 @@ claim_by_bus None = Nobody
 abbrev pub is_type_0 : ℕ → Bool
 is_type_0 address = address % 4 == 0
 
--- the device number of a configuration address (bits 15 to 11), and the bus number of one of type 1
+-- the device number of a configuration address (bits 15 to 11)
 abbrev pub device_in : ℕ → ℕ
 device_in address = address / 2 ^ 11 % 2 ^ 5
 
+-- the bus number of a configuration address of type 1 (bits 23 to 16)
 abbrev pub bus_in : ℕ → ℕ
 bus_in address = address / 2 ^ 16 % 2 ^ 8
 
+-- who claims a configuration address on the bus: of type 0 by its device number, of type 1 by the bus that it names
 abbrev pub claim_in_configuration : Board → ℕ → ℕ → Place
 claim_in_configuration board bus address =
     if is_type_0 address
@@ -87,6 +89,7 @@ claim_in_configuration board bus address =
     else claim_by_bus
     (find (λ bridge. bridge.parent == bus && nat_le bridge.bus (bus_in address) && nat_le (bus_in address) bridge.last) board.bridges)
 
+-- who claims an address of a space on the bus
 abbrev pub claim_in_space : Board → ℕ → Space → ℕ → Place
 claim_in_space board bus Mem address =
     claim_by_address board bus Mem address

@@ -1,5 +1,5 @@
 -- The operations of a board, and the request of each as driven on a bus: PCI Local Bus
--- Specification 2.2, sections 3.1.1, 3.2.2 and 3.2.2.3.
+-- Specification 2.2, sections 3.1.1, 3.2.2 and 3.2.2.3 (section numbers from memory).
 use Rattle.std.specs.Prelude.{ℕ, Bool, false, ◌+◌, ◌*◌, ◌^◌, List, [], ◌∷◌, Option, Some, None, ◌==◌, nat_lt, if◌then◌else◌, slice_get}
 use Rattle.std.specs.Option.{option_map, option_and_then}
 use Rattle.pci_command.specs.declared.command.Command.{Command}
@@ -82,6 +82,7 @@ request_of board o on = option_map (λ op. request_on op on) (op_of board o)
 abbrev pub is_posted : Request → Bool
 is_posted request = same_command request.command MemWrite
 
+-- whether an operation that was found reads
 abbrev pub reads_in : Option Op → Bool
 reads_in None = false
 reads_in (Some op) = is_read (command_of op)
@@ -90,6 +91,7 @@ reads_in (Some op) = is_read (command_of op)
 abbrev pub reads : Board → OpId → Bool
 reads board o = reads_in (op_of board o)
 
+-- whether two requests are there and the same
 abbrev pub both_same : Option Request → Option Request → Bool
 both_same None other = false
 both_same (Some request) None = false

@@ -23,13 +23,15 @@ abbrev pub primary_in : Option Bridge → ℕ
 primary_in None = 0
 primary_in (Some bridge) = bridge.parent
 
+-- the bus above the bridge to this bus; 0 where there is none
 abbrev pub primary_of : Board → ℕ → ℕ
 primary_of board bus = primary_in (find (λ bridge. bridge.bus == bus) board.bridges)
 
--- the bus on which what a lane carries arrives, and the one from which it comes
+-- the bus on which what a lane carries arrives
 abbrev pub end_of : Board → BridgeLane → ℕ
 end_of board lane = if lane.up then primary_of board lane.bus else lane.bus
 
+-- the bus from which what a lane carries comes
 abbrev pub start_of : Board → BridgeLane → ℕ
 start_of board lane = if lane.up then lane.bus else primary_of board lane.bus
 
@@ -39,6 +41,7 @@ pub record Route : Type 0 where
   pub bus : ℕ
   pub owner : Place
 
+-- the route from a bus where this place claims: it ends there, or goes on over a lane
 abbrev pub route_by : (BridgeLane → Route) → ℕ → Place → Route
 route_by onwards on (Target target) = record { lanes = []; bus = on; owner = Target target }
 route_by onwards on (Header bus) = record { lanes = []; bus = on; owner = Header bus }
@@ -46,12 +49,13 @@ route_by onwards on Nobody = record { lanes = []; bus = on; owner = Nobody }
 route_by onwards on (Lane lane) =
     let rest = onwards lane in record { lanes = lane ∷ rest.lanes; bus = rest.bus; owner = rest.owner }
 
+-- the route of an operation over at most so many lanes
 abbrev pub route_within : ℕ → Board → Op → ℕ → Route
 route_within zero board op on = record { lanes = []; bus = on; owner = claim board on (request_on op on) }
 route_within (suc n) board op on =
     route_by (λ lane. route_within n board op (end_of board lane)) on (claim board on (request_on op on))
 
--- by following claims from the bus on: no way takes more lanes than the board has bridges
+-- the route of an operation from a bus on, by following claims: none takes more lanes than the board has bridges
 abbrev pub route_of : Board → Op → ℕ → Route
 route_of board op on = route_within (length board.bridges) board op on
 
@@ -81,6 +85,7 @@ dwords_from target space address [] = []
 dwords_from target space address (phase ∷ phases) =
     record { target = target; space = space; address = address } ∷ dwords_from target space (address + 4) phases
 
+-- the dwords of a request at a target
 abbrev pub dwords_of : ℕ → Request → List Dword
 dwords_of target request =
     let space = space_of request.command in
@@ -91,6 +96,7 @@ abbrev pub words_at : ℕ → Request → Option TargetAgent → List Dword
 words_at place request None = []
 words_at place request (Some target) = if aborts_at target request then [] else dwords_of place request
 
+-- the words of a request at the place that claims it: none where it is no target
 abbrev pub words_by : Board → Request → Place → List Dword
 words_by board request (Target place) = words_at place request (slice_get board.targets place)
 words_by board request (Header bus) = []
@@ -105,10 +111,12 @@ words_of board op on = let route = route_of board op on in words_by board (reque
 abbrev pub pieces_in : ℕ → ℕ → ℕ
 pieces_in burst phases = (phases + (burst - 1)) / burst
 
+-- in how many pieces a target takes so many data phases: in one where it aborts them
 abbrev pub pieces_at : Request → ℕ → Option TargetAgent → ℕ
 pieces_at request phases None = 1
 pieces_at request phases (Some target) = if aborts_at target request then 1 else pieces_in target.burst phases
 
+-- the same by the place that claims the request: in one where it is no target
 abbrev pub pieces_by : Board → Request → ℕ → Place → ℕ
 pieces_by board request phases (Target place) = pieces_at request phases (slice_get board.targets place)
 pieces_by board request phases (Header bus) = 1

@@ -25,13 +25,14 @@ pub struct Target {
     pub bus: u8,
     /// Its device number there, 0 to 31.
     pub device: u8,
-    /// Its vendor and device identification (PCI Local Bus 2.2, section 6.2.1).
+    /// Its vendor and device identification (PCI Local Bus 2.2, section 6.2.1;
+    /// section number from memory).
     pub vendor: u16,
     pub model: u16,
     /// How many accesses it meets with Retry before it answers: its stall tokens.
     pub stalls: u32,
     /// How many data phases of a write it takes before it disconnects, 1 to 8 (PCI Local Bus 2.2,
-    /// section 3.3.3.2.1).
+    /// section 3.3.3.2.1; section number from memory).
     pub burst: u8,
     pub ranges: List<Range>,
     /// Where it answers with Target-Abort.

@@ -13,7 +13,8 @@ pub struct Window {
     pub limit: u64,
 }
 
-/// A PCI-to-PCI bridge (PCI-to-PCI Bridge Architecture 1.1, section 3.2).
+/// A PCI-to-PCI bridge (PCI-to-PCI Bridge Architecture 1.1, section 3.2; section number from
+/// memory).
 #[derive(Clone, Copy, Debug, Default, PartialEq, Eq, PartialOrd, Ord, Hash)]
 pub struct Bridge {
     /// Its secondary bus, by which the bridge is named.
@@ -33,7 +34,8 @@ pub struct Bridge {
     pub posted: u8,
     /// How many delayed requests it holds in each direction, 1 to 8.
     pub delayed: u8,
-    /// The master abort mode (PCI-to-PCI Bridge Architecture 1.1, section 3.2.5.18, bit 5).
+    /// The master abort mode (PCI-to-PCI Bridge Architecture 1.1, section 3.2.5.18, bit 5;
+    /// section number from memory).
     pub mode: bool,
 }
 

@@ -89,7 +89,8 @@ fn address_on(op: &Op, on: u8) -> u64
     }
 }
 
-/// Of type 0 on the bus that is named, of type 1 on any other (PCI Local Bus 2.2, section 3.2.2.3).
+/// Of type 0 on the bus that is named, of type 1 on any other (PCI Local Bus 2.2, section 3.2.2.3;
+/// section number from memory).
 fn configuration_address(on: u8, bus: u8, device: u8, register: u8) -> u64
     ensures { result ≡ configuration_address on bus device register }
 {

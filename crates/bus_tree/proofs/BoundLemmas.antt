@@ -2,11 +2,8 @@
 use Rattle.std.proofs.Common.{◌≡◌, ℕ, ◌+◌, ◌*◌, ◌-◌, ◌<◌, ◌≤◌, ◌^◌, zero, suc, true, false, nat_le, ◌==◌, List, [], ◌∷◌, length, Option, Some, None, slice_get, arith, if◌then◌else◌}
 use Rattle.std.specs.List.{list_all}
 use Rattle.std.proofs.Math.Nat.{mul-le-mul_left, mul-le-mul_right, div-zero, div-le_of_le-mul}
-use Rattle.std.proofs.lemmas.Bool.{eqb-true, and_parts}
+use Rattle.std.proofs.lemmas.Bool.{and_parts}
 use Rattle.list_facts.specs.Lists.{total, greatest}
-use Rattle.pci_command.specs.declared.command.Command.{Command}
-use Rattle.pci_command.specs.declared.command.Command.TheVariants.{IoRead, IoWrite, MemRead, MemWrite, CfgRead as ConfigurationRead, CfgWrite as ConfigurationWrite, MemReadMultiple, MemReadLine, MemWriteInvalidate}
-use Rattle.pci_command.specs.declared.phases.Phase.{Phase}
 use Rattle.pci_command.specs.declared.request.Request.{Request}
 use Rattle.board_model.specs.declared.agents.Target.{Target as TargetAgent}
 use Rattle.board_model.specs.declared.agents.Master.{Master}
@@ -14,14 +11,14 @@ use Rattle.board_model.specs.declared.bridge.Lane.{Lane as BridgeLane}
 use Rattle.board_model.specs.declared.bridge.Place.{Place}
 use Rattle.board_model.specs.declared.bridge.Place.TheVariants.{Target, Header, Lane, Nobody}
 use Rattle.board_model.specs.declared.op.Op.{Op}
-use Rattle.board_model.specs.declared.op.Op.TheVariants.{Read, Write, CfgRead, CfgWrite, Poll}
 use Rattle.board_model.specs.declared.board.Board.{Board}
-use Rattle.board_model.specs.WellFormed.{write_space, is_well_formed_write, is_well_formed_op, is_well_formed_master, is_well_formed_target, operations_in, is_well_formed}
+use Rattle.board_model.specs.WellFormed.{is_well_formed_op, is_well_formed_master, is_well_formed_target, operations_in, is_well_formed}
 use Rattle.board_model.specs.Requests.{phases_of, request_on, tries_of, is_posted}
 use Rattle.board_model.specs.Claims.{claim}
 use Rattle.board_model.specs.Ways.{Route, route_by, route_within, route_of, way, end_of, aborts_at, pieces_in, pieces_at, pieces_by, pieces_of, cost_of_try, cost_of, longest_way, bound_of}
+use Rattle.board_model.proofs.FormLemmas.{WellFormed-parts, Target-parts, Master-parts}
+use Rattle.board_model.proofs.OpLemmas.{op_phases}
 use Rattle.bus_tree.specs.Decodable.{IsDecodable}
-use Rattle.bus_tree.proofs.FormLemmas.{front, back, at_most, Form-board}
 
 -- A way takes at most as many lanes as the board has bridges.
 
@@ -41,27 +38,6 @@ way_short : (board : Board) (op : Op) (on : ℕ) → IsDecodable board → lengt
 way_short board op on decodable = omega (arith, lanes_within (length board.bridges) board op on, decodable.few_bridges)
 
 -- A write reaches its target in at most one piece more than it has data phases.
-
-one_is_few : (n : ℕ) → (n == 1) ≡ true → n ≤ 8
-one_is_few n one = omega (arith, eqb-true n 1 one)
-
-write_phases : (command : Command) (address : ℕ) (phases : List Phase) → is_well_formed_write address phases (write_space command) ≡ true → length phases ≤ 8
-write_phases IoRead address phases formed = cc
-write_phases IoWrite address phases formed = one_is_few (length phases) (back _ _ (front _ _ formed))
-write_phases MemRead address phases formed = cc
-write_phases MemWrite address phases formed = at_most (length phases) 8 (back _ _ (front _ _ (back _ _ (front _ _ formed))))
-write_phases ConfigurationRead address phases formed = cc
-write_phases ConfigurationWrite address phases formed = cc
-write_phases MemReadMultiple address phases formed = cc
-write_phases MemReadLine address phases formed = cc
-write_phases MemWriteInvalidate address phases formed = at_most (length phases) 8 (back _ _ (front _ _ (back _ _ (front _ _ formed))))
-
-few_phases : (op : Op) → is_well_formed_op op ≡ true → length (phases_of op) ≤ 8
-few_phases (Read command address) formed = omega arith
-few_phases (Write command address phases) formed = write_phases command address phases formed
-few_phases (CfgRead bus device register) formed = omega arith
-few_phases (CfgWrite bus device register phase) formed = omega arith
-few_phases (Poll space address mask value tries) formed = omega arith
 
 pieces_in-le : (burst phases : ℕ) → pieces_in burst phases ≤ phases + 1
 pieces_in-le zero phases = omega (arith, div-zero (phases + (0 - 1)))
@@ -86,7 +62,7 @@ pieces_by-le board request phases Nobody = omega arith
 try_small : (board : Board) (on : ℕ) (op : Op) → IsDecodable board → is_well_formed_op op ≡ true → cost_of_try board on op ≤ 125
 try_small board on op decodable formed =
     let lanes = way_short board op on decodable in
-    let phases = few_phases op formed in
+    let phases = (op_phases op formed).to in
     let route = route_of board op on in
     let pieces = pieces_by-le board (request_on op route.bus) (length (phases_of op)) route.owner in
     elim (is_posted (request_on op on)) as
@@ -98,8 +74,8 @@ try_small board on op decodable formed =
 ops_small : (board : Board) (on : ℕ) (ops : List Op) → IsDecodable board → list_all is_well_formed_op ops ≡ true → total (cost_of board on) ops ≤ 125 * total tries_of ops
 ops_small board on [] decodable formed = omega arith
 ops_small board on (op ∷ ops) decodable formed =
-    let here = mul-le-mul_left (tries_of op) (try_small board on op decodable (front _ _ formed)) in
-    omega (arith, here, ops_small board on ops decodable (back _ _ formed))
+    let here = mul-le-mul_left (tries_of op) (try_small board on op decodable (and_parts _ _ formed).0) in
+    omega (arith, here, ops_small board on ops decodable (and_parts _ _ formed).1)
 
 abbrev cost_of_all : Board → List Master → ℕ
 cost_of_all board masters = total (λ (master : Master). total (cost_of board master.bus) master.ops) masters
@@ -110,20 +86,16 @@ more_costs cost costs tries later here there = omega arith
 masters_small : (board : Board) (masters : List Master) → IsDecodable board → list_all is_well_formed_master masters ≡ true → cost_of_all board masters ≤ 125 * operations_in masters
 masters_small board [] decodable formed = omega arith
 masters_small board (master ∷ masters) decodable formed =
-    more_costs _ _ (total tries_of master.ops) (operations_in masters) (ops_small board master.bus master.ops decodable (back _ _ (front _ _ formed)))
-    (masters_small board masters decodable (back _ _ formed))
+    more_costs _ _ (total tries_of master.ops) (operations_in masters) (ops_small board master.bus master.ops decodable (Master-parts master (and_parts _ _ formed).0).ops)
+    (masters_small board masters decodable (and_parts _ _ formed).1)
 
 -- Stall tokens, and ways that are gone once more.
-
-few_stalls : (target : TargetAgent) → is_well_formed_target target ≡ true → nat_le target.stalls 1000000 ≡ true
-few_stalls target formed =
-    back _ _ (front _ _ (front _ _ (front _ _ (front _ _ (front _ _ (front _ _ (front _ _ formed)))))))
 
 stalls_small : (targets : List TargetAgent) → list_all is_well_formed_target targets ≡ true → total (λ (target : TargetAgent). target.stalls) targets ≤ 1000000 * length targets
 stalls_small [] formed = omega arith
 stalls_small (target ∷ targets) formed =
     let parts = and_parts (is_well_formed_target target) (list_all is_well_formed_target targets) formed in
-    omega (arith, at_most target.stalls 1000000 (few_stalls target parts.0), stalls_small targets parts.1)
+    omega (arith, (Target-parts target parts.0).stalls, stalls_small targets parts.1)
 
 greatest_small : {X : Type 0} (weight : X → ℕ) (most : ℕ) → ((x : X) → weight x ≤ most) → (xs : List X) → greatest weight xs ≤ most
 greatest_small weight most small [] = omega arith
@@ -140,10 +112,8 @@ product_small longest discards short few =
 
 pub bound_of-small : (board : Board) → is_well_formed board ≡ true → IsDecodable board → bound_of board < 2 ^ 64
 bound_of-small board formed decodable =
-    let form = Form-board board formed in
+    let form = WellFormed-parts board formed in
     let costs = masters_small board board.masters decodable form.masters in
-    let operations = at_most (operations_in board.masters) 65536 form.operations in
     let stalls = stalls_small board.targets form.targets in
-    let again = product_small (longest_way board) (length board.discards) (longest_small board decodable) (at_most (length board.discards) 1024 form.discards) in
-    let drops = at_most (length board.drops) 1024 form.drops in
-    omega (arith, costs, operations, stalls, decodable.few_targets, again, drops)
+    let again = product_small (longest_way board) (length board.discards) (longest_small board decodable) form.discards_fit in
+    omega (arith, costs, form.operations, stalls, decodable.few_targets, again, form.drops_fit)

@@ -1,7 +1,7 @@
 -- There are at most eight targets on each of the buses that are there, so they are few.
 use Rattle.std.proofs.Common.{◌≡◌, ℕ, ◌+◌, ◌*◌, ◌≤◌, Bool, true, false, cond, eqb, nat_le, not, ◌||◌, ◌==◌, List, [], ◌∷◌, length, count_by, refl, subst, arith}
 use Rattle.std.specs.List.{list_all, list_any}
-use Rattle.std.proofs.lemmas.Bool.{or_parts, eqb-true}
+use Rattle.std.proofs.lemmas.Bool.{and_parts, or_parts, eqb-true, leb-true}
 use Rattle.std.proofs.lemmas.Bool.Decides.{nat_tests}
 use Rattle.std.proofs.lemmas.List.Recursion.{is_count_by}
 use Rattle.list_facts.specs.Lists.{total}
@@ -9,9 +9,8 @@ use Rattle.list_facts.proofs.TotalLemmas.{total-le, total-plus, total-zero}
 use Rattle.board_model.specs.declared.agents.Target.{Target}
 use Rattle.board_model.specs.declared.bridge.Bridge.{Bridge}
 use Rattle.board_model.specs.declared.board.Board.{Board}
-use Rattle.board_model.specs.WellFormed.{has_bus, agents_on, are_few}
+use Rattle.board_model.specs.WellFormed.{has_bus, agents_on, AreFew}
 use Rattle.board_model.specs.Valid.{is_bus, lacks_a_bus}
-use Rattle.bus_tree.proofs.FormLemmas.{front, back, at_most}
 
 abbrev one_if : Bool → ℕ
 one_if test = cond test 1 0
@@ -38,8 +37,8 @@ few_agents board bus (target ∷ targets) few some =
     let P : Bool → Type 0 = λ b. eqb target.bus bus ≡ b → (b || later) ≡ true → agents_on board bus ≤ 8 in
     let Q : ℕ → Type 0 = λ n. agents_on board n ≤ 8 in
     (elim (eqb target.bus bus) as P [
-      | true ↦ λ same _. subst Q (eqb-true target.bus bus same) (at_most (agents_on board target.bus) 8 (front _ _ few))
-      | false ↦ λ _ there. few_agents board bus targets (back _ _ few) there
+      | true ↦ λ same _. subst Q (eqb-true target.bus bus same) (leb-true (agents_on board target.bus) 8 (and_parts _ _ few).0)
+      | false ↦ λ _ there. few_agents board bus targets (and_parts _ _ few).1 there
     ]) refl some
 
 none_there : (bus : ℕ) (targets : List Target) → list_any (λ (target : Target). target.bus == bus) targets ≡ false → on_bus bus targets ≡ 0
@@ -48,16 +47,13 @@ none_there bus (target ∷ targets) none =
     let parts = or_parts (target.bus == bus) (list_any (λ (target : Target). target.bus == bus) targets) none in
     rw parts.0 (omega (arith, none_there bus targets parts.1))
 
-few_beside : (board : Board) → are_few board ≡ true → list_all (λ (target : Target). nat_le (agents_on board target.bus) 8) board.targets ≡ true
-few_beside board few = back _ _ (front _ _ few)
-
-few_there : (board : Board) (bus : ℕ) → are_few board ≡ true → on_bus bus board.targets ≤ 8
+few_there : (board : Board) (bus : ℕ) → AreFew board → on_bus bus board.targets ≤ 8
 few_there board bus few =
     let test : Target → Bool = λ target. target.bus == bus in
     let P : Bool → Type 0 = λ b. list_any test board.targets ≡ b → on_bus bus board.targets ≤ 8 in
     (elim (list_any test board.targets) as P [
       | true ↦ λ some.
-          let all : agents_on board bus ≤ 8 = few_agents board bus board.targets (few_beside board few) some in
+          let all : agents_on board bus ≤ 8 = few_agents board bus board.targets few.targets some in
           omega (arith, all, count-total test board.targets)
       | false ↦ λ none. omega (arith, none_there bus board.targets none)
     ]) refl
@@ -99,7 +95,7 @@ all_there board (target ∷ targets) none =
 none_astray : (board : Board) → lacks_a_bus board ≡ false → list_any (λ (target : Target). not (is_bus board target.bus)) board.targets ≡ false
 none_astray board buses = (or_parts _ _ (or_parts _ _ (or_parts _ _ (or_parts _ _ buses).0).0).0).1
 
-pub few_targets : (board : Board) → are_few board ≡ true → lacks_a_bus board ≡ false → length board.targets ≤ 8 + 8 * length board.bridges
+pub few_targets : (board : Board) → AreFew board → lacks_a_bus board ≡ false → length board.targets ≤ 8 + 8 * length board.bridges
 few_targets board few buses =
     omega
     (arith, all_there board board.targets (none_astray board buses), few_there board 0 few, few_behind board.bridges board.targets (λ bus. few_there board bus few))

@@ -1,6 +1,5 @@
 pub mod FoundLemmas
 pub mod GreatestLemmas
-pub mod FormLemmas
 pub mod FewLemmas
 pub mod DecodableLemmas
 pub mod BoundLemmas

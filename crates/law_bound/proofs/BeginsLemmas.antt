@@ -1,6 +1,7 @@
 -- Before the first event everything is left.
 use Rattle.std.proofs.Common.{◌≡◌, ℕ, ◌+◌, ◌*◌, ◌-◌, ◌<◌, zero, suc, Bool, true, false, nat_lt, List, [], ◌∷◌, length, Some, None, slice_get, refl, arith, if◌then◌else◌}
 use Rattle.std.specs.List.{list_all, AllByRecursion}
+use Rattle.std.proofs.lemmas.Bool.{and_parts}
 use Rattle.std.proofs.lemmas.Bool.Decides.{nat_tests}
 use Rattle.list_facts.specs.Lists.{total}
 use Rattle.list_facts.proofs.TotalLemmas.{total-zero}
@@ -17,7 +18,8 @@ use Rattle.board_model.specs.declared.board.Planned.{Planned}
 use Rattle.board_model.specs.WellFormed.{is_well_formed, is_well_formed_op, is_well_formed_master, is_well_formed_plan}
 use Rattle.board_model.specs.Requests.{op_of, phases_of, request_on, tries_of, is_posted}
 use Rattle.board_model.specs.Ways.{way, pieces_of, cost_of, longest_way, bound_of}
-use Rattle.bus_tree.proofs.FormLemmas.{front, back, at_most, Form-board}
+use Rattle.board_model.proofs.FormLemmas.{WellFormed-parts, Master-parts, Within-parts}
+use Rattle.board_model.proofs.OpLemmas.{op_tries}
 use Rattle.history_model.specs.World.{world_of}
 use Rattle.history_model.specs.Program.{turn_of}
 use Rattle.history_model.specs.Left.{bridge_left, delayed_left, op_left, program_left, programs_left, stalls_left, discard_left, drop_left, left_of}
@@ -125,31 +127,25 @@ left-begins board begins =
 
 -- A well-formed board begins so.
 
-op_tried : (op : Op) → is_well_formed_op op ≡ true → 0 < tries_of op
-op_tried (Read command address) formed = omega arith
-op_tried (Write command address phases) formed = omega arith
-op_tried (CfgRead bus device register) formed = omega arith
-op_tried (CfgWrite bus device register phase) formed = omega arith
-op_tried (Poll space address mask value tries) formed = omega (arith, at_most 1 tries (front _ _ (back _ _ formed)))
-
 ops_tried : (ops : List Op) → list_all is_well_formed_op ops ≡ true → IsTried ops
 ops_tried [] formed = tt
-ops_tried (op ∷ ops) formed = op_tried op (front _ _ formed)
+ops_tried (op ∷ ops) formed = (op_tries op (and_parts _ _ formed).0).from
 
 masters_tried : (masters : List MasterAgent) → list_all is_well_formed_master masters ≡ true → AllByRecursion (λ (master : MasterAgent). IsTried master.ops) masters
 masters_tried [] formed = tt
 masters_tried (master ∷ masters) formed =
-    (ops_tried master.ops (back _ _ (front _ _ formed)), masters_tried masters (back _ _ formed))
+    (ops_tried master.ops (Master-parts master (and_parts _ _ formed).0).ops, masters_tried masters (and_parts _ _ formed).1)
 
 lines_count : (lines : List Planned) → list_all is_well_formed_plan lines ≡ true → AllByRecursion (λ (planned : Planned). 0 < planned.count) lines
 lines_count [] formed = tt
 lines_count (planned ∷ lines) formed =
-    (omega (arith, at_most 1 planned.count (front _ _ (front _ _ formed))), lines_count lines (back _ _ formed))
+    (omega (arith, (Within-parts 1 1000000 planned.count (and_parts _ _ formed).0).from), lines_count lines (and_parts _ _ formed).1)
 
 pub Begins-formed : (board : Board) → is_well_formed board ≡ true → Begins board
 Begins-formed board formed =
+    let form = WellFormed-parts board formed in
     record {
-      tried = masters_tried board.masters (Form-board board formed).masters;
-      discards = lines_count board.discards (back _ _ (front _ _ (front _ _ formed)));
-      drops = lines_count board.drops (back _ _ formed);
+      tried = masters_tried board.masters form.masters;
+      discards = lines_count board.discards form.discards;
+      drops = lines_count board.drops form.drops;
     }

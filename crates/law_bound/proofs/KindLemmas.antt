@@ -1,5 +1,6 @@
 -- Each event of a run is one of posted writes, of credits and of stalls, or one of delayed requests.
 use Rattle.std.proofs.Common.{◌≡◌, ℕ, Bool, true, false, List, [], ◌∷◌, Option, Some, None, is_some, refl, ◌⊎◌, inl, inr}
+use Rattle.std.proofs.lemmas.Bool.{and_parts}
 use Rattle.pci_command.specs.declared.op_id.OpId.{OpId}
 use Rattle.board_model.specs.declared.bridge.Lane.{Lane as BridgeLane}
 use Rattle.board_model.specs.declared.bridge.Place.{Place}
@@ -7,7 +8,6 @@ use Rattle.board_model.specs.declared.op.Op.{Op}
 use Rattle.board_model.specs.declared.board.Board.{Board}
 use Rattle.board_model.specs.Requests.{op_of}
 use Rattle.board_model.specs.Valid.{IsValid}
-use Rattle.bus_tree.proofs.FormLemmas.{front, back}
 use Rattle.history_model.specs.declared.event.By.{By}
 use Rattle.history_model.specs.declared.event.Mark.{Mark}
 use Rattle.history_model.specs.declared.event.Step.{Step}
@@ -33,7 +33,7 @@ named_other board o (Some op) is there other = record { op = op; is_op = is; is_
 
 -- the operation of an act that has a line is there
 line_there : (board : Board) (on : ℕ) (by : By) (o : OpId) (step : Step) (place : Place) → HasLine board (Act on by o step place) → is_some (op_of board o) ≡ true
-line_there board on by o step place line = front _ _ (back _ _ (back _ _ line))
+line_there board on by o step place line = (and_parts _ _ (and_parts _ _ (and_parts _ _ line).1).1).0
 
 -- an act of the delayed kind, other than a stall
 other_act : (board : Board) (h : List Event) (on : ℕ) (by : By) (o : OpId) (step : Step) (place : Place) → is_stall step ≡ false → NamesOp board false o → IsDelayedEvent board h (Act on by o step place)

@@ -1,9 +1,8 @@
 -- How a delayed request is answered: by who claims it, at the end of its way or at a lane.
 use Rattle.std.proofs.Common.{◌≡◌, ℕ, ◌+◌, ◌*◌, ◌/◌, ◌%◌, ◌^◌, ◌≤◌, Bool, true, false, ◌&&◌, cond, nat_lt, List, [], ◌∷◌, length, Option, Some, None, refl, sym, ap, subst, ◌∙◌, arith, slice_get, ⊎_elim}
 use Rattle.std.specs.List.{find, list_all, AllByRecursion}
-use Rattle.std.proofs.lemmas.Bool.{and_parts}
-use Rattle.std.proofs.lemmas.Bool.Decides.{nat_tests}
 use Rattle.list_facts.specs.Lists.{before}
+use Rattle.list_facts.proofs.TestLemmas.{list_all-get}
 use Rattle.pci_command.specs.declared.request.Request.{Request}
 use Rattle.pci_command.specs.declared.op_id.OpId.{OpId}
 use Rattle.pci_command.specs.Command.{space_of, is_read}
@@ -18,12 +17,13 @@ use Rattle.board_model.specs.declared.board.Board.{Board}
 use Rattle.board_model.specs.Requests.{op_of, request_on, request_of, is_posted}
 use Rattle.board_model.specs.Claims.{claim_in_space, claim}
 use Rattle.board_model.specs.Ways.{address_in, aborts_at}
-use Rattle.board_model.specs.WellFormed.{is_within, is_well_formed_target}
+use Rattle.board_model.specs.WellFormed.{is_well_formed_target}
 use Rattle.board_model.specs.Valid.{IsValid}
+use Rattle.board_model.proofs.FormLemmas.{WellFormed-parts, Target-parts}
 use Rattle.bridge_header.specs.HeaderBytes.{header_word}
 use Rattle.board_laws.specs.WayEnds.{is_lane}
 use Rattle.board_laws.proofs.StepLemmas.{Up, Down, steps}
-use Rattle.board_laws.proofs.ValidLemmas.{IsTree-valid, targets_formed}
+use Rattle.board_laws.proofs.ValidLemmas.{IsTree-valid}
 use Rattle.history_model.specs.declared.event.By.{By}
 use Rattle.history_model.specs.declared.event.Step.{Step}
 use Rattle.history_model.specs.declared.event.Step.TheVariants.{Land, Part, Read, Latch, Take, Stall, MasterAbort, TargetAbort}
@@ -39,7 +39,7 @@ use Rattle.history_model.specs.World.{World, lane_back, is_own, world_of}
 use Rattle.history_model.specs.Words.{phases_parted, parted_by, through, without, value_of}
 use Rattle.history_model.specs.Answers.{stalls_used, target_step, target_answer, header_answer, completion_passes, completion_answer, delayed_answer, posted_answer, lane_answer, bridge_to, answer_by, answer_to}
 use Rattle.history_model.specs.Runs.{Run}
-use Rattle.law_slots.proofs.RequestLemmas.{Each-slice_get, same_op_self}
+use Rattle.law_slots.proofs.RequestLemmas.{same_op_self}
 use Rattle.law_slots.proofs.PartLemmas.{delayed-not_parted}
 use Rattle.law_slots.proofs.WellFormedLemmas.{WellFormed-single}
 use Rattle.law_changes.specs.Steps.{is_stall, IsEnd}
@@ -48,25 +48,10 @@ use Rattle.law_changes.specs.Steps.{is_stall, IsEnd}
 abbrev Whole : Step → Type 0
 Whole step = (is_stall step ≡ false) × (phases_parted step ≡ 0)
 
--- where all pass, each does
-list_all_each : {X : Type 0} (test : X → Bool) (xs : List X) → list_all test xs ≡ true → AllByRecursion (λ x. test x ≡ true) xs
-list_all_each test [] all = tt
-list_all_each test (x ∷ xs) all = let parts = and_parts (test x) (list_all test xs) all in (parts.0, list_all_each test xs parts.1)
-
--- the first of two that both hold
-front : (x y : Bool) → (x && y) ≡ true → x ≡ true
-front x y both = (and_parts x y both).0
-
--- what is within one to eight is at least one
-from_one : (n : ℕ) → is_within 1 8 n ≡ true → 1 ≤ n
-from_one n within = grind (arith, nat_tests)
-
 -- a target takes at least one data phase at a time
 pub some_burst : (board : Board) (place : ℕ) (target : TargetAgent) → IsValid board → slice_get board.targets place ≡ Some target → 1 ≤ target.burst
 some_burst board place target valid is =
-    let well : is_well_formed_target target ≡ true =
-    Each-slice_get (λ (t : TargetAgent). is_well_formed_target t ≡ true) board.targets place target (list_all_each is_well_formed_target board.targets (targets_formed board valid.well_formed)) is in
-    from_one target.burst ((and_parts _ _ (front _ _ (front _ _ (front _ _ (front _ _ (front _ _ (front _ _ well))))))).1)
+    (Target-parts target (list_all-get is_well_formed_target board.targets place target (WellFormed-parts board valid.well_formed).targets is)).burst.from
 
 -- a lane answers at itself
 completion_place : (board : Board) (read : Bool) (lane : BridgeLane) (older : List Carried) (item : Option Carried) (step : Step) (place : Place) → completion_answer board read lane older item ≡ Gives step place → place ≡ Lane lane

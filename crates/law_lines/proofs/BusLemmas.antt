@@ -1,6 +1,7 @@
 -- The buses and bridges that a board names are there.
 use Rattle.std.proofs.Common.{◌≡◌, ℕ, ◌<◌, ◌==◌, Bool, true, false, ◌||◌, not, cond, zero, suc, nat_lt, List, [], ◌∷◌, length, Option, Some, None, refl, sym, subst, arith, slice_get}
 use Rattle.std.specs.List.{find, list_any, AllByRecursion}
+use Rattle.std.proofs.lemmas.Bool.{or_parts, or_right}
 use Rattle.std.proofs.lemmas.Bool.Decides.{nat_tests}
 use Rattle.list_facts.proofs.EachLemmas.{Each-find}
 use Rattle.board_model.specs.declared.agents.Master.{Master as MasterAgent}
@@ -42,36 +43,21 @@ bridge_is_there board bus bridge some = find_any (has_bus bus) board.bridges bri
 pub target_is_there : (board : Board) (index : ℕ) (target : TargetAgent) → slice_get board.targets index ≡ Some target → nat_lt index (length board.targets) ≡ true
 target_is_there board index target some = let below = slice_get-below board.targets index target some in grind (arith, nat_tests)
 
--- where neither of two passes, the first fails
-or_first : (a b : Bool) → (a || b) ≡ false → a ≡ false
-or_first true b none = cc
-or_first false b none = refl
-
--- and the second fails
-or_second : (a b : Bool) → (a || b) ≡ false → b ≡ false
-or_second true b none = cc
-or_second false b none = none
-
--- where the second passes, one of both does
-or_true : (a b : Bool) → b ≡ true → (a || b) ≡ true
-or_true true b is = refl
-or_true false b is = is
-
 -- the bus of a bridge is there
 pub bus_behind : (board : Board) (bus : ℕ) → has_bridge_to board bus ≡ true → is_bus board bus ≡ true
-bus_behind board bus there = or_true (bus == 0) (has_bridge_to board bus) there
+bus_behind board bus there = or_right (bus == 0) (has_bridge_to board bus) there
 
 -- where no bus lacks, the primary bus of each bridge is there
 parents_there : (board : Board) → lacks_a_bus board ≡ false → AllByRecursion (λ (bridge : Bridge). is_bus board bridge.parent ≡ true) board.bridges
 parents_there board none =
     none_fails (λ (bridge : Bridge). is_bus board bridge.parent) board.bridges
-    (or_first _ _ (or_first _ _ (or_first _ _ (or_first _ _ none))))
+    (or_parts _ _ (or_parts _ _ (or_parts _ _ (or_parts _ _ none).0).0).0).0
 
 -- and so is the bus of each master
 masters_there : (board : Board) → lacks_a_bus board ≡ false → AllByRecursion (λ (master : MasterAgent). is_bus board master.bus ≡ true) board.masters
 masters_there board none =
     none_fails (λ (master : MasterAgent). is_bus board master.bus) board.masters
-    (or_second _ _ (or_first _ _ (or_first _ _ none)))
+    (or_parts _ _ (or_parts _ _ (or_parts _ _ none).0).0).1
 
 -- the same, by the master that is found
 master_on : (board : Board) (on : ℕ) (place : ℕ) (found : Option MasterAgent) → lacks_a_bus board ≡ false → slice_get board.masters place ≡ found → is_on on found ≡ true → is_bus board on ≡ true

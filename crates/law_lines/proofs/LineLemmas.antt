@@ -1,16 +1,16 @@
 -- Each event of a run has a line in a trace.
 use Rattle.std.proofs.Common.{◌≡◌, ℕ, ◌==◌, Bool, true, false, ◌&&◌, nat_le, List, [], ◌∷◌, Option, Some, None, is_some, refl, sym, ap, subst, slice_get, reverse, All}
-use Rattle.std.specs.List.{find, list_all, AllByRecursion}
-use Rattle.std.proofs.lemmas.Bool.{eqb-true}
+use Rattle.std.specs.List.{find, AllByRecursion}
+use Rattle.std.proofs.lemmas.Bool.{and_parts, and_from, eqb-true}
 use Rattle.std.proofs.lemmas.List.{reverse-reverse}
 use Rattle.std.proofs.lemmas.Grind.{reverse_onto}
 use Rattle.std.proofs.lemmas.List.Elements.{All-from_recursion}
 use Rattle.list_facts.specs.Lists.{before}
 use Rattle.list_facts.proofs.EachLemmas.{Each-find, Each-push}
 use Rattle.list_facts.proofs.FindLemmas.{find_passes}
+use Rattle.list_facts.proofs.TestLemmas.{list_all-get}
 use Rattle.pci_command.specs.declared.op_id.OpId.{OpId}
 use Rattle.pci_command.specs.Same.{same_op}
-use Rattle.board_model.specs.declared.agents.Target.{Target as TargetAgent}
 use Rattle.board_model.specs.declared.bridge.Bridge.{Bridge}
 use Rattle.board_model.specs.declared.bridge.Lane.{Lane as BridgeLane}
 use Rattle.board_model.specs.declared.bridge.Place.{Place}
@@ -18,8 +18,9 @@ use Rattle.board_model.specs.declared.bridge.Place.TheVariants.{Target, Header, 
 use Rattle.board_model.specs.declared.board.Board.{Board}
 use Rattle.board_model.specs.Requests.{op_of}
 use Rattle.board_model.specs.Ways.{end_of}
-use Rattle.board_model.specs.WellFormed.{is_within, is_well_formed_target, is_well_formed}
+use Rattle.board_model.specs.WellFormed.{is_well_formed_target, is_well_formed}
 use Rattle.board_model.specs.Valid.{has_bridge_to, is_bus, lacks_a_bus}
+use Rattle.board_model.proofs.FormLemmas.{WellFormed-parts, Target-parts, Within-from}
 use Rattle.history_model.specs.declared.event.By.{By}
 use Rattle.history_model.specs.declared.event.By.TheVariants.{Master, Lane as ByLane}
 use Rattle.history_model.specs.declared.event.Mark.{Mark}
@@ -36,7 +37,7 @@ use Rattle.history_model.specs.Answers.{is_on, is_turn, presents_item, presents,
 use Rattle.history_model.specs.Runs.{mark_of_first, next_mark, Allowed, Run, history_of}
 use Rattle.trace_text.specs.Events.{has_initiator, has_place, is_target, is_lane, is_completion, is_step_at, HasLine}
 use Rattle.law_slots.specs.Kinds.{NamesOp, RightKind}
-use Rattle.law_slots.proofs.RequestLemmas.{same_op_true, Each-slice_get}
+use Rattle.law_slots.proofs.RequestLemmas.{same_op_true}
 use Rattle.law_slots.proofs.KindLemmas.{RightKind-run}
 use Rattle.law_slots.proofs.QuietLemmas.{Quiet-empty, run_no_bridge}
 use Rattle.law_lines.proofs.ToldLemmas.{IsBurst, IsThere, Suits}
@@ -44,41 +45,11 @@ use Rattle.law_lines.proofs.SaidLemmas.{run_told, WorldSays-run}
 use Rattle.law_lines.proofs.TurnLemmas.{turn_is_there}
 use Rattle.law_lines.proofs.BusLemmas.{bridge_is_there, target_is_there, master_is_on, end_is_bus}
 
--- where both of two pass, the first does
-first : (a b : Bool) → (a && b) ≡ true → a ≡ true
-first true b e = refl
-first false b e = cc
-
--- and the second does
-second : (a b : Bool) → (a && b) ≡ true → b ≡ true
-second true b e = e
-second false b e = cc
-
--- where each of two passes, both do
-joined : (a b : Bool) → a ≡ true → b ≡ true → (a && b) ≡ true
-joined a b here there = rw (here, there) refl
-
--- a test that all pass is passed by each
-Each-list_all : {X : Type 0} (test : X → Bool) (xs : List X) → list_all test xs ≡ true → AllByRecursion (λ x. test x ≡ true) xs
-Each-list_all test [] all = tt
-Each-list_all test (x ∷ xs) all = (first (test x) (list_all test xs) all, Each-list_all test xs (second (test x) (list_all test xs) all))
-
--- the targets of a well-formed board are well formed
-targets_well : (board : Board) → is_well_formed board ≡ true → list_all is_well_formed_target board.targets ≡ true
-targets_well board well =
-    let five = first _ _ (first _ _ (first _ _ (first _ _ (first _ _ (first _ _ (first _ _ (first _ _ well))))))) in
-    second _ _ (first _ _ five)
-
--- a well-formed target takes one to eight data phases at a time
-target_burst : (target : TargetAgent) → is_well_formed_target target ≡ true → is_within 1 8 target.burst ≡ true
-target_burst target well = second _ _ (first _ _ (first _ _ (first _ _ (first _ _ (first _ _ (first _ _ well))))))
-
 -- so a part has one to eight data phases
 burst_within : (board : Board) (phases : ℕ) → is_well_formed board ≡ true → IsBurst board phases → (nat_le 1 phases && nat_le phases 8) ≡ true
 burst_within board phases well burst =
-    let P : TargetAgent → Type 0 = λ target. is_well_formed_target target ≡ true in
-    let here = Each-slice_get P board.targets burst.place burst.target (Each-list_all is_well_formed_target board.targets (targets_well board well)) burst.is_there in
-    subst (λ n. (nat_le 1 n && nat_le n 8) ≡ true) (sym burst.is_burst) (target_burst burst.target here)
+    let here = list_all-get is_well_formed_target board.targets burst.place burst.target (WellFormed-parts board well).targets burst.is_there in
+    subst (λ n. (nat_le 1 n && nat_le n 8) ≡ true) (sym burst.is_burst) (Within-from 1 8 burst.target.burst (Target-parts burst.target here).burst)
 
 -- a place that is on the board has a word in a line
 place_there : (board : Board) (place : Place) → IsThere board place → has_place board place ≡ true
@@ -90,11 +61,11 @@ place_there board Nobody there = refl
 -- a step that suits its place is one of those that happen there
 step_there : (board : Board) (step : Step) (place : Place) → is_well_formed board ≡ true → Suits board step place → is_step_at step place ≡ true
 step_there board Land place well suits = suits
-step_there board (Part phases) place well suits = joined (is_target place) (nat_le 1 phases && nat_le phases 8) suits.0 (burst_within board phases well suits.1)
+step_there board (Part phases) place well suits = and_from (is_target place) (nat_le 1 phases && nat_le phases 8) suits.0 (burst_within board phases well suits.1)
 step_there board (Read value) place well suits = suits
 step_there board Accept place well suits = suits
 step_there board Latch place well suits = suits
-step_there board (Take outcome) place well suits = joined (is_lane place) (is_completion outcome) suits.0 suits.1
+step_there board (Take outcome) place well suits = and_from (is_lane place) (is_completion outcome) suits.0 suits.1
 step_there board Stall place well suits = suits
 step_there board MasterAbort place well suits = suits
 step_there board TargetAbort place well suits = suits
@@ -155,14 +126,14 @@ wanted_presents board h on Master o none run wanted =
     let there : Bool = is_on on (slice_get board.masters o.master) in
     let turn : Bool = is_turn o (turn_of board h o.master) in
     record {
-      is_on_bus = master_is_on board on o.master none (first there turn wanted);
+      is_on_bus = master_is_on board on o.master none (and_parts there turn wanted).0;
       is_initiator = refl;
-      is_there = turn_is_there board h o (second there turn wanted);
+      is_there = turn_is_there board h o (and_parts there turn wanted).1;
     }
 wanted_presents board h on (ByLane lane) o none run wanted =
     let ends : Bool = end_of board lane == on in
     let presented : Bool = presents board on o (world_of board h lane).standing in
-    lane_presents board h on lane o none run (eqb-true (end_of board lane) on (first ends presented wanted)) (second ends presented wanted)
+    lane_presents board h on lane o none run (eqb-true (end_of board lane) on (and_parts ends presented wanted).0) (and_parts ends presented wanted).1
 
 -- an arrival has a lane of a bridge
 arrival_line : (board : Board) (h : List Event) (lane : BridgeLane) (mark : Mark) → Run board h → next_mark board h lane ≡ Some mark → has_bridge_to board lane.bus ≡ true
@@ -178,10 +149,10 @@ event_line board h (Act on by o step place) well none run allowed =
     let told = run_told board h on by o step place (WorldSays-run board h run) allowed.1 in
     let rest : Bool = has_place board place && is_step_at step place in
     let named : Bool = is_some (op_of board o) && rest in
-    joined (is_bus board on) (has_initiator board by && named) who.is_on_bus
-    (joined (has_initiator board by) named who.is_initiator
-    (joined (is_some (op_of board o)) rest who.is_there
-    (joined (has_place board place) (is_step_at step place) (place_there board place told.0) (step_there board step place well told.1))))
+    and_from (is_bus board on) (has_initiator board by && named) who.is_on_bus
+    (and_from (has_initiator board by) named who.is_initiator
+    (and_from (is_some (op_of board o)) rest who.is_there
+    (and_from (has_place board place) (is_step_at step place) (place_there board place told.0) (step_there board step place well told.1))))
 event_line board h (Arrive lane mark) well none run allowed = arrival_line board h lane mark run allowed
 
 -- each event of a run has one

@@ -2,9 +2,10 @@
 -- inside of one: so all are claimed by one.
 use Rattle.std.proofs.Common.{◌≡◌, ℕ, ◌+◌, ◌*◌, ◌/◌, ◌%◌, ◌^◌, ◌<◌, ◌≤◌, Bool, true, false, ◌&&◌, ◌||◌, ◌==◌, cond, eqb, nat_le, nat_lt, List, [], ◌∷◌, Option, Some, None, refl, sym, ap, ◌∙◌, arith}
 use Rattle.std.specs.List.{find, list_all, list_any, position_from, AllByRecursion}
+use Rattle.std.proofs.lemmas.Bool.{leb-true, le-leb, ltb-true, lt-ltb}
 use Rattle.std.proofs.lemmas.Bool.Decides.{nat_tests}
-use Rattle.std.proofs.lemmas.Bool.{and_parts}
 use Rattle.list_facts.proofs.EachLemmas.{Each-find, Each-weaker}
+use Rattle.list_facts.proofs.TestLemmas.{Each-list_all}
 use Rattle.pci_command.specs.declared.command.Space.{Space}
 use Rattle.pci_command.specs.declared.command.Space.TheVariants.{Mem, Io, Cfg}
 use Rattle.pci_command.specs.Same.{same_space}
@@ -16,6 +17,7 @@ use Rattle.board_model.specs.declared.bridge.Place.TheVariants.{Lane, Nobody}
 use Rattle.board_model.specs.declared.board.Board.{Board}
 use Rattle.board_model.specs.Claims.{range_holds, window_holds, bridge_holds, decodes_down, claim_upwards, claim_by_bridge, claim_by_address, claim_in_space}
 use Rattle.board_model.specs.WellFormed.{is_window, is_well_formed_bridge, is_range_in, is_well_formed_range, is_well_formed_target, has_bus}
+use Rattle.board_model.proofs.FormLemmas.{Window-parts, Bridge-parts, Block-parts, Target-parts}
 use Rattle.history_model.specs.Answers.{bridge_to}
 
 -- two addresses in one aligned block of 64 bytes
@@ -37,35 +39,23 @@ alike true false there back = sym (there refl)
 alike false true there back = back refl
 alike false false there back = refl
 
-pub le_true : (m n : ℕ) → nat_le m n ≡ true → m ≤ n
-le_true m n is = grind (arith, nat_tests)
-
-true_le : (m n : ℕ) → m ≤ n → nat_le m n ≡ true
-true_le m n is = grind (arith, nat_tests)
-
-lt_true : (m n : ℕ) → nat_lt m n ≡ true → m < n
-lt_true m n is = grind (arith, nat_tests)
-
-true_lt : (m n : ℕ) → m < n → nat_lt m n ≡ true
-true_lt m n is = grind (arith, nat_tests)
-
 from_edge : (a b e : ℕ) → SameBlock a b → Edge e → nat_le e a ≡ nat_le e b
 from_edge a b e same edge =
     alike (nat_le e a) (nat_le e b)
-    (λ is. true_le e b (omega (arith, le_true e a is, same.a_to, same.b_from, edge.is)))
-    (λ is. true_le e a (omega (arith, le_true e b is, same.b_to, same.a_from, edge.is)))
+    (λ is. le-leb e b (omega (arith, leb-true e a is, same.a_to, same.b_from, edge.is)))
+    (λ is. le-leb e a (omega (arith, leb-true e b is, same.b_to, same.a_from, edge.is)))
 
 below_edge : (a b e : ℕ) → SameBlock a b → Edge e → nat_lt a e ≡ nat_lt b e
 below_edge a b e same edge =
     alike (nat_lt a e) (nat_lt b e)
-    (λ is. true_lt b e (omega (arith, lt_true a e is, same.a_from, same.b_to, edge.is)))
-    (λ is. true_lt a e (omega (arith, lt_true b e is, same.b_from, same.a_to, edge.is)))
+    (λ is. lt-ltb b e (omega (arith, ltb-true a e is, same.a_from, same.b_to, edge.is)))
+    (λ is. lt-ltb a e (omega (arith, ltb-true b e is, same.b_from, same.a_to, edge.is)))
 
 up_to_edge : (a b e : ℕ) → SameBlock a b → Edge (e + 1) → nat_le a e ≡ nat_le b e
 up_to_edge a b e same edge =
     alike (nat_le a e) (nat_le b e)
-    (λ is. true_le b e (omega (arith, le_true a e is, same.a_from, same.b_to, edge.is)))
-    (λ is. true_le a e (omega (arith, le_true b e is, same.b_from, same.a_to, edge.is)))
+    (λ is. le-leb b e (omega (arith, leb-true a e is, same.a_from, same.b_to, edge.is)))
+    (λ is. le-leb a e (omega (arith, leb-true b e is, same.b_from, same.a_to, edge.is)))
 
 edge_64 : (e : ℕ) → eqb (e % 64) 0 ≡ true → Edge e
 edge_64 e is = let none : e % 64 ≡ 0 = grind (arith, nat_tests) in record { count = e / 64; is = omega (arith, none) }
@@ -91,10 +81,9 @@ range_alike range a b same formed =
     let P : Space → Type 0 = λ space. is_range_in space range ≡ true → (same_space space Mem && nat_le range.base a && nat_lt a end) ≡ (same_space space Mem && nat_le range.base b && nat_lt b end) in
     (elim range.space as P [
       | Mem ↦ λ block.
-          let three = (and_parts _ _ (and_parts _ _ (and_parts _ _ block).0).0).0 in
-          let two = and_parts (eqb (range.base % 64) 0) (eqb (range.size % 64) 0) three in
-          let base = edge_64 range.base two.0 in
-          let size = edge_64 range.size two.1 in
+          let form = Block-parts 64 (2 ^ 64) range block in
+          let base = edge_64 range.base form.base in
+          let size = edge_64 range.size form.size in
           let from : nat_le range.base a ≡ nat_le range.base b = from_edge a b range.base same base in
           let to : nat_lt a end ≡ nat_lt b end = below_edge a b end same (edge_sum range.base range.size base size) in
           cc
@@ -106,19 +95,16 @@ range_alike range a b same formed =
 window_alike : (window : Option Window) (end a b : ℕ) → SameBlock a b → is_window (2 ^ 20) end window ≡ true → window_holds a window ≡ window_holds b window
 window_alike None end a b same formed = refl
 window_alike (Some window) end a b same formed =
-    let three = (and_parts _ _ formed).0 in
-    let limit = (and_parts _ _ three).1 in
-    let base = (and_parts _ _ (and_parts _ _ three).0).1 in
-    let from : nat_le window.base a ≡ nat_le window.base b = from_edge a b window.base same (edge_mega window.base base) in
-    let to : nat_le a window.limit ≡ nat_le b window.limit = up_to_edge a b window.limit same (edge_mega (window.limit + 1) limit) in
+    let form = Window-parts (2 ^ 20) end window formed in
+    let from : nat_le window.base a ≡ nat_le window.base b = from_edge a b window.base same (edge_mega window.base form.base) in
+    let to : nat_le a window.limit ≡ nat_le b window.limit = up_to_edge a b window.limit same (edge_mega (window.limit + 1) form.limit) in
     and_alike (nat_le window.base a) (nat_le window.base b) (nat_le a window.limit) (nat_le b window.limit) from to
 
 bridge_alike : (bridge : Bridge) (a b : ℕ) → SameBlock a b → is_well_formed_bridge bridge ≡ true → bridge_holds Mem a bridge ≡ bridge_holds Mem b bridge
 bridge_alike bridge a b same formed =
-    let six = and_parts _ _ (and_parts _ _ formed).0 in
-    let mem = (and_parts _ _ six.0).1 in
-    let one : window_holds a bridge.mem ≡ window_holds b bridge.mem = window_alike bridge.mem (2 ^ 32) a b same mem in
-    let other : window_holds a bridge.pref ≡ window_holds b bridge.pref = window_alike bridge.pref (2 ^ 64) a b same six.1 in
+    let form = Bridge-parts bridge formed in
+    let one : window_holds a bridge.mem ≡ window_holds b bridge.mem = window_alike bridge.mem (2 ^ 32) a b same form.mem in
+    let other : window_holds a bridge.pref ≡ window_holds b bridge.pref = window_alike bridge.pref (2 ^ 64) a b same form.pref in
     or_alike (window_holds a bridge.mem) (window_holds b bridge.mem) (window_holds a bridge.pref) (window_holds b bridge.pref) one other
 
 -- two tests that agree on each element of a list
@@ -134,27 +120,19 @@ position_alike : {X : Type 0} (f g : X → Bool) (place : ℕ) (xs : List X) →
 position_alike f g place [] each = refl
 position_alike f g place (x ∷ xs) each = let here = each.0 in let later = position_alike f g (place + 1) xs each.1 in cc
 
-pub Each-list_all : {X : Type 0} (test : X → Bool) (xs : List X) → list_all test xs ≡ true → AllByRecursion (λ x. test x ≡ true) xs
-Each-list_all test [] all = tt
-Each-list_all test (x ∷ xs) all = let parts = and_parts (test x) (list_all test xs) all in (parts.0, Each-list_all test xs parts.1)
-
 target_alike : (bus : ℕ) (target : TargetAgent) (a b : ℕ) → SameBlock a b → is_well_formed_target target ≡ true
     → (target.bus == bus && list_any (range_holds Mem a) target.ranges) ≡ (target.bus == bus && list_any (range_holds Mem b) target.ranges)
 target_alike bus target a b same formed =
-    let four = (and_parts _ _ (and_parts _ _ (and_parts _ _ (and_parts _ _ (and_parts _ _ formed).0).0).0).0).0 in
-    let ranges : list_all is_well_formed_range target.ranges ≡ true = (and_parts _ _ four).1 in
     let each = Each-weaker (λ (r : Range). is_well_formed_range r ≡ true) (λ (r : Range). range_holds Mem a r ≡ range_holds Mem b r) (λ r well. range_alike r a b same well) target.ranges
-    (Each-list_all is_well_formed_range target.ranges ranges) in
+    (Each-list_all is_well_formed_range target.ranges (Target-parts target formed).ranges) in
     ap (λ x. target.bus == bus && x) (any_alike (range_holds Mem a) (range_holds Mem b) target.ranges each)
 
 -- the abort ranges of a target
 pub aborts_alike : (target : TargetAgent) (a b : ℕ) → SameBlock a b → is_well_formed_target target ≡ true → list_any (range_holds Mem a) target.aborts ≡ list_any (range_holds Mem b) target.aborts
 aborts_alike target a b same formed =
-    let six = (and_parts _ _ (and_parts _ _ (and_parts _ _ formed).0).0).0 in
-    let aborts : list_all is_well_formed_range target.aborts ≡ true = (and_parts _ _ six).1 in
     any_alike (range_holds Mem a) (range_holds Mem b) target.aborts
     (Each-weaker (λ (r : Range). is_well_formed_range r ≡ true) (λ (r : Range). range_holds Mem a r ≡ range_holds Mem b r) (λ r well. range_alike r a b same well) target.aborts
-    (Each-list_all is_well_formed_range target.aborts aborts))
+    (Each-list_all is_well_formed_range target.aborts (Target-parts target formed).aborts))
 
 module _ (board : Board) (bridges : list_all is_well_formed_bridge board.bridges ≡ true) (targets : list_all is_well_formed_target board.targets ≡ true) (bus a b : ℕ) (same : SameBlock a b) where
   formed_bridges : AllByRecursion (λ (bridge : Bridge). is_well_formed_bridge bridge ≡ true) board.bridges

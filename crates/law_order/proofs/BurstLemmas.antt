@@ -3,8 +3,8 @@ use Rattle.std.proofs.Common.{◌≡◌, ℕ, ◌+◌, ◌*◌, ◌/◌, ◌%◌
 use Rattle.std.specs.List.{list_all, list_any, AllByRecursion}
 use Rattle.std.specs.Option.{option_and_then}
 use Rattle.std.proofs.lemmas.Option.{cond_some}
-use Rattle.std.proofs.lemmas.Bool.{and_parts}
-use Rattle.list_facts.proofs.EachLemmas.{Each-weaker}
+use Rattle.std.proofs.lemmas.Bool.{and_parts, leb-true}
+use Rattle.list_facts.proofs.TestLemmas.{list_all-get}
 use Rattle.pci_command.specs.declared.command.Command.{Command}
 use Rattle.pci_command.specs.declared.command.Command.TheVariants.{IoRead, IoWrite, MemRead, MemWrite, CfgRead as ConfigurationRead, CfgWrite as ConfigurationWrite, MemReadMultiple, MemReadLine, MemWriteInvalidate}
 use Rattle.pci_command.specs.declared.command.Space.{Space}
@@ -23,12 +23,14 @@ use Rattle.board_model.specs.declared.board.Board.{Board}
 use Rattle.board_model.specs.Requests.{tries_of, op_of, command_of, address_on, phases_of, request_on, is_posted}
 use Rattle.board_model.specs.Claims.{range_holds, claim_in_space, claim}
 use Rattle.board_model.specs.WellFormed.{read_space, write_space, is_well_formed_bridge, is_well_formed_target, is_well_formed_read, is_well_formed_write, is_well_formed_op, is_well_formed_master, is_well_formed}
+use Rattle.board_model.proofs.FormLemmas.{WellFormed-parts, Write-parts}
+use Rattle.board_model.proofs.OpLemmas.{op_formed}
 use Rattle.history_model.specs.Words.{without}
-use Rattle.law_slots.proofs.RequestLemmas.{Each-slice_get, request_is_of}
+use Rattle.law_slots.proofs.RequestLemmas.{request_is_of}
 use Rattle.law_order.specs.OnWay.{WritesHaveOneClaimant}
 use Rattle.law_order.specs.Parts.{WritesAbortWhole}
 use Rattle.law_order.proofs.PostedLemmas.{write_not_read}
-use Rattle.law_order.proofs.BlockLemmas.{SameBlock, le_true, Each-list_all, aborts_alike, claim_alike}
+use Rattle.law_order.proofs.BlockLemmas.{SameBlock, aborts_alike, claim_alike}
 
 -- the data phases of a write stay in the block of the first
 abbrev StaysInBlock : ℕ → List Phase → Type 0
@@ -39,17 +41,17 @@ write_block IoRead address phases well posted = cc
 write_block IoWrite address phases well posted = cc
 write_block MemRead address phases well posted = cc
 write_block MemWrite address phases well posted =
-    let burst = (and_parts _ _ (and_parts _ _ (and_parts _ _ well).0).1).1 in
+    let burst = (and_parts _ _ (Write-parts Mem address phases well).burst).1 in
     let within : nat_le (address % 64 + 4 * length phases) 64 ≡ true = burst in
-    le_true (address % 64 + 4 * length phases) 64 within
+    leb-true (address % 64 + 4 * length phases) 64 within
 write_block ConfigurationRead address phases well posted = cc
 write_block ConfigurationWrite address phases well posted = cc
 write_block MemReadMultiple address phases well posted = cc
 write_block MemReadLine address phases well posted = cc
 write_block MemWriteInvalidate address phases well posted =
-    let burst = (and_parts _ _ (and_parts _ _ (and_parts _ _ well).0).1).1 in
+    let burst = (and_parts _ _ (Write-parts Mem address phases well).burst).1 in
     let within : nat_le (address % 64 + 4 * length phases) 64 ≡ true = burst in
-    le_true (address % 64 + 4 * length phases) 64 within
+    leb-true (address % 64 + 4 * length phases) 64 within
 
 pub read_not_posted : (command : Command) (address : ℕ) → is_well_formed_read address (read_space command) ≡ true → same_command (plain_of command) MemWrite ≡ true → ⊥
 read_not_posted IoRead address well posted = cc
@@ -71,46 +73,6 @@ op_block (Poll Mem address mask value tries) on well posted = cc
 op_block (Poll Io address mask value tries) on well posted = cc
 op_block (Poll Cfg address mask value tries) on well posted = cc
 
--- the operation of a name is one of its master's
-pub op_formed : (board : Board) (o : OpId) (op : Op) → AllByRecursion (λ (master : Master). AllByRecursion (λ (p : Op). is_well_formed_op p ≡ true) master.ops) board.masters → op_of board o ≡ Some op → is_well_formed_op op ≡ true
-op_formed board o op formed is =
-    let W : Op → Type 0 = λ p. is_well_formed_op p ≡ true in
-    let E : Master → Type 0 = λ master. AllByRecursion W master.ops in
-    let here : Op → Option Op = λ p. cond (nat_lt o.attempt (tries_of p)) (Some p) None in
-    let P : Option Master → Type 0 = λ found. slice_get board.masters o.master ≡ found → option_and_then here (option_and_then (λ master. slice_get master.ops o.index) found) ≡ Some op → W op in
-    (elim (slice_get board.masters o.master) as P [
-      | None ↦ λ _ e. cc
-      | Some master ↦ λ is_master e.
-          let Q : Option Op → Type 0 = λ found. slice_get master.ops o.index ≡ found → option_and_then here found ≡ Some op → W op in
-          (elim (slice_get master.ops o.index) as Q [
-            | None ↦ λ _ f. cc
-            | Some p ↦ λ is_op f.
-                let same : p ≡ op = (cond_some (nat_lt o.attempt (tries_of p)) p op f).1 in
-                subst W same (Each-slice_get W master.ops o.index p (Each-slice_get E board.masters o.master master formed is_master) is_op)
-          ]) refl e
-    ]) refl is
-
--- the parts of a well-formed board
-record Parts (board : Board) : Type 0 where
-  bridges : list_all is_well_formed_bridge board.bridges ≡ true
-  targets : list_all is_well_formed_target board.targets ≡ true
-  masters : list_all is_well_formed_master board.masters ≡ true
-
-front : (x y : Bool) → (x && y) ≡ true → x ≡ true
-front x y both = (and_parts x y both).0
-
-parts : (board : Board) → is_well_formed board ≡ true → Parts board
-parts board formed =
-    let five = front _ _ (front _ _ (front _ _ (front _ _ (front _ _ (front _ _ (front _ _ (front _ _ formed))))))) in
-    let four = front _ _ five in
-    let three = front _ _ four in
-    record { bridges = (and_parts _ _ (front _ _ three)).1; targets = (and_parts _ _ four).1; masters = (and_parts _ _ five).1 }
-
-pub masters_formed : (board : Board) → is_well_formed board ≡ true → AllByRecursion (λ (master : Master). AllByRecursion (λ (p : Op). is_well_formed_op p ≡ true) master.ops) board.masters
-masters_formed board formed =
-    Each-weaker (λ (master : Master). is_well_formed_master master ≡ true) (λ (master : Master). AllByRecursion (λ (p : Op). is_well_formed_op p ≡ true) master.ops)
-    (λ master well. Each-list_all is_well_formed_op master.ops (and_parts _ _ well).1) board.masters (Each-list_all is_well_formed_master board.masters (parts board formed).masters)
-
 -- all its data phases are in one block
 same_block : (op : Op) (on phase : ℕ) → is_well_formed_op op ≡ true → same_command (command_of op) MemWrite ≡ true → phase < length (phases_of op) → SameBlock (address_on op on + 4 * phase) (address_on op on)
 same_block op on phase well posted within =
@@ -128,7 +90,7 @@ op_claimed : (board : Board) (op : Op) (on phase : ℕ) → is_well_formed board
     → claim board on (without phase (request_on op on)) ≡ claim board on (request_on op on)
 op_claimed board op on phase formed well posted within =
     let address : ℕ = address_on op on in
-    let p = parts board formed in
+    let p = WellFormed-parts board formed in
     let space : space_of (command_of op) ≡ Mem = (write_not_read (command_of op) posted).1 in
     let F : Space → Type 0 = λ s. claim_in_space board on s (address + 4 * phase) ≡ claim_in_space board on s address in
     subst F (sym space) (claim_alike board p.bridges p.targets on (address + 4 * phase) address (same_block op on phase well posted within))
@@ -145,9 +107,8 @@ pub AbortWhole-formed : (board : Board) → is_well_formed board ≡ true → Wr
 AbortWhole-formed board formed o on request phase place target is_request posted within is_target =
     let of_op = request_is_of board o on request is_request in
     let op : Op = of_op.op in
-    let well : is_well_formed_op op ≡ true = op_formed board o op (masters_formed board formed) of_op.is_op in
-    let targets = Each-list_all is_well_formed_target board.targets (parts board formed).targets in
-    let target_formed : is_well_formed_target target ≡ true = Each-slice_get (λ (t : TargetAgent). is_well_formed_target t ≡ true) board.targets place target targets is_target in
+    let well : is_well_formed_op op ≡ true = op_formed board o op formed of_op.is_op in
+    let target_formed = list_all-get is_well_formed_target board.targets place target (WellFormed-parts board formed).targets is_target in
     let F : Request → Type 0 = λ r. is_posted r ≡ true → phase < length r.phases → aborts_at target (without phase r) ≡ aborts_at target r in
     let here : F (request_on op on) = λ write below. op_aborted target op on phase target_formed well write below in
     subst F (sym of_op.is_request) here posted within
@@ -156,7 +117,7 @@ pub OneClaimant-formed : (board : Board) → is_well_formed board ≡ true → W
 OneClaimant-formed board formed o on request phase is_request posted within =
     let of_op = request_is_of board o on request is_request in
     let op : Op = of_op.op in
-    let well : is_well_formed_op op ≡ true = op_formed board o op (masters_formed board formed) of_op.is_op in
+    let well : is_well_formed_op op ≡ true = op_formed board o op formed of_op.is_op in
     let F : Request → Type 0 = λ r. is_posted r ≡ true → phase < length r.phases → claim board on (without phase r) ≡ claim board on r in
     let here : F (request_on op on) = λ write below. op_claimed board op on phase formed well write below in
     subst F (sym of_op.is_request) here posted within

@@ -1,3 +1,4 @@
 pub mod TotalLemmas
 pub mod FindLemmas
 pub mod EachLemmas
+pub mod TestLemmas

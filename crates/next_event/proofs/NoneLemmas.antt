@@ -2,7 +2,7 @@
 use Rattle.std.proofs.Common.{◌≡◌, ℕ, zero, suc, ◌<◌, Bool, true, false, cond, eqb, ◌||◌, List, [], ◌∷◌, Option, Some, None, refl, sym, subst, ⊎_elim, arith}
 use Rattle.std.specs.List.{find, list_any}
 use Rattle.std.specs.Option.{option_or}
-use Rattle.std.proofs.lemmas.Bool.{and_from, eqb-true}
+use Rattle.std.proofs.lemmas.Bool.{and_from, and_parts, eqb-true}
 use Rattle.std.proofs.lemmas.Bool.Decides.{nat_tests}
 use Rattle.list_facts.proofs.EachLemmas.{Each-find}
 use Rattle.list_facts.proofs.FindLemmas.{find_passes}
@@ -12,7 +12,6 @@ use Rattle.board_model.specs.declared.board.Board.{Board}
 use Rattle.board_model.specs.WellFormed.{has_bus}
 use Rattle.board_model.specs.Valid.{has_bridge_to}
 use Rattle.board_model.specs.Ways.{primary_in, end_of}
-use Rattle.bus_tree.proofs.FormLemmas.{back}
 use Rattle.history_model.specs.Answers.{bridge_to}
 use Rattle.next_event.specs.Fits.{BridgeFits, BusesFit}
 use Rattle.next_event.specs.Next.{first_below, first_bus, down_to, up_from, ends_on, given_on, first_lane}
@@ -53,7 +52,7 @@ lane_none {Y} board bus gives lane none ends below =
     (elim lane.up as P [
       | true ↦ λ is. given_none board bus gives (up_from lane.bus) (bus_gives_none up lane.bus both.1 below) is
       | false ↦ λ is.
-          let same : lane.bus ≡ bus = eqb-true lane.bus bus (back (has_bridge_to board lane.bus) (eqb lane.bus bus) is) in
+          let same : lane.bus ≡ bus = eqb-true lane.bus bus (and_parts (has_bridge_to board lane.bus) (eqb lane.bus bus) is).1 in
           let here : given_on board bus gives (down_to lane.bus) ≡ None = subst (λ (b : ℕ). given_on board bus gives (down_to b) ≡ None) (sym same) both.0 in
           given_none board bus gives (down_to lane.bus) here is
     ]) ends

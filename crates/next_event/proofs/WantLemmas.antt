@@ -17,7 +17,6 @@ use Rattle.history_model.specs.Program.{turn_of}
 use Rattle.history_model.specs.Answers.{is_on, is_turn, presents_item, presents, wants}
 use Rattle.law_slots.proofs.RequestLemmas.{same_op_true, Each-slice_get}
 use Rattle.next_event.specs.Fits.{MasterFits}
-use Rattle.bus_tree.proofs.FormLemmas.{front, back}
 
 -- what is presented stands
 pub presents_some : (board : Board) (on : ℕ) (o : OpId) (xs : List Carried) → presents board on o xs ≡ true → (item : Carried) × (find (is_of o) xs ≡ Some item)
@@ -50,7 +49,7 @@ pub master_wants : (board : Board) (h : List Event) (on : ℕ) (o : OpId) → wa
 master_wants board h on o is =
     let there : Bool = is_on on (slice_get board.masters o.master) in
     let its : Bool = is_turn o (turn_of board h o.master) in
-    (front there its is, turn_is o (turn_of board h o.master) (back there its is))
+    ((and_parts there its is).0, turn_is o (turn_of board h o.master) (and_parts there its is).1)
 
 -- a lane presents what stands on it, on the bus where it ends
 pub lane_wants : (board : Board) (h : List Event) (on : ℕ) (lane : BridgeLane) (o : OpId) → wants board h on (ByLane lane) o ≡ true
@@ -58,4 +57,4 @@ pub lane_wants : (board : Board) (h : List Event) (on : ℕ) (lane : BridgeLane)
 lane_wants board h on lane o is =
     let ends : Bool = eqb (end_of board lane) on in
     let shown : Bool = presents board on o (world_of board h lane).standing in
-    (eqb-true (end_of board lane) on (front ends shown is), back ends shown is)
+    (eqb-true (end_of board lane) on (and_parts ends shown is).0, (and_parts ends shown is).1)

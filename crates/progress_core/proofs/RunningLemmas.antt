@@ -4,7 +4,7 @@ use Rattle.std.proofs.lemmas.Bool.Decides.{nat_tests}
 use Rattle.board_model.specs.declared.board.Board.{Board}
 use Rattle.board_model.specs.Ways.{bound_of}
 use Rattle.board_model.specs.Valid.{IsValid}
-use Rattle.bus_tree.proofs.FormLemmas.{at_most, Form-board}
+use Rattle.board_model.proofs.FormLemmas.{WellFormed-parts}
 use Rattle.bus_tree.proofs.DecodableLemmas.{IsDecodable-valid}
 use Rattle.history_model.specs.declared.event.Event.{Event}
 use Rattle.history_model.specs.Runs.{Run}
@@ -17,13 +17,13 @@ not_above most n none = grind (arith, nat_tests)
 
 pub IsRunning-valid : (board : Board) (h : List Event) → IsValid board → Run board h → IsRunning board h
 IsRunning-valid board h valid run =
-    let form = Form-board board valid.well_formed in
+    let form = WellFormed-parts board valid.well_formed in
     record {
       well_formed = valid.well_formed;
       decodable = IsDecodable-valid board valid;
       run = run;
       short = not_above 500000 (bound_of board) valid.bound;
-      discards = at_most (length board.discards) 1024 form.discards;
-      drops = at_most (length board.drops) 1024 form.drops;
+      discards = form.discards_fit;
+      drops = form.drops_fit;
       lanes = λ lane. Within-eight board h lane (WellFormed-depths board valid.well_formed) run;
     }

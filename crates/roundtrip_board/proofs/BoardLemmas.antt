@@ -5,7 +5,8 @@ use Rattle.std.specs.List.{list_all, flat_map}
 use Rattle.std.proofs.lemmas.Bool.{lt-ltb}
 use Rattle.std.proofs.lemmas.List.{append-nil}
 use Rattle.board_model.specs.declared.board.Board.{Board}
-use Rattle.board_model.specs.WellFormed.{is_well_formed}
+use Rattle.board_model.specs.WellFormed.{is_well_formed, IsWellFormed}
+use Rattle.board_model.proofs.FormLemmas.{WellFormed-parts}
 use Rattle.board_text.specs.Lines.{line_fault, lines_of}
 use Rattle.board_text.specs.Tokens.{words_of}
 use Rattle.board_printer.specs.Lines.{Line, text_of}
@@ -25,7 +26,7 @@ use Rattle.board_parser.specs.OneLine.{begin, read_words, read_more, read_unless
 use Rattle.board_parser.specs.Boards.{then_lines, read_lines, ended, board_read}
 use Rattle.roundtrip_lines.specs.Fits.{BoardFits}
 use Rattle.roundtrip_board.proofs.LeadLemmas.{Leads, leads-append, leads-each, leads-map, behind_first}
-use Rattle.roundtrip_board.proofs.StateLemmas.{so_far, Of, BoardParts, board_parts}
+use Rattle.roundtrip_board.proofs.StateLemmas.{so_far, Of}
 use Rattle.roundtrip_board.proofs.BridgeSteps.{bridge_step}
 use Rattle.roundtrip_board.proofs.TargetSteps.{target_step}
 use Rattle.roundtrip_board.proofs.MasterSteps.{master_step}
@@ -45,7 +46,7 @@ may_be_long : (short : Bool) → (not short || short) ≡ true
 may_be_long true = refl
 may_be_long false = refl
 
-board_leads : (wide : Bool) (board : Board) → BoardFits board → BoardParts board → (wide || is_short_board board) ≡ true → Leads (Of wide (so_far [] [] [] [] [])) (lines_behind board) (Of wide board)
+board_leads : (wide : Bool) (board : Board) → BoardFits board → IsWellFormed board → (wide || is_short_board board) ≡ true → Leads (Of wide (so_far [] [] [] [] [])) (lines_behind board) (Of wide board)
 board_leads wide board fits parts may =
     let may_bridges = first_may wide (list_all is_short_bridge board.bridges) _ may in
     let others = second_may wide (list_all is_short_bridge board.bridges) _ may in
@@ -101,7 +102,7 @@ board_law board fits formed =
     let begins = begun (joined first) wide none (first_law board (joined first) (line_is first)) in
     let lines : lines_of (text_of (first ∷ behind)) ≡ joined first ∷ lines_of (text_of behind ++ []) =
     ap lines_of (sym (append-nil (text_of (first ∷ behind)))) ∙ behind_first first behind [] none in
-    let there = board_leads wide board fits (board_parts board formed) (may_be_long (is_short_board board)) (first_draft wide) (record { width = refl; is = refl }) (1 + 1) [] in
+    let there = board_leads wide board fits (WellFormed-parts board formed) (may_be_long (is_short_board board)) (first_draft wide) (record { width = refl; is = refl }) (1 + 1) [] in
     let reading : read_lines None 1 (lines_of (text_of (first ∷ behind))) ≡ Ok (Some there.draft) =
     ap (read_lines None 1) lines
     ∙ ap (λ (r : Result (Option Draft) LineFault). then_lines 1 r (λ next. read_lines next (1 + 1) (lines_of (text_of behind ++ [])))) begins

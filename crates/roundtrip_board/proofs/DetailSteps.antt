@@ -3,7 +3,7 @@ use Rattle.std.proofs.Common.{◌≡◌, ℕ, ◌+◌, ◌-◌, ◌^◌, ◌%◌
 use Rattle.std.specs.Prelude.{codes, ◌==◌, nat_le, nat_lt}
 use Rattle.std.specs.List.{list_all, AllByRecursion}
 use Rattle.std.specs.Fmt.{decimal}
-use Rattle.std.proofs.lemmas.Bool.{and_parts, not_from_true, lt-leb, le-ltb, leb-true, ltb-true, eqb-true}
+use Rattle.std.proofs.lemmas.Bool.{and_parts, and_from, not_from_true, lt-leb, lt-ltb, le-ltb, ltb-true, eqb-true}
 use Rattle.list_facts.specs.Lists.{total}
 use Rattle.pci_command.specs.declared.command.Space.{Space}
 use Rattle.pci_command.specs.declared.command.Space.TheVariants.{Mem, Io, Cfg}
@@ -11,7 +11,8 @@ use Rattle.board_model.specs.declared.agents.Range.{Range}
 use Rattle.board_model.specs.declared.agents.Opening.{Opening}
 use Rattle.board_model.specs.declared.agents.Target.{Target}
 use Rattle.board_model.specs.declared.board.Board.{Board}
-use Rattle.board_model.specs.WellFormed.{is_range_in, is_well_formed_range, is_dword_in, is_well_formed_opening, registers_of}
+use Rattle.board_model.specs.WellFormed.{is_block, is_range_in, is_well_formed_range, is_dword_in, is_well_formed_opening, registers_of, IsWellFormedTarget}
+use Rattle.board_model.proofs.FormLemmas.{Block-parts}
 use Rattle.board_printer.specs.Lines.{Line}
 use Rattle.board_printer.specs.Numbers.{half_text}
 use Rattle.board_printer.specs.Targets.{id_lines, stall_lines, burst_lines, range_line, opening_line}
@@ -27,7 +28,6 @@ use Rattle.board_draft.specs.declared.draft.Owner.TheVariants.{OfTarget}
 use Rattle.board_draft.specs.Steps.{◌>>=◌}
 use Rattle.board_draft.specs.Targets.{on_target, set_identity, set_stalls, set_burst, unit_of, end_of, is_in_units, fits, put_range, put_abort, add_range, add_abort, add_opening}
 use Rattle.board_draft.specs.Add.{add}
-use Rattle.board_draft.proofs.PartLemmas.{TargetParts}
 use Rattle.roundtrip_board.proofs.LeadLemmas.{Leads, Steps, leads-none, leads-to, leads-line}
 use Rattle.roundtrip_board.proofs.PlaceLemmas.{each_of, all_of, may_of, length_of, total_of}
 use Rattle.roundtrip_board.proofs.StateLemmas.{holding, Is, skip}
@@ -90,7 +90,7 @@ id_leads wide board target of_vendor of_model =
           detail wide board line (Identifies target.vendor target.model) (set_identity target.vendor target.model) before after (id_law wide target.vendor target.model of_vendor of_model) refl refl
     ]) refl
 
-pub stall_leads : (wide : Bool) (board : Board) (target : Target) → TargetParts target
+pub stall_leads : (wide : Bool) (board : Board) (target : Target) → IsWellFormedTarget target
     → Leads (Has wide board (part_of target target.vendor target.model 0 8 [] [] [])) (stall_lines target.stalls) (Has wide board (part_of target target.vendor target.model target.stalls 8 [] [] []))
 stall_leads wide board target parts =
     let before = part_of target target.vendor target.model 0 8 [] [] [] in
@@ -102,48 +102,48 @@ stall_leads wide board target parts =
           let s : 0 ≡ target.stalls = sym (eqb-true _ _ plain) in
           nothing wide board before after (ap (λ (n : ℕ). part_of target target.vendor target.model n 8 [] [] []) s)
       | false ↦ λ other.
-          detail wide board line (Stalls target.stalls) (set_stalls target.stalls) before after (stall_law wide target.stalls (leb-true _ _ parts.stalls)) refl refl
+          detail wide board line (Stalls target.stalls) (set_stalls target.stalls) before after (stall_law wide target.stalls parts.stalls) refl refl
     ]) refl
 
-pub burst_leads : (wide : Bool) (board : Board) (target : Target) → TargetParts target
+pub burst_leads : (wide : Bool) (board : Board) (target : Target) → IsWellFormedTarget target
     → Leads (Has wide board (part_of target target.vendor target.model target.stalls 8 [] [] [])) (burst_lines target.burst) (Has wide board (part_of target target.vendor target.model target.stalls target.burst [] [] []))
 burst_leads wide board target parts =
     let before = part_of target target.vendor target.model target.stalls 8 [] [] [] in
     let after = part_of target target.vendor target.model target.stalls target.burst [] [] [] in
     let line : Line = codes "burst" ∷ decimal target.burst ∷ [] in
-    let within = and_parts (nat_le 1 target.burst) (nat_le target.burst 8) parts.burst in
     let P : Bool → Type 0 = λ b. (target.burst == 8) ≡ b → Leads (Has wide board before) (cond b [] (line ∷ [])) (Has wide board after) in
     (elim (target.burst == 8) as P [
       | true ↦ λ plain.
           let s : 8 ≡ target.burst = sym (eqb-true _ _ plain) in
           nothing wide board before after (ap (λ (n : ℕ). part_of target target.vendor target.model target.stalls n [] [] []) s)
       | false ↦ λ other.
-          detail wide board line (Bursts target.burst) (set_burst target.burst) before after (burst_law wide target.burst (leb-true _ _ within.0) (leb-true _ _ within.1)) refl refl
+          detail wide board line (Bursts target.burst) (set_burst target.burst) before after (burst_law wide target.burst parts.burst.from parts.burst.to) refl refl
     ]) refl
 
 -- Ranges.
 
+units_by : (unit end : ℕ) (range : Range) → is_block unit end range ≡ true → is_in_units unit range ≡ true
+units_by unit end range formed = let is = Block-parts unit end range formed in and_from _ _ (and_from _ _ is.base is.size) (lt-ltb _ _ is.some)
+
+ends_by : (unit end : ℕ) (range : Range) → is_block unit end range ≡ true → nat_lt end (range.base + range.size) ≡ false
+ends_by unit end range formed = le-ltb _ _ (Block-parts unit end range formed).ends
+
 fits_by : (wide : Bool) (space : Space) (base size : ℕ) → is_range_in space (record { space = space; base = base; size = size }) ≡ true → (wide || is_short_range (record { space = space; base = base; size = size })) ≡ true
     → (is_in_units (unit_of space) (record { space = space; base = base; size = size }) ≡ true) × (nat_lt (end_of wide space) (base + size) ≡ false)
 fits_by true Mem base size formed may =
-    let a = and_parts _ _ formed in
-    let b = and_parts _ _ a.0 in
-    (b.0, le-ltb _ _ (leb-true _ _ a.1))
+    let range : Range = record { space = Mem; base = base; size = size } in
+    (units_by 64 (2 ^ 64) range formed, ends_by 64 (2 ^ 64) range formed)
 fits_by false Mem base size formed may =
-    let a = and_parts _ _ formed in
-    let b = and_parts _ _ a.0 in
     let c = and_parts (is_short base) (is_short size && is_short (base + size - 1)) may in
     let d = and_parts (is_short size) (is_short (base + size - 1)) c.1 in
     let e = ltb-true (base + size - 1) (2 ^ 32) d.1 in
-    (b.0, le-ltb _ _ (omega (arith, e)))
+    (units_by 64 (2 ^ 64) (record { space = Mem; base = base; size = size }) formed, le-ltb _ _ (omega (arith, e)))
 fits_by true Io base size formed may =
-    let a = and_parts _ _ formed in
-    let b = and_parts _ _ a.0 in
-    (b.0, le-ltb _ _ (leb-true _ _ a.1))
+    let range : Range = record { space = Io; base = base; size = size } in
+    (units_by 4 (2 ^ 32) range formed, ends_by 4 (2 ^ 32) range formed)
 fits_by false Io base size formed may =
-    let a = and_parts _ _ formed in
-    let b = and_parts _ _ a.0 in
-    (b.0, le-ltb _ _ (leb-true _ _ a.1))
+    let range : Range = record { space = Io; base = base; size = size } in
+    (units_by 4 (2 ^ 32) range formed, ends_by 4 (2 ^ 32) range formed)
 fits_by wide Cfg base size formed may = absurd (let apart : false ≡ true = formed in cc)
 
 abbrev range_so : Range → Result Range LineFault
@@ -154,7 +154,7 @@ range_fits wide range formed may =
     let it = fits_by wide range.space range.base range.size formed may in
     skip _ _ _ (not_from_true _ it.0) ∙ skip _ _ _ it.1
 
-pub range_step : (wide : Bool) (board : Board) (target : Target) → TargetParts target → AllByRecursion RangeFits target.ranges → (wide || list_all is_short_range target.ranges) ≡ true
+pub range_step : (wide : Bool) (board : Board) (target : Target) → IsWellFormedTarget target → AllByRecursion RangeFits target.ranges → (wide || list_all is_short_range target.ranges) ≡ true
     → Steps (λ range. range_line (codes "range") range ∷ []) (λ done. Has wide board (part_of target target.vendor target.model target.stalls target.burst done [] [])) target.ranges
 range_step wide board target parts fit may done range rest is =
     let before = part_of target target.vendor target.model target.stalls target.burst done [] [] in
@@ -162,14 +162,14 @@ range_step wide board target parts fit may done range rest is =
     let formed = all_of is_well_formed_range done range rest target.ranges is parts.ranges in
     let short = may_of wide is_short_range done range rest target.ranges is may in
     let all = total_of registers_of done range rest target.ranges is in
-    let most = leb-true _ _ parts.registers in
+    let most = parts.registers in
     let few : nat_lt 6 (total registers_of done + registers_of range) ≡ false = le-ltb _ _ (omega (arith, all, most)) in
     let room : put_range before range ≡ Ok after = skip _ _ _ few in
     let did : add_range wide range before ≡ Ok after = ap (λ (r : Result Range LineFault). r >>= put_range before) (range_fits wide range formed short) ∙ room in
     detail wide board (range_line (codes "range") range) (Claims range) (add_range wide range) before after
     (claim_law wide range (each_of RangeFits done range rest target.ranges is fit) formed short) refl did
 
-pub abort_step : (wide : Bool) (board : Board) (target : Target) → TargetParts target → AllByRecursion RangeFits target.aborts → (wide || list_all is_short_range target.aborts) ≡ true
+pub abort_step : (wide : Bool) (board : Board) (target : Target) → IsWellFormedTarget target → AllByRecursion RangeFits target.aborts → (wide || list_all is_short_range target.aborts) ≡ true
     → Steps (λ range. range_line (codes "abort") range ∷ []) (λ done. Has wide board (part_of target target.vendor target.model target.stalls target.burst target.ranges done [])) target.aborts
 abort_step wide board target parts fit may done range rest is =
     let before = part_of target target.vendor target.model target.stalls target.burst target.ranges done [] in
@@ -177,7 +177,7 @@ abort_step wide board target parts fit may done range rest is =
     let formed = all_of is_well_formed_range done range rest target.aborts is parts.aborts in
     let short = may_of wide is_short_range done range rest target.aborts is may in
     let all = length_of done range rest target.aborts is in
-    let most = leb-true _ _ parts.few_aborts in
+    let most = parts.few_aborts in
     let few : nat_le 6 (length done) ≡ false = lt-leb _ _ (omega (arith, all, most)) in
     let room : put_abort before range ≡ Ok after = skip _ _ _ few in
     let did : add_abort wide range before ≡ Ok after = ap (λ (r : Result Range LineFault). r >>= put_abort before) (range_fits wide range formed short) ∙ room in
@@ -191,7 +191,7 @@ aligned_by Mem address formed = formed
 aligned_by Io address formed = (and_parts _ _ formed).0
 aligned_by Cfg address formed = absurd (let apart : false ≡ true = formed in cc)
 
-pub opening_step : (wide : Bool) (board : Board) (target : Target) → TargetParts target → AllByRecursion OpeningFits target.openings → (wide || list_all (λ (opening : Opening). is_short opening.address) target.openings) ≡ true
+pub opening_step : (wide : Bool) (board : Board) (target : Target) → IsWellFormedTarget target → AllByRecursion OpeningFits target.openings → (wide || list_all (λ (opening : Opening). is_short opening.address) target.openings) ≡ true
     → Steps (λ opening. opening_line opening ∷ []) (λ done. Has wide board (part_of target target.vendor target.model target.stalls target.burst target.ranges target.aborts done)) target.openings
 opening_step wide board target parts fit may done opening rest is =
     let before = part_of target target.vendor target.model target.stalls target.burst target.ranges target.aborts done in
@@ -199,7 +199,7 @@ opening_step wide board target parts fit may done opening rest is =
     let formed = all_of is_well_formed_opening done opening rest target.openings is parts.openings in
     let short = may_of wide (λ (o : Opening). is_short o.address) done opening rest target.openings is may in
     let all = length_of done opening rest target.openings is in
-    let most = leb-true _ _ parts.few_openings in
+    let most = parts.few_openings in
     let few : nat_le 256 (length done) ≡ false = lt-leb _ _ (omega (arith, all, most)) in
     let did : add_opening opening before ≡ Ok after = skip _ _ _ (not_from_true _ (aligned_by opening.space opening.address formed)) ∙ skip _ _ _ few in
     detail wide board (opening_line opening) (Opens opening) (add_opening opening) before after

@@ -2,14 +2,15 @@
 use Rattle.std.proofs.Common.{◌≡◌, ◌+◌, ◌≤◌, Bool, true, false, ◌||◌, List, [], ◌∷◌, ◌++◌, length, map, Option, None, Result, Ok, refl, ap, ◌∙◌, arith}
 use Rattle.std.specs.Prelude.{◌==◌, nat_le}
 use Rattle.std.specs.List.{list_all, AllByRecursion}
-use Rattle.std.proofs.lemmas.Bool.{and_parts, leb-true, eq-eqb}
+use Rattle.std.proofs.lemmas.Bool.{leb-true, eq-eqb}
 use Rattle.list_facts.specs.Lists.{total}
 use Rattle.list_facts.proofs.TotalLemmas.{total-push}
 use Rattle.board_model.specs.declared.op.Op.{Op}
 use Rattle.board_model.specs.declared.agents.Master.{Master}
 use Rattle.board_model.specs.declared.board.Board.{Board}
 use Rattle.board_model.specs.Requests.{tries_of}
-use Rattle.board_model.specs.WellFormed.{is_well_formed_op, is_well_formed_master, agents_on, operations_in}
+use Rattle.board_model.specs.WellFormed.{is_well_formed_op, is_well_formed_master, agents_on, operations_in, IsWellFormed}
+use Rattle.board_model.proofs.FormLemmas.{Master-parts}
 use Rattle.board_printer.specs.Masters.{op_line, master_line, master_lines}
 use Rattle.board_printer.specs.Boards.{is_short_op}
 use Rattle.board_statements.specs.declared.fault.LineFault.{LineFault}
@@ -26,7 +27,7 @@ use Rattle.board_draft.specs.Add.{add}
 use Rattle.roundtrip_lines.specs.Fits.{ProgramFits}
 use Rattle.roundtrip_board.proofs.LeadLemmas.{Leads, Steps, leads-append, leads-to, leads-map, leads-line}
 use Rattle.roundtrip_board.proofs.PlaceLemmas.{each_of, all_of, may_of, length_of, count_of, total_of, masters_of, beside_of}
-use Rattle.roundtrip_board.proofs.StateLemmas.{so_far, Of, holding, Is, BoardParts}
+use Rattle.roundtrip_board.proofs.StateLemmas.{so_far, Of, holding, Is}
 use Rattle.roundtrip_board.proofs.OpSteps.{op_adds}
 use Rattle.roundtrip_board.proofs.TargetSteps.{no_agent_fault}
 
@@ -56,9 +57,9 @@ op_step : (wide : Bool) (board : Board) (master : Master) → AllByRecursion OpF
 op_step wide board master fits formed fewer may done op rest is =
     let before = program_of master done in
     let after = program_of master (done ++ op ∷ []) in
-    let parts = and_parts (nat_le (length master.ops) 1024) (list_all is_well_formed_op master.ops) formed in
-    let good = all_of is_well_formed_op done op rest master.ops is parts.1 in
-    let most = leb-true _ _ parts.0 in
+    let parts = Master-parts master formed in
+    let good = all_of is_well_formed_op done op rest master.ops is parts.ops in
+    let most = parts.few in
     let all = length_of done op rest master.ops is in
     let few : length done + 1 ≤ 1024 = omega (arith, most, all) in
     let count = operations_in (board.masters ++ before ∷ []) in
@@ -88,11 +89,11 @@ master_leads wide board master fits formed fewer may none =
     leads-to (Of wide board) (Runs wide board master) (Of wide (with_master board master)) (master_lines master) whole
     (λ draft is. record { width = ap (λ (d : Draft). d.wide) is; is = ap board_of is })
 
-pub master_step : (wide : Bool) (board : Board) → BoardParts board → AllByRecursion ProgramFits board.masters → (wide || list_all (λ (master : Master). list_all is_short_op master.ops) board.masters) ≡ true
+pub master_step : (wide : Bool) (board : Board) → IsWellFormed board → AllByRecursion ProgramFits board.masters → (wide || list_all (λ (master : Master). list_all is_short_op master.ops) board.masters) ≡ true
     → Steps master_lines (λ done. Of wide (so_far board.bridges board.targets done [] [])) board.masters
 master_step wide board parts fits may done master rest is =
     let formed = all_of is_well_formed_master done master rest board.masters is parts.masters in
-    let below = leb-true _ _ (all_of (λ (m : Master). nat_le (agents_on board m.bus) 8) done master rest board.masters is parts.of_masters) in
+    let below = leb-true _ _ (all_of (λ (m : Master). nat_le (agents_on board m.bus) 8) done master rest board.masters is parts.few.masters) in
     let beside = count_of (λ (m : Master). m.bus == master.bus) done master rest board.masters is (eq-eqb _ _ refl) in
     let before = so_far board.bridges board.targets done [] [] in
     let room : agents_on before master.bus + 1 ≤ 8 = omega (arith, below, beside) in
@@ -100,4 +101,4 @@ master_step wide board parts fits may done master rest is =
     let most = parts.operations in
     let fewer : operations_in done + total tries_of master.ops ≤ 65536 = omega (arith, sum, most) in
     master_leads wide before master (each_of ProgramFits done master rest board.masters is fits) formed fewer (may_of wide (λ (m : Master). list_all is_short_op m.ops) done master rest board.masters is may)
-    (no_agent_fault before master.name master.bus (beside_of board.targets done master rest board.masters is parts.targets_named) (masters_of done master rest board.masters is parts.masters_named) room)
+    (no_agent_fault before master.name master.bus (beside_of board.targets done master rest board.masters is parts.targets_named_apart) (masters_of done master rest board.masters is parts.masters_named_apart) room)

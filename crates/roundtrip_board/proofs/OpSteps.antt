@@ -1,7 +1,6 @@
 -- An operation of a well-formed master is added where there is room for it.
 use Rattle.std.proofs.Common.{◌≡◌, ℕ, ◌+◌, ◌*◌, ◌%◌, ◌≤◌, true, false, ◌&&◌, List, [], ◌∷◌, ◌++◌, length, Option, Some, None, Ok, refl, ◌∙◌, arith}
 use Rattle.std.specs.Prelude.{◌==◌, nat_le, nat_lt}
-use Rattle.std.specs.List.{list_all}
 use Rattle.std.proofs.lemmas.Bool.{and_parts, or_from, not_from_true, lt-leb, le-ltb, leb-true, eqb-true}
 use Rattle.pci_command.specs.declared.command.Space.{Space}
 use Rattle.pci_command.specs.declared.command.Space.TheVariants.{Mem, Io, Cfg}
@@ -10,7 +9,8 @@ use Rattle.board_model.specs.declared.op.Op.{Op}
 use Rattle.board_model.specs.declared.op.Op.TheVariants.{Read, Write, CfgRead, CfgWrite, Poll}
 use Rattle.board_model.specs.declared.agents.Master.{Master}
 use Rattle.board_model.specs.Requests.{tries_of}
-use Rattle.board_model.specs.WellFormed.{is_within, is_dword_in, read_space, write_space, is_well_formed_phase, is_well_formed_read, is_burst_in, is_well_formed_write, is_well_formed_op}
+use Rattle.board_model.specs.WellFormed.{is_within, is_dword_in, read_space, write_space, is_well_formed_read, is_burst_in, is_well_formed_write, is_well_formed_op}
+use Rattle.board_model.proofs.FormLemmas.{Write-parts}
 use Rattle.board_draft.specs.Masters.{is_aligned, passes_block, add_op}
 use Rattle.roundtrip_board.proofs.StateLemmas.{skip}
 use Rattle.roundtrip_board.proofs.DetailSteps.{aligned_by}
@@ -22,8 +22,7 @@ read_by address (Some space) formed = aligned_by space address formed
 write_by : (address : ℕ) (phases : List Phase) (space : Option Space) → is_well_formed_write address phases space ≡ true → (address % 4 == 0) ≡ true
 write_by address phases None formed = absurd (let apart : false ≡ true = formed in cc)
 write_by address phases (Some space) formed =
-    let a = and_parts (is_dword_in space address && is_burst_in space address (length phases)) (list_all is_well_formed_phase phases) formed in
-    aligned_by space address ((and_parts (is_dword_in space address) (is_burst_in space address (length phases)) a.0).0)
+    aligned_by space address (Write-parts space address phases formed).aligned
 
 pub aligned : (op : Op) → is_well_formed_op op ≡ true → is_aligned op ≡ true
 aligned (Read command address) formed = read_by address (read_space command) formed
@@ -43,9 +42,8 @@ burst_by Cfg address phases whole formed = absurd (let apart : false ≡ true = 
 block_by : (address : ℕ) (phases : List Phase) (space : Option Space) → is_well_formed_write address phases space ≡ true → nat_lt 64 (address % 64 + 4 * length phases) ≡ false
 block_by address phases None formed = absurd (let apart : false ≡ true = formed in cc)
 block_by address phases (Some space) formed =
-    let a = and_parts (is_dword_in space address && is_burst_in space address (length phases)) (list_all is_well_formed_phase phases) formed in
-    let b = and_parts (is_dword_in space address) (is_burst_in space address (length phases)) a.0 in
-    burst_by space address (length phases) (aligned_by space address b.0) b.1
+    let is = Write-parts space address phases formed in
+    burst_by space address (length phases) (aligned_by space address is.aligned) is.burst
 
 pub within : (op : Op) → is_well_formed_op op ≡ true → passes_block op ≡ false
 within (Read command address) formed = refl

@@ -4,7 +4,7 @@ use Rattle.std.specs.Prelude.{codes, nat_le}
 use Rattle.std.specs.List.{AllByRecursion}
 use Rattle.std.proofs.lemmas.Bool.{lt-leb}
 use Rattle.board_model.specs.declared.board.Board.{Board}
-use Rattle.board_model.specs.WellFormed.{is_well_formed_plan}
+use Rattle.board_model.specs.WellFormed.{is_well_formed_plan, IsWellFormed}
 use Rattle.board_printer.specs.Boards.{planned_line}
 use Rattle.board_statements.specs.declared.statement.Statement.TheVariants.{Discards, Drops}
 use Rattle.roundtrip_lines.specs.Ranges.{PlannedFits}
@@ -13,15 +13,15 @@ use Rattle.board_draft.specs.Drafts.{board_of, draft_of}
 use Rattle.board_draft.specs.Plans.{add_discard, add_drop}
 use Rattle.roundtrip_board.proofs.LeadLemmas.{Steps, leads-line}
 use Rattle.roundtrip_board.proofs.PlaceLemmas.{each_of, all_of, length_of}
-use Rattle.roundtrip_board.proofs.StateLemmas.{so_far, Of, skip, BoardParts}
+use Rattle.roundtrip_board.proofs.StateLemmas.{so_far, Of, skip}
 
-pub discard_step : (wide : Bool) (board : Board) → BoardParts board → AllByRecursion PlannedFits board.discards
+pub discard_step : (wide : Bool) (board : Board) → IsWellFormed board → AllByRecursion PlannedFits board.discards
     → Steps (λ planned. planned_line (codes "discard") planned ∷ []) (λ done. Of wide (so_far board.bridges board.targets board.masters done [])) board.discards
 discard_step wide board parts fits done planned rest is =
     let before = so_far board.bridges board.targets board.masters done [] in
     let after = so_far board.bridges board.targets board.masters (done ++ planned ∷ []) [] in
     let all = length_of done planned rest board.discards is in
-    let most = parts.few_discards in
+    let most = parts.discards_fit in
     let few : nat_le 1024 (length done) ≡ false = lt-leb _ _ (omega (arith, all, most)) in
     let added : add_discard wide before planned ≡ Ok (draft_of wide after) = skip _ _ _ few in
     leads-line wide (planned_line (codes "discard") planned) (Discards planned) (Of wide before) (Of wide after)
@@ -33,13 +33,13 @@ discard_step wide board parts fits done planned rest is =
       holds = record { width = refl; is = refl };
     })
 
-pub drop_step : (wide : Bool) (board : Board) → BoardParts board → AllByRecursion PlannedFits board.drops
+pub drop_step : (wide : Bool) (board : Board) → IsWellFormed board → AllByRecursion PlannedFits board.drops
     → Steps (λ planned. planned_line (codes "drop") planned ∷ []) (λ done. Of wide (so_far board.bridges board.targets board.masters board.discards done)) board.drops
 drop_step wide board parts fits done planned rest is =
     let before = so_far board.bridges board.targets board.masters board.discards done in
     let after = so_far board.bridges board.targets board.masters board.discards (done ++ planned ∷ []) in
     let all = length_of done planned rest board.drops is in
-    let most = parts.few_drops in
+    let most = parts.drops_fit in
     let few : nat_le 1024 (length done) ≡ false = lt-leb _ _ (omega (arith, all, most)) in
     let added : add_drop wide before planned ≡ Ok (draft_of wide after) = skip _ _ _ few in
     leads-line wide (planned_line (codes "drop") planned) (Drops planned) (Of wide before) (Of wide after)

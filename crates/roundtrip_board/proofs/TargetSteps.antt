@@ -5,7 +5,8 @@ use Rattle.std.specs.List.{list_all, list_any, AllByRecursion}
 use Rattle.std.proofs.lemmas.Bool.{or_from, lt-leb, leb-true, eq-eqb}
 use Rattle.board_model.specs.declared.agents.Target.{Target}
 use Rattle.board_model.specs.declared.board.Board.{Board}
-use Rattle.board_model.specs.WellFormed.{is_well_formed_target, is_target_named, is_master_named, agents_on}
+use Rattle.board_model.specs.WellFormed.{IsWellFormed, is_well_formed_target, is_target_named, is_master_named, agents_on}
+use Rattle.board_model.proofs.FormLemmas.{Target-parts}
 use Rattle.board_printer.specs.Targets.{target_line, id_lines, stall_lines, burst_lines, range_line, opening_line, target_lines}
 use Rattle.board_printer.specs.Boards.{is_short_range, is_short_target}
 use Rattle.board_statements.specs.declared.fault.LineFault.{LineFault}
@@ -16,11 +17,10 @@ use Rattle.board_draft.specs.declared.draft.Draft.{Draft}
 use Rattle.board_draft.specs.declared.draft.Owner.TheVariants.{OfTarget}
 use Rattle.board_draft.specs.Drafts.{board_of}
 use Rattle.board_draft.specs.Targets.{is_name_used, agent_fault, unless, new_target, add_target}
-use Rattle.board_draft.proofs.PartLemmas.{parts_of}
 use Rattle.roundtrip_lines.specs.Fits.{DetailsFit}
 use Rattle.roundtrip_board.proofs.LeadLemmas.{Leads, Steps, leads-append, leads-to, leads-map, leads-line}
 use Rattle.roundtrip_board.proofs.PlaceLemmas.{each_of, all_of, may_of, count_of, targets_of}
-use Rattle.roundtrip_board.proofs.StateLemmas.{so_far, Of, holding, BoardParts}
+use Rattle.roundtrip_board.proofs.StateLemmas.{so_far, Of, holding}
 use Rattle.roundtrip_board.proofs.DetailSteps.{part_of, Has, id_leads, stall_leads, burst_leads, range_step, abort_step, opening_step}
 
 pass : (test : Bool) (fault : LineFault) (step : Option LineFault) → test ≡ false → cond test (Some fault) step ≡ step
@@ -53,7 +53,7 @@ with_target board target = record board { targets = board.targets ++ target ∷ 
 target_leads : (wide : Bool) (board : Board) (target : Target) → DetailsFit target → is_well_formed_target target ≡ true → (wide || is_short_target target) ≡ true → agent_fault board target.name target.bus ≡ None
     → Leads (Of wide board) (target_lines target) (Of wide (with_target board target))
 target_leads wide board target fits formed may none =
-    let parts = parts_of target formed in
+    let parts = Target-parts target formed in
     let may_ranges = first_may wide (list_all is_short_range target.ranges) _ may in
     let rest = second_may wide (list_all is_short_range target.ranges) _ may in
     let may_aborts = first_may wide (list_all is_short_range target.aborts) _ rest in
@@ -80,13 +80,13 @@ target_leads wide board target fits formed may none =
     leads-to (Of wide board) p6 (Of wide (with_target board target)) (target_lines target) whole
     (λ draft is. record { width = ap (λ (d : Draft). d.wide) is; is = ap board_of is })
 
-pub target_step : (wide : Bool) (board : Board) → BoardParts board → AllByRecursion DetailsFit board.targets → (wide || list_all is_short_target board.targets) ≡ true
+pub target_step : (wide : Bool) (board : Board) → IsWellFormed board → AllByRecursion DetailsFit board.targets → (wide || list_all is_short_target board.targets) ≡ true
     → Steps target_lines (λ done. Of wide (so_far board.bridges done [] [] [])) board.targets
 target_step wide board parts fits may done target rest is =
     let formed = all_of is_well_formed_target done target rest board.targets is parts.targets in
-    let below = leb-true _ _ (all_of (λ (t : Target). nat_le (agents_on board t.bus) 8) done target rest board.targets is parts.of_targets) in
+    let below = leb-true _ _ (all_of (λ (t : Target). nat_le (agents_on board t.bus) 8) done target rest board.targets is parts.few.targets) in
     let beside = count_of (λ (t : Target). t.bus == target.bus) done target rest board.targets is (eq-eqb _ _ refl) in
     let before = so_far board.bridges done [] [] [] in
     let room : agents_on before target.bus + 1 ≤ 8 = omega (arith, below, beside) in
     target_leads wide before target (each_of DetailsFit done target rest board.targets is fits) formed (may_of wide is_short_target done target rest board.targets is may)
-    (no_agent_fault before target.name target.bus (targets_of board.masters done target rest board.targets is parts.targets_named) refl room)
+    (no_agent_fault before target.name target.bus (targets_of board.masters done target rest board.targets is parts.targets_named_apart) refl room)

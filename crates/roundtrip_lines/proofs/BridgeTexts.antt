@@ -3,10 +3,11 @@ use Rattle.std.proofs.Common.{◌≡◌, ℕ, ◌+◌, ◌%◌, ◌^◌, ◌<◌
 use Rattle.std.specs.Prelude.{codes}
 use Rattle.std.specs.Str.{bytes_eq}
 use Rattle.std.specs.Fmt.{decimal}
-use Rattle.std.proofs.lemmas.Bool.{lt-ltb, eqb-true, ltb-true, leb-true}
+use Rattle.std.proofs.lemmas.Bool.{lt-ltb, eqb-true}
 use Rattle.board_model.specs.declared.bridge.Window.{Window}
 use Rattle.board_model.specs.declared.bridge.Bridge.{Bridge}
-use Rattle.board_model.specs.WellFormed.{is_within, is_window, is_well_formed_bridge}
+use Rattle.board_model.specs.WellFormed.{is_window, is_well_formed_bridge}
+use Rattle.board_model.proofs.FormLemmas.{Window-parts, Bridge-parts}
 use Rattle.board_printer.specs.Numbers.{address_text}
 use Rattle.board_printer.specs.Bridges.{window_words, depth_words, mode_words, bridge_line}
 use Rattle.board_printer.specs.Boards.{is_short, is_short_window, is_short_bridge}
@@ -20,10 +21,6 @@ use Rattle.roundtrip_lines.specs.Ranges.{BridgeFits}
 use Rattle.roundtrip_lines.proofs.NumberTexts.{decimal_is_read}
 use Rattle.roundtrip_lines.proofs.PartTexts.{address_is_read, address_has_none}
 use Rattle.roundtrip_lines.proofs.TargetTexts.{first_may, second_may}
-
-both : (a b : Bool) → (a && b) ≡ true → (a ≡ true) × (b ≡ true)
-both true b and = (refl, and)
-both false b and = absurd (let apart : false ≡ true = and in cc)
 
 -- a word with no such byte does not begin with one
 not_this : (mark : ℕ) (word rest : List ℕ) → has_mark mark word ≡ false → bytes_eq word (mark ∷ rest) ≡ false
@@ -88,64 +85,18 @@ mode_is_read false = refl
 may_short : (unit : ℕ) (frame : Option Window) → is_window unit (2 ^ 32) frame ≡ true → WindowMay false frame
 may_short unit None formed = tt
 may_short unit (Some it) formed =
-    let in_units = leb it.base it.limit && eqb (it.base % unit) 0 in
-    let last = both (in_units && eqb ((it.limit + 1) % unit) 0) (ltb it.limit (2 ^ 32)) formed in
-    let units = both in_units (eqb ((it.limit + 1) % unit) 0) last.0 in
-    let first = both (leb it.base it.limit) (eqb (it.base % unit) 0) units.0 in
-    let below : it.limit < 2 ^ 32 = ltb-true _ _ last.1 in
-    let ordered : it.base ≤ it.limit = leb-true _ _ first.0 in
-    (omega arith, omega arith, lt-ltb _ _ (omega arith), last.1)
+    let is = Window-parts unit (2 ^ 32) it formed in
+    let below = is.ends in
+    let ordered = is.ordered in
+    (omega arith, omega arith, lt-ltb _ _ (omega arith), lt-ltb _ _ below)
 
 may_long : (wide : Bool) (unit : ℕ) (frame : Option Window) → is_window unit (2 ^ 64) frame ≡ true → (wide || is_short_window frame) ≡ true → WindowMay wide frame
 may_long wide unit None formed may = tt
 may_long wide unit (Some it) formed may =
-    let in_units = leb it.base it.limit && eqb (it.base % unit) 0 in
-    let last = both (in_units && eqb ((it.limit + 1) % unit) 0) (ltb it.limit (2 ^ 64)) formed in
-    let units = both in_units (eqb ((it.limit + 1) % unit) 0) last.0 in
-    let first = both (leb it.base it.limit) (eqb (it.base % unit) 0) units.0 in
-    let below : it.limit < 2 ^ 64 = ltb-true _ _ last.1 in
-    let ordered : it.base ≤ it.limit = leb-true _ _ first.0 in
+    let is = Window-parts unit (2 ^ 64) it formed in
+    let below = is.ends in
+    let ordered = is.ordered in
     (omega arith, below, first_may wide (is_short it.base) (is_short it.limit) may, second_may wide (is_short it.base) (is_short it.limit) may)
-
--- what is well formed of a bridge, one by one
-pub record Formed (bridge : Bridge) : Type 0 where
-  pub some : 1 ≤ bridge.bus
-  pub device : bridge.device ≤ 31
-  pub posted_some : 1 ≤ bridge.posted
-  pub posted_few : bridge.posted ≤ 8
-  pub delayed_some : 1 ≤ bridge.delayed
-  pub delayed_few : bridge.delayed ≤ 8
-  pub mem : is_window (2 ^ 20) (2 ^ 32) bridge.mem ≡ true
-  pub pref : is_window (2 ^ 20) (2 ^ 64) bridge.pref ≡ true
-  pub io : is_window (2 ^ 12) (2 ^ 32) bridge.io ≡ true
-
-pub formed_of : (bridge : Bridge) → is_well_formed_bridge bridge ≡ true → Formed bridge
-formed_of bridge formed =
-    let one = leb 1 bridge.bus in
-    let two = one && leb bridge.device 31 in
-    let three = two && is_within 1 8 bridge.posted in
-    let four = three && is_within 1 8 bridge.delayed in
-    let five = four && is_window (2 ^ 20) (2 ^ 32) bridge.mem in
-    let six = five && is_window (2 ^ 20) (2 ^ 64) bridge.pref in
-    let a = both six (is_window (2 ^ 12) (2 ^ 32) bridge.io) formed in
-    let b = both five (is_window (2 ^ 20) (2 ^ 64) bridge.pref) a.0 in
-    let c = both four (is_window (2 ^ 20) (2 ^ 32) bridge.mem) b.0 in
-    let d = both three (is_within 1 8 bridge.delayed) c.0 in
-    let e = both two (is_within 1 8 bridge.posted) d.0 in
-    let f = both one (leb bridge.device 31) e.0 in
-    let delayed = both (leb 1 bridge.delayed) (leb bridge.delayed 8) d.1 in
-    let posted = both (leb 1 bridge.posted) (leb bridge.posted 8) e.1 in
-    record {
-      some = leb-true _ _ f.0;
-      device = leb-true _ _ f.1;
-      posted_some = leb-true _ _ posted.0;
-      posted_few = leb-true _ _ posted.1;
-      delayed_some = leb-true _ _ delayed.0;
-      delayed_few = leb-true _ _ delayed.1;
-      mem = c.1;
-      pref = b.1;
-      io = a.1;
-    }
 
 -- the prefetchable window is short where the bridge is
 pref_may : (wide : Bool) (bridge : Bridge) → (wide || is_short_bridge bridge) ≡ true → (wide || is_short_window bridge.pref) ≡ true
@@ -156,7 +107,7 @@ pref_may wide bridge may =
 pub bridge_is_read : (wide : Bool) (bridge : Bridge) → BridgeFits bridge → is_well_formed_bridge bridge ≡ true → (wide || is_short_bridge bridge) ≡ true → statement_of wide (bridge_line bridge) ≡ Ok (NewBridge bridge)
 unfolding statement_of statement_form behind_word form_of bridge_form fixed_of
 bridge_is_read wide bridge fits formed may =
-    let it = formed_of bridge formed in
+    let it = Bridge-parts bridge formed in
     let of_bus = fits.bus in
     let of_parent = fits.parent in
     let of_last = fits.last in
@@ -171,14 +122,14 @@ bridge_is_read wide bridge fits formed may =
     let pref_ios = skip_window (codes "pref") (codes "io") bridge.io posts refl (skip_depth (codes "pref") (codes "posted") bridge.posted delays refl (skip_depth (codes "pref") (codes "delayed") bridge.delayed modes refl (skip_mode (codes "pref") bridge.mode refl))) in
     let mem_prefs = skip_window (codes "mem") (codes "pref") bridge.pref ios refl (skip_window (codes "mem") (codes "io") bridge.io posts refl (skip_depth (codes "mem") (codes "posted") bridge.posted delays refl (skip_depth (codes "mem") (codes "delayed") bridge.delayed modes refl (skip_mode (codes "mem") bridge.mode refl)))) in
     rw (
-      decimal_is_read 1 255 bridge.bus it.some (omega arith) (omega arith),
+      decimal_is_read 1 255 bridge.bus it.bus (omega arith) (omega arith),
       decimal_is_read 0 255 bridge.parent (omega arith) (omega arith) (omega arith),
       decimal_is_read 0 31 bridge.device (omega arith) it.device (omega arith),
       decimal_is_read 0 255 bridge.last (omega arith) (omega arith) (omega arith),
       window_is_read (codes "mem") false bridge.mem prefs refl (may_short (2 ^ 20) bridge.mem it.mem) mem_prefs,
       window_is_read (codes "pref") wide bridge.pref ios refl (may_long wide (2 ^ 20) bridge.pref it.pref (pref_may wide bridge may)) pref_ios,
       window_is_read (codes "io") false bridge.io posts refl (may_short (2 ^ 12) bridge.io it.io) io_posts,
-      depth_is_read (codes "posted") bridge.posted delays refl it.posted_some it.posted_few posted_delays,
-      depth_is_read (codes "delayed") bridge.delayed modes refl it.delayed_some it.delayed_few delayed_modes,
+      depth_is_read (codes "posted") bridge.posted delays refl it.posted.from it.posted.to posted_delays,
+      depth_is_read (codes "delayed") bridge.delayed modes refl it.delayed.from it.delayed.to delayed_modes,
       mode_is_read bridge.mode,
     ) refl

@@ -16,6 +16,7 @@ use Rattle.board_model.specs.declared.op.Op.TheVariants.{Read, Write, CfgRead, C
 use Rattle.board_model.specs.declared.board.Board.{Board}
 use Rattle.board_model.specs.declared.board.Planned.{Planned}
 use Rattle.board_model.specs.WellFormed.{is_well_formed_bridge, is_well_formed_target, is_well_formed_range, is_well_formed_opening, is_well_formed_op, is_well_formed_plan}
+use Rattle.board_model.proofs.FormLemmas.{Bridge-parts, Target-parts}
 use Rattle.board_printer.specs.Lines.{Line, line_text}
 use Rattle.board_printer.specs.Numbers.{half_text}
 use Rattle.board_printer.specs.Bridges.{bridge_line}
@@ -29,7 +30,7 @@ use Rattle.board_statements.specs.Statements.{statement_of, first_line_of}
 use Rattle.roundtrip_lines.specs.Ranges.{BridgeFits, TargetFits, MasterFits, RangeFits, OpeningFits, OpFits, PlannedFits}
 use Rattle.roundtrip_words.specs.Printed.{is_word}
 use Rattle.roundtrip_lines.specs.ReadsAs.{IsReadAs}
-use Rattle.roundtrip_lines.proofs.BridgeTexts.{formed_of, bridge_is_read}
+use Rattle.roundtrip_lines.proofs.BridgeTexts.{bridge_is_read}
 use Rattle.roundtrip_lines.proofs.TargetTexts.{target_is_read, id_is_read, stall_is_read, burst_is_read, claim_is_read, abort_is_read, opening_is_read}
 use Rattle.roundtrip_lines.proofs.MasterTexts.{master_is_read, op_is_read, discard_is_read, drop_is_read}
 use Rattle.roundtrip_lines.proofs.WordTexts.{words_are_read}
@@ -49,12 +50,12 @@ reads_as wide words statement plain short read = record {
 
 pub bridge_law : (wide : Bool) (bridge : Bridge) → BridgeFits bridge → is_well_formed_bridge bridge ≡ true → (wide || is_short_bridge bridge) ≡ true → IsReadAs wide (bridge_line bridge) (NewBridge bridge)
 bridge_law wide bridge fits formed may =
-    let it = formed_of bridge formed in
-    reads_as wide (bridge_line bridge) (NewBridge bridge) (bridge_plain bridge fits it.device it.posted_few it.delayed_few) (bridge_width bridge fits it.device it.posted_few it.delayed_few) (bridge_is_read wide bridge fits formed may)
+    let it = Bridge-parts bridge formed in
+    reads_as wide (bridge_line bridge) (NewBridge bridge) (bridge_plain bridge fits it.device it.posted.to it.delayed.to) (bridge_width bridge fits it.device it.posted.to it.delayed.to) (bridge_is_read wide bridge fits formed may)
 
 pub target_law : (wide : Bool) (target : Target) → TargetFits target → is_well_formed_target target ≡ true → IsReadAs wide (target_line target) (NewTarget target.name target.bus target.device)
 target_law wide target fits formed =
-    let few : target.device ≤ 31 = grind (arith, nat_tests) in
+    let few = (Target-parts target formed).device in
     reads_as wide (target_line target) (NewTarget target.name target.bus target.device) (target_plain target fits few) (target_width target fits few) (target_is_read wide target fits formed)
 
 pub id_law : (wide : Bool) (vendor model : ℕ) → vendor < 2 ^ 16 → model < 2 ^ 16 → IsReadAs wide (codes "id" ∷ half_text vendor ∷ half_text model ∷ []) (Identifies vendor model)

@@ -20,7 +20,8 @@ use Rattle.board_model.specs.declared.agents.Master.{Master}
 use Rattle.board_model.specs.declared.op.Op.{Op}
 use Rattle.board_model.specs.declared.op.Op.TheVariants.{Read, Write, CfgRead, CfgWrite, Poll}
 use Rattle.board_model.specs.declared.board.Planned.{Planned}
-use Rattle.board_model.specs.WellFormed.{write_space, is_well_formed_write, is_well_formed_op}
+use Rattle.board_model.specs.WellFormed.{is_well_formed_op}
+use Rattle.board_model.proofs.OpLemmas.{op_phases}
 use Rattle.board_printer.specs.Numbers.{word_text, half_text, address_text, enables_text, phase_text}
 use Rattle.board_printer.specs.Spaces.{space_word, poll_word, command_word, direction_word}
 use Rattle.board_printer.specs.Bridges.{window_words, depth_words, mode_words, option_words, bridge_line}
@@ -123,17 +124,6 @@ phases_width (phase ∷ phases) =
     let others = phases_width phases in
     omega (arith, here, others)
 
-few_phases : (command : Command) (address : ℕ) (phases : List Phase) → is_well_formed_write address phases (write_space command) ≡ true → length phases ≤ 8
-few_phases IoWrite address phases formed = grind (arith, nat_tests)
-few_phases MemWrite address phases formed = grind (arith, nat_tests)
-few_phases MemWriteInvalidate address phases formed = grind (arith, nat_tests)
-few_phases IoRead address phases formed = absurd (let apart : false ≡ true = formed in cc)
-few_phases MemRead address phases formed = absurd (let apart : false ≡ true = formed in cc)
-few_phases MemReadMultiple address phases formed = absurd (let apart : false ≡ true = formed in cc)
-few_phases MemReadLine address phases formed = absurd (let apart : false ≡ true = formed in cc)
-few_phases ConfigurationRead address phases formed = absurd (let apart : false ≡ true = formed in cc)
-few_phases ConfigurationWrite address phases formed = absurd (let apart : false ≡ true = formed in cc)
-
 pub op_width : (op : Op) → DecimalsFit op → is_well_formed_op op ≡ true → width (op_line op) ≤ 257
 op_width (Read command address) fits formed =
     let word = command_width command in
@@ -143,7 +133,7 @@ op_width (Write command address phases) fits formed =
     let word = command_width command in
     let place = address_width address in
     let values = phases_width phases in
-    let few = few_phases command address phases formed in
+    let few = (op_phases (Write command address phases) formed).to in
     omega (arith, word, place, values, few)
 op_width (CfgRead bus device register) fits formed =
     let a = decimal_width bus fits.0 in

@@ -11,6 +11,7 @@ use Rattle.board_model.specs.declared.agents.Master.{Master}
 use Rattle.board_model.specs.declared.board.Board.{Board}
 use Rattle.board_model.specs.Requests.{op_of}
 use Rattle.board_model.specs.WellFormed.{is_well_formed}
+use Rattle.board_model.proofs.FormLemmas.{WellFormed-parts}
 use Rattle.roundtrip_words.specs.Printed.{is_word_byte, is_word}
 use Rattle.roundtrip_words.proofs.NumberLemmas.{decimal_word}
 use Rattle.roundtrip_lines.specs.Fits.{ProgramFits, BoardFits}
@@ -18,7 +19,7 @@ use Rattle.trace_text.specs.Words.{master_name, names_poll, try_text, op_word}
 use Rattle.trace_lines.specs.Words.{at_most, at_dot, number_of, named, index_and_try, op_by, master_in, op_in}
 use Rattle.roundtrip_names.proofs.NumberLemmas.{number_is_read, number_is_short}
 use Rattle.roundtrip_names.proofs.NameLemmas.{NameWord, name_is_word}
-use Rattle.roundtrip_names.proofs.PartLemmas.{agents_formed, each_at}
+use Rattle.roundtrip_names.proofs.PartLemmas.{each_at}
 use Rattle.roundtrip_names.proofs.PlaceLemmas.{masters_apart, place_found}
 use Rattle.roundtrip_names.proofs.MarkLemmas.{split_at_dot, number_has_no_dot}
 use Rattle.roundtrip_names.proofs.ThereLemmas.{There, op_is_there}
@@ -118,7 +119,7 @@ op_is_read board o fits formed small some =
     let there = op_is_there board o formed some in
     let rest = decimal o.index ++ try_text (names_poll board o) o.attempt in
     let split = split_at_dot there.master.name rest (name_of board o there fits).no_dot in
-    let apart = masters_apart board.masters (agents_formed board formed).masters_apart in
+    let apart = masters_apart board.masters (WellFormed-parts board formed).masters_named_apart in
     let master : master_in board there.master.name ≡ Some o.master = place_found (λ (master : Master). master.name) board.masters o.master there.master apart there.found small in
     let behind = rest_is_read board o (names_poll board o) there some refl in
     ap (op_in board) (word_is board o there) ∙ ap (op_by board) split ∙ rw master behind

@@ -3,11 +3,12 @@ use Rattle.std.proofs.Common.{◌≡◌, ℕ, ◌^◌, ◌<◌, true, length, So
 use Rattle.board_model.specs.declared.agents.Target.{Target}
 use Rattle.board_model.specs.declared.board.Board.{Board}
 use Rattle.board_model.specs.WellFormed.{is_well_formed}
+use Rattle.board_model.proofs.FormLemmas.{WellFormed-parts}
 use Rattle.roundtrip_lines.specs.Fits.{DetailsFit, BoardFits}
 use Rattle.trace_text.specs.Words.{target_name}
 use Rattle.trace_lines.specs.Words.{target_in}
 use Rattle.roundtrip_names.proofs.NameLemmas.{NameWord, name_is_word}
-use Rattle.roundtrip_names.proofs.PartLemmas.{agents_formed, each_at}
+use Rattle.roundtrip_names.proofs.PartLemmas.{each_at}
 use Rattle.roundtrip_names.proofs.PlaceLemmas.{targets_apart, place_found, element_at}
 
 -- the name of a target that is there is a name
@@ -21,5 +22,5 @@ target_is_word board index fits within =
 pub target_is_read : (board : Board) (index : ℕ) → is_well_formed board ≡ true → index < 2 ^ 16 → index < length board.targets → target_in board (target_name board index) ≡ Some index
 target_is_read board index formed small within =
     let there = element_at board.targets index within in
-    let apart = targets_apart board.masters board.targets (agents_formed board formed).targets_apart in
+    let apart = targets_apart board.masters board.targets (WellFormed-parts board formed).targets_named_apart in
     rw (there.found) (place_found (λ (target : Target). target.name) board.targets index there.element apart there.found small)

@@ -1,0 +1,5 @@
+use Rattle.board_model.proofs.FormLemmas.{WellFormed-parts, WellFormed-from}
+use Rattle.board_laws.proofs.well_formed_is_named.Goals as goal
+
+pub returns : goal.returns
+returns c = record { named = WellFormed-parts; tested = WellFormed-from }
