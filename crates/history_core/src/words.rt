@@ -168,11 +168,21 @@ fn value_after(
             step,
             place: Place::Target(place),
             ..
-        } if place == target => match request_of(board, op, bus) {
+        } if place == target && brings_phases(step) => match request_of(board, op, bus) {
             None => value,
             Some(request) => value_landed(&request, through(done, op), step, space, address, value),
         },
         Event::Act { .. } | Event::Arrive { .. } => value,
+    }
+}
+
+/// Whether a step may bring data phases to its target; only of these is looked up what went before.
+fn brings_phases(step: Step) -> bool
+    ensures { (phases : List Phase) → result ≡ false → brings step phases ≡ [] }
+{
+    match step {
+        Step::Land | Step::Part(_) => true,
+        _ => false,
     }
 }
 
