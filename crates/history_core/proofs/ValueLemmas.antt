@@ -1,14 +1,18 @@
 -- What data phases make of a dword, by the list of landings.
-use Rattle.std.proofs.Common.{◌≡◌, ℕ, Bool, true, false, ◌+◌, ◌<◌, get_or, take, length, reverse, List, [], ◌∷◌, ◌++◌, refl, sym, ◌∙◌, ap, ◌==◌, if◌then◌else◌}
+use Rattle.std.proofs.Common.{◌≡◌, ℕ, Bool, true, false, ◌+◌, ◌<◌, get_or, take, length, reverse, List, [], ◌∷◌, ◌++◌, Option, Some, None, refl, sym, subst, ◌∙◌, ap, ◌==◌, if◌then◌else◌}
 use Rattle.std.proofs.lemmas.List.{take_more, reverse-append}
 use Rattle.pci_command.specs.declared.command.Space.{Space}
 use Rattle.pci_command.specs.declared.phases.Phase.{Phase}
 use Rattle.pci_command.specs.declared.op_id.OpId.{OpId}
+use Rattle.pci_command.specs.declared.request.Request.{Request}
+use Rattle.pci_command.specs.Command.{space_of}
+use Rattle.pci_command.specs.Same.{same_space}
 use Rattle.board_model.specs.declared.board.Board.{Board}
-use Rattle.board_model.specs.Ways.{Dword}
+use Rattle.board_model.specs.Ways.{Dword, address_in}
 use Rattle.device_header.specs.Registers.{merge_of}
 use Rattle.history_model.specs.declared.event.Event.{Event}
-use Rattle.history_model.specs.Words.{Landing, landings_at, merged, mask_in, landed, brought, opens_as, value_of}
+use Rattle.history_model.specs.declared.event.Step.{Step}
+use Rattle.history_model.specs.Words.{Landing, without, brings, landings_at, landings_in, landings_of, merged, mask_in, landed, brought, opens_as, value_of}
 use Rattle.history_model.specs.Runs.{history_of}
 use Rattle.history_core.specs.Values.{value_merged}
 
@@ -30,6 +34,26 @@ merged_landings target o space address at value (phase ∷ phases) =
       | true ↦ merged_landings target o space address (at + 4) (merge_of value phase (mask_in space address)) phases
       | false ↦ merged_landings target o space address (at + 4) value phases
     ]
+
+-- a step that brings no data phases leaves a dword as it is
+none_in : (o : OpId) (word : Dword) (space : Space) (address : ℕ) → landings_in o word space address [] ≡ []
+none_in o word space address =
+    let P : Bool → Type 0 = λ b. (if b then landings_at o word.address (address_in space address) [] else []) ≡ [] in
+    elim (same_space space word.space) as P [ true ↦ refl | false ↦ refl ]
+
+none_landed : (o : OpId) (step : Step) (gone : ℕ) (word : Dword) (request : Option Request) →
+    ((phases : List Phase) → brings step phases ≡ []) → landings_of o step gone word request ≡ []
+none_landed o step gone word None none = refl
+none_landed o step gone word (Some request) none =
+    let rest : Request = without gone request in
+    let P : List Phase → Type 0 = λ phases. landings_in o word (space_of rest.command) rest.address phases ≡ [] in
+    subst P (sym (none rest.phases)) (none_in o word (space_of rest.command) rest.address)
+
+pub nothing_brought : (o : OpId) (step : Step) (gone : ℕ) (word : Dword) (value : ℕ) (request : Option Request) →
+    ((phases : List Phase) → brings step phases ≡ []) → merged word value (landings_of o step gone word request) ≡ value
+nothing_brought o step gone word value request none =
+    let P : List Landing → Type 0 = λ landings. merged word value landings ≡ value in
+    subst P (sym (none_landed o step gone word request none)) refl
 
 -- what one more event makes of a dword
 pub value_after_event : (board : Board) (h : List Event) (e : Event) (word : Dword) →

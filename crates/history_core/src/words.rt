@@ -1,4 +1,5 @@
-ghost use Rattle.std.specs.Prelude.{◌≡◌, ◌+◌, ◌*◌, ◌^◌, ◌<◌, ◌≤◌, ℕ, ◌==◌, if◌then◌else◌, [], ◌∷◌, length, take, drop, IsTrue, Some, None};
+ghost use Rattle.std.specs.Prelude.{◌≡◌, ◌+◌, ◌*◌, ◌^◌, ◌<◌, ◌≤◌, ℕ, ◌==◌, if◌then◌else◌, List, [], ◌∷◌, length, take, drop, IsTrue, Some, None, false};
+ghost use Rattle.pci_command.specs.declared.phases.Phase.{Phase};
 ghost use Rattle.pci_command.specs.declared.op_id.OpId.{OpId};
 ghost use Rattle.pci_command.specs.Same.{same_op, same_space};
 ghost use Rattle.pci_command.specs.Command.{space_of};
@@ -149,6 +150,7 @@ fn word_or(word: &Opening, space: Space, address: u128, value: u32) -> u32
 }
 
 /// What one more event makes of the dword.
+#[tactic(auto, using(crate::proofs::ValueLemmas::nothing_brought))]
 fn value_after(
     board: &Board,
     done: &[Event],
@@ -168,10 +170,17 @@ fn value_after(
             step,
             place: Place::Target(place),
             ..
-        } if place == target && brings_phases(step) => match request_of(board, op, bus) {
-            None => value,
-            Some(request) => value_landed(&request, through(done, op), step, space, address, value),
-        },
+        } if place == target => {
+            if !brings_phases(step) {
+                return value;
+            }
+            match request_of(board, op, bus) {
+                None => value,
+                Some(request) => {
+                    value_landed(&request, through(done, op), step, space, address, value)
+                }
+            }
+        }
         Event::Act { .. } | Event::Arrive { .. } => value,
     }
 }
