@@ -1,7 +1,7 @@
 -- What it says that an initiator presents an operation.
 use Rattle.std.proofs.Common.{◌≡◌, ℕ, zero, suc, ◌<◌, Bool, true, eqb, List, [], ◌∷◌, length, Option, Some, None, refl, ap, subst, arith, slice_get}
 use Rattle.std.specs.List.{find, AllByRecursion}
-use Rattle.std.proofs.lemmas.Bool.{eqb-true}
+use Rattle.std.proofs.lemmas.Bool.{and_parts, eqb-true}
 use Rattle.list_facts.specs.Lists.{before}
 use Rattle.pci_command.specs.declared.op_id.OpId.{OpId}
 use Rattle.board_model.specs.declared.agents.Master.{Master as MasterAgent}
