@@ -27,16 +27,16 @@ use Rattle.history_model.specs.World.{same_lane, lane_outcome, world_of}
 use Rattle.history_model.specs.Answers.{wants, bridge_to, answer, presents}
 use Rattle.history_model.specs.Runs.{Allowed, Run}
 use Rattle.law_slots.specs.Depths.{DifferentNumbers}
-use Rattle.law_slots.proofs.AnswerLemmas.{answered_at}
-use Rattle.law_slots.proofs.QuietLemmas.{Quiet-empty, run_no_bridge}
-use Rattle.law_slots.proofs.RequestLemmas.{same_op_true}
+use Rattle.history_facts.proofs.AnswerLemmas.{answered_at}
+use Rattle.law_slots.proofs.Laws.{Quiet-empty, run_no_bridge}
+use Rattle.history_facts.proofs.RequestLemmas.{same_op_true}
 use Rattle.law_order.specs.Order.{posts, is_posted_in, is_posted_op, accepted_at, entering, entered, leaves_by, leaving, left}
 use Rattle.law_order.specs.Masters.{is_accept, is_master, accepts_from_master}
 use Rattle.law_order.specs.One.{times, ends_at_master, is_land, is_abort, lands_from_master, lands_from_lane, lost_from_lane, one_of, on_lane, over_lanes, on_lanes, OnePost}
-use Rattle.law_order.proofs.PostLemmas.{split_true}
+use Rattle.list_facts.proofs.BoolLemmas.{split_true}
 use Rattle.law_order.proofs.OrderRunLemmas.{InOrder-run}
 use Rattle.law_order.proofs.OnceLemmas.{ends_once}
-use Rattle.law_order.proofs.PostedLemmas.{PostedAt, posted_answered}
+use Rattle.history_facts.proofs.PostedLemmas.{PostedAt, posted_answered}
 use Rattle.law_order.proofs.LaneSums.{over-same, over-plus, over-zero, over-one}
 
 -- a bridge accepts the operation from a bridge

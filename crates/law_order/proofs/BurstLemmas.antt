@@ -4,7 +4,7 @@ use Rattle.std.specs.List.{list_all, list_any, AllByRecursion}
 use Rattle.std.specs.Option.{option_and_then}
 use Rattle.std.proofs.lemmas.Option.{cond_some}
 use Rattle.std.proofs.lemmas.Bool.{and_parts}
-use Rattle.list_facts.proofs.EachLemmas.{Each-weaker}
+use Rattle.list_facts.proofs.EachLemmas.{Each-weaker, Each-slice_get, Each-list_all}
 use Rattle.pci_command.specs.declared.command.Command.{Command}
 use Rattle.pci_command.specs.declared.command.Command.TheVariants.{IoRead, IoWrite, MemRead, MemWrite, CfgRead as ConfigurationRead, CfgWrite as ConfigurationWrite, MemReadMultiple, MemReadLine, MemWriteInvalidate}
 use Rattle.pci_command.specs.declared.command.Space.{Space}
@@ -24,11 +24,12 @@ use Rattle.board_model.specs.Requests.{tries_of, op_of, command_of, address_on, 
 use Rattle.board_model.specs.Claims.{range_holds, claim_in_space, claim}
 use Rattle.board_model.specs.WellFormed.{read_space, write_space, is_well_formed_bridge, is_well_formed_target, is_well_formed_read, is_well_formed_write, is_well_formed_op, is_well_formed_master, is_well_formed}
 use Rattle.history_model.specs.Words.{without}
-use Rattle.law_slots.proofs.RequestLemmas.{Each-slice_get, request_is_of}
+use Rattle.history_facts.proofs.RequestLemmas.{request_is_of}
 use Rattle.law_order.specs.OnWay.{WritesHaveOneClaimant}
 use Rattle.law_order.specs.Parts.{WritesAbortWhole}
-use Rattle.law_order.proofs.PostedLemmas.{write_not_read}
-use Rattle.law_order.proofs.BlockLemmas.{SameBlock, le_true, Each-list_all, aborts_alike, claim_alike}
+use Rattle.history_facts.proofs.PostedLemmas.{write_not_read}
+use Rattle.history_facts.proofs.BlockLemmas.{SameBlock, aborts_alike, claim_alike}
+use Rattle.list_facts.proofs.BoolLemmas.{le_true}
 
 -- the data phases of a write stay in the block of the first
 abbrev StaysInBlock : ℕ → List Phase → Type 0

@@ -21,12 +21,13 @@ use Rattle.history_model.specs.Lanes.{is_of}
 use Rattle.history_model.specs.World.{same_lane, world_of}
 use Rattle.history_model.specs.Answers.{wants, answer, presents}
 use Rattle.history_model.specs.Runs.{Allowed, Run}
-use Rattle.law_slots.proofs.AnswerLemmas.{answered_at}
-use Rattle.law_slots.proofs.KindLemmas.{RightKind-run}
-use Rattle.law_slots.proofs.RequestLemmas.{same_op_self}
+use Rattle.history_facts.proofs.AnswerLemmas.{answered_at}
+use Rattle.law_slots.proofs.Laws.{RightKind-run}
+use Rattle.history_facts.proofs.RequestLemmas.{same_op_self}
 use Rattle.law_order.specs.Order.{posts, is_posted_op, enters_by, entering, entered, left}
 use Rattle.law_order.specs.Masters.{accepts_from_master, MastersWrite}
-use Rattle.law_order.proofs.PostLemmas.{op_is_posted, posts-less_first, split_true}
+use Rattle.law_order.proofs.PostLemmas.{op_is_posted, posts-less_first}
+use Rattle.list_facts.proofs.BoolLemmas.{split_true}
 use Rattle.law_order.proofs.OrderRunLemmas.{InOrder-run}
 
 Each-second : {X : Type 0} (P : X → Type 0) (xs ys : List X) → AllByRecursion P (xs ++ ys) → AllByRecursion P ys

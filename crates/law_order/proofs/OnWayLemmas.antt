@@ -14,7 +14,7 @@ use Rattle.board_model.specs.Requests.{op_of, request_on}
 use Rattle.board_model.specs.Claims.{claim}
 use Rattle.board_model.specs.Ways.{end_of, Route, route_by, route_within, route_of, way}
 use Rattle.board_laws.specs.Trees.{IsTree}
-use Rattle.board_laws.proofs.EndLemmas.{WayEnds-tree}
+use Rattle.board_laws.proofs.Laws.{WayEnds-tree}
 use Rattle.history_model.specs.declared.event.By.{By}
 use Rattle.history_model.specs.declared.event.By.TheVariants.{Master, Lane as ByLane}
 use Rattle.history_model.specs.declared.event.Step.{Step}
@@ -28,14 +28,14 @@ use Rattle.history_model.specs.World.{same_lane, world_of}
 use Rattle.history_model.specs.Words.{through, without}
 use Rattle.history_model.specs.Answers.{is_on, wants, answer, presents}
 use Rattle.history_model.specs.Runs.{Allowed, Run}
-use Rattle.law_slots.proofs.AnswerLemmas.{answered_at}
-use Rattle.law_slots.proofs.BridgeLemmas.{same_lane_true, same_lane_self}
-use Rattle.law_slots.proofs.KindLemmas.{RightKind-run}
-use Rattle.law_slots.proofs.LatchedLemmas.{wants-at}
-use Rattle.law_slots.proofs.RequestLemmas.{request_is_of}
+use Rattle.history_facts.proofs.AnswerLemmas.{answered_at}
+use Rattle.history_facts.proofs.BridgeLemmas.{same_lane_true, same_lane_self}
+use Rattle.law_slots.proofs.Laws.{RightKind-run, wants-at}
+use Rattle.history_facts.proofs.RequestLemmas.{request_is_of}
 use Rattle.law_order.specs.Order.{posts, is_posted_op, enters_by, entering, entered}
 use Rattle.law_order.specs.OnWay.{WritesHaveOneClaimant, OnWay}
-use Rattle.law_order.proofs.PostLemmas.{op_is_posted, posts-less_first, split_true}
+use Rattle.law_order.proofs.PostLemmas.{op_is_posted, posts-less_first}
+use Rattle.list_facts.proofs.BoolLemmas.{split_true}
 use Rattle.law_order.proofs.MasterLemmas.{or_true, stands_owned, flies_owned}
 use Rattle.law_order.proofs.LandLemmas.{rest_claimed}
 

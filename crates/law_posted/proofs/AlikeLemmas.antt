@@ -8,10 +8,11 @@ use Rattle.board_model.specs.declared.board.Board.{Board}
 use Rattle.board_model.specs.declared.board.Planned.{Planned}
 use Rattle.history_model.specs.declared.item.Slot.{Slot}
 use Rattle.history_model.specs.Lanes.{LaneState, is_done_for}
-use Rattle.history_model.specs.World.{World, lane_back}
+use Rattle.history_model.specs.World.{World}
+use Rattle.board_model.specs.Ways.{lane_back}
 use Rattle.history_model.specs.Local.{is_ask_of, is_gone_of}
 use Rattle.history_model.specs.Left.{Reach, reach_of, slot_left, reach_left, delayed_left, is_slot_of, discard_left, drop_left}
-use Rattle.law_order.proofs.LaneSums.{total-same}
+use Rattle.list_facts.proofs.AnyLemmas.{total_same}
 
 -- the same slots are held, as many requests and completions came, and the same of them are there
 pub record Alike (a b : LaneState) : Type 0 where
@@ -92,13 +93,13 @@ delayed_alike world other o alike lanes =
 -- as many lines of discards and drops are to come
 pub discards_alike : (board : Board) (world other : World) → AlikeWorlds world other → (lines : List Planned) → total (discard_left board world) lines ≡ total (discard_left board other) lines
 discards_alike board world other alike lines =
-    total-same (discard_left board world) (discard_left board other)
+    total_same (discard_left board world) (discard_left board other)
     (λ (planned : Planned). let same = (alike (record { bus = planned.bus; up = planned.up })).dones in rw same refl) lines
 
 -- the same of the lines of drops
 pub drops_alike : (world other : World) → AlikeWorlds world other → (lines : List Planned) → total (drop_left world) lines ≡ total (drop_left other) lines
 drops_alike world other alike lines =
-    total-same (drop_left world) (drop_left other)
+    total_same (drop_left world) (drop_left other)
     (λ (planned : Planned). let same = (alike (record { bus = planned.bus; up = planned.up })).asks in rw same refl) lines
 
 -- an element that fails changes no test of any

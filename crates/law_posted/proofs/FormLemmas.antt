@@ -4,7 +4,7 @@ use Rattle.std.specs.List.{list_all, AllByRecursion}
 use Rattle.std.specs.Option.{option_and_then}
 use Rattle.std.proofs.lemmas.Option.{cond_some}
 use Rattle.std.proofs.lemmas.Bool.{and_parts}
-use Rattle.list_facts.proofs.EachLemmas.{Each-weaker}
+use Rattle.list_facts.proofs.EachLemmas.{Each-weaker, Each-slice_get, Each-list_all}
 use Rattle.pci_command.specs.declared.command.Space.{Space}
 use Rattle.pci_command.specs.declared.command.Space.TheVariants.{Mem, Io, Cfg}
 use Rattle.pci_command.specs.declared.phases.Phase.{Phase}
@@ -16,9 +16,8 @@ use Rattle.board_model.specs.declared.op.Op.TheVariants.{Read, Write, CfgRead, C
 use Rattle.board_model.specs.declared.board.Board.{Board}
 use Rattle.board_model.specs.Requests.{tries_of, op_of, phases_of}
 use Rattle.board_model.specs.WellFormed.{write_space, is_well_formed_target, is_well_formed_write, is_well_formed_op, is_well_formed_master, is_well_formed}
-use Rattle.board_laws.proofs.ValidLemmas.{targets_formed}
-use Rattle.law_slots.proofs.RequestLemmas.{Each-slice_get}
-use Rattle.law_order.proofs.BlockLemmas.{le_true, Each-list_all}
+use Rattle.board_laws.proofs.Laws.{targets_formed}
+use Rattle.list_facts.proofs.BoolLemmas.{le_true}
 use Rattle.law_posted.proofs.PieceLemmas.{AllTake}
 
 -- one is at least one

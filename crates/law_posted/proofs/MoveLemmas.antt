@@ -13,13 +13,14 @@ use Rattle.history_model.specs.declared.event.Mark.{Mark}
 use Rattle.history_model.specs.declared.item.Carried.{Carried}
 use Rattle.history_model.specs.declared.item.Carried.TheVariants.{Post, Room}
 use Rattle.history_model.specs.Lanes.{Both, is_of, is_done_for, post_enters, reply_to, item_ends, arrives_first, arrives}
-use Rattle.history_model.specs.World.{World, lane_back, same_lane, both, moved}
+use Rattle.history_model.specs.World.{World, same_lane, both, moved}
+use Rattle.board_model.specs.Ways.{lane_back}
 use Rattle.history_model.specs.Answers.{bridge_to}
 use Rattle.history_model.specs.Local.{is_ask_of, is_gone_of}
 use Rattle.history_model.specs.Left.{flying_left, standing_left}
 use Rattle.law_slots.specs.Depths.{DifferentNumbers}
-use Rattle.law_slots.proofs.BridgeLemmas.{same_lane_self, same_lane_back}
-use Rattle.law_order.proofs.MovedLemmas.{moved_each}
+use Rattle.history_facts.proofs.BridgeLemmas.{same_lane_self, same_lane_back}
+use Rattle.history_facts.proofs.MovedLemmas.{moved_each}
 use Rattle.law_posted.proofs.SumLemmas.{over-moved}
 use Rattle.law_posted.proofs.AlikeLemmas.{Alike, AlikeWorlds, Alike-self, any-push, any-less}
 use Rattle.law_posted.proofs.ProgramLemmas.{lane_weight, world_weight}

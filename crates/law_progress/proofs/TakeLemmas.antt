@@ -17,7 +17,7 @@ use Rattle.board_model.specs.declared.bridge.Place.TheVariants.{Lane}
 use Rattle.board_model.specs.declared.board.Board.{Board}
 use Rattle.board_model.specs.Requests.{request_of, is_posted, same_requests}
 use Rattle.board_model.specs.Claims.{claim, claim_in_space}
-use Rattle.board_model.specs.Ways.{end_of, start_of}
+use Rattle.board_model.specs.Ways.{end_of, start_of, lane_back}
 use Rattle.history_model.specs.declared.event.By.{By}
 use Rattle.history_model.specs.declared.event.By.TheVariants.{Master, Lane as ByLane}
 use Rattle.history_model.specs.declared.event.Step.TheVariants.{Take}
@@ -29,7 +29,7 @@ use Rattle.history_model.specs.declared.item.Answer.TheVariants.{Gives, Retry}
 use Rattle.history_model.specs.declared.item.Cause.{Cause}
 use Rattle.history_model.specs.declared.item.Cause.TheVariants.{Behind}
 use Rattle.history_model.specs.Lanes.{has_number, is_post, is_done_for}
-use Rattle.history_model.specs.World.{World, lane_back, both, same_initiator, is_own, world_of}
+use Rattle.history_model.specs.World.{World, both, same_initiator, is_own, world_of}
 use Rattle.history_model.specs.Program.{turn_of}
 use Rattle.history_model.specs.Words.{through, without}
 use Rattle.history_model.specs.Answers.{is_on, is_turn, presents, wants, completion_answer}
@@ -37,14 +37,10 @@ use Rattle.history_model.specs.Runs.{Run}
 use Rattle.law_slots.specs.Slots.{IsHeldFor, DoneNamed, Slots}
 use Rattle.law_slots.specs.Latched.{IsAt, LatchedOn, Latched}
 use Rattle.law_slots.specs.Owners.{Waits, Owners}
-use Rattle.law_slots.proofs.EqualLemmas.{same_initiator-self, same_requests-self}
-use Rattle.law_slots.proofs.FoundLemmas.{Each-found}
-use Rattle.law_slots.proofs.LatchedLemmas.{Latched-run}
-use Rattle.law_slots.proofs.OwnersRunLemmas.{Owners-run}
-use Rattle.law_slots.proofs.PartLemmas.{delayed-not_parted}
-use Rattle.law_slots.proofs.RequestLemmas.{same_op_self}
-use Rattle.law_slots.proofs.SlotsRunLemmas.{Slots-run}
-use Rattle.law_slots.proofs.StandingLemmas.{CanStand-run}
+use Rattle.history_facts.proofs.EqualLemmas.{same_initiator-self, same_requests-self}
+use Rattle.list_facts.proofs.FoundLemmas.{Each-found}
+use Rattle.law_slots.proofs.Laws.{Latched-run, Owners-run, delayed-not_parted, Slots-run, CanStand-run}
+use Rattle.history_facts.proofs.RequestLemmas.{same_op_self}
 use Rattle.law_order.specs.Order.{posts}
 use Rattle.law_progress.specs.Next.{Next}
 use Rattle.law_progress.proofs.SoundLemmas.{Sound}

@@ -16,7 +16,7 @@ use Rattle.board_model.specs.Claims.{claim}
 use Rattle.board_model.specs.Ways.{end_of, start_of, way}
 use Rattle.board_laws.specs.Trees.{IsTree}
 use Rattle.board_laws.specs.WayEnds.{same_bridge}
-use Rattle.board_laws.proofs.EndLemmas.{WayEnds-tree}
+use Rattle.board_laws.proofs.Laws.{WayEnds-tree}
 use Rattle.history_model.specs.declared.event.By.{By}
 use Rattle.history_model.specs.declared.event.By.TheVariants.{Master, Lane as ByLane}
 use Rattle.history_model.specs.declared.event.Event.{Event}
@@ -35,14 +35,11 @@ use Rattle.law_slots.specs.Depths.{DifferentNumbers}
 use Rattle.law_slots.specs.Phases.{DelayedAreSingle}
 use Rattle.law_slots.specs.Latched.{IsAt, Latched}
 use Rattle.law_slots.specs.Owners.{is_equal_ask, Waits, own_count}
-use Rattle.law_slots.proofs.HeldLemmas.{hit-same}
-use Rattle.law_slots.proofs.RequestLemmas.{request_is_of, same_op_true, same_op_self}
-use Rattle.law_slots.proofs.EqualLemmas.{same_requests-self, same_initiator-self}
-use Rattle.law_slots.proofs.SlotsRunLemmas.{Slots-run}
-use Rattle.law_slots.proofs.LatchedLemmas.{Latched-run}
-use Rattle.law_slots.proofs.OwnersRunLemmas.{Owners-run}
+use Rattle.law_slots.proofs.Laws.{hit-same, Slots-run, Latched-run, Owners-run}
+use Rattle.history_facts.proofs.RequestLemmas.{request_is_of, same_op_true, same_op_self}
+use Rattle.history_facts.proofs.EqualLemmas.{same_requests-self, same_initiator-self}
 use Rattle.law_reach.specs.Reach.{last_of, presenter, Passed, slots_of, Reaches}
-use Rattle.law_reach.proofs.PathLemmas.{Follows, way_goes, follows_few, before_lane, any_lane}
+use Rattle.history_facts.proofs.PathLemmas.{Follows, way_goes, follows_few, before_lane, any_lane}
 
 -- the way back from a slot on a lane, latched by this initiator for this operation
 pub record Traced (board : Board) (h : List Event) (lane : BridgeLane) (by : By) (o : OpId) (op : Op) : Type 0 where

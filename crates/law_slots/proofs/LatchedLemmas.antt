@@ -11,7 +11,7 @@ use Rattle.board_model.specs.declared.bridge.Place.{Place}
 use Rattle.board_model.specs.declared.bridge.Place.TheVariants.{Lane}
 use Rattle.board_model.specs.declared.board.Board.{Board}
 use Rattle.board_model.specs.Claims.{claim_in_space, claim}
-use Rattle.board_model.specs.Ways.{end_of}
+use Rattle.board_model.specs.Ways.{end_of, lane_back}
 use Rattle.history_model.specs.declared.event.By.{By}
 use Rattle.history_model.specs.declared.event.By.TheVariants.{Master, Lane as ByLane}
 use Rattle.history_model.specs.declared.event.Mark.{Mark}
@@ -20,7 +20,7 @@ use Rattle.history_model.specs.declared.event.Event.{Event}
 use Rattle.history_model.specs.declared.item.Carried.{Carried}
 use Rattle.history_model.specs.declared.item.Slot.{Slot}
 use Rattle.history_model.specs.Lanes.{Both, has_number, lowest_free, ask_enters, Effect, Stands, Credits, Frees, Drops, effect_of, takes_effect, came_off, arrives_first}
-use Rattle.history_model.specs.World.{lane_back, both, world_of}
+use Rattle.history_model.specs.World.{both, world_of}
 use Rattle.history_model.specs.Program.{turn_of}
 use Rattle.history_model.specs.Words.{through, without}
 use Rattle.history_model.specs.Answers.{is_on, is_turn, presents, wants}
@@ -28,8 +28,8 @@ use Rattle.history_model.specs.Runs.{Run}
 use Rattle.law_slots.specs.Depths.{DifferentNumbers}
 use Rattle.law_slots.specs.Phases.{DelayedAreSingle}
 use Rattle.law_slots.specs.Latched.{IsAt, LatchedOn, Latched}
-use Rattle.law_slots.proofs.KeptLemmas.{Pair, Kept, runs_keep}
-use Rattle.law_slots.proofs.AnswerLemmas.{AtLane}
+use Rattle.history_facts.proofs.KeptLemmas.{Pair, Kept, runs_keep}
+use Rattle.history_facts.proofs.AnswerLemmas.{AtLane}
 use Rattle.law_slots.proofs.PartLemmas.{delayed-not_parted}
 use Rattle.law_slots.proofs.ClaimLemmas.{claim_starts}
 

@@ -19,15 +19,16 @@ use Rattle.history_model.specs.declared.item.Carried.TheVariants.{Post, Ask, Don
 use Rattle.history_model.specs.declared.item.Slot.{Slot}
 use Rattle.history_model.specs.Lanes.{LaneState, Both, empty_lane, has_number, is_done_for, is_post}
 use Rattle.history_model.specs.Local.{is_ask, is_ask_of, is_held_for, is_lawful, is_lawful_at, is_lawful_on}
-use Rattle.history_model.specs.World.{World, lane_back, both, world_of}
+use Rattle.history_model.specs.World.{World, both, world_of}
+use Rattle.board_model.specs.Ways.{lane_back}
 use Rattle.history_model.specs.Answers.{bridge_to}
 use Rattle.history_model.specs.Runs.{Run}
 use Rattle.law_slots.specs.Slots.{hit, slot_weight, ask_weight, done_weight, gone_weight, AskNamed, DoneNamed, Slots}
 use Rattle.law_slots.specs.Credits.{post_count, room_count, Credits}
 use Rattle.law_slots.specs.Depths.{Within}
-use Rattle.law_slots.proofs.BridgeLemmas.{flip, both_back}
+use Rattle.history_facts.proofs.BridgeLemmas.{flip, both_back}
 use Rattle.law_slots.proofs.HeldLemmas.{hit-same}
-use Rattle.law_slots.proofs.RequestLemmas.{same_op_self}
+use Rattle.history_facts.proofs.RequestLemmas.{same_op_self}
 use Rattle.law_slots.proofs.QuietLemmas.{Quiet-empty, run_no_bridge}
 use Rattle.law_slots.proofs.OneItemLemmas.{some_held}
 use Rattle.law_slots.proofs.SlotsRunLemmas.{Slots-run}

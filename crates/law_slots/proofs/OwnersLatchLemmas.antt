@@ -1,5 +1,5 @@
 -- Who presents a delayed request waits for it.
-use Rattle.std.proofs.Common.{◌≡◌, ℕ, ◌+◌, ◌≤◌, Bool, true, false, not, ◌&&◌, ◌==◌, cond, List, [], ◌∷◌, ◌++◌, Option, Some, None, refl, sym, ap, subst, arith, slice_get}
+use Rattle.std.proofs.Common.{◌≡◌, ℕ, ◌+◌, ◌≤◌, Bool, true, false, not, ◌&&◌, ◌==◌, cond, List, [], ◌∷◌, ◌++◌, Option, Some, None, refl, sym, ap, subst, arith}
 use Rattle.std.specs.List.{find, list_any, list_all, AllByRecursion}
 use Rattle.list_facts.specs.Lists.{total, before}
 use Rattle.list_facts.proofs.TotalLemmas.{found, total-push}
@@ -20,12 +20,13 @@ use Rattle.history_model.specs.declared.item.Slot.{Slot}
 use Rattle.history_model.specs.Lanes.{is_of}
 use Rattle.history_model.specs.World.{same_initiator, is_own, world_of}
 use Rattle.history_model.specs.Program.{turn_of}
-use Rattle.history_model.specs.Answers.{asked, asks_same, goes_before, presents, presents_item, is_on, is_turn, wants}
+use Rattle.history_model.specs.Answers.{asked, asks_same, goes_before, presents, presents_item, wants}
 use Rattle.law_slots.specs.Owners.{is_equal_ask, StandsFirst, Waits, own_count}
 use Rattle.law_slots.specs.Kinds.{NamesOp, RightKind}
-use Rattle.law_slots.proofs.RequestLemmas.{same_op_true, request_is_of}
-use Rattle.law_slots.proofs.EqualLemmas.{same_requests-self, is_own-parts, is_own-alike}
-use Rattle.law_slots.proofs.FoundLemmas.{find_first}
+use Rattle.history_facts.proofs.RequestLemmas.{same_op_true, request_is_of}
+use Rattle.history_facts.proofs.EqualLemmas.{same_requests-self, is_own-parts, is_own-alike}
+use Rattle.list_facts.proofs.FoundLemmas.{find_first}
+use Rattle.history_facts.proofs.WantsLemmas.{wants-turn}
 
 both_parts : (a b : Bool) → (a && b) ≡ true → (a ≡ true) × (b ≡ true)
 both_parts true true e = (refl, refl)
@@ -74,24 +75,16 @@ item_presented board on o request standing (Some Room) is_request delayed right 
 item_presented board on o request standing (Some (Gone slot)) is_request delayed right found presented =
     let e : false ≡ true = find_passes (is_of o) standing (Gone slot) found in cc
 
-turn_is : (o : OpId) (turn : Option OpId) → is_turn o turn ≡ true → turn ≡ Some o
-turn_is o None is = cc
-turn_is o (Some p) is = ap Some (same_op_true p o is)
-
 -- who presents a delayed operation, waits for it
 pub wants-waits : (board : Board) (h : List Event) (on : ℕ) (by : By) (o : OpId) (request : Request)
     → ((lane : BridgeLane) → AllByRecursion (RightKind board) (world_of board h lane).standing)
     → request_of board o on ≡ Some request → is_posted request ≡ false → wants board h on by o ≡ true → Waits board (turn_of board h) (world_of board h) on by o
 wants-waits board h on Master o request right is_request delayed wanted =
-    turn_is o (turn_of board h o.master) (both_parts (is_on on (slice_get board.masters o.master)) (is_turn o (turn_of board h o.master)) wanted).1
+    wants-turn board h on o wanted
 wants-waits board h on (ByLane lane) o request right is_request delayed wanted =
     let standing : List Carried = (world_of board h lane).standing in
     item_presented board on o request standing (find (is_of o) standing) is_request delayed (right lane) refl
     (both_parts (end_of board lane == on) (presents board on o standing) wanted).1
-
--- the turn of a master that presents
-pub wants-turn : (board : Board) (h : List Event) (on : ℕ) (o : OpId) → wants board h on Master o ≡ true → turn_of board h o.master ≡ Some o
-wants-turn board h on o wanted = turn_is o (turn_of board h o.master) (both_parts (is_on on (slice_get board.masters o.master)) (is_turn o (turn_of board h o.master)) wanted).1
 
 -- where no slot is the own one of a latch, each initiator has one own slot after it
 one_own-none : (board : Board) (on : ℕ) (by : By) (o : OpId) (held : List Slot) → find (is_own board on by o) held ≡ None → total (own_count board on by o) held ≡ 0

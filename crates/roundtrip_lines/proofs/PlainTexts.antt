@@ -31,7 +31,8 @@ use Rattle.board_printer.specs.Masters.{master_line, op_line}
 use Rattle.board_printer.specs.Boards.{planned_line}
 use Rattle.roundtrip_words.specs.Printed.{is_word_byte, is_word}
 use Rattle.roundtrip_lines.specs.Ranges.{BridgeFits, TargetFits, MasterFits}
-use Rattle.roundtrip_lines.proofs.NumberTexts.{hex_digits, hex_length, decimal_digits, decimal_some, glyph_is_digit}
+use Rattle.roundtrip_lines.proofs.NumberTexts.{decimal_digits, decimal_some}
+use Rattle.roundtrip_words.proofs.Laws.{hex_digits, hex_length, glyph_is_digit}
 
 -- a byte that passes a test is none that fails it
 apart_from : (test : ℕ → Bool) (mark byte : ℕ) → test mark ≡ false → test byte ≡ true → eqb byte mark ≡ false
