@@ -4,7 +4,7 @@ use Rattle.std.proofs.Common.{◌≡◌, ℕ, ◌+◌, ◌*◌, ◌/◌, ◌%◌
 use Rattle.std.specs.List.{find, list_all, list_any, position_from, AllByRecursion}
 use Rattle.std.proofs.lemmas.Bool.Decides.{nat_tests}
 use Rattle.std.proofs.lemmas.Bool.{and_parts}
-use Rattle.list_facts.proofs.EachLemmas.{Each-find, Each-weaker, Each-list_all}
+use Rattle.list_facts.proofs.EachLemmas.{Each-find, Each-weaker}
 use Rattle.pci_command.specs.declared.command.Space.{Space}
 use Rattle.pci_command.specs.declared.command.Space.TheVariants.{Mem, Io, Cfg}
 use Rattle.pci_command.specs.Same.{same_space}
@@ -17,7 +17,8 @@ use Rattle.board_model.specs.declared.board.Board.{Board}
 use Rattle.board_model.specs.Claims.{range_holds, window_holds, bridge_holds, decodes_down, claim_upwards, claim_by_bridge, claim_by_address, claim_in_space}
 use Rattle.board_model.specs.WellFormed.{is_window, is_well_formed_bridge, is_range_in, is_well_formed_range, is_well_formed_target, has_bus}
 use Rattle.history_model.specs.Answers.{bridge_to}
-use Rattle.list_facts.proofs.BoolLemmas.{le_true}
+use Rattle.list_facts.proofs.NumberLemmas.{le_true}
+use Rattle.list_facts.proofs.TestLemmas.{Each-list_all}
 
 -- two addresses in one aligned block of 64 bytes
 pub record SameBlock (a b : ℕ) : Type 0 where

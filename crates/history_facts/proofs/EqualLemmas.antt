@@ -1,5 +1,5 @@
 -- Equal requests, and equal initiators.
-use Rattle.std.proofs.Common.{◌≡◌, ℕ, Bool, true, false, ◌&&◌, Option, Some, None, refl, sym, ap, subst, ◌∙◌}
+use Rattle.std.proofs.Common.{◌≡◌, ℕ, true, Option, Some, None, refl, sym, ap, subst, ◌∙◌}
 use Rattle.std.specs.Cmp.{IsEquivalence}
 use Rattle.std.proofs.lemmas.Cmp.{nat_eq_equiv, on_equiv, and_equiv, lists_equiv}
 use Rattle.pci_command.specs.declared.phases.Phase.{Phase}
@@ -14,6 +14,7 @@ use Rattle.history_model.specs.declared.event.By.TheVariants.{Master, Lane as By
 use Rattle.history_model.specs.declared.item.Slot.{Slot}
 use Rattle.history_model.specs.World.{same_lane, same_initiator, is_own}
 use Rattle.history_facts.proofs.BridgeLemmas.{same_lane_true, same_lane_self, same_lane_symm}
+use Rattle.std.proofs.lemmas.Bool.{and_parts}
 
 same_phase-equiv : IsEquivalence same_phase
 same_phase-equiv = and_equiv (on_equiv (λ (p : Phase). p.value) nat_eq_equiv) (on_equiv (λ (p : Phase). p.enables) nat_eq_equiv)
@@ -64,14 +65,9 @@ pub same_initiator-self : (a : By) (p : OpId) → same_initiator a p a p ≡ tru
 same_initiator-self Master p = nat_eq_equiv.refl p.master
 same_initiator-self (ByLane k) p = same_lane_self k
 
-both_true : (a b : Bool) → (a && b) ≡ true → (a ≡ true) × (b ≡ true)
-both_true true true e = (refl, refl)
-both_true true false e = cc
-both_true false b e = cc
-
 -- an own slot has the same initiator and the same request
 pub is_own-parts : (board : Board) (on : ℕ) (by : By) (o : OpId) (slot : Slot) → is_own board on by o slot ≡ true → (same_initiator slot.by slot.op by o ≡ true) × (same_requests board on slot.op o ≡ true)
-is_own-parts board on by o slot own = both_true (same_initiator slot.by slot.op by o) (same_requests board on slot.op o) own
+is_own-parts board on by o slot own = and_parts (same_initiator slot.by slot.op by o) (same_requests board on slot.op o) own
 
 -- where a slot is the own one of two, what is the own slot of one is that of the other
 pub is_own-alike : (board : Board) (on : ℕ) (a : By) (p : OpId) (b : By) (q : OpId) → same_initiator a p b q ≡ true → same_requests board on p q ≡ true → (slot : Slot) → is_own board on a p slot ≡ is_own board on b q slot

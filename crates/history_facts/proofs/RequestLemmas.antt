@@ -1,5 +1,5 @@
--- The operation that a request is of.
-use Rattle.std.proofs.Common.{◌≡◌, ℕ, true, Option, Some, None, refl, sym, arith}
+-- Names of operations, the operation that a request is of, and what claims the whole of it.
+use Rattle.std.proofs.Common.{◌≡◌, ℕ, true, Option, Some, None, refl, sym, arith, ◌+◌, ◌*◌, ap, ◌∙◌}
 use Rattle.std.specs.Option.{option_map}
 use Rattle.std.proofs.lemmas.Bool.Decides.{nat_tests}
 use Rattle.pci_command.specs.declared.request.Request.{Request}
@@ -8,6 +8,10 @@ use Rattle.pci_command.specs.Same.{same_op}
 use Rattle.board_model.specs.declared.op.Op.{Op}
 use Rattle.board_model.specs.declared.board.Board.{Board}
 use Rattle.board_model.specs.Requests.{op_of, request_on, request_of}
+use Rattle.pci_command.specs.Command.{space_of}
+use Rattle.board_model.specs.declared.bridge.Place.{Place}
+use Rattle.board_model.specs.Claims.{claim_in_space, claim}
+use Rattle.history_model.specs.Words.{without}
 
 -- names of operations that test the same are one name
 pub same_op_true : (a b : OpId) → same_op a b ≡ true → a ≡ b
@@ -35,3 +39,9 @@ request_is_of board o on request some =
       | None ↦ λ _ e. cc
       | Some op ↦ λ is e. record { op = op; is_op = is; is_request = let same : request_on op on ≡ request = cc in sym same }
     ]) refl some
+
+-- a request of which nothing went through is claimed as a whole
+pub claim_whole : (board : Board) (on : ℕ) (request : Request) (k : ℕ) (place : Place) → k ≡ 0 → claim board on (without k request) ≡ place → claim board on request ≡ place
+claim_whole board on request k place none claims =
+    let whole : request.address ≡ request.address + 4 * k = omega arith in
+    ap (claim_in_space board on (space_of request.command)) whole ∙ claims

@@ -28,10 +28,11 @@ use Rattle.history_model.specs.World.{world_of}
 use Rattle.history_model.specs.Words.{phases_parted, through, without, value_of}
 use Rattle.history_model.specs.Answers.{stalls_used, target_step, target_answer, header_answer, bridge_to, answer_by}
 use Rattle.history_model.specs.Runs.{Run}
-use Rattle.list_facts.proofs.EachLemmas.{Each-slice_get, Each-list_all}
+use Rattle.list_facts.proofs.EachLemmas.{Each-slice_get}
 use Rattle.history_model.specs.Steps.{is_stall}
 use Rattle.law_changes.specs.Steps.{IsEnd}
 use Rattle.law_reach.proofs.Laws.{not_parted, claims_rest, answered}
+use Rattle.list_facts.proofs.TestLemmas.{Each-list_all}
 
 -- no stall, and no part of a write but an empty one
 abbrev Whole : Step → Type 0

@@ -40,10 +40,7 @@ use Rattle.law_changes.proofs.Laws.{entry_of, stands_still, frees_still, drops_s
 use Rattle.law_delayed.specs.Delayed.{is_delayed_first}
 use Rattle.history_facts.proofs.PathLemmas.{way_behind, way_at_most}
 use Rattle.law_delayed.proofs.ArriveLemmas.{new_here, new_there, arrive_lowers, grown, falls_here, rises_here, falls_there, rises_there}
-
--- the first of a list passes
-first_any : {X : Type 0} (test : X → Bool) (xs : List X) (x : X) (rest : List X) → xs ≡ x ∷ rest → test x ≡ true → list_any test xs ≡ true
-first_any test xs x rest is passes = ap (list_any test) is ∙ rw passes refl
+use Rattle.law_delayed.proofs.ArriveLemmas.{first_any}
 
 -- what is found is there
 held_some : (found : Option Slot) → is_some found ≡ true → (slot : Slot) × (found ≡ Some slot)

@@ -29,7 +29,7 @@ use Rattle.history_facts.proofs.StoreLemmas.{Grown}
 use Rattle.law_changes.proofs.Laws.{moved_here, moved_there, sum_up, sum_down, Still, StillBoth, moved_still, grown_still, own_stays, lowers}
 
 -- the first of a list passes
-first_any : {X : Type 0} (test : X → Bool) (xs : List X) (x : X) (rest : List X) → xs ≡ x ∷ rest → test x ≡ true → list_any test xs ≡ true
+pub first_any : {X : Type 0} (test : X → Bool) (xs : List X) (x : X) (rest : List X) → xs ≡ x ∷ rest → test x ≡ true → list_any test xs ≡ true
 first_any test xs x rest is passes = ap (list_any test) is ∙ rw passes refl
 
 -- an item that arrives, and what it does

@@ -4,7 +4,7 @@ use Rattle.std.specs.List.{list_all, list_any, AllByRecursion}
 use Rattle.std.specs.Option.{option_and_then}
 use Rattle.std.proofs.lemmas.Option.{cond_some}
 use Rattle.std.proofs.lemmas.Bool.{and_parts}
-use Rattle.list_facts.proofs.EachLemmas.{Each-weaker, Each-slice_get, Each-list_all}
+use Rattle.list_facts.proofs.EachLemmas.{Each-weaker, Each-slice_get}
 use Rattle.pci_command.specs.declared.command.Command.{Command}
 use Rattle.pci_command.specs.declared.command.Command.TheVariants.{IoRead, IoWrite, MemRead, MemWrite, CfgRead as ConfigurationRead, CfgWrite as ConfigurationWrite, MemReadMultiple, MemReadLine, MemWriteInvalidate}
 use Rattle.pci_command.specs.declared.command.Space.{Space}
@@ -29,7 +29,8 @@ use Rattle.law_order.specs.OnWay.{WritesHaveOneClaimant}
 use Rattle.law_order.specs.Parts.{WritesAbortWhole}
 use Rattle.history_facts.proofs.PostedLemmas.{write_not_read}
 use Rattle.history_facts.proofs.BlockLemmas.{SameBlock, aborts_alike, claim_alike}
-use Rattle.list_facts.proofs.BoolLemmas.{le_true}
+use Rattle.list_facts.proofs.NumberLemmas.{le_true}
+use Rattle.list_facts.proofs.TestLemmas.{Each-list_all}
 
 -- the data phases of a write stay in the block of the first
 abbrev StaysInBlock : ℕ → List Phase → Type 0

@@ -35,7 +35,7 @@ use Rattle.history_facts.proofs.RequestLemmas.{request_is_of}
 use Rattle.law_order.specs.Order.{posts, is_posted_op, enters_by, entering, entered}
 use Rattle.law_order.specs.OnWay.{WritesHaveOneClaimant, OnWay}
 use Rattle.law_order.proofs.PostLemmas.{op_is_posted, posts-less_first}
-use Rattle.list_facts.proofs.BoolLemmas.{split_true}
+use Rattle.std.proofs.lemmas.Bool.{and_parts}
 use Rattle.law_order.proofs.MasterLemmas.{or_true, stands_owned, flies_owned}
 use Rattle.law_order.proofs.LandLemmas.{rest_claimed}
 
@@ -115,7 +115,7 @@ module _ (board : Board) (tree : IsTree board) (one : WritesHaveOneClaimant boar
         from_master on o op l (slice_get board.masters o.master) is_op claims refl (wants-at board h on Master o wanted)
     accepted_by on (ByLane k) o op l posted is_op wanted claims =
         let st : List Carried = (world_of board h k).standing in
-        let presented : presents board on o st ≡ true = (split_true (end_of board k == on) (presents board on o st) wanted).1 in
+        let presented : presents board on o st ≡ true = (and_parts (end_of board k == on) (presents board on o st) wanted).1 in
         let first : posts st ≡ o ∷ posts (less (is_of o) st) = posts-less_first board on o st posted (RightKind-run board h k run).1 presented in
         let each = subst (AllByRecursion (OnWay board k)) first (stands_owned board h k (OnWay board k) run (old k)) in
         from_lane on o op k l is_op claims (wants-at board h on (ByLane k) o wanted) each.0

@@ -25,7 +25,7 @@ use Rattle.history_facts.proofs.BridgeLemmas.{same_lane_self, same_lane_symm, mo
 use Rattle.law_slots.proofs.Laws.{IsRoom, IsLastOf, IsAskOf, Fits, effect_fits}
 use Rattle.law_order.specs.Order.{post_in, posts, is_posted_op, entering, entered, leaves_by, leaving, left}
 use Rattle.law_order.proofs.PostLemmas.{posts-append, posts-reply, posts-less_other, posts-less_first}
-use Rattle.list_facts.proofs.BoolLemmas.{split_true}
+use Rattle.std.proofs.lemmas.Bool.{and_parts}
 use Rattle.law_order.proofs.OrderLemmas.{Placed, back_apart, place_places}
 
 -- a lane after the initiator's part of an event: what left it stood before all other posted writes
@@ -90,7 +90,7 @@ initiator_departs : (board : Board) (h : List Event) (on : ℕ) (by : By) (o : O
     → (l : BridgeLane) → Departed (leaves_by board l by o step) (world l) (at_initiator board by o step world l)
 initiator_departs board h on Master o step new world wanted placed l = record { flies = refl; stands = refl }
 initiator_departs board h on (ByLane k) o step new world wanted placed l =
-    let presented : presents board on o (world_of board h k).standing ≡ true = (split_true (end_of board k == on) (presents board on o (world_of board h k).standing) wanted).1 in
+    let presented : presents board on o (world_of board h k).standing ≡ true = (and_parts (end_of board k == on) (presents board on o (world_of board h k).standing) wanted).1 in
     departs board k o world on (lane_outcome board k o step) (placed k).right
     (λ posted. subst (λ st. presents board on o st ≡ true) (sym ((placed k).same posted)) presented) l
 

@@ -16,7 +16,7 @@ use Rattle.history_model.specs.Answers.{goes_before, presents_item, presents}
 use Rattle.law_slots.specs.Kinds.{NamesOp, RightKind}
 use Rattle.history_facts.proofs.RequestLemmas.{same_op_true, request_is_of}
 use Rattle.law_order.specs.Order.{post_in, posts, is_posted_in, is_posted_op}
-use Rattle.list_facts.proofs.BoolLemmas.{split_true}
+use Rattle.std.proofs.lemmas.Bool.{and_parts}
 
 pub posts-append : (xs ys : List Carried) → posts (xs ++ ys) ≡ posts xs ++ posts ys
 posts-append [] ys = refl
@@ -104,7 +104,7 @@ oldest_post board on o (x ∷ xs) some goes =
     (elim (is_of o x) as P [
       | true ↦ λ e _. let same : x ≡ Post o = cc in ap (λ y. post_in y ++ posts xs) same
       | false ↦ λ e g.
-          let parts = split_true (G x) (list_all G (before (is_of o) xs)) g in
+          let parts = and_parts (G x) (list_all G (before (is_of o) xs)) g in
           let none : post_in x ≡ [] = behind_no_post board on o x parts.0 in
           let later : posts xs ≡ o ∷ posts (less (is_of o) xs) = oldest_post board on o xs e parts.1 in
           rw none later

@@ -1,7 +1,7 @@
 -- Lanes that differ only in posted writes and credits: what is left of delayed requests is the same on them.
-use Rattle.std.proofs.Common.{◌≡◌, ℕ, Bool, true, false, ◌||◌, cond, List, [], ◌∷◌, ◌++◌, length, Option, Some, None, refl, ap, subst, ◌∙◌}
+use Rattle.std.proofs.Common.{◌≡◌, ℕ, List, [], ◌∷◌, length, Option, Some, None, refl, ap, ◌∙◌}
 use Rattle.std.specs.List.{find, list_any}
-use Rattle.list_facts.specs.Lists.{less, total}
+use Rattle.list_facts.specs.Lists.{total}
 use Rattle.pci_command.specs.declared.op_id.OpId.{OpId}
 use Rattle.board_model.specs.declared.bridge.Lane.{Lane as BridgeLane}
 use Rattle.board_model.specs.declared.board.Board.{Board}
@@ -101,18 +101,3 @@ pub drops_alike : (world other : World) → AlikeWorlds world other → (lines :
 drops_alike world other alike lines =
     total_same (drop_left world) (drop_left other)
     (λ (planned : Planned). let same = (alike (record { bus = planned.bus; up = planned.up })).asks in rw same refl) lines
-
--- an element that fails changes no test of any
-pub any-push : {X : Type 0} (test : X → Bool) (xs : List X) (x : X) → test x ≡ false → list_any test (xs ++ x ∷ []) ≡ list_any test xs
-any-push test [] x fails = rw fails refl
-any-push test (y ∷ xs) x fails = ap (λ b. test y || b) (any-push test xs x fails)
-
--- nor does one that fails when it is taken away
-pub any-less : {X : Type 0} (test gone : X → Bool) (xs : List X) (y : X) → find gone xs ≡ Some y → test y ≡ false → list_any test (less gone xs) ≡ list_any test xs
-any-less test gone [] y some fails = cc
-any-less test gone (x ∷ xs) y some fails =
-    let P : Bool → Type 0 = λ b. cond b (Some x) (find gone xs) ≡ Some y → list_any test (cond b xs (x ∷ less gone xs)) ≡ (test x || list_any test xs) in
-    (elim (gone x) as P [
-      | true ↦ λ e. let same : y ≡ x = cc in let none : test x ≡ false = subst (λ z. test z ≡ false) same fails in rw none refl
-      | false ↦ λ e. ap (λ b. test x || b) (any-less test gone xs y e fails)
-    ]) some

@@ -4,7 +4,7 @@ use Rattle.std.specs.List.{list_all, AllByRecursion}
 use Rattle.std.specs.Option.{option_and_then}
 use Rattle.std.proofs.lemmas.Option.{cond_some}
 use Rattle.std.proofs.lemmas.Bool.{and_parts}
-use Rattle.list_facts.proofs.EachLemmas.{Each-weaker, Each-slice_get, Each-list_all}
+use Rattle.list_facts.proofs.EachLemmas.{Each-weaker, Each-slice_get}
 use Rattle.pci_command.specs.declared.command.Space.{Space}
 use Rattle.pci_command.specs.declared.command.Space.TheVariants.{Mem, Io, Cfg}
 use Rattle.pci_command.specs.declared.phases.Phase.{Phase}
@@ -17,8 +17,9 @@ use Rattle.board_model.specs.declared.board.Board.{Board}
 use Rattle.board_model.specs.Requests.{tries_of, op_of, phases_of}
 use Rattle.board_model.specs.WellFormed.{write_space, is_well_formed_target, is_well_formed_write, is_well_formed_op, is_well_formed_master, is_well_formed}
 use Rattle.board_laws.proofs.Laws.{targets_formed}
-use Rattle.list_facts.proofs.BoolLemmas.{le_true}
+use Rattle.list_facts.proofs.NumberLemmas.{le_true}
 use Rattle.law_posted.proofs.PieceLemmas.{AllTake}
+use Rattle.list_facts.proofs.TestLemmas.{Each-list_all}
 
 -- one is at least one
 io_some : (long : ℕ) → (long == 1) ≡ true → 1 ≤ long

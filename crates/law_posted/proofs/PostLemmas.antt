@@ -42,7 +42,7 @@ use Rattle.law_order.specs.Order.{is_posted_in, is_posted_op}
 use Rattle.law_order.specs.OnWay.{WritesHaveOneClaimant}
 use Rattle.law_order.specs.Parts.{WritesAbortWhole, HasWord}
 use Rattle.law_order.proofs.Laws.{post_of, Short, Short-run, write_lands, rest_claimed, part_word}
-use Rattle.list_facts.proofs.BoolLemmas.{split_true}
+use Rattle.std.proofs.lemmas.Bool.{and_parts}
 use Rattle.history_facts.proofs.WantsLemmas.{master_bus}
 use Rattle.law_posted.proofs.PieceLemmas.{pieces_in_falls, AllTake, pieces_of_one}
 
@@ -84,7 +84,7 @@ pub stands_posted : (board : Board) (h : List Event) (on : ℕ) (lane : BridgeLa
     → find (is_of o) (world_of board h lane).standing ≡ Some (Post o)
 stands_posted board h on lane o posted run wanted =
     let st : List Carried = (world_of board h lane).standing in
-    let presented : presents board on o st ≡ true = (split_true (end_of board lane == on) (presents board on o st) wanted).1 in
+    let presented : presents board on o st ≡ true = (and_parts (end_of board lane == on) (presents board on o st) wanted).1 in
     presented_post board on o st (find (is_of o) st) posted (RightKind-run board h lane run).1 refl presented
 
 -- and the lane is one of a bridge

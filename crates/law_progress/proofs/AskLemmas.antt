@@ -34,7 +34,7 @@ use Rattle.law_progress.proofs.PresentLemmas.{oldest_presented}
 use Rattle.law_progress.proofs.PostLemmas.{lane_wants}
 use Rattle.law_progress.proofs.RefusedLemmas.{full, no_slot, waits, Refused, presented}
 use Rattle.law_progress.proofs.StandLemmas.{NotDone, FirstAsk, ask_or_none}
-use Rattle.law_progress.proofs.TakeLemmas.{claims_whole}
+use Rattle.history_facts.proofs.RequestLemmas.{claim_whole}
 
 -- where nothing is, nothing is found
 nothing_found : (test : Carried → Bool) (xs : List Carried) (item : Carried) → xs ≡ [] → find test xs ≡ Some item → ⊥
@@ -112,7 +112,7 @@ module _ (board : Board) (h : List Event) (run : Run board h) (sound : Sound boa
       let same : refused.request ≡ request_on way.op on = let is = refused.is_request in cc in
       let delayed : is_posted refused.request ≡ false = subst (λ r. is_posted r ≡ false) (sym same) way.delayed in
       let none : through h o ≡ 0 = delayed-not_parted board h o on refused.request sound.single run refused.is_request delayed in
-      let claims : claim board on refused.request ≡ Lane refused.lane = claims_whole board on refused.request (through h o) (Lane refused.lane) none refused.claims in
+      let claims : claim board on refused.request ≡ Lane refused.lane = claim_whole board on refused.request (through h o) (Lane refused.lane) none refused.claims in
       let second : claim board on (request_on way.op on) ≡ Lane refused.lane = subst (λ r. claim board on r ≡ Lane refused.lane) same claims in
       let falls : rank board refused.lane < rank board lane = rank-falls board way.op (start_of board lane) lane refused.lane sound.tree (record { first = way.claims; second = second }) in
       let room = room_at board refused.lane.bus refused.bridge sound refused.is_bridge in

@@ -34,6 +34,7 @@ use Rattle.law_slots.proofs.OneItemLemmas.{some_held}
 use Rattle.law_slots.proofs.SlotsRunLemmas.{Slots-run}
 use Rattle.law_slots.proofs.CreditsLemmas.{Credits-run}
 use Rattle.law_slots.proofs.DepthsLemmas.{Within-run}
+use Rattle.list_facts.proofs.AnyLemmas.{found_any}
 
 -- where nothing weighs by a number, nothing is found by it
 ask_none : (number : ℕ) (items : List Carried) → total (ask_weight (hit number)) items ≡ 0 → find (is_ask_of number) items ≡ None
@@ -81,17 +82,6 @@ asks-count items = is_count_by (total (ask_weight one)) is_ask refl counts items
     counts Room items = omega arith
     counts (Gone slot) items = omega arith
 
--- what one test finds, and another passes
-any_found : {X : Type 0} (test other : X → Bool) (xs : List X) (y : X) → find test xs ≡ Some y → other y ≡ true → list_any other xs ≡ true
-any_found test other [] y some passes = cc
-any_found test other (x ∷ xs) y some passes =
-    let P : Bool → Type 0 = λ b. cond b (Some x) (find test xs) ≡ Some y → (other x || list_any other xs) ≡ true in
-    let Q : Bool → Type 0 = λ b. list_any other xs ≡ true → (b || list_any other xs) ≡ true in
-    (elim (test x) as P [
-      | true ↦ λ e. let same : x ≡ y = cc in let here : other x ≡ true = cc in rw here refl
-      | false ↦ λ e. (elim (other x) as Q [ true ↦ λ _. refl | false ↦ λ later. later ]) (any_found test other xs y e passes)
-    ]) some
-
 any_some : {X : Type 0} (test : X → Bool) (xs : List X) → is_some (find test xs) ≡ true → list_any test xs ≡ true
 any_some test [] some = cc
 any_some test (x ∷ xs) some =
@@ -135,7 +125,7 @@ lawful_item bridge x slots slots_back credits credits_back depths (Done op numbe
     let same : same_op named.slot.op op ≡ true = let F : OpId → Type 0 = λ p. same_op named.slot.op p ≡ true in subst F named.is_for (same_op_self named.slot.op) in
     let has : has_number number named.slot ≡ true = find_passes (has_number number) x.back.held named.slot named.is_held in
     let passes : is_held_for number op named.slot ≡ true = rw has same in
-    let some = any_found (has_number number) (is_held_for number op) x.back.held named.slot named.is_held passes in
+    let some = found_any (has_number number) (is_held_for number op) x.back.held named.slot named.is_held passes in
     let free = find-none_any (is_done_for number) x.here.standing (done_none number x.here.standing none) in
     rw (some, free) refl
 lawful_item bridge x slots slots_back credits credits_back depths Room flying =

@@ -35,7 +35,7 @@ Each-found_itself (slot ∷ held) once =
     (rw self refl, Each-weaker P Q behind held (Each-found_itself held once_later))
 
 -- where items weigh by a number, the first with that number is found
-ask_found : (number : ℕ) (items : List Carried) → 1 ≤ total (ask_weight (hit number)) items → (op : OpId) × (find (is_ask_of number) items ≡ Some (Ask op number))
+pub ask_found : (number : ℕ) (items : List Carried) → 1 ≤ total (ask_weight (hit number)) items → (op : OpId) × (find (is_ask_of number) items ≡ Some (Ask op number))
 ask_found number [] some = absurd (omega arith)
 ask_found number (Post op ∷ items) some = ask_found number items (omega arith)
 ask_found number (Ask op slot ∷ items) some =

@@ -1,7 +1,6 @@
 -- What holds of each element of a list, by recursion on the list.
 use Rattle.std.proofs.Common.{◌≡◌, ℕ, zero, suc, slice_get, ◌≤◌, Bool, true, false, cond, List, [], ◌∷◌, ◌++◌, Some, subst, arith}
-use Rattle.std.specs.List.{find, list_all, AllByRecursion}
-use Rattle.std.proofs.lemmas.Bool.{and_parts}
+use Rattle.std.specs.List.{find, AllByRecursion}
 use Rattle.list_facts.specs.Lists.{less, total}
 
 pub Each-append : {X : Type 0} (P : X → Type 0) (xs ys : List X) → AllByRecursion P xs → AllByRecursion P ys → AllByRecursion P (xs ++ ys)
@@ -59,8 +58,3 @@ pub Each-slice_get : {X : Type 0} (P : X → Type 0) (xs : List X) (place : ℕ)
 Each-slice_get P [] place x each some = cc
 Each-slice_get P (y ∷ xs) zero x each some = let same : y ≡ x = cc in subst P same each.0
 Each-slice_get P (y ∷ xs) (suc place) x each some = Each-slice_get P xs place x each.1 some
-
--- a test that all pass is passed by each
-pub Each-list_all : {X : Type 0} (test : X → Bool) (xs : List X) → list_all test xs ≡ true → AllByRecursion (λ x. test x ≡ true) xs
-Each-list_all test [] all = tt
-Each-list_all test (x ∷ xs) all = let parts = and_parts (test x) (list_all test xs) all in (parts.0, Each-list_all test xs parts.1)

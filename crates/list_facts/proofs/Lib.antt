@@ -1,6 +1,7 @@
 pub mod TotalLemmas
 pub mod FindLemmas
 pub mod EachLemmas
-pub mod BoolLemmas
+pub mod TestLemmas
+pub mod NumberLemmas
 pub mod FoundLemmas
 pub mod AnyLemmas

@@ -1,6 +1,6 @@
 -- The buses and bridges that a board names are there.
 use Rattle.std.proofs.Common.{◌≡◌, ℕ, ◌<◌, ◌==◌, Bool, true, false, ◌||◌, not, cond, zero, suc, nat_lt, List, [], ◌∷◌, length, Option, Some, None, refl, sym, subst, arith, slice_get}
-use Rattle.std.specs.List.{find, list_any, AllByRecursion}
+use Rattle.std.specs.List.{list_any, AllByRecursion}
 use Rattle.std.proofs.lemmas.Bool.Decides.{nat_tests}
 use Rattle.list_facts.proofs.EachLemmas.{Each-find, Each-slice_get}
 use Rattle.board_model.specs.declared.agents.Master.{Master as MasterAgent}
@@ -12,13 +12,7 @@ use Rattle.board_model.specs.WellFormed.{has_bus}
 use Rattle.board_model.specs.Valid.{has_bridge_to, is_bus, lacks_a_bus}
 use Rattle.board_model.specs.Ways.{primary_in, primary_of, end_of}
 use Rattle.history_model.specs.Answers.{is_on, bridge_to}
-
--- where one is found, one passes
-find_any : {X : Type 0} (test : X → Bool) (xs : List X) (y : X) → find test xs ≡ Some y → list_any test xs ≡ true
-find_any test [] y some = cc
-find_any test (x ∷ xs) y some =
-    let P : Bool → Type 0 = λ b. cond b (Some x) (find test xs) ≡ Some y → (b || list_any test xs) ≡ true in
-    (elim (test x) as P [ true ↦ λ _. refl | false ↦ λ e. find_any test xs y e ]) some
+use Rattle.list_facts.proofs.AnyLemmas.{find_any}
 
 -- where none fails a test, each passes it
 none_fails : {X : Type 0} (test : X → Bool) (xs : List X) → list_any (λ x. not (test x)) xs ≡ false → AllByRecursion (λ x. test x ≡ true) xs

@@ -5,7 +5,7 @@ use Rattle.std.proofs.lemmas.Bool.{eqb-true}
 use Rattle.std.proofs.lemmas.List.{reverse-reverse}
 use Rattle.std.proofs.lemmas.Grind.{reverse_onto}
 use Rattle.std.proofs.lemmas.List.Elements.{All-from_recursion}
-use Rattle.list_facts.proofs.EachLemmas.{Each-push, Each-slice_get, Each-list_all}
+use Rattle.list_facts.proofs.EachLemmas.{Each-push, Each-slice_get}
 use Rattle.pci_command.specs.declared.op_id.OpId.{OpId}
 use Rattle.board_model.specs.declared.agents.Target.{Target as TargetAgent}
 use Rattle.board_model.specs.declared.bridge.Bridge.{Bridge}
@@ -34,6 +34,7 @@ use Rattle.law_slots.proofs.Laws.{Quiet-empty, run_no_bridge, op_there}
 use Rattle.roundtrip_runs.proofs.ToldLemmas.{IsBurst, IsThere, Suits}
 use Rattle.roundtrip_runs.proofs.SaidLemmas.{run_told, WorldSays-run}
 use Rattle.roundtrip_runs.proofs.BusLemmas.{bridge_is_there, target_is_there, master_is_on, end_is_bus}
+use Rattle.list_facts.proofs.TestLemmas.{Each-list_all}
 
 -- where both of two pass, the first does
 first : (a b : Bool) → (a && b) ≡ true → a ≡ true

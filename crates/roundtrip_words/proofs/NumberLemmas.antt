@@ -27,7 +27,8 @@ digits_are_words (byte ∷ bytes) all =
 glyph_is_word : (d : ℕ) → d < 16 → is_word_byte (digit_glyph false d) ≡ true
 glyph_is_word d small = grind (arith, nat_tests)
 
-hex_words : (k n : ℕ) → list_all is_word_byte (hex k n) ≡ true
+-- the bytes of a number in base 16 are those of a word
+pub hex_words : (k n : ℕ) → list_all is_word_byte (hex k n) ≡ true
 hex_words zero n = refl
 hex_words (suc k) n =
     let word = glyph_is_word (n % 16) (omega arith) in
