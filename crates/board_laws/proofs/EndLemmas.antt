@@ -13,10 +13,10 @@ use Rattle.board_model.specs.declared.op.Op.{Op}
 use Rattle.board_model.specs.declared.board.Board.{Board}
 use Rattle.board_model.specs.Requests.{request_on}
 use Rattle.board_model.specs.Claims.{claim}
-use Rattle.board_model.specs.Ways.{end_of, Route, route_by, route_within, route_of, way}
+use Rattle.board_model.specs.Ways.{end_of, Route, route_by, route_within, route_of, way, is_lane}
 use Rattle.board_model.specs.WellFormed.{has_bus}
 use Rattle.board_laws.specs.Trees.{IsTree}
-use Rattle.board_laws.specs.WayEnds.{same_bridge, is_lane, WayEnds, last_bus, rank, GoesOn}
+use Rattle.board_laws.specs.WayEnds.{same_bridge, WayEnds, last_bus, rank, GoesOn}
 use Rattle.board_laws.proofs.StepLemmas.{stays, Up, Down, steps}
 use Rattle.board_laws.proofs.WayLemmas.{number_of, end_down, up-below, down-above, Trail, trail}
 

@@ -6,33 +6,32 @@ use Rattle.board_model.specs.declared.op.Op.{Op}
 use Rattle.board_model.specs.declared.board.Board.{Board}
 use Rattle.board_model.specs.Requests.{request_on}
 use Rattle.board_model.specs.Claims.{claim}
-use Rattle.board_model.specs.Ways.{primary_in, end_of, start_of}
+use Rattle.board_model.specs.Ways.{primary_in, end_of, start_of, lane_back}
 use Rattle.board_model.specs.WellFormed.{are_numbered_apart}
-use Rattle.board_laws.specs.Turns.{turned}
 use Rattle.board_laws.proofs.StepLemmas.{stays, Up, Down, steps}
 use Rattle.board_laws.proofs.WayLemmas.{end_down}
 
 pub no_turn : (board : Board) (op : Op) (on : ℕ) (lane : BridgeLane) → are_numbered_apart board.bridges ≡ true → claim board on (request_on op on) ≡ Lane lane
-    → claim board (end_of board lane) (request_on op (end_of board lane)) ≢ Lane (turned lane)
+    → claim board (end_of board lane) (request_on op (end_of board lane)) ≢ Lane (lane_back lane)
 no_turn board op on lane apart first second =
     let at : ℕ = end_of board lane in
-    let next = steps board op at (turned lane) apart second in
+    let next = steps board op at (lane_back lane) apart second in
     ⊎_elim {C = ⊥}
     (λ (up : Up board op on lane).
     let bus : lane.bus ≡ on = ap (λ l. l.bus) up.is in
     let upwards : lane.up ≡ true = ap (λ l. l.up) up.is in
     let leaves : stays board op on ≡ false = up.leaves in
     ⊎_elim {C = ⊥}
-    (λ (again : Up board op at (turned lane)). let back : not lane.up ≡ true = ap (λ l. l.up) again.is in cc)
-    (λ (down : Down board op at (turned lane)). let inside : stays board op lane.bus ≡ true = down.inside in cc)
+    (λ (again : Up board op at (lane_back lane)). let back : not lane.up ≡ true = ap (λ l. l.up) again.is in cc)
+    (λ (down : Down board op at (lane_back lane)). let inside : stays board op lane.bus ≡ true = down.inside in cc)
     next)
     (λ (down : Down board op on lane).
     let at_end : at ≡ lane.bus = end_down board op on lane down in
     let downwards : lane.up ≡ false = ap (λ l. l.up) down.is in
     let inside : stays board op lane.bus ≡ true = down.inside in
     ⊎_elim {C = ⊥}
-    (λ (up : Up board op at (turned lane)). let leaves : stays board op at ≡ false = up.leaves in cc)
-    (λ (again : Down board op at (turned lane)). let back : not lane.up ≡ false = ap (λ l. l.up) again.is in cc)
+    (λ (up : Up board op at (lane_back lane)). let leaves : stays board op at ≡ false = up.leaves in cc)
+    (λ (again : Down board op at (lane_back lane)). let back : not lane.up ≡ false = ap (λ l. l.up) again.is in cc)
     next)
     (steps board op on lane apart first)
 

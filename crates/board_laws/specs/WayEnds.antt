@@ -5,24 +5,17 @@ use Rattle.std.specs.List.{IsDistinct, AllByRecursion}
 use Rattle.list_facts.specs.Lists.{greatest}
 use Rattle.board_model.specs.declared.bridge.Bridge.{Bridge}
 use Rattle.board_model.specs.declared.bridge.Lane.{Lane as BridgeLane}
-use Rattle.board_model.specs.declared.bridge.Place.{Place}
-use Rattle.board_model.specs.declared.bridge.Place.TheVariants.{Target, Header, Lane, Nobody}
+use Rattle.board_model.specs.declared.bridge.Place.TheVariants.{Lane}
 use Rattle.board_model.specs.declared.op.Op.{Op}
 use Rattle.board_model.specs.declared.board.Board.{Board}
 use Rattle.board_model.specs.Requests.{request_on}
 use Rattle.board_model.specs.Claims.{claim}
-use Rattle.board_model.specs.Ways.{end_of, route_by, route_within, route_of, way}
+use Rattle.board_model.specs.Ways.{end_of, route_by, route_within, route_of, way, is_lane}
 use Rattle.board_model.specs.Valid.{has_bridge_to}
 
 -- two lanes of one bridge
 abbrev pub same_bridge : BridgeLane → BridgeLane → Bool
 same_bridge a b = a.bus == b.bus
-
-abbrev pub is_lane : Place → Bool
-is_lane (Target target) = false
-is_lane (Header bus) = false
-is_lane (Lane lane) = true
-is_lane Nobody = false
 
 -- the way of an operation from a bus, and where it ends
 pub record WayEnds (board : Board) (op : Op) (on : ℕ) : Type 0 where

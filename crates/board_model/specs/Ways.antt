@@ -1,5 +1,5 @@
 -- The way of an operation through the bridges, its words, and what it may cost.
-use Rattle.std.specs.Prelude.{ℕ, Bool, ◌+◌, ◌*◌, ◌/◌, ◌%◌, ◌-◌, ◌^◌, zero, suc, List, [], ◌∷◌, length, Option, Some, None, ◌==◌, if◌then◌else◌, slice_get}
+use Rattle.std.specs.Prelude.{ℕ, Bool, true, false, not, ◌+◌, ◌*◌, ◌/◌, ◌%◌, ◌-◌, ◌^◌, zero, suc, List, [], ◌∷◌, length, Option, Some, None, ◌==◌, if◌then◌else◌, slice_get}
 use Rattle.std.specs.List.{find, list_any}
 use Rattle.list_facts.specs.Lists.{total, greatest}
 use Rattle.pci_command.specs.declared.command.Space.{Space}
@@ -17,6 +17,17 @@ use Rattle.board_model.specs.declared.op.Op.{Op}
 use Rattle.board_model.specs.declared.board.Board.{Board}
 use Rattle.board_model.specs.Requests.{request_on, tries_of, is_posted}
 use Rattle.board_model.specs.Claims.{claim, range_holds}
+
+-- the other lane of the same bridge
+abbrev pub lane_back : BridgeLane → BridgeLane
+lane_back lane = record { bus = lane.bus; up = not lane.up }
+
+-- a lane is there
+abbrev pub is_lane : Place → Bool
+is_lane (Target target) = false
+is_lane (Header bus) = false
+is_lane (Lane lane) = true
+is_lane Nobody = false
 
 -- the bus above a bridge, from its secondary bus
 abbrev pub primary_in : Option Bridge → ℕ

@@ -5,7 +5,7 @@ use Rattle.board_model.specs.declared.board.Board.{Board}
 use Rattle.history_model.specs.declared.event.Event.{Event}
 use Rattle.history_model.specs.declared.why.Why.{Why}
 use Rattle.history_model.specs.Runs.{Run, Complete, history_of}
-use Rattle.law_slots.proofs.PrefixLemmas.{Run-before}
+use Rattle.law_slots.proofs.Laws.{Run-before}
 use Rattle.history_core.proofs.VerdictLemmas.{allowed_exactly}
 use Rattle.trace_check.specs.Verdicts.{FirstRefused}
 use Rattle.trace_reader.specs.declared.fault.TraceFault.{TraceFault}

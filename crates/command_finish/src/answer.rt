@@ -5,7 +5,7 @@ ghost use Rattle.command_finish.specs.Finished.{AnswersFinish, RefusesFinish, Fi
 use bus_tree::Tree;
 use command_check::{TreeTrace, read_tree_trace};
 use history_model::Event;
-use law_lines::run_has_lines;
+use roundtrip_runs::run_has_lines;
 use pci_command::{List, NoMemory};
 use program_status::Status;
 use roundtrip_trace::printed_trace_is_read;

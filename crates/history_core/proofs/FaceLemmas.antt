@@ -10,7 +10,8 @@ use Rattle.history_model.specs.declared.event.Mark.{Mark}
 use Rattle.history_model.specs.declared.item.Answer.{Answer}
 use Rattle.history_model.specs.declared.item.Carried.{Carried}
 use Rattle.history_model.specs.Lanes.{LaneState, Both}
-use Rattle.history_model.specs.World.{World, lane_back, both}
+use Rattle.history_model.specs.World.{World, both}
+use Rattle.board_model.specs.Ways.{lane_back}
 use Rattle.history_model.specs.Answers.{lane_answer, presents}
 use Rattle.history_model.specs.Runs.{mark_of_first, next_mark_in}
 use Rattle.lane_replay.specs.Bridge.{turned}

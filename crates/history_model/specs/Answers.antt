@@ -18,7 +18,7 @@ use Rattle.board_model.specs.declared.bridge.Place.TheVariants.{Target, Header, 
 use Rattle.board_model.specs.declared.board.Board.{Board}
 use Rattle.board_model.specs.Requests.{request_of, reads, same_requests, is_posted}
 use Rattle.board_model.specs.Claims.{claim}
-use Rattle.board_model.specs.Ways.{end_of, aborts_at, address_in}
+use Rattle.board_model.specs.Ways.{end_of, aborts_at, address_in, lane_back}
 use Rattle.bridge_header.specs.HeaderBytes.{header_word}
 use Rattle.history_model.specs.declared.event.By.{By}
 use Rattle.history_model.specs.declared.event.By.TheVariants.{Master, Lane as ByLane}
@@ -35,7 +35,7 @@ use Rattle.history_model.specs.declared.item.Cause.TheVariants.{Full, NoSlot, Wa
 use Rattle.history_model.specs.Lanes.{is_of, is_done_for}
 use Rattle.history_model.specs.declared.rule.Rule.{Rule}
 use Rattle.history_model.specs.declared.rule.Rule.TheVariants.{Tagged, Untagged}
-use Rattle.history_model.specs.World.{World, noted, lane_back, is_own, world_by, world_of}
+use Rattle.history_model.specs.World.{World, noted, is_own, world_by}
 use Rattle.history_model.specs.Program.{turn_of}
 use Rattle.history_model.specs.Words.{through, without, value_of}
 

@@ -1,5 +1,5 @@
 -- How many events a run can still have, by the place of each item: each allowed event lowers it.
-use Rattle.std.specs.Prelude.{ℕ, Bool, true, false, ◌+◌, ◌*◌, ◌-◌, List, [], ◌∷◌, drop, length, Option, Some, None, ◌==◌, nat_lt, if◌then◌else◌}
+use Rattle.std.specs.Prelude.{ℕ, Bool, true, false, ◌+◌, ◌*◌, ◌-◌, List, [], ◌∷◌, drop, length, Option, Some, None, nat_lt, if◌then◌else◌}
 use Rattle.std.specs.List.{find, list_any}
 use Rattle.list_facts.specs.Lists.{total}
 use Rattle.pci_command.specs.declared.op_id.OpId.{OpId}
@@ -12,13 +12,13 @@ use Rattle.board_model.specs.declared.op.Op.{Op}
 use Rattle.board_model.specs.declared.board.Board.{Board}
 use Rattle.board_model.specs.declared.board.Planned.{Planned}
 use Rattle.board_model.specs.Requests.{op_of, phases_of, request_on, tries_of, is_posted}
-use Rattle.board_model.specs.Ways.{way, end_of, pieces_of, cost_of, cost_of_try, longest_way}
+use Rattle.board_model.specs.Ways.{way, end_of, pieces_of, cost_of, cost_of_try, longest_way, lane_back}
 use Rattle.history_model.specs.declared.event.Event.{Event}
 use Rattle.history_model.specs.declared.item.Carried.{Carried}
 use Rattle.history_model.specs.declared.item.Carried.TheVariants.{Post, Ask, Done, Room, Gone}
 use Rattle.history_model.specs.declared.item.Slot.{Slot}
 use Rattle.history_model.specs.Lanes.{LaneState, is_done_for}
-use Rattle.history_model.specs.World.{World, lane_back, world_of}
+use Rattle.history_model.specs.World.{World, world_of}
 use Rattle.history_model.specs.Program.{turn_of}
 use Rattle.history_model.specs.Words.{through}
 use Rattle.history_model.specs.Answers.{stalls_used}

@@ -8,3 +8,4 @@ pub mod Runs
 pub mod Local
 pub mod Knowledge
 pub mod Left
+pub mod Steps

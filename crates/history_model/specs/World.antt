@@ -1,5 +1,5 @@
 -- What is on every lane after a history, which is a list of events, newest first.
-use Rattle.std.specs.Prelude.{ℕ, Bool, true, false, List, [], ◌∷◌, Option, Some, None, not, ◌&&◌, ◌==◌, if◌then◌else◌}
+use Rattle.std.specs.Prelude.{ℕ, Bool, true, false, List, [], ◌∷◌, Option, Some, None, ◌&&◌, ◌==◌, if◌then◌else◌}
 use Rattle.std.specs.List.{find}
 use Rattle.pci_command.specs.declared.op_id.OpId.{OpId}
 use Rattle.pci_command.specs.declared.op_id.Outcome.{Outcome}
@@ -20,14 +20,11 @@ use Rattle.history_model.specs.declared.item.Slot.{Slot}
 use Rattle.history_model.specs.declared.rule.Rule.{Rule}
 use Rattle.history_model.specs.declared.rule.Rule.TheVariants.{Tagged, Untagged}
 use Rattle.history_model.specs.Lanes.{LaneState, Both, empty_lane, post_enters, ask_enters, item_ends, slot_taken, arrives}
+use Rattle.board_model.specs.Ways.{lane_back}
 
 -- what is on each lane: the lanes of a bridge are named by its secondary bus and their direction
 abbrev pub World : Type 0
 World = BridgeLane → LaneState
-
--- the other lane of the same bridge
-abbrev pub lane_back : BridgeLane → BridgeLane
-lane_back lane = record { bus = lane.bus; up = not lane.up }
 
 -- both up or both down
 abbrev pub same_direction : Bool → Bool → Bool

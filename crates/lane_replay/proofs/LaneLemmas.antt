@@ -13,7 +13,8 @@ use Rattle.history_model.specs.declared.event.Step.{Step}
 use Rattle.history_model.specs.declared.event.Event.{Event}
 use Rattle.history_model.specs.declared.event.Event.TheVariants.{Act, Arrive}
 use Rattle.history_model.specs.Lanes.{Both, item_ends, arrives}
-use Rattle.history_model.specs.World.{World, lane_back, both, put, moved, enters, at_place, lane_outcome, leaves, at_initiator, after}
+use Rattle.history_model.specs.World.{World, both, put, moved, enters, at_place, lane_outcome, leaves, at_initiator, after}
+use Rattle.board_model.specs.Ways.{lane_back}
 use Rattle.lane_replay.specs.Bridge.{lanes_of, turned, moved_on, place_on, leaves_on, initiator_on, lanes_after}
 
 -- the same number, either way round

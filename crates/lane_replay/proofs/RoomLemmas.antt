@@ -23,9 +23,7 @@ use Rattle.history_model.specs.Lanes.{LaneState, Both, Effect, Stands, Credits, 
 use Rattle.history_model.specs.World.{slot_found, is_own, enters, lane_outcome, world_of}
 use Rattle.history_model.specs.Runs.{Run, history_of}
 use Rattle.law_slots.specs.Depths.{Within}
-use Rattle.law_slots.proofs.DepthsLemmas.{Within-eight}
-use Rattle.law_slots.proofs.WellFormedLemmas.{WellFormed-depths}
-use Rattle.law_slots.proofs.PrefixLemmas.{Run-before}
+use Rattle.law_slots.proofs.Laws.{Within-eight, WellFormed-depths, Run-before}
 use Rattle.lane_replay.specs.Bridge.{lanes_of, turned, moved_on, place_on, leaves_on, initiator_on, lanes_after}
 use Rattle.lane_replay.specs.Room.{HasRoom, HaveRoom}
 use Rattle.lane_replay.proofs.LaneLemmas.{lanes_after_event}

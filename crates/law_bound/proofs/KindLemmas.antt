@@ -1,6 +1,5 @@
 -- Each event of a run is one of posted writes, of credits and of stalls, or one of delayed requests.
 use Rattle.std.proofs.Common.{◌≡◌, ℕ, Bool, true, false, List, [], ◌∷◌, Option, Some, None, is_some, refl, ◌⊎◌, inl, inr}
-use Rattle.std.proofs.lemmas.Bool.{and_parts}
 use Rattle.pci_command.specs.declared.op_id.OpId.{OpId}
 use Rattle.board_model.specs.declared.bridge.Lane.{Lane as BridgeLane}
 use Rattle.board_model.specs.declared.bridge.Place.{Place}
@@ -21,19 +20,15 @@ use Rattle.history_model.specs.World.{world_of}
 use Rattle.history_model.specs.Runs.{mark_of_first, Run}
 use Rattle.law_slots.specs.Kinds.{NamesOp}
 use Rattle.law_order.specs.Order.{is_posted_in, is_posted_op}
-use Rattle.trace_text.specs.Events.{HasLine}
-use Rattle.law_lines.proofs.LineLemmas.{HasLine-run}
-use Rattle.law_posted.specs.PostedEvents.{is_stall, first_is_post_or_room, IsPostedEvent}
+use Rattle.history_model.specs.Steps.{is_stall}
+use Rattle.law_posted.specs.PostedEvents.{first_is_post_or_room, IsPostedEvent}
 use Rattle.law_delayed.specs.Delayed.{is_delayed_first, IsDelayedEvent}
+use Rattle.law_slots.proofs.Laws.{op_there}
 
 -- an operation that is there, and is no write in memory, is of the delayed kind
 named_other : (board : Board) (o : OpId) (found : Option Op) → op_of board o ≡ found → is_some found ≡ true → is_posted_in found ≡ false → NamesOp board false o
 named_other board o None is there other = cc
 named_other board o (Some op) is there other = record { op = op; is_op = is; is_posted = other }
-
--- the operation of an act that has a line is there
-line_there : (board : Board) (on : ℕ) (by : By) (o : OpId) (step : Step) (place : Place) → HasLine board (Act on by o step place) → is_some (op_of board o) ≡ true
-line_there board on by o step place line = (and_parts _ _ (and_parts _ _ (and_parts _ _ line).1).1).0
 
 -- an act of the delayed kind, other than a stall
 other_act : (board : Board) (h : List Event) (on : ℕ) (by : By) (o : OpId) (step : Step) (place : Place) → is_stall step ≡ false → NamesOp board false o → IsDelayedEvent board h (Act on by o step place)
@@ -68,5 +63,5 @@ first_kind board lane state mark (Gone slot ∷ items) next = inr refl
 -- each event of a run of a valid board is of one of the two kinds
 pub event_kind : (board : Board) (h : List Event) (e : Event) → IsValid board → Run board (e ∷ h) → IsPostedEvent board h e ⊎ IsDelayedEvent board h e
 event_kind board h (Act on by o step place) valid run =
-    act_kind board h on by o step place (line_there board on by o step place (HasLine-run board (Act on by o step place ∷ h) valid.well_formed valid.buses run).0)
+    act_kind board h on by o step place (op_there board h on by o run.1 run.0.0)
 event_kind board h (Arrive lane mark) valid run = first_kind board lane (world_of board h lane) mark (world_of board h lane).flight run.0

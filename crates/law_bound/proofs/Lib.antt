@@ -1,3 +1,4 @@
 pub mod BeginsLemmas
 pub mod KindLemmas
 pub mod FallLemmas
+pub mod Laws

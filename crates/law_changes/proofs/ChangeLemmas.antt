@@ -10,22 +10,21 @@ use Rattle.board_model.specs.declared.bridge.Lane.{Lane as BridgeLane}
 use Rattle.board_model.specs.declared.op.Op.{Op}
 use Rattle.board_model.specs.declared.board.Board.{Board}
 use Rattle.board_model.specs.Requests.{op_of, phases_of, tries_of, request_on, is_posted}
-use Rattle.board_model.specs.Ways.{way, pieces_of, cost_of_try, cost_of}
+use Rattle.board_model.specs.Ways.{way, pieces_of, cost_of_try, cost_of, lane_back}
 use Rattle.board_model.specs.Valid.{IsValid}
 use Rattle.history_model.specs.declared.event.Event.{Event}
 use Rattle.history_model.specs.declared.item.Slot.{Slot}
 use Rattle.history_model.specs.Lanes.{LaneState, is_done_for}
-use Rattle.history_model.specs.World.{World, lane_back, both, world_of}
+use Rattle.history_model.specs.World.{World, both, world_of}
 use Rattle.history_model.specs.Program.{follows, turn_of}
 use Rattle.history_model.specs.Words.{parted_by, through}
 use Rattle.history_model.specs.Answers.{stalls_by}
 use Rattle.history_model.specs.Runs.{Run}
 use Rattle.history_model.specs.Local.{is_ask_of, is_gone_of}
 use Rattle.history_model.specs.Left.{is_slot_of, lane_or, Reach, reach_of, slot_left, reach_left, delayed_left, op_left, turn_left, program_left, discard_left, drop_left, left_of}
-use Rattle.law_slots.proofs.RequestLemmas.{same_op_true}
-use Rattle.law_stages.proofs.CountLemmas.{delayed_sum}
-use Rattle.law_stages.proofs.SameLemmas.{Same}
-use Rattle.law_changes.proofs.StoreLemmas.{stalls_same, through_same, bridges_le, left_by, programs_fall}
+use Rattle.history_facts.proofs.RequestLemmas.{same_op_true}
+use Rattle.law_stages.proofs.Laws.{delayed_sum, Same}
+use Rattle.history_facts.proofs.StoreLemmas.{stalls_same, through_same, bridges_le, left_by, programs_fall}
 use Rattle.law_changes.proofs.ProgramLemmas.{turn_master, follows_left}
 use Rattle.law_changes.proofs.MoveLemmas.{sum_same, Still}
 

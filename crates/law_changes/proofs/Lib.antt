@@ -1,5 +1,5 @@
-pub mod StoreLemmas
 pub mod MoveLemmas
 pub mod ActLemmas
 pub mod ProgramLemmas
 pub mod ChangeLemmas
+pub mod Laws

@@ -10,21 +10,21 @@ use Rattle.pci_command.specs.declared.op_id.Outcome.{Outcome}
 use Rattle.board_model.specs.declared.bridge.Lane.{Lane as BridgeLane}
 use Rattle.board_model.specs.declared.op.Op.{Op}
 use Rattle.board_model.specs.declared.board.Board.{Board}
-use Rattle.board_model.specs.Ways.{end_of, way}
+use Rattle.board_model.specs.Ways.{end_of, way, lane_back}
 use Rattle.board_laws.specs.WayEnds.{same_bridge}
 use Rattle.history_model.specs.declared.event.By.{By}
 use Rattle.history_model.specs.declared.event.Event.{Event}
 use Rattle.history_model.specs.declared.item.Carried.{Carried}
 use Rattle.history_model.specs.declared.item.Carried.TheVariants.{Ask, Done, Gone}
 use Rattle.history_model.specs.Lanes.{LaneState, Both, is_of, is_done_for, lowest_free, ask_enters, reply_to, item_ends, slot_taken, Stands, Frees, Drops, takes_effect, came_off}
-use Rattle.history_model.specs.World.{World, lane_back, same_lane, both, moved}
+use Rattle.history_model.specs.World.{World, same_lane, both, moved}
 use Rattle.history_model.specs.Left.{flying_left, standing_left}
-use Rattle.law_slots.proofs.BridgeLemmas.{flip, both_back, same_lane_true, same_lane_self, same_lane_back, same_lane_symm, moved_gives, moved_keeps}
-use Rattle.law_reach.proofs.PathLemmas.{other_bridge}
-use Rattle.law_stages.proofs.AnyLemmas.{total_same, total_each, total_falls}
+use Rattle.history_facts.proofs.BridgeLemmas.{flip, both_back, same_lane_true, same_lane_self, same_lane_back, same_lane_symm, moved_gives, moved_keeps}
+use Rattle.history_facts.proofs.PathLemmas.{other_bridge}
+use Rattle.list_facts.proofs.AnyLemmas.{total_same, total_each, total_falls}
 use Rattle.law_stages.specs.Stages.{stage_at}
-use Rattle.law_stages.proofs.SameLemmas.{Same}
-use Rattle.law_changes.proofs.StoreLemmas.{Grown}
+use Rattle.law_stages.proofs.Laws.{Same}
+use Rattle.history_facts.proofs.StoreLemmas.{Grown}
 
 -- what a move puts on its lane
 pub moved_here : (move : Both → Both) (lane : BridgeLane) (world : World) → both (moved move lane world) lane ≡ move (both world lane)

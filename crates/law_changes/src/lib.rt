@@ -18,9 +18,8 @@ ghost use Rattle.board_model.specs.declared.op.Op.{Op};
 ghost use Rattle.board_model.specs.declared.board.Board.{Board};
 ghost use Rattle.board_model.specs.Requests.{op_of, request_on, is_posted, tries_of};
 ghost use Rattle.board_model.specs.Claims.{claim};
-ghost use Rattle.board_model.specs.Ways.{cost_of, cost_of_try};
+ghost use Rattle.board_model.specs.Ways.{cost_of, cost_of_try, is_lane};
 ghost use Rattle.board_model.specs.Valid.{IsValid};
-ghost use Rattle.board_laws.specs.WayEnds.{is_lane};
 ghost use Rattle.history_model.specs.declared.event.By.{By};
 ghost use Rattle.history_model.specs.declared.event.Step.{Step};
 ghost use Rattle.history_model.specs.declared.event.Event.{Event};
@@ -29,7 +28,8 @@ ghost use Rattle.history_model.specs.World.{world_of};
 ghost use Rattle.history_model.specs.Program.{follows, turn_of};
 ghost use Rattle.history_model.specs.Runs.{Run};
 ghost use Rattle.history_model.specs.Left.{is_slot_of, program_left};
-ghost use Rattle.law_changes.specs.Steps.{is_stall, IsEnd};
+ghost use Rattle.law_changes.specs.Steps.{IsEnd};
+ghost use Rattle.history_model.specs.Steps.{is_stall};
 
 /// Where no lane claims a delayed request, it ends there, unless a target stalls; and where a lane
 /// claims it, that lane answers.

@@ -13,11 +13,9 @@ use Rattle.board_model.specs.declared.op.Op.{Op}
 use Rattle.board_model.specs.declared.board.Board.{Board}
 use Rattle.board_model.specs.Requests.{op_of, command_of, request_on, reads}
 use Rattle.board_model.specs.Claims.{claim}
-use Rattle.board_model.specs.Ways.{end_of, way}
+use Rattle.board_model.specs.Ways.{end_of, way, is_lane}
 use Rattle.board_model.specs.Valid.{IsValid}
-use Rattle.board_laws.specs.WayEnds.{is_lane}
-use Rattle.board_laws.proofs.EndLemmas.{WayEnds-tree}
-use Rattle.board_laws.proofs.ValidLemmas.{IsTree-valid}
+use Rattle.board_laws.proofs.Laws.{WayEnds-tree, IsTree-valid}
 use Rattle.history_model.specs.declared.event.By.{By}
 use Rattle.history_model.specs.declared.event.By.TheVariants.{Master, Lane as ByLane}
 use Rattle.history_model.specs.declared.event.Step.{Step}
@@ -29,16 +27,16 @@ use Rattle.history_model.specs.Program.{master_outcome}
 use Rattle.history_model.specs.Answers.{stalls_in}
 use Rattle.history_model.specs.Runs.{Run}
 use Rattle.history_model.specs.Left.{left_of}
-use Rattle.law_slots.proofs.AnswerLemmas.{answered_at}
-use Rattle.law_slots.proofs.LatchedLemmas.{wants-at}
-use Rattle.law_slots.proofs.RequestLemmas.{request_is_of}
-use Rattle.law_reach.proofs.PathLemmas.{way_goes}
-use Rattle.law_changes.specs.Steps.{is_stall}
-use Rattle.law_stages.proofs.CountLemmas.{passed_stage}
-use Rattle.law_changes.proofs.MoveLemmas.{still_self}
+use Rattle.history_facts.proofs.AnswerLemmas.{answered_at}
+use Rattle.law_slots.proofs.Laws.{wants-at}
+use Rattle.history_facts.proofs.RequestLemmas.{request_is_of}
+use Rattle.history_facts.proofs.PathLemmas.{way_goes}
+use Rattle.history_model.specs.Steps.{is_stall}
+use Rattle.law_stages.proofs.Laws.{passed_stage}
+use Rattle.law_changes.proofs.Laws.{still_self, ends_there}
 use Rattle.law_changes.specs.Steps.{IsEnd}
-use Rattle.law_changes.proofs.ActLemmas.{nothing_parted, ends_there, lane_there}
-use Rattle.law_delayed.proofs.LaneEndLemmas.{one_op, asked_at, passed_at, lane_end_lowers}
+use Rattle.law_reach.proofs.Laws.{nothing_parted, lane_there, one_op, asked_at, passed_at}
+use Rattle.law_delayed.proofs.LaneEndLemmas.{lane_end_lowers}
 use Rattle.law_delayed.proofs.TakenLemmas.{mid, is_mid, others_mid, still_mid, none_mid, sum_mid, held_same, stands_same, stage_k}
 use Rattle.law_delayed.proofs.LatchLemmas.{latch_lowers}
 use Rattle.law_delayed.proofs.MasterEndLemmas.{master_end_lowers}
@@ -93,14 +91,14 @@ module _ (board : Board) (valid : IsValid board) (h : List Event) (on : ℕ) (o 
   ends_lowers Master step place moves run none =
       let at = ends_there board valid h on Master o op step place run is_op delayed moves none in
       let out = master_ended step at.0 in
-      master_end_lowers board valid h on o op step place out.0 run is_op delayed (nothing_parted board valid h on Master o op step place run is_op delayed moves) (no_stall step place moves) out.1
+      master_end_lowers board valid h on o op step place out.0 run is_op delayed (nothing_parted board valid h on Master o op step place run is_op delayed) (no_stall step place moves) out.1
       (world_of board h) (unmoved board on Master o step place (world_of board h) at.1) (λ p _ l rest. refl) (λ l. still_self board h l (world_of board h l)) (λ q free. free)
   ends_lowers (ByLane k) step place moves run none =
       let at = ends_there board valid h on (ByLane k) o op step place run is_op delayed moves none in
       let out = lane_ended board k o step at.0 in
       let asked = asked_at board h on k o op run.1 is_op delayed run.0.0 in
       let three = passed_stage board valid h run.1 o op k (passed_at board h k o asked.0 run.1 asked.1) in
-      lane_end_lowers board valid h on k o op step place out.0 run is_op delayed (nothing_parted board valid h on (ByLane k) o op step place run is_op delayed moves) (no_stall step place moves) out.1
+      lane_end_lowers board valid h on k o op step place out.0 run is_op delayed (nothing_parted board valid h on (ByLane k) o op step place run is_op delayed) (no_stall step place moves) out.1
       asked.0 asked.1 (world_of board h) (unmoved board on (ByLane k) o step place (world_of board h) at.1) refl refl (λ p _ l rest. refl) (λ l. still_self board h l (world_of board h l))
       0 three (omega arith) (λ master. omega arith)
 
@@ -108,7 +106,7 @@ module _ (board : Board) (valid : IsValid board) (h : List Event) (on : ℕ) (o 
   take_lowers : (by : By) (outcome : Outcome) (lane : BridgeLane) → Run board (Act on by o (Take outcome) (Lane lane) ∷ h) → claim board on (request_on op on) ≡ Lane lane
       → left_of board (Act on by o (Take outcome) (Lane lane) ∷ h) + 1 ≤ left_of board h
   take_lowers Master outcome lane run claims =
-      master_end_lowers board valid h on o op (Take outcome) (Lane lane) outcome run is_op delayed (nothing_parted board valid h on Master o op (Take outcome) (Lane lane) run is_op delayed refl) (λ _. refl) refl
+      master_end_lowers board valid h on o op (Take outcome) (Lane lane) outcome run is_op delayed (nothing_parted board valid h on Master o op (Take outcome) (Lane lane) run is_op delayed) (λ _. refl) refl
       (mid board valid h on Master o op outcome lane run is_op) (is_mid board valid h on Master o op outcome lane run is_op) (others_mid board valid h on Master o op outcome lane run is_op)
       (still_mid board valid h on Master o op outcome lane run is_op) (none_mid board valid h on Master o op outcome lane run is_op)
   take_lowers (ByLane k) outcome lane run claims =
@@ -118,7 +116,7 @@ module _ (board : Board) (valid : IsValid board) (h : List Event) (on : ℕ) (o 
       let ends : end_of board k ≡ on = wants-at board h on (ByLane k) o run.0.0 in
       let claims_there : claim board (end_of board k) (request_on op (end_of board k)) ≡ Lane lane = subst (λ n. claim board n (request_on op n) ≡ Lane lane) (sym ends) claims in
       let longer = ap length (way_goes board op (end_of board k) lane tree claims_there) in
-      lane_end_lowers board valid h on k o op (Take outcome) (Lane lane) outcome run is_op delayed (nothing_parted board valid h on (ByLane k) o op (Take outcome) (Lane lane) run is_op delayed refl) (λ _. refl) refl
+      lane_end_lowers board valid h on k o op (Take outcome) (Lane lane) outcome run is_op delayed (nothing_parted board valid h on (ByLane k) o op (Take outcome) (Lane lane) run is_op delayed) (λ _. refl) refl
       asked.0 asked.1 (mid board valid h on (ByLane k) o op outcome lane run is_op) (is_mid board valid h on (ByLane k) o op outcome lane run is_op)
       (held_same board valid h on (ByLane k) o op outcome lane run is_op k three) (stands_same board valid h on (ByLane k) o op outcome lane run is_op k three)
       (others_mid board valid h on (ByLane k) o op outcome lane run is_op) (still_mid board valid h on (ByLane k) o op outcome lane run is_op)
@@ -139,7 +137,7 @@ module _ (board : Board) (valid : IsValid board) (h : List Event) (on : ℕ) (o 
       let posted_op : same_command (command_of op) MemWrite ≡ true = subst (λ p. same_command (command_of p) MemWrite ≡ true) ops posted in
       let impossible : true ≡ false = sym posted_op ∙ delayed in
       cc
-  lane_lowers by Latch lane moves run claims = latch_lowers board valid h on by o op lane run is_op delayed (nothing_parted board valid h on by o op Latch (Lane lane) run is_op delayed refl)
+  lane_lowers by Latch lane moves run claims = latch_lowers board valid h on by o op lane run is_op delayed (nothing_parted board valid h on by o op Latch (Lane lane) run is_op delayed)
   lane_lowers by (Take outcome) lane moves run claims = take_lowers by outcome lane run claims
   lane_lowers by Stall lane moves run claims = cc
   lane_lowers by MasterAbort lane moves run claims = let at = answered_at board h on by o MasterAbort lane run.0.1 in absurd at.gives
@@ -153,7 +151,7 @@ module _ (board : Board) (valid : IsValid board) (h : List Event) (on : ℕ) (o 
         | Target target ↦ λ claims. ends_lowers by step place moves run (ap is_lane claims)
         | Header bus ↦ λ claims. ends_lowers by step place moves run (ap is_lane claims)
         | Lane lane ↦ λ claims.
-            let at : place ≡ Lane lane = lane_there board valid h on by o op step place run is_op delayed moves lane claims in
+            let at : place ≡ Lane lane = lane_there board valid h on by o op step place run is_op delayed lane claims in
             let F : Place → Type 0 = λ p. Run board (Act on by o step p ∷ h) → left_of board (Act on by o step p ∷ h) + 1 ≤ left_of board h in
             let there : F (Lane lane) = λ run_there. lane_lowers by step lane moves run_there claims in
             subst F (sym at) there run

@@ -13,9 +13,9 @@ use Rattle.board_model.specs.declared.bridge.Lane.{Lane as BridgeLane}
 use Rattle.board_model.specs.declared.op.Op.{Op}
 use Rattle.board_model.specs.declared.board.Board.{Board}
 use Rattle.board_model.specs.Requests.{op_of, command_of}
-use Rattle.board_model.specs.Ways.{end_of, way, longest_way}
+use Rattle.board_model.specs.Ways.{end_of, way, longest_way, lane_back}
 use Rattle.board_model.specs.Valid.{IsValid}
-use Rattle.board_laws.proofs.ValidLemmas.{IsTree-valid}
+use Rattle.board_laws.proofs.Laws.{IsTree-valid}
 use Rattle.history_model.specs.declared.event.Mark.{Mark}
 use Rattle.history_model.specs.declared.event.Mark.TheVariants.{Plain, Discard, Drop}
 use Rattle.history_model.specs.declared.event.Event.{Event}
@@ -24,29 +24,23 @@ use Rattle.history_model.specs.declared.item.Carried.{Carried}
 use Rattle.history_model.specs.declared.item.Carried.TheVariants.{Post, Ask, Done, Room, Gone}
 use Rattle.history_model.specs.declared.item.Slot.{Slot}
 use Rattle.history_model.specs.Lanes.{Both, is_done_for, has_number, Stands as Standing, Frees, Drops, effect_of}
-use Rattle.history_model.specs.World.{World, lane_back, both, world_of}
+use Rattle.history_model.specs.World.{World, both, world_of}
 use Rattle.history_model.specs.Runs.{names, mark_of, mark_of_first, Run}
 use Rattle.history_model.specs.Local.{is_ask_of, is_gone_of}
 use Rattle.history_model.specs.Left.{is_slot_of, left_of}
 use Rattle.law_slots.specs.Slots.{IsHeldFor, AskNamed, DoneNamed, Slots, GoneHeld}
-use Rattle.law_slots.proofs.BridgeLemmas.{flip, both_back, lane_back_back}
-use Rattle.law_slots.proofs.SlotsRunLemmas.{Slots-run}
-use Rattle.law_slots.proofs.OneItemLemmas.{GoneHeld-each}
-use Rattle.law_stages.proofs.AnyLemmas.{any_none, any-push_here}
+use Rattle.history_facts.proofs.BridgeLemmas.{flip, both_back, lane_back_back}
+use Rattle.law_slots.proofs.Laws.{Slots-run, GoneHeld-each}
+use Rattle.list_facts.proofs.AnyLemmas.{any_none, any-push_here}
 use Rattle.law_stages.specs.Stages.{stage, stage_at}
-use Rattle.law_stages.proofs.StageLemmas.{stage_ask_flies, stage_ask_stands, stage_done_flies, stage_done_stands, stage_gone_flies}
-use Rattle.law_stages.proofs.CountLemmas.{Own, own_by}
-use Rattle.law_stages.proofs.SameLemmas.{ask_here, ask_back, drop_here, drop_back, done_here, done_back, frees_here, frees_back}
-use Rattle.law_changes.proofs.StoreLemmas.{discards_le, drops_le, discards_fall, drops_fall}
-use Rattle.law_changes.proofs.ProgramLemmas.{entry_of}
-use Rattle.law_changes.proofs.MoveLemmas.{stands_still, frees_still, drops_still}
+use Rattle.law_stages.proofs.Laws.{stage_ask_flies, stage_ask_stands, stage_done_flies, stage_done_stands, stage_gone_flies, ask_here, ask_back, drop_here, drop_back, done_here, done_back, frees_here, frees_back, others_of}
+use Rattle.law_reach.proofs.Laws.{Own, own_by, freed_none, Stands, stands_of}
+use Rattle.history_facts.proofs.StoreLemmas.{discards_le, drops_le, discards_fall, drops_fall}
+use Rattle.law_changes.proofs.Laws.{entry_of, stands_still, frees_still, drops_still}
 use Rattle.law_delayed.specs.Delayed.{is_delayed_first}
-use Rattle.law_stages.proofs.OwnLemmas.{freed_none, others_of, Stands, stands_of, way_behind, way_at_most}
+use Rattle.history_facts.proofs.PathLemmas.{way_behind, way_at_most}
 use Rattle.law_delayed.proofs.ArriveLemmas.{new_here, new_there, arrive_lowers, grown, falls_here, rises_here, falls_there, rises_there}
-
--- the first of a list passes
-first_any : {X : Type 0} (test : X → Bool) (xs : List X) (x : X) (rest : List X) → xs ≡ x ∷ rest → test x ≡ true → list_any test xs ≡ true
-first_any test xs x rest is passes = ap (list_any test) is ∙ rw passes refl
+use Rattle.law_delayed.proofs.ArriveLemmas.{first_any}
 
 -- what is found is there
 held_some : (found : Option Slot) → is_some found ≡ true → (slot : Slot) × (found ≡ Some slot)

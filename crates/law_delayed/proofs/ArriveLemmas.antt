@@ -10,29 +10,26 @@ use Rattle.board_model.specs.declared.bridge.Lane.{Lane as BridgeLane}
 use Rattle.board_model.specs.declared.op.Op.{Op}
 use Rattle.board_model.specs.declared.board.Board.{Board}
 use Rattle.board_model.specs.Requests.{op_of, command_of}
-use Rattle.board_model.specs.Ways.{way}
+use Rattle.board_model.specs.Ways.{way, lane_back}
 use Rattle.board_model.specs.Valid.{IsValid}
-use Rattle.board_laws.proofs.EndLemmas.{WayEnds-tree}
-use Rattle.board_laws.proofs.ValidLemmas.{IsTree-valid}
+use Rattle.board_laws.proofs.Laws.{WayEnds-tree, IsTree-valid}
 use Rattle.history_model.specs.declared.event.Mark.{Mark}
 use Rattle.history_model.specs.declared.event.Event.{Event}
 use Rattle.history_model.specs.declared.event.Event.TheVariants.{Arrive}
 use Rattle.history_model.specs.declared.item.Carried.{Carried}
 use Rattle.history_model.specs.Lanes.{Both, Effect, effect_of, takes_effect, came_off, arrives_first}
-use Rattle.history_model.specs.World.{World, lane_back, same_lane, both, put, moved, world_of}
+use Rattle.history_model.specs.World.{World, same_lane, both, put, moved, world_of}
 use Rattle.history_model.specs.Program.{turn_of}
 use Rattle.history_model.specs.Runs.{Run}
 use Rattle.history_model.specs.Left.{delayed_left, discard_left, drop_left, left_of}
-use Rattle.law_slots.proofs.BridgeLemmas.{flip, same_lane_self}
+use Rattle.history_facts.proofs.BridgeLemmas.{flip, same_lane_self}
 use Rattle.law_stages.specs.Stages.{stage_at}
-use Rattle.law_stages.proofs.CountLemmas.{delayed_sum}
-use Rattle.law_stages.proofs.SameLemmas.{Same, moved_same}
-use Rattle.law_changes.proofs.StoreLemmas.{Grown}
-use Rattle.law_changes.proofs.MoveLemmas.{moved_here, moved_there, sum_up, sum_down, Still, StillBoth, moved_still, grown_still}
-use Rattle.law_changes.proofs.ChangeLemmas.{own_stays, lowers}
+use Rattle.law_stages.proofs.Laws.{delayed_sum, Same, moved_same}
+use Rattle.history_facts.proofs.StoreLemmas.{Grown}
+use Rattle.law_changes.proofs.Laws.{moved_here, moved_there, sum_up, sum_down, Still, StillBoth, moved_still, grown_still, own_stays, lowers}
 
 -- the first of a list passes
-first_any : {X : Type 0} (test : X → Bool) (xs : List X) (x : X) (rest : List X) → xs ≡ x ∷ rest → test x ≡ true → list_any test xs ≡ true
+pub first_any : {X : Type 0} (test : X → Bool) (xs : List X) (x : X) (rest : List X) → xs ≡ x ∷ rest → test x ≡ true → list_any test xs ≡ true
 first_any test xs x rest is passes = ap (list_any test) is ∙ rw passes refl
 
 -- an item that arrives, and what it does

@@ -1,10 +1,9 @@
 -- A delayed request that stands at the end of a lane ends there.
-use Rattle.std.proofs.Common.{◌≡◌, ℕ, ◌+◌, ◌*◌, ◌≤◌, true, false, ◌==◌, List, [], ◌∷◌, ◌++◌, length, Option, Some, None, refl, sym, ap, subst, ◌∙◌, arith}
-use Rattle.std.specs.List.{find, list_any, AllByRecursion}
-use Rattle.std.proofs.lemmas.Bool.{eqb-true, and_parts}
+use Rattle.std.proofs.Common.{◌≡◌, ℕ, ◌+◌, ◌*◌, ◌≤◌, true, false, List, [], ◌∷◌, ◌++◌, length, Some, refl, sym, ap, subst, ◌∙◌, arith}
+use Rattle.std.specs.List.{find, list_any}
+use Rattle.std.proofs.lemmas.Bool.{eqb-true}
 use Rattle.std.proofs.lemmas.Bool.Decides.{nat_tests}
-use Rattle.list_facts.specs.Lists.{before, total}
-use Rattle.list_facts.proofs.EachLemmas.{Each-find}
+use Rattle.list_facts.specs.Lists.{total}
 use Rattle.list_facts.proofs.FindLemmas.{find_passes}
 use Rattle.pci_command.specs.declared.op_id.OpId.{OpId}
 use Rattle.pci_command.specs.declared.op_id.Outcome.{Outcome}
@@ -16,83 +15,28 @@ use Rattle.board_model.specs.declared.bridge.Place.{Place}
 use Rattle.board_model.specs.declared.op.Op.{Op}
 use Rattle.board_model.specs.declared.board.Board.{Board}
 use Rattle.board_model.specs.Requests.{op_of, command_of}
-use Rattle.board_model.specs.Ways.{end_of, way}
+use Rattle.board_model.specs.Ways.{end_of, way, lane_back}
 use Rattle.board_model.specs.Valid.{IsValid}
 use Rattle.history_model.specs.declared.event.By.TheVariants.{Lane as ByLane}
 use Rattle.history_model.specs.declared.event.Step.{Step}
 use Rattle.history_model.specs.declared.event.Event.{Event}
 use Rattle.history_model.specs.declared.event.Event.TheVariants.{Act}
-use Rattle.history_model.specs.declared.item.Carried.{Carried}
-use Rattle.history_model.specs.declared.item.Carried.TheVariants.{Post, Ask, Done, Room, Gone}
+use Rattle.history_model.specs.declared.item.Carried.TheVariants.{Ask, Done}
 use Rattle.history_model.specs.declared.item.Slot.{Slot}
 use Rattle.history_model.specs.Lanes.{Both, is_of, is_done_for, has_number, reply_to, item_ends}
-use Rattle.history_model.specs.World.{World, lane_back, same_lane, both, moved, at_place, lane_outcome, leaves, world_of}
+use Rattle.history_model.specs.World.{World, same_lane, both, moved, at_place, lane_outcome, leaves, world_of}
 use Rattle.history_model.specs.Words.{parted_by}
-use Rattle.history_model.specs.Answers.{stalls_by, wants, presents, presents_item}
+use Rattle.history_model.specs.Answers.{stalls_by}
 use Rattle.history_model.specs.Runs.{Run}
-use Rattle.history_model.specs.Local.{is_ask_of}
 use Rattle.history_model.specs.Left.{delayed_left, left_of}
 use Rattle.law_slots.specs.Slots.{IsHeldFor}
-use Rattle.law_slots.specs.Kinds.{NamesOp, RightKind}
-use Rattle.law_slots.proofs.BridgeLemmas.{same_lane_self}
-use Rattle.law_slots.proofs.RequestLemmas.{same_op_true}
-use Rattle.law_slots.proofs.KindLemmas.{RightKind-run}
-use Rattle.law_slots.proofs.SlotsRunLemmas.{Slots-run}
-use Rattle.law_reach.specs.Reach.{Passed}
-use Rattle.law_reach.proofs.ReachLemmas.{ask_stands_first}
-use Rattle.law_stages.proofs.AnyLemmas.{any-push_here}
+use Rattle.history_facts.proofs.BridgeLemmas.{same_lane_self}
+use Rattle.law_reach.proofs.Laws.{Own, own_by, stands_of, asked_for}
+use Rattle.list_facts.proofs.AnyLemmas.{any-push_here}
 use Rattle.law_stages.specs.Stages.{stage, stage_at}
-use Rattle.law_stages.proofs.StageLemmas.{stage_done_flies}
-use Rattle.law_stages.proofs.CountLemmas.{Own, own_by, delayed_sum}
-use Rattle.law_stages.proofs.SameLemmas.{Same, Others, ends_here, ends_back, moved_same}
-use Rattle.law_changes.proofs.StoreLemmas.{discards_le, drops_le}
-use Rattle.law_changes.proofs.MoveLemmas.{moved_here, sum_up, Still, ends_still, moved_still, still_both, grown_still}
-use Rattle.law_changes.proofs.ChangeLemmas.{own_stays, lowers}
-use Rattle.law_stages.proofs.OwnLemmas.{others_of, stands_of}
-
--- an operation has one meaning
-pub one_op : (found : Option Op) (a b : Op) → found ≡ Some a → found ≡ Some b → a ≡ b
-one_op found a b p q = cc
-
--- a delayed operation that is presented stands as a delayed request
-asked_item : (board : Board) (on : ℕ) (o : OpId) (op : Op) (standing : List Carried) (item : Option Carried) → op_of board o ≡ Some op → same_command (command_of op) MemWrite ≡ false → AllByRecursion (RightKind board) standing
-    → find (is_of o) standing ≡ item → presents_item board on (before (is_of o) standing) item ≡ true → (number : ℕ) × (find (is_of o) standing ≡ Some (Ask o number))
-asked_item board on o op standing None is_op delayed right found presented = cc
-asked_item board on o op standing (Some (Post p)) is_op delayed right found presented =
-    let same : o ≡ p = same_op_true o p (find_passes (is_of o) standing (Post p) found) in
-    let names : NamesOp board true p = Each-find (RightKind board) (is_of o) standing (Post p) right found in
-    let is_op_too : op_of board p ≡ Some op = subst (λ q. op_of board q ≡ Some op) same is_op in
-    let ops : names.op ≡ op = one_op (op_of board p) names.op op names.is_op is_op_too in
-    let posted : same_command (command_of op) MemWrite ≡ true = subst (λ q. same_command (command_of q) MemWrite ≡ true) ops names.is_posted in
-    let impossible : true ≡ false = sym posted ∙ delayed in
-    cc
-asked_item board on o op standing (Some (Ask p number)) is_op delayed right found presented =
-    let same : o ≡ p = same_op_true o p (find_passes (is_of o) standing (Ask p number) found) in
-    (number, found ∙ ap (λ q. Some (Ask q number)) (sym same))
-asked_item board on o op standing (Some (Done p slot outcome)) is_op delayed right found presented = let e : false ≡ true = find_passes (is_of o) standing (Done p slot outcome) found in cc
-asked_item board on o op standing (Some Room) is_op delayed right found presented = let e : false ≡ true = find_passes (is_of o) standing Room found in cc
-asked_item board on o op standing (Some (Gone slot)) is_op delayed right found presented = let e : false ≡ true = find_passes (is_of o) standing (Gone slot) found in cc
-
--- the item of a delayed operation that a lane presents
-pub asked_at : (board : Board) (h : List Event) (on : ℕ) (k : BridgeLane) (o : OpId) (op : Op) → Run board h → op_of board o ≡ Some op → same_command (command_of op) MemWrite ≡ false → wants board h on (ByLane k) o ≡ true
-    → (number : ℕ) × (find (is_of o) (world_of board h k).standing ≡ Some (Ask o number))
-asked_at board h on k o op run is_op delayed wanted =
-    let standing : List Carried = (world_of board h k).standing in
-    let presented : presents board on o standing ≡ true = (and_parts (end_of board k == on) (presents board on o standing) wanted).1 in
-    asked_item board on o op standing (find (is_of o) standing) is_op delayed (RightKind-run board h k run).1 refl presented
-
--- its slot is held there, and its request stands by that slot's number
-pub asked_for : (board : Board) (h : List Event) (k : BridgeLane) (o : OpId) (number : ℕ) → Run board h → find (is_of o) (world_of board h k).standing ≡ Some (Ask o number)
-    → IsHeldFor (world_of board h k).held number o × (find (is_ask_of number) (world_of board h k).standing ≡ Some (Ask o number))
-asked_for board h k o number run stands =
-    let slots = Slots-run board h k run in
-    ask_stands_first (world_of board h k).held (world_of board h k).standing (is_of o) number o slots.asks_standing stands
-
--- it passed the lane
-pub passed_at : (board : Board) (h : List Event) (k : BridgeLane) (o : OpId) (number : ℕ) → Run board h → find (is_of o) (world_of board h k).standing ≡ Some (Ask o number) → Passed (world_of board h) o k
-passed_at board h k o number run stands =
-    let first = asked_for board h k o number run stands in
-    record { number = number; held = first.0; stands = first.1 }
+use Rattle.law_stages.proofs.Laws.{stage_done_flies, delayed_sum, Same, Others, ends_here, ends_back, moved_same, others_of}
+use Rattle.history_facts.proofs.StoreLemmas.{discards_le, drops_le}
+use Rattle.law_changes.proofs.Laws.{moved_here, sum_up, Still, ends_still, moved_still, still_both, grown_still, own_stays, lowers}
 
 module _ (board : Board) (valid : IsValid board) (h : List Event) (on : ℕ) (k : BridgeLane) (o : OpId) (op : Op) (step : Step) (place : Place) (outcome : Outcome)
     (run : Run board (Act on (ByLane k) o step place ∷ h)) (is_op : op_of board o ≡ Some op) (delayed : same_command (command_of op) MemWrite ≡ false)

@@ -14,7 +14,7 @@ use Rattle.board_model.specs.declared.bridge.Place.TheVariants.{Lane}
 use Rattle.board_model.specs.declared.op.Op.{Op}
 use Rattle.board_model.specs.declared.board.Board.{Board}
 use Rattle.board_model.specs.Requests.{op_of, command_of}
-use Rattle.board_model.specs.Ways.{end_of, way}
+use Rattle.board_model.specs.Ways.{end_of, way, lane_back}
 use Rattle.board_model.specs.Valid.{IsValid}
 use Rattle.history_model.specs.declared.event.By.{By}
 use Rattle.history_model.specs.declared.event.By.TheVariants.{Master, Lane as ByLane}
@@ -24,23 +24,21 @@ use Rattle.history_model.specs.declared.event.Event.TheVariants.{Act}
 use Rattle.history_model.specs.declared.item.Carried.TheVariants.{Ask}
 use Rattle.history_model.specs.declared.item.Slot.{Slot}
 use Rattle.history_model.specs.Lanes.{LaneState, Both, lowest_free, ask_enters}
-use Rattle.history_model.specs.World.{World, lane_back, same_lane, both, moved, world_of}
+use Rattle.history_model.specs.World.{World, same_lane, both, moved, world_of}
 use Rattle.history_model.specs.Program.{turn_of}
 use Rattle.history_model.specs.Words.{parted_by}
 use Rattle.history_model.specs.Runs.{Run}
 use Rattle.history_model.specs.Local.{is_ask_of}
 use Rattle.history_model.specs.Left.{is_slot_of, delayed_left, left_of}
-use Rattle.law_slots.proofs.BridgeLemmas.{same_lane_self}
-use Rattle.law_slots.proofs.RequestLemmas.{same_op_self}
+use Rattle.history_facts.proofs.BridgeLemmas.{same_lane_self}
+use Rattle.history_facts.proofs.RequestLemmas.{same_op_self}
 use Rattle.law_reach.specs.Reach.{slots_of}
-use Rattle.law_stages.proofs.AnyLemmas.{any_none, any_some, any-push_here}
+use Rattle.list_facts.proofs.AnyLemmas.{any_none, any_some, any-push_here}
 use Rattle.law_stages.specs.Stages.{stage, stage_at}
-use Rattle.law_stages.proofs.CountLemmas.{own_of, stage_none, delayed_sum}
-use Rattle.law_stages.proofs.SameLemmas.{Same, latch_here, latch_back, moved_same}
-use Rattle.law_changes.proofs.StoreLemmas.{discards_le, drops_le}
-use Rattle.law_changes.proofs.MoveLemmas.{moved_here, sum_up, Still, latch_still, moved_still, grown_still}
-use Rattle.law_changes.proofs.ChangeLemmas.{own_stays, lowers}
-use Rattle.law_stages.proofs.OwnLemmas.{none_of, Stands, stands_of}
+use Rattle.law_reach.proofs.Laws.{own_of, none_of, Stands, stands_of}
+use Rattle.law_stages.proofs.Laws.{stage_none, delayed_sum, Same, latch_here, latch_back, moved_same}
+use Rattle.history_facts.proofs.StoreLemmas.{discards_le, drops_le}
+use Rattle.law_changes.proofs.Laws.{moved_here, sum_up, Still, latch_still, moved_still, grown_still, own_stays, lowers}
 
 -- what a latch does, whoever presented the operation
 latch_world : (board : Board) (h : List Event) (on : ℕ) (by : By) (o : OpId) (lane : BridgeLane) → world_of board (Act on by o Latch (Lane lane) ∷ h) ≡ moved (ask_enters by o) lane (world_of board h)

@@ -5,3 +5,4 @@ pub mod MasterEndLemmas
 pub mod ActEventLemmas
 pub mod ArriveLemmas
 pub mod ArriveEventLemmas
+pub mod Laws

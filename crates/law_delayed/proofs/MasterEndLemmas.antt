@@ -24,13 +24,12 @@ use Rattle.history_model.specs.Words.{parted_by}
 use Rattle.history_model.specs.Answers.{stalls_by, is_on}
 use Rattle.history_model.specs.Runs.{Run}
 use Rattle.history_model.specs.Left.{is_slot_of, left_of}
-use Rattle.law_slots.proofs.LatchedLemmas.{wants-at}
-use Rattle.law_slots.proofs.OwnersLatchLemmas.{wants-turn}
-use Rattle.law_stages.proofs.SameLemmas.{Same}
-use Rattle.law_changes.proofs.StoreLemmas.{discards_le, drops_le}
-use Rattle.law_changes.proofs.MoveLemmas.{Still, grown_still}
-use Rattle.law_changes.proofs.ChangeLemmas.{own_ends, lowers}
-use Rattle.law_stages.proofs.OwnLemmas.{no_slots}
+use Rattle.law_slots.proofs.Laws.{wants-at}
+use Rattle.history_facts.proofs.WantsLemmas.{wants-turn}
+use Rattle.law_stages.proofs.Laws.{Same}
+use Rattle.history_facts.proofs.StoreLemmas.{discards_le, drops_le}
+use Rattle.law_changes.proofs.Laws.{Still, grown_still, own_ends, lowers}
+use Rattle.law_reach.proofs.Laws.{no_slots}
 
 -- a master that is on a bus is there
 master_there : (on : ℕ) (found : Option MasterAgent) → is_on on found ≡ true → (master : MasterAgent) × (found ≡ Some master)

@@ -11,7 +11,7 @@ use Rattle.board_model.specs.declared.bridge.Place.TheVariants.{Lane}
 use Rattle.board_model.specs.declared.op.Op.{Op}
 use Rattle.board_model.specs.declared.board.Board.{Board}
 use Rattle.board_model.specs.Requests.{op_of}
-use Rattle.board_model.specs.Ways.{end_of, way}
+use Rattle.board_model.specs.Ways.{end_of, way, lane_back}
 use Rattle.board_model.specs.Valid.{IsValid}
 use Rattle.board_laws.specs.WayEnds.{same_bridge}
 use Rattle.history_model.specs.declared.event.By.{By}
@@ -21,21 +21,18 @@ use Rattle.history_model.specs.declared.event.Event.TheVariants.{Act}
 use Rattle.history_model.specs.declared.item.Carried.{Carried}
 use Rattle.history_model.specs.declared.item.Carried.TheVariants.{Post, Ask, Done, Room, Gone}
 use Rattle.history_model.specs.Lanes.{Both, is_of, is_done_for, has_number, slot_taken}
-use Rattle.history_model.specs.World.{World, lane_back, same_lane, both, put, moved, is_own, slot_found, at_place, world_of}
+use Rattle.history_model.specs.World.{World, same_lane, both, put, moved, is_own, slot_found, at_place, world_of}
 use Rattle.history_model.specs.Runs.{Run}
 use Rattle.history_model.specs.Left.{is_slot_of}
 use Rattle.law_slots.specs.Slots.{IsHeldFor}
 use Rattle.law_slots.specs.Owners.{TakesItsOwn}
-use Rattle.law_slots.proofs.BridgeLemmas.{same_lane_true, same_lane_self, moved_gives, moved_keeps}
-use Rattle.law_slots.proofs.WellFormedLemmas.{WellFormed-numbers, WellFormed-single}
-use Rattle.law_slots.proofs.MatchedLemmas.{TakesItsOwn-run}
-use Rattle.law_stages.proofs.AnyLemmas.{any_none, find_any, any-less_none}
+use Rattle.history_facts.proofs.BridgeLemmas.{same_lane_true, same_lane_self, moved_gives, moved_keeps}
+use Rattle.law_slots.proofs.Laws.{WellFormed-numbers, WellFormed-single, TakesItsOwn-run}
+use Rattle.list_facts.proofs.AnyLemmas.{any_none, find_any, any-less_none}
 use Rattle.law_stages.specs.Stages.{stage, stage_at}
-use Rattle.law_stages.proofs.StageLemmas.{stage_done_stands}
-use Rattle.law_stages.proofs.CountLemmas.{Own, own_by}
-use Rattle.law_stages.proofs.SameLemmas.{Same, taken_here, taken_back, moved_same}
-use Rattle.law_changes.proofs.MoveLemmas.{moved_here, sum_down, Still, taken_still, moved_still}
-use Rattle.law_stages.proofs.OwnLemmas.{freed_none, own_number, others_of, Stands, stands_of}
+use Rattle.law_stages.proofs.Laws.{stage_done_stands, Same, taken_here, taken_back, moved_same, others_of}
+use Rattle.law_reach.proofs.Laws.{Own, own_by, freed_none, own_number, Stands, stands_of}
+use Rattle.law_changes.proofs.Laws.{moved_here, sum_down, Still, taken_still, moved_still}
 
 -- a completion is no request
 done_not_of : (number : ℕ) (o : OpId) (item : Carried) → is_done_for number item ≡ true → is_of o item ≡ false

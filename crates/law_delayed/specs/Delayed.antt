@@ -7,7 +7,7 @@ use Rattle.history_model.specs.declared.item.Carried.{Carried}
 use Rattle.history_model.specs.declared.item.Carried.TheVariants.{Post, Ask, Done, Room, Gone}
 use Rattle.history_model.specs.World.{world_of}
 use Rattle.law_slots.specs.Kinds.{NamesOp}
-use Rattle.law_changes.specs.Steps.{is_stall}
+use Rattle.history_model.specs.Steps.{is_stall}
 
 -- a delayed request, a completion, or the word that a request was dropped
 abbrev pub is_delayed_item : Carried → Bool

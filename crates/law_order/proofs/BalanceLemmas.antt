@@ -27,16 +27,16 @@ use Rattle.history_model.specs.World.{same_lane, lane_outcome, world_of}
 use Rattle.history_model.specs.Answers.{wants, bridge_to, answer, presents}
 use Rattle.history_model.specs.Runs.{Allowed, Run}
 use Rattle.law_slots.specs.Depths.{DifferentNumbers}
-use Rattle.law_slots.proofs.AnswerLemmas.{answered_at}
-use Rattle.law_slots.proofs.QuietLemmas.{Quiet-empty, run_no_bridge}
-use Rattle.law_slots.proofs.RequestLemmas.{same_op_true}
+use Rattle.history_facts.proofs.AnswerLemmas.{answered_at}
+use Rattle.law_slots.proofs.Laws.{Quiet-empty, run_no_bridge}
+use Rattle.history_facts.proofs.RequestLemmas.{same_op_true}
 use Rattle.law_order.specs.Order.{posts, is_posted_in, is_posted_op, accepted_at, entering, entered, leaves_by, leaving, left}
 use Rattle.law_order.specs.Masters.{is_accept, is_master, accepts_from_master}
 use Rattle.law_order.specs.One.{times, ends_at_master, is_land, is_abort, lands_from_master, lands_from_lane, lost_from_lane, one_of, on_lane, over_lanes, on_lanes, OnePost}
-use Rattle.law_order.proofs.PostLemmas.{split_true}
+use Rattle.std.proofs.lemmas.Bool.{and_parts}
 use Rattle.law_order.proofs.OrderRunLemmas.{InOrder-run}
 use Rattle.law_order.proofs.OnceLemmas.{ends_once}
-use Rattle.law_order.proofs.PostedLemmas.{PostedAt, posted_answered}
+use Rattle.history_facts.proofs.PostedLemmas.{PostedAt, posted_answered}
 use Rattle.law_order.proofs.LaneSums.{over-same, over-plus, over-zero, over-one}
 
 -- a bridge accepts the operation from a bridge
@@ -190,7 +190,7 @@ module _ (board : Board) (o : OpId) (distinct : DifferentNumbers board) (posted 
       → over_lanes (λ l. total (one_of o) (leaves_by board l (ByLane k) p step)) board ≡ ends_bits (ByLane k) step (same_op p o)
   lane_leaves h on k p step place run wanted gives =
       let st : List Carried = (world_of board h k).standing in
-      let presented : presents board on p st ≡ true = (split_true (end_of board k == on) (presents board on p st) wanted).1 in
+      let presented : presents board on p st ≡ true = (and_parts (end_of board k == on) (presents board on p st) wanted).1 in
       let of_bridge = presents_bridge h k on p run presented in
       let ends : Bool = is_some (lane_outcome board k p step) in
       let n : ℕ = cond (is_posted_op board p) (cond ends (bit (same_op p o)) 0) 0 in

@@ -23,14 +23,13 @@ use Rattle.board_model.specs.declared.board.Board.{Board}
 use Rattle.board_model.specs.Requests.{tries_of, op_of, command_of, address_on, phases_of, request_on, is_posted}
 use Rattle.board_model.specs.Claims.{range_holds, claim_in_space, claim}
 use Rattle.board_model.specs.WellFormed.{read_space, write_space, is_well_formed_bridge, is_well_formed_target, is_well_formed_read, is_well_formed_write, is_well_formed_op, is_well_formed_master, is_well_formed}
-use Rattle.board_model.proofs.FormLemmas.{WellFormed-parts, Write-parts}
-use Rattle.board_model.proofs.OpLemmas.{op_formed}
+use Rattle.board_model.proofs.Laws.{WellFormed-parts, Write-parts, op_formed}
 use Rattle.history_model.specs.Words.{without}
-use Rattle.law_slots.proofs.RequestLemmas.{request_is_of}
+use Rattle.history_facts.proofs.RequestLemmas.{request_is_of}
 use Rattle.law_order.specs.OnWay.{WritesHaveOneClaimant}
 use Rattle.law_order.specs.Parts.{WritesAbortWhole}
-use Rattle.law_order.proofs.PostedLemmas.{write_not_read}
-use Rattle.law_order.proofs.BlockLemmas.{SameBlock, aborts_alike, claim_alike}
+use Rattle.history_facts.proofs.PostedLemmas.{write_not_read}
+use Rattle.history_facts.proofs.BlockLemmas.{SameBlock, aborts_alike, claim_alike}
 
 -- the data phases of a write stay in the block of the first
 abbrev StaysInBlock : ℕ → List Phase → Type 0

@@ -11,7 +11,7 @@ use Rattle.board_model.specs.declared.bridge.Lane.{Lane as BridgeLane}
 use Rattle.board_model.specs.declared.bridge.Place.{Place}
 use Rattle.board_model.specs.declared.bridge.Place.TheVariants.{Target, Header, Lane, Nobody}
 use Rattle.board_model.specs.declared.board.Board.{Board}
-use Rattle.board_model.specs.Ways.{end_of}
+use Rattle.board_model.specs.Ways.{end_of, lane_back}
 use Rattle.history_model.specs.declared.event.By.{By}
 use Rattle.history_model.specs.declared.event.By.TheVariants.{Master, Lane as ByLane}
 use Rattle.history_model.specs.declared.event.Mark.{Mark}
@@ -23,17 +23,17 @@ use Rattle.history_model.specs.declared.item.Carried.{Carried}
 use Rattle.history_model.specs.declared.item.Carried.TheVariants.{Post, Ask, Done, Room, Gone}
 use Rattle.history_model.specs.declared.item.Slot.{Slot}
 use Rattle.history_model.specs.Lanes.{is_of, reply_to, Effect, Stands, Credits as CreditsBack, Frees, Drops, effect_of}
-use Rattle.history_model.specs.World.{World, lane_back, same_lane, lane_outcome, world_of}
+use Rattle.history_model.specs.World.{World, same_lane, lane_outcome, world_of}
 use Rattle.history_model.specs.Answers.{wants, presents, presents_item}
 use Rattle.history_model.specs.Runs.{Allowed, Run}
 use Rattle.law_slots.specs.Kinds.{RightKind}
 use Rattle.law_slots.specs.Credits.{post_count, room_count}
-use Rattle.law_slots.proofs.BridgeLemmas.{lane_back_back, same_lane_flip}
-use Rattle.law_slots.proofs.KindLemmas.{RightKind-run}
-use Rattle.law_slots.proofs.CreditsLemmas.{Credits-run}
+use Rattle.history_facts.proofs.BridgeLemmas.{lane_back_back, same_lane_flip}
+use Rattle.law_slots.proofs.Laws.{RightKind-run, Credits-run}
 use Rattle.law_order.specs.Order.{post_in, posts, is_posted_op, entered, leaves_by, leaving, left}
 use Rattle.law_order.specs.Sent.{item_for, sent_to, reply_for, sent_back, dropped_by, dropped_first, sending, sent, came}
-use Rattle.law_order.proofs.PostLemmas.{split_true, post_of, other_no_post}
+use Rattle.std.proofs.lemmas.Bool.{and_parts}
+use Rattle.law_order.proofs.PostLemmas.{post_of, other_no_post}
 use Rattle.law_order.proofs.OrderRunLemmas.{InOrder-run}
 use Rattle.law_order.proofs.SentLemmas.{sent_received}
 
@@ -123,7 +123,7 @@ act_room board h on Master o step l run wanted = refl
 act_room board h on (ByLane k) o step l run wanted =
     let world : World = world_of board h in
     let outcome : Option Outcome = lane_outcome board k o step in
-    let presented : presents board on o (world k).standing ≡ true = (split_true (end_of board k == on) (presents board on o (world k).standing) wanted).1 in
+    let presented : presents board on o (world k).standing ≡ true = (and_parts (end_of board k == on) (presents board on o (world k).standing) wanted).1 in
     let ends = ends_room board on world o k outcome (RightKind-run board h k run).1 presented in
     let P : Bool → Type 0 = λ b. length (one_for (b && is_posted_op board o && is_some outcome) o) ≡ total room_count (cond b (reply_for world o k outcome) []) in
     let Q : Bool → Type 0 = λ b. length (one_for (same_lane k l && is_posted_op board o && is_some outcome) o) ≡ total room_count (cond b (reply_for world o k outcome) []) in

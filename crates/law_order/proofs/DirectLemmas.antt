@@ -1,5 +1,5 @@
 -- A write in memory that lands as its master presents it has no lane on its way.
-use Rattle.std.proofs.Common.{◌≡◌, ℕ, ◌+◌, ◌≤◌, Bool, true, false, cond, List, [], ◌∷◌, Option, Some, None, refl, sym, ap, subst, ◌∙◌, arith, slice_get, eqb-true}
+use Rattle.std.proofs.Common.{◌≡◌, ℕ, ◌+◌, ◌≤◌, Bool, true, false, cond, List, [], ◌∷◌, Some, refl, sym, ap, subst, ◌∙◌, arith, slice_get}
 use Rattle.pci_command.specs.declared.op_id.OpId.{OpId}
 use Rattle.pci_command.specs.Same.{same_op}
 use Rattle.board_model.specs.declared.agents.Master.{Master as MasterAgent}
@@ -12,22 +12,23 @@ use Rattle.board_model.specs.Requests.{op_of, request_on, request_of, is_posted}
 use Rattle.board_model.specs.Claims.{claim}
 use Rattle.board_model.specs.Ways.{end_of, Route, route_by, route_of, way}
 use Rattle.board_laws.specs.Trees.{IsTree}
-use Rattle.board_laws.proofs.EndLemmas.{WayEnds-tree}
+use Rattle.board_laws.proofs.Laws.{WayEnds-tree}
 use Rattle.history_model.specs.declared.event.By.TheVariants.{Master, Lane as ByLane}
 use Rattle.history_model.specs.declared.event.Step.TheVariants.{Land, Part, Read, Accept, Latch, Take, Stall, MasterAbort, TargetAbort}
 use Rattle.history_model.specs.declared.event.Event.{Event}
 use Rattle.history_model.specs.declared.event.Event.TheVariants.{Act, Arrive}
 use Rattle.history_model.specs.declared.item.Answer.TheVariants.{Gives}
 use Rattle.history_model.specs.Words.{through, without}
-use Rattle.history_model.specs.Answers.{is_on, wants, answer}
+use Rattle.history_model.specs.Answers.{wants, answer}
 use Rattle.history_model.specs.Runs.{Allowed, Run}
-use Rattle.law_slots.proofs.LatchedLemmas.{wants-at}
-use Rattle.law_slots.proofs.RequestLemmas.{same_op_true}
+use Rattle.law_slots.proofs.Laws.{wants-at}
+use Rattle.history_facts.proofs.RequestLemmas.{same_op_true}
 use Rattle.law_order.specs.Order.{is_posted_in, is_posted_op}
 use Rattle.law_order.specs.One.{times, lands_from_master}
 use Rattle.law_order.specs.OnWay.{WritesHaveOneClaimant}
-use Rattle.law_order.proofs.PostedLemmas.{IsTarget}
+use Rattle.history_facts.proofs.PostedLemmas.{IsTarget}
 use Rattle.law_order.proofs.LandLemmas.{write_lands, rest_claimed}
+use Rattle.history_facts.proofs.WantsLemmas.{master_bus}
 
 -- where a target claims, the way is empty
 no_lanes : (onwards : BridgeLane → Route) (on : ℕ) (place : Place) → IsTarget place → (route_by onwards on place).lanes ≡ []
@@ -40,13 +41,6 @@ pub empty_way : (board : Board) (op : Op) (on : ℕ) → IsTree board → IsTarg
 empty_way board op on tree is =
     let ends = WayEnds-tree board op tree on in
     ap (λ (r : Route). r.lanes) ends.onwards ∙ no_lanes (λ lane. route_of board op (end_of board lane)) on (claim board on (request_on op on)) is
-
--- who is on the bus
-pub master_bus : (on : ℕ) (found : Option MasterAgent) (master : MasterAgent) → found ≡ Some master → is_on on found ≡ true → on ≡ master.bus
-master_bus on None master is there = cc
-master_bus on (Some other) master is there =
-    let same : other ≡ master = cc in
-    sym (eqb-true other.bus on there) ∙ ap (λ (m : MasterAgent). m.bus) same
 
 -- what is claimed by a target as a whole is so in what is left, and the other way round
 pub whole_target : (board : Board) (h : List Event) (o : OpId) (op : Op) (on : ℕ) → WritesHaveOneClaimant board → op_of board o ≡ Some op → is_posted_op board o ≡ true → Run board h

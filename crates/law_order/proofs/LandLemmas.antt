@@ -17,7 +17,7 @@ use Rattle.board_model.specs.declared.board.Board.{Board}
 use Rattle.board_model.specs.declared.op.Op.{Op}
 use Rattle.board_model.specs.Requests.{op_of, phases_of, request_on, request_of, is_posted}
 use Rattle.board_model.specs.Claims.{claim_in_space, claim}
-use Rattle.board_model.specs.Ways.{aborts_at, address_in}
+use Rattle.board_model.specs.Ways.{aborts_at, address_in, lane_back}
 use Rattle.history_model.specs.declared.event.By.{By}
 use Rattle.history_model.specs.declared.event.Step.{Step}
 use Rattle.history_model.specs.declared.event.Step.TheVariants.{Land, Part, Read, Accept, Latch, Take, Stall, MasterAbort, TargetAbort}
@@ -26,14 +26,14 @@ use Rattle.history_model.specs.declared.event.Event.TheVariants.{Act, Arrive}
 use Rattle.history_model.specs.declared.item.Answer.{Answer}
 use Rattle.history_model.specs.declared.item.Answer.TheVariants.{Gives, Retry}
 use Rattle.history_model.specs.declared.item.Cause.TheVariants.{Full}
-use Rattle.history_model.specs.World.{World, lane_back, is_own, world_of}
+use Rattle.history_model.specs.World.{World, is_own, world_of}
 use Rattle.history_model.specs.Words.{phases_parted, parted_by, through, without, value_of}
 use Rattle.history_model.specs.Answers.{stalls_used, target_step, target_answer, delayed_answer, posted_answer, lane_answer, bridge_to, answer_by, answer_to, answer}
 use Rattle.history_model.specs.Runs.{Allowed, Run}
-use Rattle.law_slots.proofs.RequestLemmas.{same_op_true}
+use Rattle.history_facts.proofs.RequestLemmas.{same_op_true}
 use Rattle.law_order.specs.Order.{is_posted_in, is_posted_op}
 use Rattle.law_order.specs.OnWay.{WritesHaveOneClaimant}
-use Rattle.law_order.proofs.PostedLemmas.{IsTarget, write_not_read, memory_no_header}
+use Rattle.history_facts.proofs.PostedLemmas.{IsTarget, write_not_read, memory_no_header}
 
 -- a write lands, whole or in part, only where a target claims it, and a part leaves something
 abbrev pub LandsAt : ℕ → Step → Place → Type 0

@@ -12,14 +12,11 @@ use Rattle.history_model.specs.World.{same_direction, same_lane}
 use Rattle.history_model.specs.Answers.{bridge_to}
 use Rattle.law_slots.specs.Depths.{same_number, DifferentNumbers}
 use Rattle.law_order.specs.One.{both_lanes, over_lanes}
-
-pub total-same : {X : Type 0} (f g : X → ℕ) → ((x : X) → f x ≡ g x) → (xs : List X) → total f xs ≡ total g xs
-total-same f g same [] = refl
-total-same f g same (x ∷ xs) = omega (arith, same x, total-same f g same xs)
+use Rattle.list_facts.proofs.AnyLemmas.{total_same}
 
 pub over-same : (f g : BridgeLane → ℕ) (board : Board) → ((l : BridgeLane) → f l ≡ g l) → over_lanes f board ≡ over_lanes g board
 over-same f g board same =
-    total-same (both_lanes f) (both_lanes g)
+    total_same (both_lanes f) (both_lanes g)
     (λ b. omega (arith, same (record { bus = b.bus; up = false }), same (record { bus = b.bus; up = true }))) board.bridges
 
 -- a sum of two counts
@@ -76,5 +73,5 @@ one_of_bridges number n (b ∷ bridges) found distinct is =
 -- a lane of a bridge of the board is counted once
 pub over-one : (board : Board) (at : BridgeLane) (n : ℕ) (bridge : Bridge) → DifferentNumbers board → bridge_to board at.bus ≡ Some bridge → over_lanes (λ l. cond (same_lane at l) n 0) board ≡ n
 over-one board at n bridge distinct is =
-    total-same (both_lanes (λ l. cond (same_lane at l) n 0)) (λ (b : Bridge). cond (at.bus == b.bus) n 0) (of_bridge at n) board.bridges
+    total_same (both_lanes (λ l. cond (same_lane at l) n 0)) (λ (b : Bridge). cond (at.bus == b.bus) n 0) (of_bridge at n) board.bridges
     ∙ one_of_bridges at.bus n board.bridges bridge distinct is

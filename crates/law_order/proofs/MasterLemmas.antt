@@ -21,12 +21,13 @@ use Rattle.history_model.specs.Lanes.{is_of}
 use Rattle.history_model.specs.World.{same_lane, world_of}
 use Rattle.history_model.specs.Answers.{wants, answer, presents}
 use Rattle.history_model.specs.Runs.{Allowed, Run}
-use Rattle.law_slots.proofs.AnswerLemmas.{answered_at}
-use Rattle.law_slots.proofs.KindLemmas.{RightKind-run}
-use Rattle.law_slots.proofs.RequestLemmas.{same_op_self}
+use Rattle.history_facts.proofs.AnswerLemmas.{answered_at}
+use Rattle.law_slots.proofs.Laws.{RightKind-run}
+use Rattle.history_facts.proofs.RequestLemmas.{same_op_self}
 use Rattle.law_order.specs.Order.{posts, is_posted_op, enters_by, entering, entered, left}
 use Rattle.law_order.specs.Masters.{accepts_from_master, MastersWrite}
-use Rattle.law_order.proofs.PostLemmas.{op_is_posted, posts-less_first, split_true}
+use Rattle.law_order.proofs.PostLemmas.{op_is_posted, posts-less_first}
+use Rattle.std.proofs.lemmas.Bool.{and_parts}
 use Rattle.law_order.proofs.OrderRunLemmas.{InOrder-run}
 
 Each-second : {X : Type 0} (P : X → Type 0) (xs ys : List X) → AllByRecursion P (xs ++ ys) → AllByRecursion P ys
@@ -67,7 +68,7 @@ module _ (board : Board) (h : List Event) (run : Run board h) (old : (l : Bridge
       record { is_write = posted; is_accepted = rw self refl }
   accepted_owned on (ByLane k) o place posted wanted =
       let st : List Carried = (world_of board h k).standing in
-      let presented : presents board on o st ≡ true = (split_true (end_of board k == on) (presents board on o st) wanted).1 in
+      let presented : presents board on o st ≡ true = (and_parts (end_of board k == on) (presents board on o st) wanted).1 in
       let first : posts st ≡ o ∷ posts (less (is_of o) st) = posts-less_first board on o st posted (RightKind-run board h k run).1 presented in
       let each = subst (AllByRecursion (MastersWrite board h)) first (stands_owned board h k (MastersWrite board h) run (old k)) in
       stays_owned board h (Act on (ByLane k) o Accept place) o each.0

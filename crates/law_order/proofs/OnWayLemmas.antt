@@ -14,7 +14,7 @@ use Rattle.board_model.specs.Requests.{op_of, request_on}
 use Rattle.board_model.specs.Claims.{claim}
 use Rattle.board_model.specs.Ways.{end_of, Route, route_by, route_within, route_of, way}
 use Rattle.board_laws.specs.Trees.{IsTree}
-use Rattle.board_laws.proofs.EndLemmas.{WayEnds-tree}
+use Rattle.board_laws.proofs.Laws.{WayEnds-tree}
 use Rattle.history_model.specs.declared.event.By.{By}
 use Rattle.history_model.specs.declared.event.By.TheVariants.{Master, Lane as ByLane}
 use Rattle.history_model.specs.declared.event.Step.{Step}
@@ -28,14 +28,14 @@ use Rattle.history_model.specs.World.{same_lane, world_of}
 use Rattle.history_model.specs.Words.{through, without}
 use Rattle.history_model.specs.Answers.{is_on, wants, answer, presents}
 use Rattle.history_model.specs.Runs.{Allowed, Run}
-use Rattle.law_slots.proofs.AnswerLemmas.{answered_at}
-use Rattle.law_slots.proofs.BridgeLemmas.{same_lane_true, same_lane_self}
-use Rattle.law_slots.proofs.KindLemmas.{RightKind-run}
-use Rattle.law_slots.proofs.LatchedLemmas.{wants-at}
-use Rattle.law_slots.proofs.RequestLemmas.{request_is_of}
+use Rattle.history_facts.proofs.AnswerLemmas.{answered_at}
+use Rattle.history_facts.proofs.BridgeLemmas.{same_lane_true, same_lane_self}
+use Rattle.law_slots.proofs.Laws.{RightKind-run, wants-at}
+use Rattle.history_facts.proofs.RequestLemmas.{request_is_of}
 use Rattle.law_order.specs.Order.{posts, is_posted_op, enters_by, entering, entered}
 use Rattle.law_order.specs.OnWay.{WritesHaveOneClaimant, OnWay}
-use Rattle.law_order.proofs.PostLemmas.{op_is_posted, posts-less_first, split_true}
+use Rattle.law_order.proofs.PostLemmas.{op_is_posted, posts-less_first}
+use Rattle.std.proofs.lemmas.Bool.{and_parts}
 use Rattle.law_order.proofs.MasterLemmas.{or_true, stands_owned, flies_owned}
 use Rattle.law_order.proofs.LandLemmas.{rest_claimed}
 
@@ -115,7 +115,7 @@ module _ (board : Board) (tree : IsTree board) (one : WritesHaveOneClaimant boar
         from_master on o op l (slice_get board.masters o.master) is_op claims refl (wants-at board h on Master o wanted)
     accepted_by on (ByLane k) o op l posted is_op wanted claims =
         let st : List Carried = (world_of board h k).standing in
-        let presented : presents board on o st ≡ true = (split_true (end_of board k == on) (presents board on o st) wanted).1 in
+        let presented : presents board on o st ≡ true = (and_parts (end_of board k == on) (presents board on o st) wanted).1 in
         let first : posts st ≡ o ∷ posts (less (is_of o) st) = posts-less_first board on o st posted (RightKind-run board h k run).1 presented in
         let each = subst (AllByRecursion (OnWay board k)) first (stands_owned board h k (OnWay board k) run (old k)) in
         from_lane on o op k l is_op claims (wants-at board h on (ByLane k) o wanted) each.0

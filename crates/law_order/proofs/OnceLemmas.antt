@@ -14,8 +14,8 @@ use Rattle.history_model.specs.declared.event.Event.TheVariants.{Act, Arrive}
 use Rattle.history_model.specs.Program.{ending_of, master_outcome, present, next_op, next_try, meets, follows_op, follows_in, follows, turn_after, turn_of}
 use Rattle.history_model.specs.Knowledge.{outcome_in}
 use Rattle.history_model.specs.Runs.{Run}
-use Rattle.law_slots.proofs.RequestLemmas.{same_op_true}
-use Rattle.law_slots.proofs.OwnersLatchLemmas.{wants-turn}
+use Rattle.history_facts.proofs.RequestLemmas.{same_op_true}
+use Rattle.history_facts.proofs.WantsLemmas.{wants-turn}
 use Rattle.law_order.specs.One.{times, ends_at_master}
 
 -- a name of a later operation of the program, or of a later try of the same

@@ -16,13 +16,14 @@ use Rattle.history_model.specs.declared.item.Carried.TheVariants.{Post, Ask}
 use Rattle.history_model.specs.declared.item.Slot.{Slot}
 use Rattle.history_model.specs.declared.item.Answer.TheVariants.{Gives}
 use Rattle.history_model.specs.Lanes.{LaneState, Both, lowest_free, is_done_for}
-use Rattle.history_model.specs.World.{World, lane_back, same_lane, both, slot_found, enters, at_place, world_of}
+use Rattle.history_model.specs.World.{World, same_lane, both, slot_found, enters, at_place, world_of}
+use Rattle.board_model.specs.Ways.{lane_back}
 use Rattle.history_model.specs.Answers.{answer}
 use Rattle.history_model.specs.Runs.{Run}
 use Rattle.law_slots.specs.Kinds.{RightKind}
-use Rattle.law_slots.proofs.BridgeLemmas.{same_lane_self, same_lane_back, same_lane_symm, moved_gives}
-use Rattle.law_slots.proofs.AnswerLemmas.{AtLane, answered_at}
-use Rattle.law_slots.proofs.KindLemmas.{RightKind-run}
+use Rattle.history_facts.proofs.BridgeLemmas.{same_lane_self, same_lane_back, same_lane_symm, moved_gives}
+use Rattle.history_facts.proofs.AnswerLemmas.{AtLane, answered_at}
+use Rattle.law_slots.proofs.Laws.{RightKind-run}
 use Rattle.law_order.specs.Order.{posts, is_posted_op, accepted_at, enters_by}
 use Rattle.law_order.proofs.PostLemmas.{posts-append, posts-less_done, op_is_posted}
 

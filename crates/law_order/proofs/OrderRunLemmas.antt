@@ -7,7 +7,7 @@ use Rattle.pci_command.specs.declared.op_id.Outcome.{Outcome}
 use Rattle.board_model.specs.declared.bridge.Lane.{Lane as BridgeLane}
 use Rattle.board_model.specs.declared.bridge.Place.{Place}
 use Rattle.board_model.specs.declared.board.Board.{Board}
-use Rattle.board_model.specs.Ways.{end_of}
+use Rattle.board_model.specs.Ways.{end_of, lane_back}
 use Rattle.history_model.specs.declared.event.By.{By}
 use Rattle.history_model.specs.declared.event.By.TheVariants.{Master, Lane as ByLane}
 use Rattle.history_model.specs.declared.event.Mark.{Mark}
@@ -17,14 +17,15 @@ use Rattle.history_model.specs.declared.event.Event.TheVariants.{Act, Arrive}
 use Rattle.history_model.specs.declared.item.Carried.{Carried}
 use Rattle.history_model.specs.declared.item.Carried.TheVariants.{Post, Ask, Done, Room, Gone}
 use Rattle.history_model.specs.Lanes.{LaneState, Both, is_of, reply_to, item_ends, Effect, Stands, Credits, Frees, Drops, effect_of, takes_effect, came_off, arrives_first, arrives}
-use Rattle.history_model.specs.World.{World, lane_back, same_lane, both, at_place, lane_outcome, leaves, at_initiator, moved, world_of}
+use Rattle.history_model.specs.World.{World, same_lane, both, at_place, lane_outcome, leaves, at_initiator, moved, world_of}
 use Rattle.history_model.specs.Answers.{wants, presents}
 use Rattle.history_model.specs.Runs.{Allowed, Run}
 use Rattle.law_slots.specs.Kinds.{RightKind}
-use Rattle.law_slots.proofs.BridgeLemmas.{same_lane_self, same_lane_symm, moved_gives, moved_keeps}
-use Rattle.law_slots.proofs.EffectLemmas.{IsRoom, IsLastOf, IsAskOf, Fits, effect_fits}
+use Rattle.history_facts.proofs.BridgeLemmas.{same_lane_self, same_lane_symm, moved_gives, moved_keeps}
+use Rattle.law_slots.proofs.Laws.{IsRoom, IsLastOf, IsAskOf, Fits, effect_fits}
 use Rattle.law_order.specs.Order.{post_in, posts, is_posted_op, entering, entered, leaves_by, leaving, left}
-use Rattle.law_order.proofs.PostLemmas.{posts-append, posts-reply, posts-less_other, posts-less_first, split_true}
+use Rattle.law_order.proofs.PostLemmas.{posts-append, posts-reply, posts-less_other, posts-less_first}
+use Rattle.std.proofs.lemmas.Bool.{and_parts}
 use Rattle.law_order.proofs.OrderLemmas.{Placed, back_apart, place_places}
 
 -- a lane after the initiator's part of an event: what left it stood before all other posted writes
@@ -89,7 +90,7 @@ initiator_departs : (board : Board) (h : List Event) (on : ℕ) (by : By) (o : O
     → (l : BridgeLane) → Departed (leaves_by board l by o step) (world l) (at_initiator board by o step world l)
 initiator_departs board h on Master o step new world wanted placed l = record { flies = refl; stands = refl }
 initiator_departs board h on (ByLane k) o step new world wanted placed l =
-    let presented : presents board on o (world_of board h k).standing ≡ true = (split_true (end_of board k == on) (presents board on o (world_of board h k).standing) wanted).1 in
+    let presented : presents board on o (world_of board h k).standing ≡ true = (and_parts (end_of board k == on) (presents board on o (world_of board h k).standing) wanted).1 in
     departs board k o world on (lane_outcome board k o step) (placed k).right
     (λ posted. subst (λ st. presents board on o st ≡ true) (sym ((placed k).same posted)) presented) l
 

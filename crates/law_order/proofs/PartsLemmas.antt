@@ -28,19 +28,18 @@ use Rattle.history_model.specs.Program.{turn_of, ending_of, master_outcome, turn
 use Rattle.history_model.specs.Words.{phases_parted, parted_by, through}
 use Rattle.history_model.specs.Answers.{wants, answer, presents}
 use Rattle.history_model.specs.Runs.{Allowed, Run}
-use Rattle.law_slots.proofs.BridgeLemmas.{same_lane_true}
-use Rattle.law_slots.proofs.KindLemmas.{RightKind-run}
-use Rattle.law_slots.proofs.LatchedLemmas.{wants-at}
-use Rattle.law_slots.proofs.OwnersLatchLemmas.{wants-turn}
-use Rattle.law_slots.proofs.RequestLemmas.{same_op_true, same_op_self}
+use Rattle.history_facts.proofs.BridgeLemmas.{same_lane_true}
+use Rattle.law_slots.proofs.Laws.{RightKind-run, wants-at}
+use Rattle.history_facts.proofs.WantsLemmas.{wants-turn, master_bus}
+use Rattle.history_facts.proofs.RequestLemmas.{same_op_true, same_op_self}
 use Rattle.law_order.specs.Order.{posts, is_posted_op, leaves_by}
 use Rattle.law_order.specs.One.{times, lands_from_master, lands_from_lane}
 use Rattle.law_order.specs.OnWay.{WritesHaveOneClaimant}
 use Rattle.law_order.specs.Parts.{WritesAbortWhole, HasWord, PartsAt, at_master, at_lane, landed}
-use Rattle.law_order.proofs.MovedLemmas.{moved_each}
-use Rattle.law_order.proofs.PostLemmas.{posts-append, posts-less_first, split_true}
+use Rattle.history_facts.proofs.MovedLemmas.{moved_each}
+use Rattle.law_order.proofs.PostLemmas.{posts-append, posts-less_first}
+use Rattle.std.proofs.lemmas.Bool.{and_parts}
 use Rattle.law_order.proofs.OrderRunLemmas.{act_stands}
-use Rattle.law_order.proofs.DirectLemmas.{master_bus}
 use Rattle.law_order.proofs.WordLemmas.{OnlyTakes, takes_only, part_word}
 
 -- what stands after an arrival is what stood, and perhaps one more
@@ -179,7 +178,7 @@ module _ (board : Board) (o : OpId) (op : Op) (master : MasterAgent) (one : Writ
   part_starts h on (ByLane k) phases place run allowed =
       let word = part_word board o op one alike is_op posted h on (ByLane k) phases place run allowed.1 in
       let st : List Carried = (world_of board h k).standing in
-      let presented : presents board on o st ≡ true = (split_true (end_of board k == on) (presents board on o st) allowed.0).1 in
+      let presented : presents board on o st ≡ true = (and_parts (end_of board k == on) (presents board on o st) allowed.0).1 in
       let first : posts st ≡ o ∷ posts (less (is_of o) st) = posts-less_first board on o st posted (RightKind-run board h k run).1 presented in
       let bus : end_of board k ≡ on = wants-at board h on (ByLane k) o allowed.0 in
       let same = act_stands board h on (ByLane k) o (Part phases) place run allowed k in

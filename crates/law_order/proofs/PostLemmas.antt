@@ -1,5 +1,5 @@
 -- The posted writes among the items of a lane.
-use Rattle.std.proofs.Common.{◌≡◌, ℕ, Bool, true, false, ◌&&◌, cond, List, [], ◌∷◌, ◌++◌, Option, Some, None, refl, sym, ap, subst, ◌∙◌, append_assoc}
+use Rattle.std.proofs.Common.{◌≡◌, ℕ, Bool, true, false, cond, List, [], ◌∷◌, ◌++◌, Option, Some, None, refl, sym, ap, subst, ◌∙◌, append_assoc}
 use Rattle.std.specs.List.{find, list_all, AllByRecursion}
 use Rattle.list_facts.specs.Lists.{less, before}
 use Rattle.list_facts.proofs.EachLemmas.{Each-all, Each-weaker, Each-find}
@@ -14,8 +14,9 @@ use Rattle.history_model.specs.declared.item.Carried.TheVariants.{Post, Ask, Don
 use Rattle.history_model.specs.Lanes.{is_of, is_done_for, reply_to}
 use Rattle.history_model.specs.Answers.{goes_before, presents_item, presents}
 use Rattle.law_slots.specs.Kinds.{NamesOp, RightKind}
-use Rattle.law_slots.proofs.RequestLemmas.{same_op_true, request_is_of}
+use Rattle.history_facts.proofs.RequestLemmas.{same_op_true, request_is_of}
 use Rattle.law_order.specs.Order.{post_in, posts, is_posted_in, is_posted_op}
+use Rattle.std.proofs.lemmas.Bool.{and_parts}
 
 pub posts-append : (xs ys : List Carried) → posts (xs ++ ys) ≡ posts xs ++ posts ys
 posts-append [] ys = refl
@@ -92,10 +93,6 @@ behind_no_post board on o (Done op slot outcome) goes = refl
 behind_no_post board on o Room goes = cc
 behind_no_post board on o (Gone slot) goes = refl
 
-pub split_true : (a b : Bool) → (a && b) ≡ true → (a ≡ true) × (b ≡ true)
-split_true true b both = (refl, both)
-split_true false b both = cc
-
 -- so the first posted write of an operation that goes before all older items is the oldest
 oldest_post : (board : Board) (on : ℕ) (o : OpId) (xs : List Carried) → find (is_of o) xs ≡ Some (Post o)
     → list_all (goes_before board on (Post o)) (before (is_of o) xs) ≡ true → posts xs ≡ o ∷ posts (less (is_of o) xs)
@@ -107,7 +104,7 @@ oldest_post board on o (x ∷ xs) some goes =
     (elim (is_of o x) as P [
       | true ↦ λ e _. let same : x ≡ Post o = cc in ap (λ y. post_in y ++ posts xs) same
       | false ↦ λ e g.
-          let parts = split_true (G x) (list_all G (before (is_of o) xs)) g in
+          let parts = and_parts (G x) (list_all G (before (is_of o) xs)) g in
           let none : post_in x ≡ [] = behind_no_post board on o x parts.0 in
           let later : posts xs ≡ o ∷ posts (less (is_of o) xs) = oldest_post board on o xs e parts.1 in
           rw none later

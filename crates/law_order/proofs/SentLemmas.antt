@@ -21,13 +21,14 @@ use Rattle.history_model.specs.declared.item.Carried.TheVariants.{Post, Ask, Don
 use Rattle.history_model.specs.declared.item.Slot.{Slot}
 use Rattle.history_model.specs.declared.item.Answer.TheVariants.{Gives}
 use Rattle.history_model.specs.Lanes.{LaneState, Both, is_of, is_done_for, reply_to, item_ends, Effect, Stands, Credits, Frees, Drops, effect_of, takes_effect, came_off, arrives_first, arrives}
-use Rattle.history_model.specs.World.{World, lane_back, same_lane, both, slot_found, enters, at_place, lane_outcome, leaves, at_initiator, moved, world_of}
+use Rattle.history_model.specs.World.{World, same_lane, both, slot_found, enters, at_place, lane_outcome, leaves, at_initiator, moved, world_of}
+use Rattle.board_model.specs.Ways.{lane_back}
 use Rattle.history_model.specs.Answers.{answer}
 use Rattle.history_model.specs.Runs.{mark_of_first, Allowed, Run}
-use Rattle.law_slots.proofs.BridgeLemmas.{same_lane_self, same_lane_back, same_lane_symm}
-use Rattle.law_slots.proofs.AnswerLemmas.{AtLane, answered_at}
+use Rattle.history_facts.proofs.BridgeLemmas.{same_lane_self, same_lane_back, same_lane_symm}
+use Rattle.history_facts.proofs.AnswerLemmas.{AtLane, answered_at}
 use Rattle.law_order.specs.Sent.{item_for, sent_to, reply_for, sent_back, dropped_by, dropped_first, sending, sent, arrives_by, arrivals, came}
-use Rattle.law_order.proofs.MovedLemmas.{moved_each}
+use Rattle.history_facts.proofs.MovedLemmas.{moved_each}
 use Rattle.law_order.proofs.OrderLemmas.{back_apart}
 
 -- a lane after the claimant's part: what was sent is behind what was in flight, and what stands of each operation stands

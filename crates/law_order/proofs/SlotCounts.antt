@@ -23,17 +23,17 @@ use Rattle.history_model.specs.declared.item.Carried.TheVariants.{Post, Ask, Don
 use Rattle.history_model.specs.declared.item.Slot.{Slot}
 use Rattle.history_model.specs.declared.item.Answer.TheVariants.{Gives}
 use Rattle.history_model.specs.Lanes.{LaneState, Both, has_number, lowest_free, item_ends, Effect, Stands, Credits, Frees, Drops, effect_on_ask, effect_on_done, effect_of, takes_effect, came_off, arrives_first, arrives}
-use Rattle.history_model.specs.World.{World, lane_back, same_lane, both, is_own, slot_found, enters, at_place, lane_outcome, leaves, at_initiator, world_of}
+use Rattle.history_model.specs.World.{World, same_lane, both, is_own, slot_found, enters, at_place, lane_outcome, leaves, at_initiator, world_of}
+use Rattle.board_model.specs.Ways.{lane_back}
 use Rattle.history_model.specs.Answers.{answer}
 use Rattle.history_model.specs.Runs.{Allowed, Run}
 use Rattle.law_slots.specs.Slots.{DoneNamed, GoneHeld}
-use Rattle.law_slots.proofs.BridgeLemmas.{lane_back_back, same_lane_self, same_lane_back, same_lane_symm}
-use Rattle.law_slots.proofs.AnswerLemmas.{AtLane, answered_at}
-use Rattle.law_slots.proofs.FoundLemmas.{Each-found}
-use Rattle.law_slots.proofs.SlotsRunLemmas.{Slots-run}
-use Rattle.law_slots.proofs.OneItemLemmas.{GoneHeld-each}
+use Rattle.history_facts.proofs.BridgeLemmas.{lane_back_back, same_lane_self, same_lane_back, same_lane_symm}
+use Rattle.history_facts.proofs.AnswerLemmas.{AtLane, answered_at}
+use Rattle.list_facts.proofs.FoundLemmas.{Each-found}
+use Rattle.law_slots.proofs.Laws.{Slots-run, GoneHeld-each}
 use Rattle.law_order.specs.Counts.{one_at, latched_by, latched_in, latched, taken_by, freed_by, freed_first, freed_in, freed}
-use Rattle.law_order.proofs.MovedLemmas.{moved_each}
+use Rattle.history_facts.proofs.MovedLemmas.{moved_each}
 use Rattle.law_order.proofs.OrderLemmas.{back_apart}
 
 -- where one is found, one less is left

@@ -24,7 +24,7 @@ use Rattle.history_model.specs.Runs.{Run}
 use Rattle.law_order.specs.Order.{is_posted_in, is_posted_op}
 use Rattle.law_order.specs.OnWay.{WritesHaveOneClaimant}
 use Rattle.law_order.specs.Parts.{WritesAbortWhole, HasWord}
-use Rattle.law_order.proofs.PostedLemmas.{write_not_read, memory_no_header}
+use Rattle.history_facts.proofs.PostedLemmas.{write_not_read, memory_no_header}
 use Rattle.law_order.proofs.LandLemmas.{Short, Short-run, rest_claimed, lane_claims}
 
 -- the steps of a target that takes

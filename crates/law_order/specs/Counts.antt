@@ -12,7 +12,8 @@ use Rattle.history_model.specs.declared.event.Event.{Event}
 use Rattle.history_model.specs.declared.event.Event.TheVariants.{Act, Arrive}
 use Rattle.history_model.specs.declared.item.Carried.{Carried}
 use Rattle.history_model.specs.Lanes.{Effect, Stands, Credits, Frees, Drops, effect_of}
-use Rattle.history_model.specs.World.{World, lane_back, same_lane, world_of}
+use Rattle.history_model.specs.World.{World, same_lane, world_of}
+use Rattle.board_model.specs.Ways.{lane_back}
 
 -- 1 where the place is the lane
 abbrev pub one_at : BridgeLane → Place → ℕ

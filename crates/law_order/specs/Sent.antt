@@ -19,7 +19,8 @@ use Rattle.history_model.specs.declared.item.Carried.{Carried}
 use Rattle.history_model.specs.declared.item.Carried.TheVariants.{Post, Ask, Gone}
 use Rattle.history_model.specs.declared.item.Slot.{Slot}
 use Rattle.history_model.specs.Lanes.{lowest_free, is_of, reply_to, Effect, Stands, Credits, Frees, Drops, effect_of}
-use Rattle.history_model.specs.World.{World, lane_back, same_lane, lane_outcome, world_of}
+use Rattle.history_model.specs.World.{World, same_lane, lane_outcome, world_of}
+use Rattle.board_model.specs.Ways.{lane_back}
 
 -- an accepted posted write is sent, and a latched delayed request with the lowest free slot
 abbrev pub item_for : List Slot → OpId → Step → List Carried

@@ -1,17 +1,18 @@
 -- Lanes that differ only in posted writes and credits: what is left of delayed requests is the same on them.
-use Rattle.std.proofs.Common.{◌≡◌, ℕ, Bool, true, false, ◌||◌, cond, List, [], ◌∷◌, ◌++◌, length, Option, Some, None, refl, ap, subst, ◌∙◌}
+use Rattle.std.proofs.Common.{◌≡◌, ℕ, List, [], ◌∷◌, length, Option, Some, None, refl, ap, ◌∙◌}
 use Rattle.std.specs.List.{find, list_any}
-use Rattle.list_facts.specs.Lists.{less, total}
+use Rattle.list_facts.specs.Lists.{total}
 use Rattle.pci_command.specs.declared.op_id.OpId.{OpId}
 use Rattle.board_model.specs.declared.bridge.Lane.{Lane as BridgeLane}
 use Rattle.board_model.specs.declared.board.Board.{Board}
 use Rattle.board_model.specs.declared.board.Planned.{Planned}
 use Rattle.history_model.specs.declared.item.Slot.{Slot}
 use Rattle.history_model.specs.Lanes.{LaneState, is_done_for}
-use Rattle.history_model.specs.World.{World, lane_back}
+use Rattle.history_model.specs.World.{World}
+use Rattle.board_model.specs.Ways.{lane_back}
 use Rattle.history_model.specs.Local.{is_ask_of, is_gone_of}
 use Rattle.history_model.specs.Left.{Reach, reach_of, slot_left, reach_left, delayed_left, is_slot_of, discard_left, drop_left}
-use Rattle.law_order.proofs.LaneSums.{total-same}
+use Rattle.list_facts.proofs.AnyLemmas.{total_same}
 
 -- the same slots are held, as many requests and completions came, and the same of them are there
 pub record Alike (a b : LaneState) : Type 0 where
@@ -92,26 +93,11 @@ delayed_alike world other o alike lanes =
 -- as many lines of discards and drops are to come
 pub discards_alike : (board : Board) (world other : World) → AlikeWorlds world other → (lines : List Planned) → total (discard_left board world) lines ≡ total (discard_left board other) lines
 discards_alike board world other alike lines =
-    total-same (discard_left board world) (discard_left board other)
+    total_same (discard_left board world) (discard_left board other)
     (λ (planned : Planned). let same = (alike (record { bus = planned.bus; up = planned.up })).dones in rw same refl) lines
 
 -- the same of the lines of drops
 pub drops_alike : (world other : World) → AlikeWorlds world other → (lines : List Planned) → total (drop_left world) lines ≡ total (drop_left other) lines
 drops_alike world other alike lines =
-    total-same (drop_left world) (drop_left other)
+    total_same (drop_left world) (drop_left other)
     (λ (planned : Planned). let same = (alike (record { bus = planned.bus; up = planned.up })).asks in rw same refl) lines
-
--- an element that fails changes no test of any
-pub any-push : {X : Type 0} (test : X → Bool) (xs : List X) (x : X) → test x ≡ false → list_any test (xs ++ x ∷ []) ≡ list_any test xs
-any-push test [] x fails = rw fails refl
-any-push test (y ∷ xs) x fails = ap (λ b. test y || b) (any-push test xs x fails)
-
--- nor does one that fails when it is taken away
-pub any-less : {X : Type 0} (test gone : X → Bool) (xs : List X) (y : X) → find gone xs ≡ Some y → test y ≡ false → list_any test (less gone xs) ≡ list_any test xs
-any-less test gone [] y some fails = cc
-any-less test gone (x ∷ xs) y some fails =
-    let P : Bool → Type 0 = λ b. cond b (Some x) (find gone xs) ≡ Some y → list_any test (cond b xs (x ∷ less gone xs)) ≡ (test x || list_any test xs) in
-    (elim (gone x) as P [
-      | true ↦ λ e. let same : y ≡ x = cc in let none : test x ≡ false = subst (λ z. test z ≡ false) same fails in rw none refl
-      | false ↦ λ e. ap (λ b. test x || b) (any-less test gone xs y e fails)
-    ]) some

@@ -15,7 +15,8 @@ use Rattle.history_model.specs.World.{world_of}
 use Rattle.history_model.specs.Runs.{Allowed, Run}
 use Rattle.history_model.specs.Left.{left_of}
 use Rattle.law_order.specs.Order.{is_posted_op}
-use Rattle.law_posted.specs.PostedEvents.{is_stall, IsPostedEvent}
+use Rattle.history_model.specs.Steps.{is_stall}
+use Rattle.law_posted.specs.PostedEvents.{IsPostedEvent}
 use Rattle.law_posted.proofs.TurnLemmas.{slots_turn}
 use Rattle.law_posted.proofs.FormLemmas.{op_some}
 use Rattle.law_posted.proofs.FitLemmas.{Fit, Fit-valid}

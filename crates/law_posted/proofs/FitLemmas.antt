@@ -2,12 +2,12 @@
 use Rattle.board_model.specs.declared.board.Board.{Board}
 use Rattle.board_model.specs.Valid.{IsValid}
 use Rattle.board_laws.specs.Trees.{IsTree}
-use Rattle.board_laws.proofs.ValidLemmas.{IsTree-valid}
+use Rattle.board_laws.proofs.Laws.{IsTree-valid}
 use Rattle.law_slots.specs.Depths.{DifferentNumbers}
-use Rattle.law_slots.proofs.WellFormedLemmas.{WellFormed-numbers}
+use Rattle.law_slots.proofs.Laws.{WellFormed-numbers}
 use Rattle.law_order.specs.OnWay.{WritesHaveOneClaimant}
 use Rattle.law_order.specs.Parts.{WritesAbortWhole}
-use Rattle.law_order.proofs.BurstLemmas.{AbortWhole-formed, OneClaimant-formed}
+use Rattle.law_order.proofs.Laws.{AbortWhole-formed, OneClaimant-formed}
 use Rattle.law_posted.proofs.PieceLemmas.{AllTake}
 use Rattle.law_posted.proofs.FormLemmas.{all_take}
 

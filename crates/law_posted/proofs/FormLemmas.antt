@@ -8,8 +8,7 @@ use Rattle.board_model.specs.declared.op.Op.{Op}
 use Rattle.board_model.specs.declared.board.Board.{Board}
 use Rattle.board_model.specs.Requests.{op_of, phases_of}
 use Rattle.board_model.specs.WellFormed.{is_well_formed_target, is_well_formed}
-use Rattle.board_model.proofs.FormLemmas.{WellFormed-parts, Target-parts}
-use Rattle.board_model.proofs.OpLemmas.{op_phases, op_formed}
+use Rattle.board_model.proofs.Laws.{WellFormed-parts, Target-parts, op_phases, op_formed}
 use Rattle.law_posted.proofs.PieceLemmas.{AllTake}
 
 -- each operation of a well-formed board has a data phase

@@ -29,11 +29,11 @@ use Rattle.history_model.specs.Words.{through}
 use Rattle.history_model.specs.Answers.{wants, answer}
 use Rattle.history_model.specs.Runs.{Run}
 use Rattle.history_model.specs.Left.{flying_left, standing_left, bridge_left, left_of}
-use Rattle.law_slots.proofs.AnswerLemmas.{answered_at}
-use Rattle.law_slots.proofs.LatchedLemmas.{wants-at}
-use Rattle.law_slots.proofs.RequestLemmas.{same_op_self}
+use Rattle.history_facts.proofs.AnswerLemmas.{answered_at}
+use Rattle.law_slots.proofs.Laws.{wants-at}
+use Rattle.history_facts.proofs.RequestLemmas.{same_op_self}
 use Rattle.law_order.specs.Order.{is_posted_in, is_posted_op}
-use Rattle.law_order.proofs.PostedLemmas.{PostedAt, posted_answered}
+use Rattle.history_facts.proofs.PostedLemmas.{PostedAt, posted_answered}
 use Rattle.law_posted.proofs.SumLemmas.{over-falls}
 use Rattle.law_posted.proofs.AlikeLemmas.{AlikeWorlds, Alike-self, Alike-then}
 use Rattle.law_posted.proofs.ProgramLemmas.{lane_weight, world_weight, flying_falls, standing_falls, lane_falls, programs_fall, lanes_fall, stalls_fall, left_falls}

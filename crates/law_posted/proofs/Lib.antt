@@ -12,3 +12,4 @@ pub mod FitLemmas
 pub mod LaneLemmas
 pub mod MasterLemmas
 pub mod EventLemmas
+pub mod Laws

@@ -33,11 +33,11 @@ use Rattle.history_model.specs.Words.{through}
 use Rattle.history_model.specs.Answers.{wants, answer}
 use Rattle.history_model.specs.Runs.{Run}
 use Rattle.history_model.specs.Left.{flying_left, bridge_left, is_slot_of, op_left, turn_left, program_left, programs_left, left_of}
-use Rattle.law_slots.proofs.AnswerLemmas.{answered_at}
-use Rattle.law_slots.proofs.OwnersLatchLemmas.{wants-turn}
-use Rattle.law_slots.proofs.RequestLemmas.{same_op_true, same_op_self}
+use Rattle.history_facts.proofs.AnswerLemmas.{answered_at}
+use Rattle.history_facts.proofs.WantsLemmas.{wants-turn}
+use Rattle.history_facts.proofs.RequestLemmas.{same_op_true, same_op_self}
 use Rattle.law_order.specs.Order.{is_posted_in, is_posted_op}
-use Rattle.law_order.proofs.PostedLemmas.{PostedAt, posted_answered}
+use Rattle.history_facts.proofs.PostedLemmas.{PostedAt, posted_answered}
 use Rattle.law_posted.proofs.SumLemmas.{from-one, programs_from}
 use Rattle.law_posted.proofs.AlikeLemmas.{AlikeWorlds, Alike-self}
 use Rattle.law_posted.proofs.ProgramLemmas.{world_weight, later_op, program_falls, next_costs, lanes_fall, stalls_fall, left_falls}

@@ -13,16 +13,18 @@ use Rattle.history_model.specs.declared.event.Mark.{Mark}
 use Rattle.history_model.specs.declared.item.Carried.{Carried}
 use Rattle.history_model.specs.declared.item.Carried.TheVariants.{Post, Room}
 use Rattle.history_model.specs.Lanes.{Both, is_of, is_done_for, post_enters, reply_to, item_ends, arrives_first, arrives}
-use Rattle.history_model.specs.World.{World, lane_back, same_lane, both, moved}
+use Rattle.history_model.specs.World.{World, same_lane, both, moved}
+use Rattle.board_model.specs.Ways.{lane_back}
 use Rattle.history_model.specs.Answers.{bridge_to}
 use Rattle.history_model.specs.Local.{is_ask_of, is_gone_of}
 use Rattle.history_model.specs.Left.{flying_left, standing_left}
 use Rattle.law_slots.specs.Depths.{DifferentNumbers}
-use Rattle.law_slots.proofs.BridgeLemmas.{same_lane_self, same_lane_back}
-use Rattle.law_order.proofs.MovedLemmas.{moved_each}
+use Rattle.history_facts.proofs.BridgeLemmas.{same_lane_self, same_lane_back}
+use Rattle.history_facts.proofs.MovedLemmas.{moved_each}
 use Rattle.law_posted.proofs.SumLemmas.{over-moved}
-use Rattle.law_posted.proofs.AlikeLemmas.{Alike, AlikeWorlds, Alike-self, any-push, any-less}
+use Rattle.law_posted.proofs.AlikeLemmas.{Alike, AlikeWorlds, Alike-self}
 use Rattle.law_posted.proofs.ProgramLemmas.{lane_weight, world_weight}
+use Rattle.list_facts.proofs.AnyLemmas.{any-push_other, any-less_found}
 
 -- A posted write enters: it is in flight.
 
@@ -34,11 +36,11 @@ enters_alike o lane world =
       held = refl;
       asks = refl;
       dones = refl;
-      asks_flying = λ number. any-push (is_ask_of number) flight (Post o) refl;
+      asks_flying = λ number. any-push_other (is_ask_of number) flight (Post o) refl;
       asks_standing = λ number. refl;
-      dones_flying = λ number. any-push (is_done_for number) flight (Post o) refl;
+      dones_flying = λ number. any-push_other (is_done_for number) flight (Post o) refl;
       dones_standing = λ number. refl;
-      gones_flying = λ number. any-push (is_gone_of number) flight (Post o) refl;
+      gones_flying = λ number. any-push_other (is_gone_of number) flight (Post o) refl;
     } in
     moved_each (λ l s. Alike s (world l)) (post_enters o) lane world (λ l _ _. Alike-self (world l)) here (Alike-self (world (lane_back lane)))
 
@@ -60,20 +62,20 @@ leaves_alike o outcome lane world is =
       asks = refl;
       dones = refl;
       asks_flying = λ number. refl;
-      asks_standing = λ number. any-less (is_ask_of number) (is_of o) standing (Post o) is refl;
+      asks_standing = λ number. any-less_found (is_ask_of number) (is_of o) standing (Post o) is refl;
       dones_flying = λ number. refl;
-      dones_standing = λ number. any-less (is_done_for number) (is_of o) standing (Post o) is refl;
+      dones_standing = λ number. any-less_found (is_done_for number) (is_of o) standing (Post o) is refl;
       gones_flying = λ number. refl;
     } in
     let there : Alike (item_ends o outcome (both world lane)).back (world back) = record {
       held = refl;
       asks = refl;
       dones = refl;
-      asks_flying = λ number. ap (list_any (is_ask_of number)) replied ∙ any-push (is_ask_of number) flight Room refl;
+      asks_flying = λ number. ap (list_any (is_ask_of number)) replied ∙ any-push_other (is_ask_of number) flight Room refl;
       asks_standing = λ number. refl;
-      dones_flying = λ number. ap (list_any (is_done_for number)) replied ∙ any-push (is_done_for number) flight Room refl;
+      dones_flying = λ number. ap (list_any (is_done_for number)) replied ∙ any-push_other (is_done_for number) flight Room refl;
       dones_standing = λ number. refl;
-      gones_flying = λ number. ap (list_any (is_gone_of number)) replied ∙ any-push (is_gone_of number) flight Room refl;
+      gones_flying = λ number. ap (list_any (is_gone_of number)) replied ∙ any-push_other (is_gone_of number) flight Room refl;
     } in
     moved_each (λ l s. Alike s (world l)) (item_ends o outcome) lane world (λ l _ _. Alike-self (world l)) here there
 
@@ -98,9 +100,9 @@ first_posts o mark flight rest x is same =
         asks = plus_none x.here.asks;
         dones = plus_none x.here.dones;
         asks_flying = λ number. sym (ap (list_any (is_ask_of number)) flying);
-        asks_standing = λ number. any-push (is_ask_of number) x.here.standing (Post o) refl;
+        asks_standing = λ number. any-push_other (is_ask_of number) x.here.standing (Post o) refl;
         dones_flying = λ number. sym (ap (list_any (is_done_for number)) flying);
-        dones_standing = λ number. any-push (is_done_for number) x.here.standing (Post o) refl;
+        dones_standing = λ number. any-push_other (is_done_for number) x.here.standing (Post o) refl;
         gones_flying = λ number. sym (ap (list_any (is_gone_of number)) flying);
       },
       Alike-self x.back,

@@ -11,7 +11,7 @@ use Rattle.board_model.specs.declared.op.Op.{Op}
 use Rattle.board_model.specs.declared.board.Board.{Board}
 use Rattle.board_model.specs.Requests.{request_on}
 use Rattle.board_model.specs.Ways.{Route, route_of, aborts_at, pieces_in, pieces_at, pieces_by, pieces_of}
-use Rattle.law_slots.proofs.RequestLemmas.{Each-slice_get}
+use Rattle.list_facts.proofs.EachLemmas.{Each-slice_get}
 
 -- fewer data phases are no more pieces
 pub pieces_in_le : (burst m n : ℕ) → m ≤ n → pieces_in burst m ≤ pieces_in burst n

@@ -1,9 +1,8 @@
 -- The facts of a run that its events of posted writes rest on.
-use Rattle.std.proofs.Common.{◌≡◌, ℕ, zero, suc, ◌+◌, ◌*◌, ◌-◌, ◌<◌, ◌≤◌, ◌==◌, Bool, true, false, cond, nat_lt, List, ◌∷◌, drop, length, Option, Some, None, refl, sym, ap, subst, ◌∙◌, arith, slice_get}
+use Rattle.std.proofs.Common.{◌≡◌, ℕ, zero, suc, ◌+◌, ◌*◌, ◌-◌, ◌<◌, ◌≤◌, ◌==◌, Bool, true, false, cond, nat_lt, List, ◌∷◌, drop, length, Option, Some, None, refl, sym, ap, subst, ◌∙◌, arith, slice_get, length-drop}
 use Rattle.std.specs.List.{find, AllByRecursion}
-use Rattle.std.proofs.Common.{length-drop}
 use Rattle.list_facts.specs.Lists.{before}
-use Rattle.list_facts.proofs.EachLemmas.{Each-find}
+use Rattle.list_facts.proofs.EachLemmas.{Each-find, Each-slice_get}
 use Rattle.list_facts.proofs.FindLemmas.{find_passes}
 use Rattle.pci_command.specs.declared.command.Command.TheVariants.{MemWrite}
 use Rattle.pci_command.specs.declared.request.Request.{Request}
@@ -22,7 +21,7 @@ use Rattle.board_model.specs.Requests.{op_of, command_of, phases_of, request_on,
 use Rattle.board_model.specs.Claims.{claim}
 use Rattle.board_model.specs.Ways.{end_of, aborts_at, address_in, Route, route_by, route_of, way, pieces_in, pieces_at, pieces_by, pieces_of}
 use Rattle.board_laws.specs.Trees.{IsTree}
-use Rattle.board_laws.proofs.EndLemmas.{WayEnds-tree}
+use Rattle.board_laws.proofs.Laws.{WayEnds-tree}
 use Rattle.history_model.specs.declared.event.By.{By}
 use Rattle.history_model.specs.declared.event.By.TheVariants.{Master, Lane as ByLane}
 use Rattle.history_model.specs.declared.event.Step.{Step}
@@ -38,17 +37,13 @@ use Rattle.history_model.specs.Answers.{presents_item, presents, is_on, wants, s
 use Rattle.history_model.specs.Runs.{Run}
 use Rattle.history_model.specs.Left.{post_left, flying_left, standing_left}
 use Rattle.law_slots.specs.Kinds.{RightKind}
-use Rattle.law_slots.proofs.KindLemmas.{RightKind-run}
-use Rattle.law_slots.proofs.LatchedLemmas.{wants-at}
-use Rattle.law_slots.proofs.QuietLemmas.{Quiet-empty, run_no_bridge}
-use Rattle.law_slots.proofs.RequestLemmas.{Each-slice_get}
+use Rattle.law_slots.proofs.Laws.{RightKind-run, wants-at, Quiet-empty, run_no_bridge}
 use Rattle.law_order.specs.Order.{is_posted_in, is_posted_op}
 use Rattle.law_order.specs.OnWay.{WritesHaveOneClaimant}
 use Rattle.law_order.specs.Parts.{WritesAbortWhole, HasWord}
-use Rattle.law_order.proofs.PostLemmas.{post_of, split_true}
-use Rattle.law_order.proofs.DirectLemmas.{master_bus}
-use Rattle.law_order.proofs.LandLemmas.{Short, Short-run, write_lands, rest_claimed}
-use Rattle.law_order.proofs.WordLemmas.{part_word}
+use Rattle.law_order.proofs.Laws.{post_of, Short, Short-run, write_lands, rest_claimed, part_word}
+use Rattle.std.proofs.lemmas.Bool.{and_parts}
+use Rattle.history_facts.proofs.WantsLemmas.{master_bus}
 use Rattle.law_posted.proofs.PieceLemmas.{pieces_in_falls, AllTake, pieces_of_one}
 
 -- a write in memory is there
@@ -89,7 +84,7 @@ pub stands_posted : (board : Board) (h : List Event) (on : ℕ) (lane : BridgeLa
     → find (is_of o) (world_of board h lane).standing ≡ Some (Post o)
 stands_posted board h on lane o posted run wanted =
     let st : List Carried = (world_of board h lane).standing in
-    let presented : presents board on o st ≡ true = (split_true (end_of board lane == on) (presents board on o st) wanted).1 in
+    let presented : presents board on o st ≡ true = (and_parts (end_of board lane == on) (presents board on o st) wanted).1 in
     presented_post board on o st (find (is_of o) st) posted (RightKind-run board h lane run).1 refl presented
 
 -- and the lane is one of a bridge

@@ -14,7 +14,7 @@ use Rattle.board_model.specs.declared.bridge.Place.TheVariants.{Target, Header, 
 use Rattle.board_model.specs.declared.board.Board.{Board}
 use Rattle.board_model.specs.Requests.{request_of, is_posted}
 use Rattle.board_model.specs.Claims.{claim}
-use Rattle.board_model.specs.Ways.{aborts_at, address_in}
+use Rattle.board_model.specs.Ways.{aborts_at, address_in, lane_back}
 use Rattle.history_model.specs.declared.event.By.{By}
 use Rattle.history_model.specs.declared.event.By.TheVariants.{Master, Lane as ByLane}
 use Rattle.history_model.specs.declared.event.Step.{Step}
@@ -28,12 +28,12 @@ use Rattle.history_model.specs.declared.item.Answer.{Answer}
 use Rattle.history_model.specs.declared.item.Answer.TheVariants.{Gives, Retry}
 use Rattle.history_model.specs.declared.item.Cause.TheVariants.{Full, NoSlot, Behind}
 use Rattle.history_model.specs.Lanes.{is_done_for}
-use Rattle.history_model.specs.World.{World, lane_back, is_own, world_of}
+use Rattle.history_model.specs.World.{World, is_own, world_of}
 use Rattle.history_model.specs.Program.{turn_of}
 use Rattle.history_model.specs.Words.{through, without, value_of}
 use Rattle.history_model.specs.Answers.{stalls_used, target_step, target_answer, header_answer, completion_passes, completion_answer, delayed_answer, posted_answer, lane_answer, bridge_to, answer_by, answer_to, answer}
 use Rattle.history_model.specs.Left.{bridge_left, stalls_left, left_of}
-use Rattle.law_posted.specs.PostedEvents.{is_stall}
+use Rattle.history_model.specs.Steps.{is_stall}
 use Rattle.law_posted.proofs.SumLemmas.{from-one, stalls_from}
 use Rattle.law_posted.proofs.AlikeLemmas.{AlikeWorlds, Alike-self}
 use Rattle.law_posted.proofs.ProgramLemmas.{world_weight, programs_fall, lanes_fall, left_falls}

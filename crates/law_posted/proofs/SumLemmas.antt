@@ -8,14 +8,15 @@ use Rattle.board_model.specs.declared.bridge.Bridge.{Bridge}
 use Rattle.board_model.specs.declared.bridge.Lane.{Lane as BridgeLane}
 use Rattle.board_model.specs.declared.board.Board.{Board}
 use Rattle.history_model.specs.declared.event.Event.{Event}
-use Rattle.history_model.specs.World.{lane_back, same_lane}
+use Rattle.board_model.specs.Ways.{lane_back}
+use Rattle.history_model.specs.World.{same_lane}
 use Rattle.history_model.specs.Program.{turn_of}
 use Rattle.history_model.specs.Answers.{stalls_used, bridge_to}
 use Rattle.history_model.specs.Left.{program_left, programs_left, stalls_left}
 use Rattle.law_slots.specs.Depths.{DifferentNumbers}
-use Rattle.law_slots.proofs.BridgeLemmas.{same_lane_true, same_lane_back, same_lane_symm}
+use Rattle.history_facts.proofs.BridgeLemmas.{same_lane_true, same_lane_back, same_lane_symm}
 use Rattle.law_order.specs.One.{both_lanes, over_lanes}
-use Rattle.law_order.proofs.LaneSums.{over-same, over-plus, over-one}
+use Rattle.law_order.proofs.Laws.{over-same, over-plus, over-one}
 
 -- the sum of what each element weighs by its place, from a place on
 abbrev pub from : {X : Type 0} → (ℕ → X → ℕ) → ℕ → List X → ℕ

@@ -17,9 +17,7 @@ use Rattle.board_model.specs.WellFormed.{has_bus}
 use Rattle.board_model.specs.Valid.{IsValid}
 use Rattle.board_laws.specs.Trees.{IsTree}
 use Rattle.board_laws.specs.WayEnds.{last_bus, rank, GoesOn}
-use Rattle.board_laws.proofs.EndLemmas.{rank-falls}
-use Rattle.board_laws.proofs.ValidLemmas.{IsTree-valid}
-use Rattle.board_laws.proofs.WayLemmas.{number_of}
+use Rattle.board_laws.proofs.Laws.{rank-falls, IsTree-valid, number_of}
 use Rattle.history_model.specs.declared.event.By.{By}
 use Rattle.history_model.specs.declared.event.By.TheVariants.{Master, Lane as ByLane}
 use Rattle.history_model.specs.declared.event.Event.{Event}
@@ -35,12 +33,8 @@ use Rattle.law_slots.specs.Phases.{DelayedAreSingle}
 use Rattle.law_slots.specs.Slots.{IsHeldFor, AskNamed}
 use Rattle.law_slots.specs.Latched.{IsAt, Latched}
 use Rattle.law_slots.specs.Owners.{is_equal_ask, Waits}
-use Rattle.law_slots.proofs.LatchedLemmas.{Latched-run}
-use Rattle.law_slots.proofs.OwnersRunLemmas.{Owners-run}
-use Rattle.law_slots.proofs.QuietLemmas.{Quiet-empty, run_no_bridge}
-use Rattle.law_slots.proofs.RequestLemmas.{request_is_of}
-use Rattle.law_slots.proofs.SlotsRunLemmas.{Slots-run}
-use Rattle.law_slots.proofs.WellFormedLemmas.{WellFormed-numbers, WellFormed-single}
+use Rattle.law_slots.proofs.Laws.{Latched-run, Owners-run, Quiet-empty, run_no_bridge, Slots-run, WellFormed-numbers, WellFormed-single}
+use Rattle.history_facts.proofs.RequestLemmas.{request_is_of}
 
 -- no bridge has a greater number than the last bus
 at_most : (bridges : List Bridge) (most : ℕ) → greatest (λ (bridge : Bridge). bridge.bus) bridges ≤ most → AllByRecursion (λ (bridge : Bridge). bridge.bus ≤ most) bridges

@@ -1,25 +1,13 @@
 -- The events of posted writes and of their credits, and the stalls: PCI Local Bus Specification 2.2, section 3.2.5.
 use Rattle.std.specs.Prelude.{◌≡◌, Bool, true, false, List, [], ◌∷◌, ◌||◌}
 use Rattle.board_model.specs.declared.board.Board.{Board}
-use Rattle.history_model.specs.declared.event.Step.{Step}
-use Rattle.history_model.specs.declared.event.Step.TheVariants.{Land, Part, Read, Accept, Latch, Take, Stall, MasterAbort, TargetAbort}
 use Rattle.history_model.specs.declared.event.Event.{Event}
 use Rattle.history_model.specs.declared.event.Event.TheVariants.{Act, Arrive}
 use Rattle.history_model.specs.declared.item.Carried.{Carried}
 use Rattle.history_model.specs.declared.item.Carried.TheVariants.{Post, Ask, Done, Room, Gone}
 use Rattle.history_model.specs.World.{world_of}
 use Rattle.law_order.specs.Order.{is_posted_op}
-
-abbrev pub is_stall : Step → Bool
-is_stall Land = false
-is_stall (Part phases) = false
-is_stall (Read value) = false
-is_stall Accept = false
-is_stall Latch = false
-is_stall (Take outcome) = false
-is_stall Stall = true
-is_stall MasterAbort = false
-is_stall TargetAbort = false
+use Rattle.history_model.specs.Steps.{is_stall}
 
 -- a posted write or a credit
 abbrev pub is_post_or_room : Carried → Bool

@@ -9,7 +9,7 @@ use Rattle.history_model.specs.Lanes.{LaneState, empty_lane}
 use Rattle.history_model.specs.World.{world_of}
 use Rattle.history_model.specs.Answers.{bridge_to}
 use Rattle.history_model.specs.Runs.{mark_of, mark_of_first, Run}
-use Rattle.law_slots.proofs.QuietLemmas.{Quiet-empty, run_no_bridge}
+use Rattle.law_slots.proofs.Laws.{Quiet-empty, run_no_bridge}
 use Rattle.law_progress.specs.Next.{Next}
 
 -- nothing is on a lane of no bridge

@@ -9,9 +9,9 @@ use Rattle.board_model.specs.declared.board.Board.{Board}
 use Rattle.board_model.specs.declared.op.Op.{Op}
 use Rattle.board_model.specs.Requests.{op_of, request_on, request_of, is_posted}
 use Rattle.board_model.specs.Claims.{claim}
-use Rattle.board_model.specs.Ways.{end_of, start_of}
+use Rattle.board_model.specs.Ways.{end_of, start_of, lane_back}
 use Rattle.board_laws.specs.WayEnds.{rank}
-use Rattle.board_laws.proofs.EndLemmas.{rank-falls}
+use Rattle.board_laws.proofs.Laws.{rank-falls}
 use Rattle.history_model.specs.declared.event.By.TheVariants.{Lane as ByLane}
 use Rattle.history_model.specs.declared.event.Event.{Event}
 use Rattle.history_model.specs.declared.item.Carried.{Carried}
@@ -19,19 +19,14 @@ use Rattle.history_model.specs.declared.item.Carried.TheVariants.{Ask, Done}
 use Rattle.history_model.specs.declared.item.Slot.{Slot}
 use Rattle.history_model.specs.Lanes.{has_number, is_done_for}
 use Rattle.history_model.specs.Local.{is_ask_of, is_gone_of}
-use Rattle.history_model.specs.World.{World, lane_back, both, is_own, world_of}
+use Rattle.history_model.specs.World.{World, both, is_own, world_of}
 use Rattle.history_model.specs.Words.{through}
 use Rattle.history_model.specs.Answers.{presents}
 use Rattle.history_model.specs.Runs.{Run}
 use Rattle.law_slots.specs.Kinds.{NamesOp, RightKind}
 use Rattle.law_slots.specs.Latched.{LatchedOn, Latched}
 use Rattle.law_slots.specs.Slots.{IsHeldFor, AskNamed, Slots, ask_flies, ask_stands, done_flies, done_stands, gone_flies, HasOneItem}
-use Rattle.law_slots.proofs.KindLemmas.{RightKind-run}
-use Rattle.law_slots.proofs.LatchedLemmas.{Latched-run}
-use Rattle.law_slots.proofs.OneItemLemmas.{HasOneItem-each}
-use Rattle.law_slots.proofs.PartLemmas.{delayed-not_parted}
-use Rattle.law_slots.proofs.SlotsRunLemmas.{Slots-run}
-use Rattle.law_slots.proofs.StandingLemmas.{CanStand-run}
+use Rattle.law_slots.proofs.Laws.{RightKind-run, Latched-run, HasOneItem-each, delayed-not_parted, Slots-run, CanStand-run}
 use Rattle.law_order.specs.Order.{posts}
 use Rattle.law_progress.specs.Next.{Next}
 use Rattle.law_progress.proofs.SoundLemmas.{Sound, room_at}
@@ -39,7 +34,7 @@ use Rattle.law_progress.proofs.PresentLemmas.{oldest_presented}
 use Rattle.law_progress.proofs.PostLemmas.{lane_wants}
 use Rattle.law_progress.proofs.RefusedLemmas.{full, no_slot, waits, Refused, presented}
 use Rattle.law_progress.proofs.StandLemmas.{NotDone, FirstAsk, ask_or_none}
-use Rattle.law_progress.proofs.TakeLemmas.{claims_whole}
+use Rattle.history_facts.proofs.RequestLemmas.{claim_whole}
 
 -- where nothing is, nothing is found
 nothing_found : (test : Carried → Bool) (xs : List Carried) (item : Carried) → xs ≡ [] → find test xs ≡ Some item → ⊥
@@ -117,7 +112,7 @@ module _ (board : Board) (h : List Event) (run : Run board h) (sound : Sound boa
       let same : refused.request ≡ request_on way.op on = let is = refused.is_request in cc in
       let delayed : is_posted refused.request ≡ false = subst (λ r. is_posted r ≡ false) (sym same) way.delayed in
       let none : through h o ≡ 0 = delayed-not_parted board h o on refused.request sound.single run refused.is_request delayed in
-      let claims : claim board on refused.request ≡ Lane refused.lane = claims_whole board on refused.request (through h o) (Lane refused.lane) none refused.claims in
+      let claims : claim board on refused.request ≡ Lane refused.lane = claim_whole board on refused.request (through h o) (Lane refused.lane) none refused.claims in
       let second : claim board on (request_on way.op on) ≡ Lane refused.lane = subst (λ r. claim board on r ≡ Lane refused.lane) same claims in
       let falls : rank board refused.lane < rank board lane = rank-falls board way.op (start_of board lane) lane refused.lane sound.tree (record { first = way.claims; second = second }) in
       let room = room_at board refused.lane.bus refused.bridge sound refused.is_bridge in

@@ -8,11 +8,12 @@ use Rattle.board_model.specs.declared.board.Board.{Board}
 use Rattle.board_model.specs.Valid.{IsValid}
 use Rattle.history_model.specs.declared.event.Event.{Event}
 use Rattle.history_model.specs.Lanes.{LaneState, empty_lane}
-use Rattle.history_model.specs.World.{lane_back, world_of}
+use Rattle.board_model.specs.Ways.{lane_back}
+use Rattle.history_model.specs.World.{world_of}
 use Rattle.history_model.specs.Program.{turn_of}
 use Rattle.history_model.specs.Answers.{bridge_to}
 use Rattle.history_model.specs.Runs.{Run, IsIdle, Complete}
-use Rattle.law_slots.proofs.BridgeLemmas.{lane_back_back}
+use Rattle.history_facts.proofs.BridgeLemmas.{lane_back_back}
 use Rattle.law_order.specs.Order.{posts}
 use Rattle.law_progress.specs.Next.{Next}
 use Rattle.law_progress.proofs.SoundLemmas.{Sound, Sound-valid}

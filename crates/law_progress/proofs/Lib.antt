@@ -9,3 +9,4 @@ pub mod TakeLemmas
 pub mod AskLemmas
 pub mod TurnLemmas
 pub mod GoOnLemmas
+pub mod Laws

@@ -13,26 +13,21 @@ use Rattle.board_model.specs.declared.board.Board.{Board}
 use Rattle.board_model.specs.declared.op.Op.{Op}
 use Rattle.board_model.specs.Requests.{request_on, request_of, is_posted}
 use Rattle.board_model.specs.Claims.{claim}
-use Rattle.board_model.specs.Ways.{end_of, Route, route_by, route_within}
+use Rattle.board_model.specs.Ways.{end_of, Route, route_by, route_within, lane_back}
 use Rattle.board_laws.specs.WayEnds.{rank}
-use Rattle.board_laws.proofs.EndLemmas.{rank-falls}
+use Rattle.board_laws.proofs.Laws.{rank-falls}
 use Rattle.history_model.specs.declared.event.By.TheVariants.{Lane as ByLane}
 use Rattle.history_model.specs.declared.event.Event.{Event}
-use Rattle.history_model.specs.World.{lane_back, same_lane, both, world_of}
+use Rattle.history_model.specs.World.{same_lane, both, world_of}
 use Rattle.history_model.specs.Words.{through, without}
 use Rattle.history_model.specs.Answers.{presents, wants}
 use Rattle.history_model.specs.Runs.{Run}
 use Rattle.law_slots.specs.Credits.{post_count, room_count, Credits}
-use Rattle.law_slots.proofs.BridgeLemmas.{same_lane_true}
-use Rattle.law_slots.proofs.CreditsLemmas.{Credits-run}
-use Rattle.law_slots.proofs.KindLemmas.{RightKind-run}
-use Rattle.law_slots.proofs.StandingLemmas.{CanStand-run}
+use Rattle.history_facts.proofs.BridgeLemmas.{same_lane_true}
+use Rattle.law_slots.proofs.Laws.{Credits-run, RightKind-run, CanStand-run}
 use Rattle.law_order.specs.Order.{posts, is_posted_op}
 use Rattle.law_order.specs.OnWay.{OnWay}
-use Rattle.law_order.proofs.LandLemmas.{rest_claimed}
-use Rattle.law_order.proofs.MasterLemmas.{standing_owned}
-use Rattle.law_order.proofs.OnWayLemmas.{OnWay-stands}
-use Rattle.law_order.proofs.PostLemmas.{op_is_posted}
+use Rattle.law_order.proofs.Laws.{rest_claimed, standing_owned, OnWay-stands, op_is_posted}
 use Rattle.law_order.specs.Masters.{MastersWrite}
 use Rattle.law_progress.specs.Next.{Next}
 use Rattle.law_progress.proofs.SoundLemmas.{Sound, room_at}

@@ -16,9 +16,9 @@ use Rattle.history_model.specs.Answers.{request_kind, completion_kind, goes_befo
 use Rattle.law_slots.specs.Kinds.{RightKind}
 use Rattle.law_slots.specs.Owners.{is_equal_ask}
 use Rattle.law_slots.specs.Standing.{CanStand}
-use Rattle.law_slots.proofs.RequestLemmas.{same_op_true, same_op_self}
+use Rattle.history_facts.proofs.RequestLemmas.{same_op_true, same_op_self}
 use Rattle.law_order.specs.Order.{posts, is_posted_op}
-use Rattle.law_order.proofs.PostLemmas.{post_of}
+use Rattle.law_order.proofs.Laws.{post_of}
 
 -- a posted write may go before a delayed request
 post_before_ask : (board : Board) (on : ℕ) (o op : OpId) (slot : ℕ) → goes_before board on (Post o) (Ask op slot) ≡ true

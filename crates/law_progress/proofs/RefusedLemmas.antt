@@ -26,7 +26,8 @@ use Rattle.history_model.specs.declared.item.Answer.TheVariants.{Gives, Retry}
 use Rattle.history_model.specs.declared.item.Cause.{Cause}
 use Rattle.history_model.specs.declared.item.Cause.TheVariants.{Full, NoSlot}
 use Rattle.history_model.specs.Lanes.{is_done_for}
-use Rattle.history_model.specs.World.{World, lane_back, is_own, world_of}
+use Rattle.history_model.specs.World.{World, is_own, world_of}
+use Rattle.board_model.specs.Ways.{lane_back}
 use Rattle.history_model.specs.Words.{through, without}
 use Rattle.history_model.specs.Answers.{target_answer, header_answer, completion_answer, delayed_answer, posted_answer, lane_answer, bridge_to, answer_by, answer_to, answer, wants}
 use Rattle.law_progress.specs.Next.{Next}

@@ -9,13 +9,13 @@ use Rattle.board_model.specs.WellFormed.{has_bus, is_well_formed_bridge, is_well
 use Rattle.board_model.specs.Valid.{IsValid}
 use Rattle.board_model.proofs.FormLemmas.{WellFormed-parts, Bridge-parts}
 use Rattle.board_laws.specs.Trees.{IsTree}
-use Rattle.board_laws.proofs.ValidLemmas.{IsTree-valid}
+use Rattle.board_laws.proofs.Laws.{IsTree-valid}
 use Rattle.history_model.specs.Answers.{bridge_to}
 use Rattle.law_slots.specs.Depths.{DifferentNumbers}
 use Rattle.law_slots.specs.Phases.{DelayedAreSingle}
-use Rattle.law_slots.proofs.WellFormedLemmas.{WellFormed-numbers, WellFormed-single}
+use Rattle.law_slots.proofs.Laws.{WellFormed-numbers, WellFormed-single}
 use Rattle.law_order.specs.OnWay.{WritesHaveOneClaimant}
-use Rattle.law_order.proofs.BurstLemmas.{OneClaimant-formed}
+use Rattle.law_order.proofs.Laws.{OneClaimant-formed}
 
 -- a bridge keeps at least one posted write and one delayed request
 abbrev pub HasRoom : Bridge → Type 0

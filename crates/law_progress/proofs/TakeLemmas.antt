@@ -1,5 +1,5 @@
 -- Where no posted write stands and a completion does, it is taken.
-use Rattle.std.proofs.Common.{◌≡◌, ℕ, ◌+◌, ◌*◌, ◌≤◌, Bool, true, false, ◌==◌, cond, eqb, List, [], ◌∷◌, Some, is_some, refl, sym, ap, subst, ◌∙◌, ◌⊎◌, inl, inr, ⊎_elim, arith, slice_get}
+use Rattle.std.proofs.Common.{◌≡◌, ℕ, ◌+◌, ◌≤◌, Bool, true, false, ◌==◌, cond, eqb, List, [], ◌∷◌, Some, is_some, refl, sym, ap, subst, ◌∙◌, ◌⊎◌, inl, inr, ⊎_elim, arith, slice_get}
 use Rattle.std.specs.List.{find, list_all, AllByRecursion}
 use Rattle.std.proofs.lemmas.Bool.{eqb-true}
 use Rattle.std.proofs.lemmas.Bool.Decides.{nat_tests}
@@ -10,14 +10,13 @@ use Rattle.list_facts.proofs.FindLemmas.{find_passes}
 use Rattle.pci_command.specs.declared.request.Request.{Request}
 use Rattle.pci_command.specs.declared.op_id.OpId.{OpId}
 use Rattle.pci_command.specs.declared.op_id.Outcome.{Outcome}
-use Rattle.pci_command.specs.Command.{is_read, space_of}
+use Rattle.pci_command.specs.Command.{is_read}
 use Rattle.board_model.specs.declared.bridge.Lane.{Lane as BridgeLane}
-use Rattle.board_model.specs.declared.bridge.Place.{Place}
 use Rattle.board_model.specs.declared.bridge.Place.TheVariants.{Lane}
 use Rattle.board_model.specs.declared.board.Board.{Board}
 use Rattle.board_model.specs.Requests.{request_of, is_posted, same_requests}
-use Rattle.board_model.specs.Claims.{claim, claim_in_space}
-use Rattle.board_model.specs.Ways.{end_of, start_of}
+use Rattle.board_model.specs.Claims.{claim}
+use Rattle.board_model.specs.Ways.{end_of, start_of, lane_back}
 use Rattle.history_model.specs.declared.event.By.{By}
 use Rattle.history_model.specs.declared.event.By.TheVariants.{Master, Lane as ByLane}
 use Rattle.history_model.specs.declared.event.Step.TheVariants.{Take}
@@ -29,23 +28,19 @@ use Rattle.history_model.specs.declared.item.Answer.TheVariants.{Gives, Retry}
 use Rattle.history_model.specs.declared.item.Cause.{Cause}
 use Rattle.history_model.specs.declared.item.Cause.TheVariants.{Behind}
 use Rattle.history_model.specs.Lanes.{has_number, is_done_for}
-use Rattle.history_model.specs.World.{World, lane_back, both, same_initiator, is_own, world_of}
+use Rattle.history_model.specs.World.{World, both, same_initiator, is_own, world_of}
 use Rattle.history_model.specs.Program.{turn_of}
-use Rattle.history_model.specs.Words.{through, without}
+use Rattle.history_model.specs.Words.{through}
 use Rattle.history_model.specs.Answers.{is_on, is_turn, presents, wants, completion_passes, completion_answer}
 use Rattle.history_model.specs.Runs.{Run}
 use Rattle.law_slots.specs.Slots.{IsHeldFor, DoneNamed, Slots}
 use Rattle.law_slots.specs.Latched.{IsAt, LatchedOn, Latched}
 use Rattle.law_slots.specs.Owners.{Waits, Owners}
 use Rattle.law_slots.specs.Standing.{CanStand}
-use Rattle.law_slots.proofs.EqualLemmas.{same_initiator-self, same_requests-self}
-use Rattle.law_slots.proofs.FoundLemmas.{Each-found}
-use Rattle.law_slots.proofs.LatchedLemmas.{Latched-run}
-use Rattle.law_slots.proofs.OwnersRunLemmas.{Owners-run}
-use Rattle.law_slots.proofs.PartLemmas.{delayed-not_parted}
-use Rattle.law_slots.proofs.RequestLemmas.{same_op_self}
-use Rattle.law_slots.proofs.SlotsRunLemmas.{Slots-run}
-use Rattle.law_slots.proofs.StandingLemmas.{CanStand-run}
+use Rattle.history_facts.proofs.EqualLemmas.{same_initiator-self, same_requests-self}
+use Rattle.list_facts.proofs.FoundLemmas.{Each-found}
+use Rattle.law_slots.proofs.Laws.{Latched-run, Owners-run, delayed-not_parted, Slots-run, CanStand-run}
+use Rattle.history_facts.proofs.RequestLemmas.{same_op_self, claim_whole}
 use Rattle.law_order.specs.Order.{posts}
 use Rattle.law_progress.specs.Next.{Next}
 use Rattle.law_progress.proofs.SoundLemmas.{Sound}
@@ -96,12 +91,6 @@ done_given board read lane coming some cause none stands refuses =
     let older : List Carried = before (is_done_for some.number) coming in
     let by_done = subst (λ item. completion_answer board read lane older item ≡ Retry cause) some.is refuses in
     never_refused board read lane older some.op some.number some.outcome cause (none_before board read (is_done_for some.number) coming none stands) by_done
-
--- a request of which nothing went through is claimed as a whole
-pub claims_whole : (board : Board) (on : ℕ) (request : Request) (gone : ℕ) (place : Place) → gone ≡ 0 → claim board on (without gone request) ≡ place → claim board on request ≡ place
-claims_whole board on request gone place none claims =
-    let whole : request.address ≡ request.address + 4 * gone = omega arith in
-    ap (claim_in_space board on (space_of request.command)) whole ∙ claims
 
 module _ (board : Board) (h : List Event) (run : Run board h) (sound : Sound board) (no_posts : (lane : BridgeLane) → posts (world_of board h lane).standing ≡ []) where
   -- who waits for a slot presents its operation
@@ -160,7 +149,7 @@ module _ (board : Board) (h : List Event) (run : Run board h) (sound : Sound boa
       let same : latched.request ≡ refused.request = let a = latched.is_request in let b = refused.is_request in cc in
       let delayed : is_posted refused.request ≡ false = subst (λ r. is_posted r ≡ false) same latched.delayed in
       let none : through h o ≡ 0 = delayed-not_parted board h o on refused.request sound.single run refused.is_request delayed in
-      let claims : claim board on refused.request ≡ Lane refused.lane = claims_whole board on refused.request (through h o) (Lane refused.lane) none refused.claims in
+      let claims : claim board on refused.request ≡ Lane refused.lane = claim_whole board on refused.request (through h o) (Lane refused.lane) none refused.claims in
       let claims_here : claim board on refused.request ≡ Lane lane = subst (λ r. claim board on r ≡ Lane lane) same latched.claims in
       (delayed, cc)
 

@@ -17,16 +17,15 @@ use Rattle.history_model.specs.declared.event.Event.{Event}
 use Rattle.history_model.specs.declared.item.Carried.TheVariants.{Ask}
 use Rattle.history_model.specs.declared.item.Slot.{Slot}
 use Rattle.history_model.specs.Local.{is_ask_of}
-use Rattle.history_model.specs.World.{World, lane_back, both, is_own, world_of}
+use Rattle.history_model.specs.World.{World, both, is_own, world_of}
+use Rattle.board_model.specs.Ways.{lane_back}
 use Rattle.history_model.specs.Program.{Ending, ended, present, next_op, next_try, meets, follows_in, follows, turn_after, turn_of}
 use Rattle.history_model.specs.Answers.{is_on, is_turn, wants}
 use Rattle.history_model.specs.Runs.{Run}
 use Rattle.law_slots.specs.Credits.{post_count, room_count, Credits}
 use Rattle.law_slots.specs.Slots.{HasOneItem}
-use Rattle.law_slots.proofs.CreditsLemmas.{Credits-run}
-use Rattle.law_slots.proofs.OneItemLemmas.{HasOneItem-each}
-use Rattle.law_slots.proofs.RequestLemmas.{same_op_self}
-use Rattle.law_slots.proofs.SlotsRunLemmas.{Slots-run}
+use Rattle.law_slots.proofs.Laws.{Credits-run, HasOneItem-each, Slots-run}
+use Rattle.history_facts.proofs.RequestLemmas.{same_op_self}
 use Rattle.law_progress.specs.Next.{Next}
 use Rattle.law_progress.proofs.SoundLemmas.{Sound, room_at}
 use Rattle.law_progress.proofs.PostLemmas.{joined}

@@ -1,2 +1,4 @@
-pub mod PathLemmas
 pub mod ReachLemmas
+pub mod OwnLemmas
+pub mod PlaceLemmas
+pub mod Laws

@@ -1,5 +1,5 @@
 -- From a held slot back to the master of its operation, in every run.
-use Rattle.std.proofs.Common.{◌≡◌, ℕ, zero, suc, ◌+◌, ◌≤◌, Bool, true, false, cond, List, [], ◌∷◌, ◌++◌, length, Option, Some, None, refl, sym, ap, subst, ◌∙◌, arith, slice_get, option_map, append_assoc, eqb, eqb-true}
+use Rattle.std.proofs.Common.{◌≡◌, ℕ, zero, suc, ◌+◌, ◌≤◌, Bool, true, false, cond, List, [], ◌∷◌, ◌++◌, length, Option, Some, None, refl, sym, ap, subst, ◌∙◌, arith, slice_get, option_map, append_assoc, eqb-true}
 use Rattle.std.specs.List.{find, list_any, AllByRecursion, IsDistinct}
 use Rattle.list_facts.specs.Lists.{before, total}
 use Rattle.list_facts.proofs.EachLemmas.{Each-push, Each-find, Each-within, Each-weaker, Each-both}
@@ -16,12 +16,12 @@ use Rattle.board_model.specs.Claims.{claim}
 use Rattle.board_model.specs.Ways.{end_of, start_of, way}
 use Rattle.board_laws.specs.Trees.{IsTree}
 use Rattle.board_laws.specs.WayEnds.{same_bridge}
-use Rattle.board_laws.proofs.EndLemmas.{WayEnds-tree}
+use Rattle.board_laws.proofs.Laws.{WayEnds-tree}
 use Rattle.history_model.specs.declared.event.By.{By}
 use Rattle.history_model.specs.declared.event.By.TheVariants.{Master, Lane as ByLane}
 use Rattle.history_model.specs.declared.event.Event.{Event}
 use Rattle.history_model.specs.declared.item.Carried.{Carried}
-use Rattle.history_model.specs.declared.item.Carried.TheVariants.{Post, Ask, Done, Room, Gone}
+use Rattle.history_model.specs.declared.item.Carried.TheVariants.{Ask}
 use Rattle.history_model.specs.declared.item.Slot.{Slot}
 use Rattle.history_model.specs.Lanes.{has_number}
 use Rattle.history_model.specs.World.{same_lane, same_initiator, is_own, world_of}
@@ -35,14 +35,12 @@ use Rattle.law_slots.specs.Depths.{DifferentNumbers}
 use Rattle.law_slots.specs.Phases.{DelayedAreSingle}
 use Rattle.law_slots.specs.Latched.{IsAt, Latched}
 use Rattle.law_slots.specs.Owners.{is_equal_ask, Waits, own_count}
-use Rattle.law_slots.proofs.HeldLemmas.{hit-same}
-use Rattle.law_slots.proofs.RequestLemmas.{request_is_of, same_op_true, same_op_self}
-use Rattle.law_slots.proofs.EqualLemmas.{same_requests-self, same_initiator-self}
-use Rattle.law_slots.proofs.SlotsRunLemmas.{Slots-run}
-use Rattle.law_slots.proofs.LatchedLemmas.{Latched-run}
-use Rattle.law_slots.proofs.OwnersRunLemmas.{Owners-run}
+use Rattle.law_slots.proofs.Laws.{hit-same, Slots-run, Latched-run, Owners-run, ask_found}
+use Rattle.history_facts.proofs.RequestLemmas.{request_is_of, same_op_true, same_op_self}
+use Rattle.history_facts.proofs.EqualLemmas.{same_requests-self, same_initiator-self}
 use Rattle.law_reach.specs.Reach.{last_of, presenter, Passed, slots_of, Reaches}
-use Rattle.law_reach.proofs.PathLemmas.{Follows, way_goes, follows_few, before_lane, any_lane}
+use Rattle.history_facts.proofs.PathLemmas.{Follows, way_goes, follows_few, before_lane, any_lane}
+use Rattle.list_facts.proofs.AnyLemmas.{total_each}
 
 -- the way back from a slot on a lane, latched by this initiator for this operation
 pub record Traced (board : Board) (h : List Event) (lane : BridgeLane) (by : By) (o : OpId) (op : Op) : Type 0 where
@@ -62,25 +60,6 @@ last_push (first ∷ lanes) lane = let later = last_push lanes lane in rw later 
 -- what is found is one
 one_of : {X : Type 0} (found : Option X) (a b : X) → found ≡ Some a → found ≡ Some b → a ≡ b
 one_of found a b p q = cc
-
--- sums of weights that are each no greater
-total_each : {X : Type 0} (f g : X → ℕ) (xs : List X) → AllByRecursion (λ x. f x ≤ g x) xs → total f xs ≤ total g xs
-total_each f g [] each = omega arith
-total_each f g (x ∷ xs) each = omega (arith, each.0, total_each f g xs each.1)
-
--- where requests weigh by a number, the first with that number is found
-ask_found : (number : ℕ) (items : List Carried) → 1 ≤ total (ask_weight (hit number)) items → (op : OpId) × (find (is_ask_of number) items ≡ Some (Ask op number))
-ask_found number [] some = absurd (omega arith)
-ask_found number (Post op ∷ items) some = ask_found number items (omega arith)
-ask_found number (Ask op slot ∷ items) some =
-    let P : Bool → Type 0 = λ b. eqb slot number ≡ b → 1 ≤ cond b 1 0 + total (ask_weight (hit number)) items → (p : OpId) × (cond b (Some (Ask op slot)) (find (is_ask_of number) items) ≡ Some (Ask p number)) in
-    (elim (eqb slot number) as P [
-      | true ↦ λ same _. (op, ap (λ n. Some (Ask op n)) (eqb-true slot number same))
-      | false ↦ λ _ later. ask_found number items (omega arith)
-    ]) refl some
-ask_found number (Done op slot outcome ∷ items) some = ask_found number items (omega arith)
-ask_found number (Room ∷ items) some = ask_found number items (omega arith)
-ask_found number (Gone slot ∷ items) some = ask_found number items (omega arith)
 
 -- two slots of one number are for one operation
 one_held : (held : List Slot) (number : ℕ) (o p : OpId) → IsHeldFor held number o → IsHeldFor held number p → o ≡ p

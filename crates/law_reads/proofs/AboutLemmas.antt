@@ -15,11 +15,10 @@ use Rattle.board_model.specs.declared.op.Op.{Op}
 use Rattle.board_model.specs.declared.board.Board.{Board}
 use Rattle.board_model.specs.Requests.{command_of, op_of, request_on}
 use Rattle.board_model.specs.Claims.{claim}
-use Rattle.board_model.specs.Ways.{end_of, way}
+use Rattle.board_model.specs.Ways.{end_of, way, is_lane, lane_back}
 use Rattle.board_model.specs.Valid.{IsValid}
 use Rattle.board_laws.specs.Trees.{IsTree}
-use Rattle.board_laws.specs.WayEnds.{is_lane}
-use Rattle.board_laws.proofs.ValidLemmas.{IsTree-valid}
+use Rattle.board_laws.proofs.Laws.{IsTree-valid}
 use Rattle.history_model.specs.declared.event.By.{By}
 use Rattle.history_model.specs.declared.event.By.TheVariants.{Master, Lane as ByLane}
 use Rattle.history_model.specs.declared.event.Event.{Event}
@@ -27,20 +26,18 @@ use Rattle.history_model.specs.declared.item.Carried.{Carried}
 use Rattle.history_model.specs.declared.item.Carried.TheVariants.{Post, Ask, Done, Room, Gone}
 use Rattle.history_model.specs.declared.item.Slot.{Slot}
 use Rattle.history_model.specs.Lanes.{has_number}
-use Rattle.history_model.specs.World.{lane_back, same_lane, world_of}
+use Rattle.history_model.specs.World.{same_lane, world_of}
 use Rattle.history_model.specs.Answers.{is_on, is_turn, wants, presents}
 use Rattle.history_model.specs.Program.{turn_of}
 use Rattle.history_model.specs.Runs.{Run}
 use Rattle.history_model.specs.Local.{is_ask_of, is_done_of}
 use Rattle.law_slots.specs.Slots.{hit, ask_weight, done_weight, DoneNamed, IsHeldFor}
-use Rattle.law_slots.proofs.BridgeLemmas.{same_lane_true, lane_back_back}
-use Rattle.law_slots.proofs.HeldLemmas.{hit-same}
-use Rattle.law_slots.proofs.RequestLemmas.{same_op_true}
-use Rattle.law_slots.proofs.SlotsRunLemmas.{Slots-run}
+use Rattle.history_facts.proofs.BridgeLemmas.{same_lane_true, lane_back_back}
+use Rattle.law_slots.proofs.Laws.{hit-same, Slots-run}
+use Rattle.history_facts.proofs.RequestLemmas.{same_op_true}
 use Rattle.law_reach.specs.Reach.{Passed}
-use Rattle.law_stages.proofs.CountLemmas.{own_by, way_cons}
-use Rattle.law_stages.proofs.OwnLemmas.{stands_of}
-use Rattle.law_delayed.proofs.LaneEndLemmas.{asked_at, passed_at}
+use Rattle.law_reach.proofs.Laws.{own_by, stands_of, asked_at, passed_at}
+use Rattle.history_facts.proofs.PathLemmas.{way_cons}
 
 -- what holds of each lane holds of one of them
 each_lane : (P : BridgeLane → Type 0) (lane : BridgeLane) (lanes : List BridgeLane) → AllByRecursion P lanes → list_any (same_lane lane) lanes ≡ true → P lane

@@ -11,10 +11,9 @@ use Rattle.board_model.specs.declared.op.Op.{Op}
 use Rattle.board_model.specs.declared.board.Board.{Board}
 use Rattle.board_model.specs.Requests.{op_of, request_on, request_of, is_posted}
 use Rattle.board_model.specs.Claims.{claim}
-use Rattle.board_model.specs.Ways.{address_in, aborts_at}
+use Rattle.board_model.specs.Ways.{address_in, aborts_at, is_lane}
 use Rattle.board_model.specs.Valid.{IsValid}
 use Rattle.bridge_header.specs.HeaderBytes.{header_word}
-use Rattle.board_laws.specs.WayEnds.{is_lane}
 use Rattle.history_model.specs.declared.event.By.{By}
 use Rattle.history_model.specs.declared.event.Step.{Step}
 use Rattle.history_model.specs.declared.event.Step.TheVariants.{Land, Part, Read, Accept, Latch, Take, Stall, MasterAbort, TargetAbort}
@@ -24,8 +23,7 @@ use Rattle.history_model.specs.World.{world_of}
 use Rattle.history_model.specs.Words.{through, without, value_of}
 use Rattle.history_model.specs.Answers.{stalls_used, target_step, target_answer, header_answer, bridge_to, answer_by, answer_to, answer}
 use Rattle.history_model.specs.Runs.{Run}
-use Rattle.law_slots.proofs.PartLemmas.{delayed-not_parted}
-use Rattle.law_slots.proofs.WellFormedLemmas.{WellFormed-single}
+use Rattle.law_slots.proofs.Laws.{delayed-not_parted, WellFormed-single}
 use Rattle.law_reads.proofs.WordLemmas.{word_at, word_by}
 
 -- what a step and its place say of the word of a read that is presented where its way ends

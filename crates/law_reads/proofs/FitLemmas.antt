@@ -21,10 +21,11 @@ use Rattle.history_model.specs.declared.item.Carried.{Carried}
 use Rattle.history_model.specs.declared.item.Carried.TheVariants.{Post, Ask, Done, Room, Gone}
 use Rattle.history_model.specs.declared.item.Slot.{Slot}
 use Rattle.history_model.specs.Lanes.{LaneState, Both, lowest_free, is_of, is_done_for, reply_to, item_ends, Effect, Stands, Credits, Frees, Drops, effect_of, takes_effect, came_off, arrives_first, arrives}
-use Rattle.history_model.specs.World.{World, lane_back, both, moved, is_own, slot_found, enters, at_place, lane_outcome, leaves, at_initiator, after}
+use Rattle.history_model.specs.World.{World, both, moved, is_own, slot_found, enters, at_place, lane_outcome, leaves, at_initiator, after}
+use Rattle.board_model.specs.Ways.{lane_back}
 use Rattle.history_model.specs.Knowledge.{Reading}
-use Rattle.law_slots.proofs.BridgeLemmas.{moved_keeps}
-use Rattle.law_slots.proofs.RequestLemmas.{same_op_true}
+use Rattle.history_facts.proofs.BridgeLemmas.{moved_keeps}
+use Rattle.history_facts.proofs.RequestLemmas.{same_op_true}
 
 -- an outcome says what was last read; where nothing was, there is no word
 abbrev pub Good : Bool → Option Reading → Outcome → Type 0

@@ -5,3 +5,4 @@ pub mod AnswerLemmas
 pub mod ReadLemmas
 pub mod OtherLemmas
 pub mod GotLemmas
+pub mod Laws

@@ -15,7 +15,7 @@ use Rattle.board_model.specs.declared.op.Op.{Op}
 use Rattle.board_model.specs.declared.board.Board.{Board}
 use Rattle.board_model.specs.Requests.{op_of, request_on, reads, reads_in, is_posted}
 use Rattle.board_model.specs.Claims.{claim}
-use Rattle.board_model.specs.Ways.{address_in, aborts_at}
+use Rattle.board_model.specs.Ways.{address_in, aborts_at, lane_back}
 use Rattle.history_model.specs.declared.event.By.{By}
 use Rattle.history_model.specs.declared.event.Step.{Step}
 use Rattle.history_model.specs.declared.event.Step.TheVariants.{Land, Part, Read, Accept, Latch, Take, Stall, MasterAbort, TargetAbort}
@@ -28,12 +28,12 @@ use Rattle.history_model.specs.declared.item.Answer.{Answer}
 use Rattle.history_model.specs.declared.item.Answer.TheVariants.{Gives, Retry}
 use Rattle.history_model.specs.declared.item.Cause.TheVariants.{Full, NoSlot, Behind}
 use Rattle.history_model.specs.Lanes.{is_done_for}
-use Rattle.history_model.specs.World.{World, lane_back, is_own, world_of}
+use Rattle.history_model.specs.World.{World, is_own, world_of}
 use Rattle.history_model.specs.Words.{through, without, value_of}
 use Rattle.history_model.specs.Knowledge.{reading_at, reading_by, reading_of, reading_or, last_reading}
 use Rattle.history_model.specs.Answers.{stalls_used, target_step, target_answer, header_answer, completion_passes, completion_answer, delayed_answer, posted_answer, lane_answer, bridge_to, answer_by, answer_to, answer}
 use Rattle.history_model.specs.Runs.{Run}
-use Rattle.law_slots.proofs.RequestLemmas.{same_op_true}
+use Rattle.history_facts.proofs.RequestLemmas.{same_op_true}
 
 -- a target gives a value to a read only
 step_reads : (board : Board) (h : List Event) (place : ℕ) (request : Request) (target : TargetAgent) (value : ℕ) → target_step board h place request target ≡ Read value → is_read request.command ≡ true

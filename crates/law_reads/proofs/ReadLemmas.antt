@@ -18,7 +18,7 @@ use Rattle.board_model.specs.declared.board.Board.{Board}
 use Rattle.board_model.specs.Requests.{command_of, op_of, request_on, request_of, is_posted}
 use Rattle.board_model.specs.Claims.{claim}
 use Rattle.board_model.specs.Valid.{IsValid}
-use Rattle.board_laws.specs.WayEnds.{is_lane}
+use Rattle.board_model.specs.Ways.{is_lane, lane_back}
 use Rattle.history_model.specs.declared.event.By.{By}
 use Rattle.history_model.specs.declared.event.By.TheVariants.{Master, Lane as ByLane}
 use Rattle.history_model.specs.declared.event.Step.{Step}
@@ -29,19 +29,18 @@ use Rattle.history_model.specs.declared.item.Carried.{Carried}
 use Rattle.history_model.specs.declared.item.Carried.TheVariants.{Post, Ask, Done, Room, Gone}
 use Rattle.history_model.specs.declared.item.Answer.TheVariants.{Gives}
 use Rattle.history_model.specs.Lanes.{is_done_for}
-use Rattle.history_model.specs.World.{lane_back, lane_outcome, world_of}
+use Rattle.history_model.specs.World.{lane_outcome, world_of}
 use Rattle.history_model.specs.Program.{master_outcome, ending_of}
 use Rattle.history_model.specs.Knowledge.{Reading, outcome_in, ends_as, reading_of, reading_by, reading_or, last_reading}
 use Rattle.history_model.specs.Answers.{answer}
 use Rattle.history_model.specs.Runs.{Run}
 use Rattle.law_slots.specs.Owners.{TakesItsOwn}
-use Rattle.law_slots.proofs.AnswerLemmas.{AtLane, answered_at}
-use Rattle.law_slots.proofs.MatchedLemmas.{TakesItsOwn-run}
-use Rattle.law_slots.proofs.RequestLemmas.{same_op_true}
-use Rattle.law_slots.proofs.WellFormedLemmas.{WellFormed-numbers, WellFormed-single}
-use Rattle.law_order.proofs.PostedLemmas.{write_not_read}
-use Rattle.law_changes.proofs.ActLemmas.{lane_there}
-use Rattle.law_changes.specs.Steps.{is_stall}
+use Rattle.history_facts.proofs.AnswerLemmas.{AtLane, answered_at}
+use Rattle.law_slots.proofs.Laws.{TakesItsOwn-run, WellFormed-numbers, WellFormed-single}
+use Rattle.history_facts.proofs.RequestLemmas.{same_op_true}
+use Rattle.history_facts.proofs.PostedLemmas.{write_not_read}
+use Rattle.law_reach.proofs.Laws.{lane_there}
+use Rattle.history_model.specs.Steps.{is_stall}
 use Rattle.law_reads.proofs.AboutLemmas.{NotDone, none_about}
 use Rattle.law_reads.proofs.WordLemmas.{word_of, word_there}
 use Rattle.law_reads.proofs.FitLemmas.{Good, Fits, LaneFits, WorldFits, Brings, act_fits, arrival_fits}
@@ -240,7 +239,7 @@ module _ (board : Board) (valid : IsValid board) (o : OpId) (op : Op) (is_op : o
     claimed_moves (Target target) claims goes = ended_moves (ap is_lane claims)
     claimed_moves (Header bus) claims goes = ended_moves (ap is_lane claims)
     claimed_moves (Lane lane) claims goes =
-        at_lane_moves lane (lane_there board valid h on by o op step place run is_op (not_posted (command_of op) read) goes lane claims)
+        at_lane_moves lane (lane_there board valid h on by o op step place run is_op (not_posted (command_of op) read) lane claims)
     claimed_moves Nobody claims goes = ended_moves (ap is_lane claims)
 
     -- every act of it does that

@@ -15,12 +15,10 @@ use Rattle.board_model.specs.declared.op.Op.{Op}
 use Rattle.board_model.specs.declared.board.Board.{Board}
 use Rattle.board_model.specs.Requests.{op_of, command_of, request_on}
 use Rattle.board_model.specs.Claims.{claim}
-use Rattle.board_model.specs.Ways.{Route, end_of, route_by, route_of, way, aborts_at, words_at, words_by, words_of, dwords_of}
+use Rattle.board_model.specs.Ways.{Route, end_of, route_by, route_of, way, aborts_at, words_at, words_by, words_of, dwords_of, is_lane}
 use Rattle.board_model.specs.Valid.{IsValid}
 use Rattle.board_laws.specs.Trees.{IsTree}
-use Rattle.board_laws.specs.WayEnds.{is_lane}
-use Rattle.board_laws.proofs.ValidLemmas.{IsTree-valid}
-use Rattle.board_laws.proofs.EndLemmas.{WayEnds-tree}
+use Rattle.board_laws.proofs.Laws.{IsTree-valid, WayEnds-tree}
 use Rattle.history_model.specs.declared.event.By.{By}
 use Rattle.history_model.specs.declared.event.By.TheVariants.{Master, Lane as ByLane}
 use Rattle.history_model.specs.declared.event.Event.{Event}
@@ -29,10 +27,9 @@ use Rattle.history_model.specs.World.{same_lane, world_of}
 use Rattle.history_model.specs.Answers.{is_on, is_turn, wants, presents}
 use Rattle.history_model.specs.Program.{turn_of}
 use Rattle.history_model.specs.Runs.{Run}
-use Rattle.law_slots.proofs.BridgeLemmas.{same_lane_true}
-use Rattle.law_stages.proofs.CountLemmas.{own_by, way_cons}
-use Rattle.law_stages.proofs.OwnLemmas.{stands_of}
-use Rattle.law_delayed.proofs.LaneEndLemmas.{asked_at, passed_at}
+use Rattle.history_facts.proofs.BridgeLemmas.{same_lane_true}
+use Rattle.law_reach.proofs.Laws.{own_by, stands_of, asked_at, passed_at}
+use Rattle.history_facts.proofs.PathLemmas.{way_cons}
 
 -- a target that is there does not abort the request
 abbrev pub word_at : Request → Option TargetAgent → Bool

@@ -20,9 +20,9 @@ use Rattle.history_model.specs.Runs.{RunBy, Run}
 use Rattle.history_model.specs.Lanes.{Both, lowest_free, is_of, is_done_for, reply_to, post_enters, ask_enters, item_ends, slot_taken, Effect, Stands, Credits as CreditsBack, Frees, Drops, effect_of, takes_effect, came_off, arrives_first}
 use Rattle.law_slots.specs.Credits.{post_count, room_count, Credits}
 use Rattle.law_slots.specs.Standing.{CanStand}
-use Rattle.law_slots.proofs.BridgeLemmas.{flip}
+use Rattle.history_facts.proofs.BridgeLemmas.{flip}
 use Rattle.law_slots.proofs.EffectLemmas.{IsRoom, IsLastOf, IsAskOf, Fits, effect_fits}
-use Rattle.law_slots.proofs.KeptLemmas.{KeptBy, runs_keep_by}
+use Rattle.history_facts.proofs.KeptLemmas.{KeptBy, runs_keep_by}
 
 -- a credit goes back for a posted write, and nothing that is posted goes back
 reply-room_count : (outcome : Outcome) (item : Option Carried) → total room_count (reply_to outcome item) ≡ found post_count item

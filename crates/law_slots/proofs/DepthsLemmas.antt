@@ -1,5 +1,5 @@
 -- Depths bound what is owed, held, in flight and standing, in every run.
-use Rattle.std.proofs.Common.{◌≡◌, ℕ, ◌+◌, ◌<◌, ◌≤◌, Bool, List, [], ◌∷◌, length, Option, Some, None, refl, sym, ap, subst, arith}
+use Rattle.std.proofs.Common.{◌≡◌, ℕ, ◌+◌, ◌<◌, ◌≤◌, Bool, List, [], ◌∷◌, length, Option, Some, None, refl, sym, ap, subst, arith, ◌==◌, length-append}
 use Rattle.std.specs.List.{AllByRecursion}
 use Rattle.list_facts.specs.Lists.{less, total}
 use Rattle.list_facts.proofs.EachLemmas.{Each-push, Each-less, Each-weaker, Each-find}
@@ -9,7 +9,6 @@ use Rattle.history_model.specs.declared.event.Mark.{Mark}
 use Rattle.history_model.specs.declared.item.Carried.{Carried}
 use Rattle.history_model.specs.declared.item.Carried.TheVariants.{Post, Ask, Done, Room, Gone}
 use Rattle.history_model.specs.declared.item.Slot.{Slot}
-use Rattle.std.proofs.Common.{◌==◌, length-append}
 use Rattle.list_facts.proofs.TotalLemmas.{total-alike}
 use Rattle.list_facts.proofs.FindLemmas.{length-less}
 use Rattle.board_model.specs.declared.bridge.Bridge.{Bridge}
@@ -18,7 +17,8 @@ use Rattle.board_model.specs.declared.board.Board.{Board}
 use Rattle.history_model.specs.declared.event.Event.{Event}
 use Rattle.history_model.specs.declared.rule.Rule.{Rule}
 use Rattle.history_model.specs.declared.rule.Rule.TheVariants.{Tagged}
-use Rattle.history_model.specs.World.{World, lane_back, both, world_of, noted, world_by}
+use Rattle.history_model.specs.World.{World, both, world_of, noted, world_by}
+use Rattle.board_model.specs.Ways.{lane_back}
 use Rattle.history_model.specs.Answers.{bridge_to}
 use Rattle.history_model.specs.Runs.{RunBy, Run}
 use Rattle.history_model.specs.Lanes.{LaneState, Both, empty_lane, has_number, lowest_free, post_enters, ask_enters, Effect, Stands, Credits as CreditsBack, Frees, Drops, effect_of, takes_effect, came_off, arrives_first}
@@ -27,9 +27,9 @@ use Rattle.law_slots.specs.Credits.{post_count, room_count, Credits}
 use Rattle.law_slots.specs.Standing.{CanStand}
 use Rattle.law_slots.specs.Depths.{Within, DifferentNumbers, DepthsToEight}
 use Rattle.law_slots.proofs.NumberLemmas.{bridge_found}
-use Rattle.law_slots.proofs.BridgeLemmas.{flip, both_back}
+use Rattle.history_facts.proofs.BridgeLemmas.{flip, both_back}
 use Rattle.law_slots.proofs.LowestFreeLemmas.{lowest_free-le}
-use Rattle.law_slots.proofs.KeptLemmas.{Pair, KeptBy, runs_keep_by}
+use Rattle.history_facts.proofs.KeptLemmas.{Pair, KeptBy, runs_keep_by}
 use Rattle.law_slots.proofs.SlotsRunLemmas.{Slots-run_by}
 use Rattle.law_slots.proofs.CreditsLemmas.{Credits-run_by}
 use Rattle.law_slots.proofs.StandingLemmas.{CanStand-run_by}

@@ -18,9 +18,9 @@ use Rattle.history_model.specs.World.{both, world_of}
 use Rattle.history_model.specs.Runs.{Run}
 use Rattle.history_model.specs.Lanes.{Both, lowest_free, is_of, is_done_for, reply_to, post_enters, ask_enters, item_ends, Effect, Stands, Credits, Frees, Drops, effect_of, takes_effect, came_off, arrives_first}
 use Rattle.law_slots.specs.Kinds.{NamesOp, RightKind}
-use Rattle.law_slots.proofs.AnswerLemmas.{AtLane}
-use Rattle.law_slots.proofs.RequestLemmas.{request_is_of}
-use Rattle.law_slots.proofs.KeptLemmas.{Pair, Kept, runs_keep}
+use Rattle.history_facts.proofs.AnswerLemmas.{AtLane}
+use Rattle.history_facts.proofs.RequestLemmas.{request_is_of}
+use Rattle.history_facts.proofs.KeptLemmas.{Pair, Kept, runs_keep}
 
 abbrev AllRight : Board → BridgeLane → Both → Type 0
 AllRight board lane x = AllByRecursion (RightKind board) x.here.flight × AllByRecursion (RightKind board) x.here.standing

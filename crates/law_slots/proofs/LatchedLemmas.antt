@@ -1,17 +1,13 @@
 -- For whom slots are held, in every run.
-use Rattle.std.proofs.Common.{◌≡◌, ℕ, ◌+◌, ◌*◌, Bool, true, false, ◌&&◌, eqb, List, [], ◌∷◌, refl, sym, ap, subst, ◌∙◌, arith, slice_get}
+use Rattle.std.proofs.Common.{◌≡◌, ℕ, Bool, true, false, ◌&&◌, eqb, List, [], ◌∷◌, refl, sym, subst, slice_get}
 use Rattle.std.specs.List.{AllByRecursion}
 use Rattle.std.proofs.lemmas.Bool.{eqb-true}
 use Rattle.list_facts.proofs.EachLemmas.{Each-push, Each-less, Each-weaker}
-use Rattle.pci_command.specs.declared.request.Request.{Request}
 use Rattle.pci_command.specs.declared.op_id.OpId.{OpId}
-use Rattle.pci_command.specs.Command.{space_of}
 use Rattle.board_model.specs.declared.bridge.Lane.{Lane as BridgeLane}
-use Rattle.board_model.specs.declared.bridge.Place.{Place}
 use Rattle.board_model.specs.declared.bridge.Place.TheVariants.{Lane}
 use Rattle.board_model.specs.declared.board.Board.{Board}
-use Rattle.board_model.specs.Claims.{claim_in_space, claim}
-use Rattle.board_model.specs.Ways.{end_of}
+use Rattle.board_model.specs.Ways.{end_of, lane_back}
 use Rattle.history_model.specs.declared.event.By.{By}
 use Rattle.history_model.specs.declared.event.By.TheVariants.{Master, Lane as ByLane}
 use Rattle.history_model.specs.declared.event.Mark.{Mark}
@@ -20,18 +16,19 @@ use Rattle.history_model.specs.declared.event.Event.{Event}
 use Rattle.history_model.specs.declared.item.Carried.{Carried}
 use Rattle.history_model.specs.declared.item.Slot.{Slot}
 use Rattle.history_model.specs.Lanes.{Both, has_number, lowest_free, ask_enters, Effect, Stands, Credits, Frees, Drops, effect_of, takes_effect, came_off, arrives_first}
-use Rattle.history_model.specs.World.{lane_back, both, world_of}
+use Rattle.history_model.specs.World.{both, world_of}
 use Rattle.history_model.specs.Program.{turn_of}
-use Rattle.history_model.specs.Words.{through, without}
+use Rattle.history_model.specs.Words.{through}
 use Rattle.history_model.specs.Answers.{is_on, is_turn, presents, wants}
 use Rattle.history_model.specs.Runs.{Run}
 use Rattle.law_slots.specs.Depths.{DifferentNumbers}
 use Rattle.law_slots.specs.Phases.{DelayedAreSingle}
 use Rattle.law_slots.specs.Latched.{IsAt, LatchedOn, Latched}
-use Rattle.law_slots.proofs.KeptLemmas.{Pair, Kept, runs_keep}
-use Rattle.law_slots.proofs.AnswerLemmas.{AtLane}
+use Rattle.history_facts.proofs.KeptLemmas.{Pair, Kept, runs_keep}
+use Rattle.history_facts.proofs.AnswerLemmas.{AtLane}
 use Rattle.law_slots.proofs.PartLemmas.{delayed-not_parted}
 use Rattle.law_slots.proofs.ClaimLemmas.{claim_starts}
+use Rattle.history_facts.proofs.RequestLemmas.{claim_whole}
 
 -- who presents an operation is there
 pub wants-at : (board : Board) (h : List Event) (on : ℕ) (by : By) (o : OpId) → wants board h on by o ≡ true → IsAt board on by o
@@ -41,12 +38,6 @@ wants-at board h on Master o wanted =
 wants-at board h on (ByLane lane) o wanted =
     let P : Bool → Type 0 = λ b. eqb (end_of board lane) on ≡ b → (b && presents board on o (world_of board h lane).standing) ≡ true → end_of board lane ≡ on in
     (elim (eqb (end_of board lane) on) as P [ true ↦ λ is _. eqb-true (end_of board lane) on is | false ↦ λ _ e. cc ]) refl wanted
-
--- a request of which nothing went through is claimed as a whole
-claim_whole : (board : Board) (on : ℕ) (request : Request) (k : ℕ) (place : Place) → k ≡ 0 → claim board on (without k request) ≡ place → claim board on request ≡ place
-claim_whole board on request k place none claims =
-    let whole : request.address ≡ request.address + 4 * k = omega arith in
-    ap (claim_in_space board on (space_of request.command)) whole ∙ claims
 
 -- the slot was latched on some bus
 record Somewhere (board : Board) (lane : BridgeLane) (slot : Slot) : Type 0 where

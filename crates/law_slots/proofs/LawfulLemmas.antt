@@ -19,20 +19,22 @@ use Rattle.history_model.specs.declared.item.Carried.TheVariants.{Post, Ask, Don
 use Rattle.history_model.specs.declared.item.Slot.{Slot}
 use Rattle.history_model.specs.Lanes.{LaneState, Both, empty_lane, has_number, is_done_for, is_post}
 use Rattle.history_model.specs.Local.{is_ask, is_ask_of, is_held_for, is_lawful, is_lawful_at, is_lawful_on}
-use Rattle.history_model.specs.World.{World, lane_back, both, world_of}
+use Rattle.history_model.specs.World.{World, both, world_of}
+use Rattle.board_model.specs.Ways.{lane_back}
 use Rattle.history_model.specs.Answers.{bridge_to}
 use Rattle.history_model.specs.Runs.{Run}
 use Rattle.law_slots.specs.Slots.{hit, slot_weight, ask_weight, done_weight, gone_weight, AskNamed, DoneNamed, Slots}
 use Rattle.law_slots.specs.Credits.{post_count, room_count, Credits}
 use Rattle.law_slots.specs.Depths.{Within}
-use Rattle.law_slots.proofs.BridgeLemmas.{flip, both_back}
+use Rattle.history_facts.proofs.BridgeLemmas.{flip, both_back}
 use Rattle.law_slots.proofs.HeldLemmas.{hit-same}
-use Rattle.law_slots.proofs.RequestLemmas.{same_op_self}
+use Rattle.history_facts.proofs.RequestLemmas.{same_op_self}
 use Rattle.law_slots.proofs.QuietLemmas.{Quiet-empty, run_no_bridge}
 use Rattle.law_slots.proofs.OneItemLemmas.{some_held}
 use Rattle.law_slots.proofs.SlotsRunLemmas.{Slots-run}
 use Rattle.law_slots.proofs.CreditsLemmas.{Credits-run}
 use Rattle.law_slots.proofs.DepthsLemmas.{Within-run}
+use Rattle.list_facts.proofs.AnyLemmas.{found_any}
 
 -- where nothing weighs by a number, nothing is found by it
 ask_none : (number : ℕ) (items : List Carried) → total (ask_weight (hit number)) items ≡ 0 → find (is_ask_of number) items ≡ None
@@ -80,17 +82,6 @@ asks-count items = is_count_by (total (ask_weight one)) is_ask refl counts items
     counts Room items = omega arith
     counts (Gone slot) items = omega arith
 
--- what one test finds, and another passes
-any_found : {X : Type 0} (test other : X → Bool) (xs : List X) (y : X) → find test xs ≡ Some y → other y ≡ true → list_any other xs ≡ true
-any_found test other [] y some passes = cc
-any_found test other (x ∷ xs) y some passes =
-    let P : Bool → Type 0 = λ b. cond b (Some x) (find test xs) ≡ Some y → (other x || list_any other xs) ≡ true in
-    let Q : Bool → Type 0 = λ b. list_any other xs ≡ true → (b || list_any other xs) ≡ true in
-    (elim (test x) as P [
-      | true ↦ λ e. let same : x ≡ y = cc in let here : other x ≡ true = cc in rw here refl
-      | false ↦ λ e. (elim (other x) as Q [ true ↦ λ _. refl | false ↦ λ later. later ]) (any_found test other xs y e passes)
-    ]) some
-
 any_some : {X : Type 0} (test : X → Bool) (xs : List X) → is_some (find test xs) ≡ true → list_any test xs ≡ true
 any_some test [] some = cc
 any_some test (x ∷ xs) some =
@@ -134,7 +125,7 @@ lawful_item bridge x slots slots_back credits credits_back depths (Done op numbe
     let same : same_op named.slot.op op ≡ true = let F : OpId → Type 0 = λ p. same_op named.slot.op p ≡ true in subst F named.is_for (same_op_self named.slot.op) in
     let has : has_number number named.slot ≡ true = find_passes (has_number number) x.back.held named.slot named.is_held in
     let passes : is_held_for number op named.slot ≡ true = rw has same in
-    let some = any_found (has_number number) (is_held_for number op) x.back.held named.slot named.is_held passes in
+    let some = found_any (has_number number) (is_held_for number op) x.back.held named.slot named.is_held passes in
     let free = find-none_any (is_done_for number) x.here.standing (done_none number x.here.standing none) in
     rw (some, free) refl
 lawful_item bridge x slots slots_back credits credits_back depths Room flying =

@@ -1,5 +1,3 @@
-pub mod BridgeLemmas
-pub mod AnswerLemmas
 pub mod HeldLemmas
 pub mod LowestFreeLemmas
 pub mod SlotsEnterLemmas
@@ -7,7 +5,6 @@ pub mod SlotsEndLemmas
 pub mod SlotsTakenLemmas
 pub mod SlotsArriveLemmas
 pub mod EffectLemmas
-pub mod KeptLemmas
 pub mod SlotsRunLemmas
 pub mod OneItemLemmas
 pub mod CreditsLemmas
@@ -15,13 +12,11 @@ pub mod PrefixLemmas
 pub mod StandingLemmas
 pub mod QuietLemmas
 pub mod DepthsLemmas
-pub mod RequestLemmas
 pub mod PartLemmas
 pub mod ClaimLemmas
 pub mod LatchedLemmas
 pub mod NumberLemmas
 pub mod KindLemmas
-pub mod EqualLemmas
 pub mod OwnersMoveLemmas
 pub mod OwnersLatchLemmas
 pub mod OwnersFreeLemmas
@@ -30,5 +25,6 @@ pub mod OwnersRunLemmas
 pub mod MatchedLemmas
 pub mod LawfulLemmas
 pub mod WellFormedLemmas
-pub mod FoundLemmas
 pub mod MatchedRunLemmas
+pub mod PresentedLemmas
+pub mod Laws

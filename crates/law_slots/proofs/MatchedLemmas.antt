@@ -10,7 +10,7 @@ use Rattle.board_model.specs.declared.bridge.Lane.{Lane as BridgeLane}
 use Rattle.board_model.specs.declared.bridge.Place.TheVariants.{Lane}
 use Rattle.board_model.specs.declared.board.Board.{Board}
 use Rattle.board_model.specs.Requests.{same_requests}
-use Rattle.board_model.specs.Ways.{start_of}
+use Rattle.board_model.specs.Ways.{start_of, lane_back}
 use Rattle.history_model.specs.declared.event.By.{By}
 use Rattle.history_model.specs.declared.event.By.TheVariants.{Master, Lane as ByLane}
 use Rattle.history_model.specs.declared.event.Step.TheVariants.{Take}
@@ -20,20 +20,19 @@ use Rattle.history_model.specs.declared.item.Carried.{Carried}
 use Rattle.history_model.specs.declared.item.Carried.TheVariants.{Ask, Done}
 use Rattle.history_model.specs.declared.item.Slot.{Slot}
 use Rattle.history_model.specs.Lanes.{has_number, is_done_for}
-use Rattle.history_model.specs.World.{World, lane_back, same_initiator, is_own, world_of}
+use Rattle.history_model.specs.World.{World, same_initiator, is_own, world_of}
 use Rattle.history_model.specs.Program.{turn_of}
 use Rattle.history_model.specs.Answers.{asked, asks_same}
 use Rattle.history_model.specs.Runs.{Run}
-use Rattle.law_slots.specs.Owners.{is_equal_ask, Waits}
+use Rattle.law_slots.specs.Owners.{is_equal_ask, Waits, TakesItsOwn}
 use Rattle.law_slots.specs.Slots.{IsHeldFor, DoneNamed}
 use Rattle.law_slots.specs.Depths.{DifferentNumbers}
 use Rattle.law_slots.specs.Phases.{DelayedAreSingle}
 use Rattle.law_slots.specs.Kinds.{RightKind}
-use Rattle.law_slots.specs.Owners.{TakesItsOwn}
 use Rattle.history_model.specs.Words.{through, without}
-use Rattle.law_slots.proofs.BridgeLemmas.{same_lane_true}
-use Rattle.law_slots.proofs.AnswerLemmas.{answered_at}
-use Rattle.law_slots.proofs.EqualLemmas.{same_requests-congr, is_own-parts}
+use Rattle.history_facts.proofs.BridgeLemmas.{same_lane_true}
+use Rattle.history_facts.proofs.AnswerLemmas.{answered_at}
+use Rattle.history_facts.proofs.EqualLemmas.{same_requests-congr, is_own-parts}
 use Rattle.law_slots.proofs.ClaimLemmas.{claim_starts}
 use Rattle.law_slots.proofs.SlotsRunLemmas.{Slots-run}
 use Rattle.law_slots.proofs.OneItemLemmas.{Each-found_itself}

@@ -18,7 +18,7 @@ use Rattle.history_model.specs.Local.{Matched, is_matched, is_matched_step, take
 use Rattle.law_slots.specs.Depths.{DifferentNumbers}
 use Rattle.law_slots.specs.Phases.{DelayedAreSingle}
 use Rattle.law_slots.specs.Owners.{TakesItsOwn}
-use Rattle.law_slots.proofs.RequestLemmas.{same_op_self}
+use Rattle.history_facts.proofs.RequestLemmas.{same_op_self}
 use Rattle.law_slots.proofs.MatchedLemmas.{TakesItsOwn-run}
 
 takes_own : (board : Board) (h : List Event) (on : ℕ) (by : By) (o : OpId) (outcome : Outcome) (lane : BridgeLane) →

@@ -1,18 +1,16 @@
 -- Each held slot has one item, in one place.
-use Rattle.std.proofs.Common.{◌≡◌, ℕ, ◌+◌, ◌≤◌, Bool, true, false, cond, eqb, List, [], ◌∷◌, Option, Some, None, refl, ap, ◌∙◌, arith}
+use Rattle.std.proofs.Common.{◌≡◌, ℕ, ◌+◌, ◌≤◌, Bool, true, false, cond, eqb, List, [], ◌∷◌, Option, Some, None, refl, ap, ◌∙◌, arith, ◌⊎◌, inl, inr, is_some}
 use Rattle.std.specs.List.{find, AllByRecursion}
 use Rattle.std.proofs.lemmas.Bool.{eqb-true}
 use Rattle.std.proofs.lemmas.Bool.Decides.{nat_tests}
 use Rattle.list_facts.specs.Lists.{total}
-use Rattle.list_facts.proofs.TotalLemmas.{found}
+use Rattle.list_facts.proofs.TotalLemmas.{found, found-le}
 use Rattle.list_facts.proofs.EachLemmas.{Each-weaker, Each-find, Each-within}
 use Rattle.pci_command.specs.declared.op_id.OpId.{OpId}
 use Rattle.pci_command.specs.declared.op_id.Outcome.{Outcome}
 use Rattle.history_model.specs.declared.item.Carried.{Carried}
 use Rattle.history_model.specs.declared.item.Carried.TheVariants.{Post, Ask, Done, Room, Gone}
 use Rattle.history_model.specs.declared.item.Slot.{Slot}
-use Rattle.std.proofs.Common.{◌⊎◌, inl, inr, is_some}
-use Rattle.list_facts.proofs.TotalLemmas.{found-le}
 use Rattle.history_model.specs.Local.{is_ask_of, is_gone_of}
 use Rattle.history_model.specs.Lanes.{Both, has_number, is_done_for}
 use Rattle.law_slots.specs.Slots.{hit, slot_weight, ask_weight, done_weight, gone_weight, places, IsHeldFor, AskNamed, DoneNamed, Slots, ItemOf, ask_flies, ask_stands, done_flies, done_stands, gone_flies, HasOneItem, GoneHeld}
@@ -37,7 +35,7 @@ Each-found_itself (slot ∷ held) once =
     (rw self refl, Each-weaker P Q behind held (Each-found_itself held once_later))
 
 -- where items weigh by a number, the first with that number is found
-ask_found : (number : ℕ) (items : List Carried) → 1 ≤ total (ask_weight (hit number)) items → (op : OpId) × (find (is_ask_of number) items ≡ Some (Ask op number))
+pub ask_found : (number : ℕ) (items : List Carried) → 1 ≤ total (ask_weight (hit number)) items → (op : OpId) × (find (is_ask_of number) items ≡ Some (Ask op number))
 ask_found number [] some = absurd (omega arith)
 ask_found number (Post op ∷ items) some = ask_found number items (omega arith)
 ask_found number (Ask op slot ∷ items) some =

@@ -8,22 +8,21 @@ use Rattle.pci_command.specs.declared.op_id.Outcome.{Outcome}
 use Rattle.pci_command.specs.Same.{same_op}
 use Rattle.board_model.specs.declared.bridge.Lane.{Lane as BridgeLane}
 use Rattle.board_model.specs.declared.board.Board.{Board}
-use Rattle.board_model.specs.Ways.{start_of}
+use Rattle.board_model.specs.Ways.{start_of, lane_back}
 use Rattle.history_model.specs.declared.event.By.{By}
 use Rattle.history_model.specs.declared.event.By.TheVariants.{Master, Lane as ByLane}
 use Rattle.history_model.specs.declared.item.Carried.{Carried}
 use Rattle.history_model.specs.declared.item.Carried.TheVariants.{Ask}
 use Rattle.history_model.specs.declared.item.Slot.{Slot}
 use Rattle.history_model.specs.Lanes.{LaneState, Both, is_of, item_ends}
-use Rattle.history_model.specs.World.{World, lane_back, same_lane, same_initiator, moved}
-use Rattle.history_model.specs.Program.{turn_after}
+use Rattle.history_model.specs.World.{World, same_lane, same_initiator, moved}
+use Rattle.history_model.specs.Program.{turn_after, Ending}
 use Rattle.law_slots.specs.Owners.{is_equal_ask, Waits, Owners}
-use Rattle.history_model.specs.Program.{Ending}
-use Rattle.law_slots.proofs.BridgeLemmas.{same_lane_self, moved_keeps}
-use Rattle.law_slots.proofs.RequestLemmas.{same_op_self}
+use Rattle.history_facts.proofs.BridgeLemmas.{same_lane_self, moved_keeps}
+use Rattle.history_facts.proofs.RequestLemmas.{same_op_self}
 use Rattle.law_slots.proofs.OwnersMoveLemmas.{LaneOwners, owners_of}
 use Rattle.law_slots.proofs.OwnersFreeLemmas.{is_for, NoneFor}
-use Rattle.law_slots.proofs.FoundLemmas.{find-less_kept}
+use Rattle.list_facts.proofs.FoundLemmas.{find-less_kept}
 
 -- delayed requests but those of one operation stay first on the lane where its item ends, and all on any other
 abbrev KeepsBut : BridgeLane → OpId → BridgeLane → LaneState → LaneState → Type 0

@@ -1,5 +1,5 @@
 -- Where an initiator ends an operation, no slot is held for it.
-use Rattle.std.proofs.Common.{◌≡◌, ℕ, ◌+◌, ◌≤◌, Bool, true, false, ◌&&◌, cond, is_some, List, Option, Some, None, refl, sym, ap, subst, ◌∙◌, arith, slice_get}
+use Rattle.std.proofs.Common.{◌≡◌, ℕ, ◌+◌, ◌≤◌, Bool, true, false, ◌&&◌, cond, is_some, List, Option, Some, None, refl, sym, ap, subst, ◌∙◌, arith, slice_get, ◌*◌}
 use Rattle.std.specs.List.{find, list_all, AllByRecursion}
 use Rattle.std.proofs.lemmas.Bool.{eqb-true}
 use Rattle.std.proofs.lemmas.Bool.Decides.{nat_tests}
@@ -17,8 +17,8 @@ use Rattle.board_model.specs.declared.bridge.Place.{Place}
 use Rattle.board_model.specs.declared.bridge.Place.TheVariants.{Lane}
 use Rattle.board_model.specs.declared.board.Board.{Board}
 use Rattle.board_model.specs.Requests.{request_of, is_posted, same_requests}
-use Rattle.board_model.specs.Claims.{claim}
-use Rattle.board_model.specs.Ways.{end_of, start_of}
+use Rattle.board_model.specs.Claims.{claim, claim_in_space}
+use Rattle.board_model.specs.Ways.{end_of, start_of, lane_back}
 use Rattle.history_model.specs.declared.event.By.{By}
 use Rattle.history_model.specs.declared.event.By.TheVariants.{Master, Lane as ByLane}
 use Rattle.history_model.specs.declared.event.Step.{Step}
@@ -28,32 +28,28 @@ use Rattle.history_model.specs.declared.item.Carried.{Carried}
 use Rattle.history_model.specs.declared.item.Carried.TheVariants.{Post, Ask, Done, Room, Gone}
 use Rattle.history_model.specs.declared.item.Slot.{Slot}
 use Rattle.history_model.specs.declared.item.Answer.TheVariants.{Gives, Retry}
-use Rattle.history_model.specs.Lanes.{LaneState, has_number, is_done_for}
-use Rattle.history_model.specs.World.{World, lane_back, same_initiator, is_own, world_of}
-use Rattle.history_model.specs.Answers.{is_on, wants, answer, bridge_to}
+use Rattle.history_model.specs.Lanes.{LaneState, has_number, is_done_for, empty_lane}
+use Rattle.history_model.specs.World.{World, same_initiator, is_own, world_of}
+use Rattle.history_model.specs.Answers.{is_on, wants, answer, bridge_to, completion_passes, posted_answer, delayed_answer, completion_answer, lane_answer, answer_by, answer_to}
 use Rattle.history_model.specs.Runs.{Run}
 use Rattle.law_slots.specs.Owners.{own_count}
-use Rattle.std.proofs.Common.{◌*◌}
 use Rattle.pci_command.specs.Command.{is_read, space_of}
 use Rattle.board_model.specs.declared.agents.Master.{Master as MasterAgent}
-use Rattle.board_model.specs.Claims.{claim_in_space}
 use Rattle.history_model.specs.declared.item.Cause.TheVariants.{Behind}
-use Rattle.history_model.specs.Lanes.{empty_lane}
 use Rattle.history_model.specs.Words.{through, without}
 use Rattle.history_model.specs.declared.item.Answer.{Answer}
-use Rattle.history_model.specs.Answers.{completion_passes, posted_answer, delayed_answer, completion_answer, lane_answer, answer_by, answer_to}
 use Rattle.law_slots.specs.Slots.{hit, slot_weight}
 use Rattle.law_slots.specs.Depths.{DifferentNumbers}
 use Rattle.law_slots.specs.Phases.{DelayedAreSingle}
 use Rattle.law_slots.specs.Latched.{IsAt, Latched}
-use Rattle.law_slots.proofs.RequestLemmas.{same_op_true}
-use Rattle.law_slots.proofs.BridgeLemmas.{same_lane_true}
-use Rattle.law_slots.proofs.EqualLemmas.{same_requests-self}
+use Rattle.history_facts.proofs.RequestLemmas.{same_op_true}
+use Rattle.history_facts.proofs.BridgeLemmas.{same_lane_true}
+use Rattle.history_facts.proofs.EqualLemmas.{same_requests-self}
 use Rattle.law_slots.proofs.OneItemLemmas.{Each-found_itself}
 use Rattle.law_slots.proofs.PartLemmas.{delayed-not_parted}
 use Rattle.law_slots.proofs.LatchedLemmas.{wants-at, Latched-run}
 use Rattle.law_slots.proofs.QuietLemmas.{Quiet-empty, run_no_bridge}
-use Rattle.law_slots.proofs.FoundLemmas.{Each-found}
+use Rattle.list_facts.proofs.FoundLemmas.{Each-found}
 
 -- the slot is held for this initiator and this operation
 abbrev pub is_for : By → OpId → Slot → Bool

@@ -1,5 +1,5 @@
 -- Who presents a delayed request waits for it.
-use Rattle.std.proofs.Common.{◌≡◌, ℕ, ◌+◌, ◌≤◌, Bool, true, false, not, ◌&&◌, ◌==◌, cond, List, [], ◌∷◌, ◌++◌, Option, Some, None, refl, sym, ap, subst, arith, slice_get}
+use Rattle.std.proofs.Common.{◌≡◌, ℕ, ◌+◌, ◌≤◌, Bool, true, false, not, ◌==◌, cond, List, [], ◌∷◌, ◌++◌, Option, Some, None, refl, sym, ap, subst, arith}
 use Rattle.std.specs.List.{find, list_any, list_all, AllByRecursion}
 use Rattle.list_facts.specs.Lists.{total, before}
 use Rattle.list_facts.proofs.TotalLemmas.{found, total-push}
@@ -20,30 +20,27 @@ use Rattle.history_model.specs.declared.item.Slot.{Slot}
 use Rattle.history_model.specs.Lanes.{is_of}
 use Rattle.history_model.specs.World.{same_initiator, is_own, world_of}
 use Rattle.history_model.specs.Program.{turn_of}
-use Rattle.history_model.specs.Answers.{asked, asks_same, goes_before, presents, presents_item, is_on, is_turn, wants}
+use Rattle.history_model.specs.Answers.{asked, asks_same, goes_before, presents, presents_item, wants}
 use Rattle.law_slots.specs.Owners.{is_equal_ask, StandsFirst, Waits, own_count}
 use Rattle.law_slots.specs.Kinds.{NamesOp, RightKind}
-use Rattle.law_slots.proofs.RequestLemmas.{same_op_true, request_is_of}
-use Rattle.law_slots.proofs.EqualLemmas.{same_requests-self, is_own-parts, is_own-alike}
-use Rattle.law_slots.proofs.FoundLemmas.{find_first}
-
-both_parts : (a b : Bool) → (a && b) ≡ true → (a ≡ true) × (b ≡ true)
-both_parts true true e = (refl, refl)
-both_parts true false e = cc
-both_parts false b e = cc
+use Rattle.history_facts.proofs.RequestLemmas.{same_op_true, request_is_of}
+use Rattle.history_facts.proofs.EqualLemmas.{same_requests-self, is_own-parts, is_own-alike}
+use Rattle.list_facts.proofs.FoundLemmas.{find_first}
+use Rattle.history_facts.proofs.WantsLemmas.{wants-turn}
+use Rattle.std.proofs.lemmas.Bool.{and_parts}
 
 -- an item that goes before another has not the same request
 goes_before_apart : (board : Board) (on : ℕ) (o : OpId) (number : ℕ) (older : Carried) → goes_before board on (Ask o number) older ≡ true → is_equal_ask board on o older ≡ false
 goes_before_apart board on o number older goes =
     let same : Bool = asks_same board on (Some o) (asked older) in
     let P : Bool → Type 0 = λ b. not b ≡ true → b ≡ false in
-    let parts = both_parts _ (not same) goes in
+    let parts = and_parts _ (not same) goes in
     (elim same as P [ true ↦ λ e. cc | false ↦ λ _. refl ]) parts.1
 
 none_before : (board : Board) (on : ℕ) (o : OpId) (number : ℕ) (older : List Carried) → list_all (goes_before board on (Ask o number)) older ≡ true → list_any (is_equal_ask board on o) older ≡ false
 none_before board on o number [] all = refl
 none_before board on o number (item ∷ older) all =
-    let parts = both_parts (goes_before board on (Ask o number) item) (list_all (goes_before board on (Ask o number)) older) all in
+    let parts = and_parts (goes_before board on (Ask o number) item) (list_all (goes_before board on (Ask o number)) older) all in
     let here = goes_before_apart board on o number item parts.0 in
     rw here (none_before board on o number older parts.1)
 
@@ -74,24 +71,16 @@ item_presented board on o request standing (Some Room) is_request delayed right 
 item_presented board on o request standing (Some (Gone slot)) is_request delayed right found presented =
     let e : false ≡ true = find_passes (is_of o) standing (Gone slot) found in cc
 
-turn_is : (o : OpId) (turn : Option OpId) → is_turn o turn ≡ true → turn ≡ Some o
-turn_is o None is = cc
-turn_is o (Some p) is = ap Some (same_op_true p o is)
-
 -- who presents a delayed operation, waits for it
 pub wants-waits : (board : Board) (h : List Event) (on : ℕ) (by : By) (o : OpId) (request : Request)
     → ((lane : BridgeLane) → AllByRecursion (RightKind board) (world_of board h lane).standing)
     → request_of board o on ≡ Some request → is_posted request ≡ false → wants board h on by o ≡ true → Waits board (turn_of board h) (world_of board h) on by o
 wants-waits board h on Master o request right is_request delayed wanted =
-    turn_is o (turn_of board h o.master) (both_parts (is_on on (slice_get board.masters o.master)) (is_turn o (turn_of board h o.master)) wanted).1
+    wants-turn board h on o wanted
 wants-waits board h on (ByLane lane) o request right is_request delayed wanted =
     let standing : List Carried = (world_of board h lane).standing in
     item_presented board on o request standing (find (is_of o) standing) is_request delayed (right lane) refl
-    (both_parts (end_of board lane == on) (presents board on o standing) wanted).1
-
--- the turn of a master that presents
-pub wants-turn : (board : Board) (h : List Event) (on : ℕ) (o : OpId) → wants board h on Master o ≡ true → turn_of board h o.master ≡ Some o
-wants-turn board h on o wanted = turn_is o (turn_of board h o.master) (both_parts (is_on on (slice_get board.masters o.master)) (is_turn o (turn_of board h o.master)) wanted).1
+    (and_parts (end_of board lane == on) (presents board on o standing) wanted).1
 
 -- where no slot is the own one of a latch, each initiator has one own slot after it
 one_own-none : (board : Board) (on : ℕ) (by : By) (o : OpId) (held : List Slot) → find (is_own board on by o) held ≡ None → total (own_count board on by o) held ≡ 0

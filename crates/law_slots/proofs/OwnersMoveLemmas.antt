@@ -8,17 +8,17 @@ use Rattle.list_facts.proofs.EachLemmas.{Each-less, Each-weaker}
 use Rattle.pci_command.specs.declared.op_id.OpId.{OpId}
 use Rattle.board_model.specs.declared.bridge.Lane.{Lane as BridgeLane}
 use Rattle.board_model.specs.declared.board.Board.{Board}
-use Rattle.board_model.specs.Ways.{start_of}
+use Rattle.board_model.specs.Ways.{start_of, lane_back}
 use Rattle.history_model.specs.declared.event.By.{By}
 use Rattle.history_model.specs.declared.event.By.TheVariants.{Master, Lane as ByLane}
 use Rattle.history_model.specs.declared.item.Carried.{Carried}
 use Rattle.history_model.specs.declared.item.Carried.TheVariants.{Ask}
 use Rattle.history_model.specs.declared.item.Slot.{Slot}
 use Rattle.history_model.specs.Lanes.{LaneState, Both, has_number, is_done_for}
-use Rattle.history_model.specs.World.{World, lane_back, both, moved}
+use Rattle.history_model.specs.World.{World, both, moved}
 use Rattle.law_slots.specs.Owners.{is_equal_ask, Waits, own_count, Owners}
-use Rattle.law_slots.proofs.BridgeLemmas.{moved_keeps}
-use Rattle.law_slots.proofs.FoundLemmas.{find-less_kept}
+use Rattle.history_facts.proofs.BridgeLemmas.{moved_keeps}
+use Rattle.list_facts.proofs.FoundLemmas.{find-less_kept}
 
 -- a delayed request that is the first by some test stays the first
 abbrev pub KeepsAsks : LaneState → LaneState → Type 0

@@ -10,7 +10,7 @@ use Rattle.board_model.specs.declared.bridge.Place.{Place}
 use Rattle.board_model.specs.declared.bridge.Place.TheVariants.{Target, Header, Lane, Nobody}
 use Rattle.board_model.specs.declared.board.Board.{Board}
 use Rattle.board_model.specs.Requests.{same_requests}
-use Rattle.board_model.specs.Ways.{start_of}
+use Rattle.board_model.specs.Ways.{start_of, lane_back}
 use Rattle.history_model.specs.declared.event.By.{By}
 use Rattle.history_model.specs.declared.event.By.TheVariants.{Master, Lane as ByLane}
 use Rattle.history_model.specs.declared.event.Mark.{Mark}
@@ -22,24 +22,24 @@ use Rattle.history_model.specs.declared.item.Carried.{Carried}
 use Rattle.history_model.specs.declared.item.Slot.{Slot}
 use Rattle.history_model.specs.declared.item.Answer.TheVariants.{Gives}
 use Rattle.history_model.specs.Lanes.{Both, has_number, lowest_free, post_enters, ask_enters, slot_taken, Effect, Stands, Credits, Frees, Drops, effect_of, takes_effect, came_off, arrives_first, arrives}
-use Rattle.history_model.specs.World.{World, lane_back, same_lane, both, put, moved, is_own, slot_found, enters, at_place, lane_outcome, leaves, world_of}
-use Rattle.history_model.specs.Program.{turn_of, turn_after, master_outcome, ending_of}
+use Rattle.history_model.specs.World.{World, same_lane, both, put, moved, is_own, slot_found, enters, at_place, lane_outcome, leaves, world_of}
+use Rattle.history_model.specs.Program.{turn_of, turn_after, master_outcome, ending_of, Ending}
 use Rattle.history_model.specs.Answers.{wants, answer}
 use Rattle.history_model.specs.Runs.{Allowed, Run}
 use Rattle.law_slots.specs.Owners.{Waits, own_count, Owners}
 use Rattle.history_model.specs.Words.{through, without}
-use Rattle.history_model.specs.Program.{Ending}
 use Rattle.law_slots.specs.Depths.{DifferentNumbers}
 use Rattle.law_slots.specs.Phases.{DelayedAreSingle}
 use Rattle.law_slots.specs.Kinds.{RightKind}
-use Rattle.law_slots.proofs.BridgeLemmas.{same_lane_self, same_lane_back, moved_keeps, moved_gives}
-use Rattle.law_slots.proofs.AnswerLemmas.{AtLane, answered_at}
-use Rattle.law_slots.proofs.EqualLemmas.{same_requests-self}
+use Rattle.history_facts.proofs.BridgeLemmas.{same_lane_self, same_lane_back, moved_keeps, moved_gives}
+use Rattle.history_facts.proofs.AnswerLemmas.{AtLane, answered_at}
+use Rattle.history_facts.proofs.EqualLemmas.{same_requests-self}
 use Rattle.law_slots.proofs.ClaimLemmas.{claim_starts}
 use Rattle.law_slots.proofs.SlotsRunLemmas.{Slots-run}
 use Rattle.law_slots.proofs.KindLemmas.{RightKind-run}
 use Rattle.law_slots.proofs.OwnersMoveLemmas.{KeepsAsks, KeepsAsks-push, KeepsAsks-done, Waits-kept, LaneOwners, LaneOwners-less, moved_keeps_asks, Owners-moved}
-use Rattle.law_slots.proofs.OwnersLatchLemmas.{wants-waits, wants-turn, one_own-push}
+use Rattle.law_slots.proofs.OwnersLatchLemmas.{wants-waits, one_own-push}
+use Rattle.history_facts.proofs.WantsLemmas.{wants-turn}
 use Rattle.law_slots.proofs.OwnersFreeLemmas.{NoneFor, lane_none_for, taken_none_for}
 use Rattle.law_slots.proofs.OwnersEndLemmas.{Owners-ended, Owners-turned}
 

@@ -1,6 +1,6 @@
 -- Only a write with several data phases is taken in parts.
 use Rattle.std.proofs.Common.{◌≡◌, ℕ, ◌<◌, ◌≤◌, Bool, true, false, cond, nat_lt, List, [], ◌∷◌, length, drop, Option, Some, None, refl, ap, subst, ◌∙◌, arith, slice_get}
-use Rattle.std.specs.List.{find, list_all}
+use Rattle.std.specs.List.{find, list_all, AllByRecursion}
 use Rattle.std.proofs.lemmas.Bool.Decides.{nat_tests}
 use Rattle.list_facts.specs.Lists.{before}
 use Rattle.pci_command.specs.declared.request.Request.{Request}
@@ -14,9 +14,9 @@ use Rattle.board_model.specs.declared.bridge.Place.{Place}
 use Rattle.board_model.specs.declared.bridge.Place.TheVariants.{Target, Header, Lane, Nobody}
 use Rattle.board_model.specs.declared.board.Board.{Board}
 use Rattle.board_model.specs.declared.op.Op.{Op}
-use Rattle.board_model.specs.Requests.{request_of, is_posted, phases_of, op_of}
+use Rattle.board_model.specs.Requests.{request_of, is_posted, phases_of, op_of, tries_of}
 use Rattle.board_model.specs.Claims.{claim}
-use Rattle.board_model.specs.Ways.{aborts_at, address_in}
+use Rattle.board_model.specs.Ways.{aborts_at, address_in, lane_back}
 use Rattle.history_model.specs.declared.event.By.{By}
 use Rattle.history_model.specs.declared.event.Step.{Step}
 use Rattle.history_model.specs.declared.event.Step.TheVariants.{Land, Part, Read, Accept, Latch, Take, Stall, MasterAbort, TargetAbort}
@@ -29,12 +29,35 @@ use Rattle.history_model.specs.declared.item.Answer.{Answer}
 use Rattle.history_model.specs.declared.item.Answer.TheVariants.{Gives, Retry}
 use Rattle.history_model.specs.declared.item.Cause.TheVariants.{Full, NoSlot, Behind}
 use Rattle.history_model.specs.Lanes.{is_done_for}
-use Rattle.history_model.specs.World.{World, lane_back, is_own, world_of}
+use Rattle.history_model.specs.World.{World, is_own, world_of}
 use Rattle.history_model.specs.Words.{phases_parted, parted_by, through, without, value_of}
 use Rattle.history_model.specs.Answers.{stalls_used, target_step, target_answer, header_answer, completion_passes, completion_answer, delayed_answer, posted_answer, lane_answer, bridge_to, answer_by, answer_to, answer}
 use Rattle.history_model.specs.Runs.{Allowed, Run}
-use Rattle.law_slots.specs.Phases.{DelayedAreSingle}
-use Rattle.law_slots.proofs.RequestLemmas.{same_op_true, request_is_of, op_single}
+use Rattle.law_slots.specs.Phases.{DelayedAreSingle, IsPostedOrSingle}
+use Rattle.history_facts.proofs.RequestLemmas.{same_op_true, request_is_of}
+use Rattle.std.specs.Option.{option_and_then}
+use Rattle.std.proofs.lemmas.Option.{cond_some}
+use Rattle.board_model.specs.declared.agents.Master.{Master}
+use Rattle.list_facts.proofs.EachLemmas.{Each-slice_get}
+
+-- an operation that is there stands in the program of its master
+pub op_single : (board : Board) (o : OpId) (op : Op) → DelayedAreSingle board → op_of board o ≡ Some op → IsPostedOrSingle op
+op_single board o op single is =
+    let E : Master → Type 0 = λ master. AllByRecursion IsPostedOrSingle master.ops in
+    let here : Op → Option Op = λ p. cond (nat_lt o.attempt (tries_of p)) (Some p) None in
+    let P : Option Master → Type 0 = λ found. slice_get board.masters o.master ≡ found → option_and_then here (option_and_then (λ master. slice_get master.ops o.index) found) ≡ Some op → IsPostedOrSingle op in
+    (elim (slice_get board.masters o.master) as P [
+      | None ↦ λ _ e. cc
+      | Some master ↦ λ is_master e.
+          let Q : Option Op → Type 0 = λ found. slice_get master.ops o.index ≡ found → option_and_then here found ≡ Some op → IsPostedOrSingle op in
+          (elim (slice_get master.ops o.index) as Q [
+            | None ↦ λ _ f. cc
+            | Some p ↦ λ is_op f.
+                let same : p ≡ op = (cond_some (nat_lt o.attempt (tries_of p)) p op f).1 in
+                subst IsPostedOrSingle same
+                (Each-slice_get IsPostedOrSingle master.ops o.index p (Each-slice_get E board.masters o.master master single is_master) is_op)
+          ]) refl e
+    ]) refl is
 
 -- no lane of a bridge takes a part
 completion_no_part : (board : Board) (read : Bool) (at : BridgeLane) (older : List Carried) (item : Option Carried) (phases : ℕ) (place : Place) → completion_answer board read at older item ≡ Gives (Part phases) place → ⊥

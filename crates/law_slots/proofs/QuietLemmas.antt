@@ -20,8 +20,8 @@ use Rattle.history_model.specs.World.{World, both, moved, enters, at_place, lane
 use Rattle.history_model.specs.Answers.{answer, bridge_to}
 use Rattle.history_model.specs.Runs.{Allowed, Run}
 use Rattle.law_slots.specs.Quiet.{is_lane_of, enters_by, enters_at}
-use Rattle.law_slots.proofs.BridgeLemmas.{flip, moved_keeps}
-use Rattle.law_slots.proofs.AnswerLemmas.{AtLane, answered_at}
+use Rattle.history_facts.proofs.BridgeLemmas.{flip, moved_keeps}
+use Rattle.history_facts.proofs.AnswerLemmas.{AtLane, answered_at}
 
 empty_pair : Both
 empty_pair = record { here = empty_lane; back = empty_lane }

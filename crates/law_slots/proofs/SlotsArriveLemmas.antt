@@ -10,7 +10,7 @@ use Rattle.history_model.specs.declared.item.Carried.TheVariants.{Post, Ask, Don
 use Rattle.history_model.specs.Lanes.{Both, Effect, Stands, Credits, Frees, Drops, effect_of, takes_effect, came_off, arrives_first, arrives}
 use Rattle.law_slots.specs.Slots.{hit, slot_weight, ask_weight, done_weight, gone_weight, places, AskNamed, DoneNamed, Slots}
 use Rattle.law_slots.specs.Standing.{CanStand}
-use Rattle.law_slots.proofs.BridgeLemmas.{flip}
+use Rattle.history_facts.proofs.BridgeLemmas.{flip}
 use Rattle.law_slots.proofs.EffectLemmas.{IsRoom, IsLastOf, IsAskOf, Fits, effect_fits}
 use Rattle.law_slots.proofs.SlotsTakenLemmas.{SlotsBut, Slots-freed}
 

@@ -12,7 +12,7 @@ use Rattle.history_model.specs.declared.item.Carried.TheVariants.{Post, Ask, Don
 use Rattle.history_model.specs.declared.item.Slot.{Slot}
 use Rattle.history_model.specs.Lanes.{Both, is_of, reply_to, item_ends}
 use Rattle.law_slots.specs.Slots.{ask_weight, done_weight, gone_weight, AskNamed, DoneNamed, Slots}
-use Rattle.law_slots.proofs.BridgeLemmas.{flip}
+use Rattle.history_facts.proofs.BridgeLemmas.{flip}
 
 -- a completion weighs what the request weighed that it answers
 reply-done_weight : (weight : ℕ → ℕ) (outcome : Outcome) (item : Option Carried) → total (done_weight weight) (reply_to outcome item) ≡ found (ask_weight weight) item

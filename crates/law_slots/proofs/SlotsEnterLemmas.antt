@@ -12,7 +12,7 @@ use Rattle.history_model.specs.declared.item.Carried.TheVariants.{Post, Ask}
 use Rattle.history_model.specs.declared.item.Slot.{Slot}
 use Rattle.history_model.specs.Lanes.{Both, lowest_free, post_enters, ask_enters}
 use Rattle.law_slots.specs.Slots.{hit, slot_weight, ask_weight, done_weight, gone_weight, AskNamed, DoneNamed, Slots}
-use Rattle.law_slots.proofs.BridgeLemmas.{flip}
+use Rattle.history_facts.proofs.BridgeLemmas.{flip}
 use Rattle.law_slots.proofs.HeldLemmas.{none_by_number, IsHeldFor-new, AskNamed-push, DoneNamed-push}
 use Rattle.law_slots.proofs.LowestFreeLemmas.{lowest_free-free}
 

@@ -8,7 +8,7 @@ use Rattle.history_model.specs.declared.rule.Rule.TheVariants.{Tagged}
 use Rattle.history_model.specs.World.{noted, both, world_by, world_of}
 use Rattle.history_model.specs.Runs.{RunBy, Run}
 use Rattle.law_slots.specs.Slots.{Slots}
-use Rattle.law_slots.proofs.KeptLemmas.{KeptBy, runs_keep_by}
+use Rattle.history_facts.proofs.KeptLemmas.{KeptBy, runs_keep_by}
 use Rattle.law_slots.proofs.SlotsEnterLemmas.{Slots-post_enters, Slots-post_enters_back, Slots-ask_enters, Slots-ask_enters_back}
 use Rattle.law_slots.proofs.SlotsEndLemmas.{Slots-item_ends, Slots-item_ends_back}
 use Rattle.law_slots.proofs.SlotsTakenLemmas.{Slots-slot_taken, Slots-slot_taken_back}

@@ -13,7 +13,7 @@ use Rattle.history_model.specs.declared.item.Carried.TheVariants.{Post, Ask, Don
 use Rattle.history_model.specs.declared.item.Slot.{Slot}
 use Rattle.history_model.specs.Lanes.{Both, has_number, is_done_for, slot_taken}
 use Rattle.law_slots.specs.Slots.{hit, slot_weight, ask_weight, done_weight, places, AskNamed, DoneNamed, Slots}
-use Rattle.law_slots.proofs.BridgeLemmas.{flip}
+use Rattle.history_facts.proofs.BridgeLemmas.{flip}
 use Rattle.law_slots.proofs.HeldLemmas.{hit-same, found_by_number, AskNamed-less, DoneNamed-less}
 
 -- the same as of slots in a run, where one item is missing, of the slot of this number

@@ -14,7 +14,7 @@ use Rattle.history_model.specs.Runs.{RunBy, Run}
 use Rattle.history_model.specs.Lanes.{Both, is_of, is_done_for, Effect, Stands, Credits, Frees, Drops, effect_of, takes_effect, came_off, arrives_first}
 use Rattle.law_slots.specs.Standing.{CanStand}
 use Rattle.law_slots.proofs.EffectLemmas.{Fits, effect_fits}
-use Rattle.law_slots.proofs.KeptLemmas.{Pair, KeptBy, runs_keep_by}
+use Rattle.history_facts.proofs.KeptLemmas.{Pair, KeptBy, runs_keep_by}
 
 abbrev AllStand : BridgeLane → Both → Type 0
 AllStand lane x = AllByRecursion CanStand x.here.standing

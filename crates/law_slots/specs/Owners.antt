@@ -7,7 +7,7 @@ use Rattle.pci_command.specs.declared.op_id.OpId.{OpId}
 use Rattle.pci_command.specs.declared.op_id.Outcome.{Outcome}
 use Rattle.board_model.specs.declared.bridge.Lane.{Lane as BridgeLane}
 use Rattle.board_model.specs.declared.board.Board.{Board}
-use Rattle.board_model.specs.Ways.{start_of}
+use Rattle.board_model.specs.Ways.{start_of, lane_back}
 use Rattle.history_model.specs.declared.event.By.{By}
 use Rattle.history_model.specs.declared.event.By.TheVariants.{Master, Lane as ByLane}
 use Rattle.history_model.specs.declared.event.Event.{Event}
@@ -15,7 +15,7 @@ use Rattle.history_model.specs.declared.item.Carried.{Carried}
 use Rattle.history_model.specs.declared.item.Carried.TheVariants.{Ask, Done}
 use Rattle.history_model.specs.declared.item.Slot.{Slot}
 use Rattle.history_model.specs.Lanes.{is_done_for}
-use Rattle.history_model.specs.World.{World, lane_back, is_own, world_of}
+use Rattle.history_model.specs.World.{World, is_own, world_of}
 use Rattle.history_model.specs.Answers.{asked, asks_same}
 
 -- a delayed request with the same request on the bus

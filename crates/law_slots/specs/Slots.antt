@@ -1,6 +1,6 @@
 -- Where the item of each held slot is: PCI-to-PCI Bridge Architecture Specification 1.1, chapter 5, and
 -- PCI Local Bus Specification 2.2, section 3.3.3.3 (delayed transactions).
-use Rattle.std.specs.Prelude.{◌≡◌, ℕ, ◌+◌, ◌≤◌, Bool, false, List, Some, IsSome, ◌==◌, if◌then◌else◌}
+use Rattle.std.specs.Prelude.{◌≡◌, ℕ, ◌+◌, ◌≤◌, List, Some, IsSome, ◌==◌, if◌then◌else◌}
 use Rattle.std.specs.List.{find, AllByRecursion}
 use Rattle.list_facts.specs.Lists.{total}
 use Rattle.pci_command.specs.declared.op_id.OpId.{OpId}

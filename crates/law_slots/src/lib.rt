@@ -2,7 +2,7 @@
 //! of a function that does nothing.
 #![tactic(auto)]
 
-ghost use Rattle.std.specs.Prelude.{◌≡◌, ◌++◌, ◌∷◌, ℕ, List, Bool, true, false, Some, None};
+ghost use Rattle.std.specs.Prelude.{◌≡◌, ◌++◌, ◌∷◌, ℕ, List, Bool, true, false, Some, None, is_some};
 ghost use Rattle.std.specs.List.{AllByRecursion, list_any};
 ghost use Rattle.pci_command.specs.declared.request.Request.{Request};
 ghost use Rattle.pci_command.specs.declared.op_id.OpId.{OpId};
@@ -11,7 +11,7 @@ ghost use Rattle.board_model.specs.declared.board.Board.{Board};
 ghost use Rattle.board_model.specs.declared.bridge.Bridge.{Bridge};
 ghost use Rattle.board_model.specs.declared.bridge.Lane.{Lane as BridgeLane};
 ghost use Rattle.board_model.specs.declared.bridge.Place.TheVariants.{Lane};
-ghost use Rattle.board_model.specs.Requests.{request_of, is_posted};
+ghost use Rattle.board_model.specs.Requests.{op_of, request_of, is_posted};
 ghost use Rattle.board_model.specs.WellFormed.{is_well_formed};
 ghost use Rattle.history_model.specs.declared.event.By.{By};
 ghost use Rattle.history_model.specs.declared.event.Step.TheVariants.{Take};
@@ -19,10 +19,10 @@ ghost use Rattle.history_model.specs.declared.event.Event.{Event};
 ghost use Rattle.history_model.specs.declared.event.Event.TheVariants.{Act};
 ghost use Rattle.history_model.specs.declared.item.Carried.{Carried};
 ghost use Rattle.history_model.specs.Lanes.{empty_lane};
-ghost use Rattle.history_model.specs.World.{lane_back, both, world_of};
+ghost use Rattle.history_model.specs.World.{both, world_of};
 ghost use Rattle.history_model.specs.Program.{turn_of};
 ghost use Rattle.history_model.specs.Words.{through};
-ghost use Rattle.history_model.specs.Answers.{bridge_to};
+ghost use Rattle.history_model.specs.Answers.{bridge_to, wants};
 ghost use Rattle.history_model.specs.Runs.{Run};
 ghost use Rattle.history_model.specs.Local.{Matched, is_lawful_on};
 ghost use Rattle.law_slots.specs.Slots.{Slots, HasOneItem, GoneHeld};
@@ -34,6 +34,7 @@ ghost use Rattle.law_slots.specs.Phases.{DelayedAreSingle};
 ghost use Rattle.law_slots.specs.Latched.{Latched};
 ghost use Rattle.law_slots.specs.Kinds.{RightKind};
 ghost use Rattle.law_slots.specs.Owners.{Owners, TakesItsOwn};
+ghost use Rattle.board_model.specs.Ways.{lane_back};
 
 /// The slots at the near face of each lane and their items: each held slot has its item in exactly
 /// one of five places, each item has its slot held for the operation that it names, and no number
@@ -98,6 +99,11 @@ pub fn kinds()
 /// has two slots of a lane for one request.
 pub fn owners()
     ensures { (board : Board) (h : List Event) → DifferentNumbers board → DelayedAreSingle board → Run board h → Owners board (turn_of board h) (world_of board h) }
+{}
+
+/// An operation that an initiator presents is one of the board's.
+pub fn presented()
+    ensures { (board : Board) (h : List Event) (on : ℕ) (by : By) (o : OpId) → Run board h → wants board h on by o ≡ true → is_some (op_of board o) ≡ true }
 {}
 
 /// Each completion is taken by the operation that it was made for.

@@ -3,83 +3,34 @@ use Rattle.std.proofs.Common.{◌≡◌, ℕ, ◌+◌, ◌*◌, ◌≤◌, Bool,
 use Rattle.std.specs.List.{find, list_any, AllByRecursion, IsDistinct}
 use Rattle.std.proofs.lemmas.Map.Keys.{IsDistinct-tail, IsDistinct-head}
 use Rattle.list_facts.specs.Lists.{before, total}
-use Rattle.list_facts.proofs.EachLemmas.{Each-weaker, Each-both, Each-find, Each-all}
+use Rattle.list_facts.proofs.EachLemmas.{Each-weaker, Each-both, Each-all}
 use Rattle.list_facts.proofs.FindLemmas.{find_passes}
-use Rattle.list_facts.proofs.TotalLemmas.{found, found-le}
+use Rattle.list_facts.proofs.TotalLemmas.{found}
 use Rattle.pci_command.specs.declared.op_id.OpId.{OpId}
-use Rattle.pci_command.specs.Same.{same_op}
 use Rattle.board_model.specs.declared.agents.Master.{Master as MasterAgent}
 use Rattle.board_model.specs.declared.bridge.Lane.{Lane as BridgeLane}
-use Rattle.board_model.specs.declared.bridge.Place.{Place}
-use Rattle.board_model.specs.declared.bridge.Place.TheVariants.{Target, Header, Lane, Nobody}
 use Rattle.board_model.specs.declared.op.Op.{Op}
 use Rattle.board_model.specs.declared.board.Board.{Board}
-use Rattle.board_model.specs.Requests.{op_of, request_on}
-use Rattle.board_model.specs.Claims.{claim}
-use Rattle.board_model.specs.Ways.{Route, end_of, route_by, route_of, way}
+use Rattle.board_model.specs.Requests.{op_of}
+use Rattle.board_model.specs.Ways.{end_of, way, lane_back}
 use Rattle.board_model.specs.Valid.{IsValid}
 use Rattle.board_laws.specs.Trees.{IsTree}
 use Rattle.board_laws.specs.WayEnds.{same_bridge}
-use Rattle.board_laws.proofs.EndLemmas.{WayEnds-tree}
-use Rattle.board_laws.proofs.ValidLemmas.{IsTree-valid}
+use Rattle.board_laws.proofs.Laws.{WayEnds-tree, IsTree-valid}
 use Rattle.history_model.specs.declared.event.Event.{Event}
 use Rattle.history_model.specs.declared.item.Carried.TheVariants.{Ask}
 use Rattle.history_model.specs.declared.item.Slot.{Slot}
 use Rattle.history_model.specs.Lanes.{Both, has_number, is_done_for}
-use Rattle.history_model.specs.World.{World, lane_back, same_lane, both, world_of}
+use Rattle.history_model.specs.World.{World, same_lane, both, world_of}
 use Rattle.history_model.specs.Runs.{Run}
 use Rattle.history_model.specs.Local.{is_ask_of, is_gone_of}
 use Rattle.history_model.specs.Left.{is_slot_of, lane_or, Reach, reach_of, slot_left, reach_left, delayed_left}
-use Rattle.law_slots.specs.Slots.{HasOneItem}
-use Rattle.law_slots.proofs.RequestLemmas.{same_op_true, same_op_self}
-use Rattle.law_slots.proofs.SlotsRunLemmas.{Slots-run}
-use Rattle.law_slots.proofs.OneItemLemmas.{HasOneItem-each}
-use Rattle.law_slots.proofs.WellFormedLemmas.{WellFormed-numbers, WellFormed-single}
-use Rattle.law_reach.specs.Reach.{Passed, slots_of, Reaches}
-use Rattle.law_reach.proofs.PathLemmas.{other_bridge}
-use Rattle.law_reach.proofs.ReachLemmas.{Reaches-run}
-use Rattle.law_stages.proofs.AnyLemmas.{any_some, any_none, find_any}
+use Rattle.law_reach.specs.Reach.{Passed}
+use Rattle.history_facts.proofs.PathLemmas.{other_bridge, way_cons}
+use Rattle.law_reach.proofs.Laws.{own_by, own_of}
+use Rattle.list_facts.proofs.AnyLemmas.{any_some, any_none, find_any}
 use Rattle.law_stages.specs.Stages.{stage, stage_at}
 use Rattle.law_stages.proofs.StageLemmas.{chain, some_one, somewhere, stage_ask_stands}
-
--- where only one element has a weight, a test of those that weigh finds it
-found_only : (o : OpId) (test : Slot → Bool) (held : List Slot) (slot : Slot) → total (slots_of o) held ≤ 1 → find test held ≡ Some slot → is_slot_of o slot ≡ true → find (is_slot_of o) held ≡ Some slot
-found_only o test [] slot once some is = cc
-found_only o test (other ∷ held) slot once some is =
-    let P : Bool → Type 0 = λ b. cond b (Some other) (find test held) ≡ Some slot → cond (is_slot_of o other) (Some other) (find (is_slot_of o) held) ≡ Some slot in
-    let Q : Bool → Type 0 = λ b. is_slot_of o other ≡ b → cond b 1 0 + total (slots_of o) held ≤ 1 → find test held ≡ Some slot → cond b (Some other) (find (is_slot_of o) held) ≡ Some slot in
-    (elim (test other) as P [
-      | true ↦ λ e. let same : other ≡ slot = cc in let here : is_slot_of o other ≡ true = cc in rw here e
-      | false ↦ λ e. (elim (is_slot_of o other) as Q [
-        | true ↦ λ _ twice f.
-            let one : slots_of o slot ≡ 1 = rw is refl in
-            let weighs : found (slots_of o) (find test held) ≡ 1 = rw f one in
-            absurd (omega (arith, weighs, found-le (slots_of o) test held))
-        | false ↦ λ _ later f. found_only o test held slot (omega arith) f is
-      ]) refl once e
-    ]) some
-
--- the way from a bus that is not empty: its first lane claims there, and the others are the way from its end
-pub record WayCons (board : Board) (op : Op) (on : ℕ) (lane : BridgeLane) (lanes : List BridgeLane) : Type 0 where
-  pub claims : claim board on (request_on op on) ≡ Lane lane
-  pub later : lanes ≡ way board op (end_of board lane)
-
--- by who claims on the bus
-cons_by : (board : Board) (op : Op) (on : ℕ) (lane : BridgeLane) (lanes : List BridgeLane) (place : Place) → claim board on (request_on op on) ≡ place
-    → lane ∷ lanes ≡ (route_by (λ l. route_of board op (end_of board l)) on place).lanes → WayCons board op on lane lanes
-cons_by board op on lane lanes (Target target) claims is = cc
-cons_by board op on lane lanes (Header bus) claims is = cc
-cons_by board op on lane lanes (Lane first) claims is =
-    let same : lane ≡ first = cc in
-    let others : lanes ≡ way board op (end_of board first) = cc in
-    record { claims = claims ∙ ap Lane (sym same); later = others ∙ ap (λ l. way board op (end_of board l)) (sym same) }
-cons_by board op on lane lanes Nobody claims is = cc
-
--- the first lane of a way and the others
-pub way_cons : (board : Board) (op : Op) (on : ℕ) (lane : BridgeLane) (lanes : List BridgeLane) → IsTree board → lane ∷ lanes ≡ way board op on → WayCons board op on lane lanes
-way_cons board op on lane lanes tree is =
-    let ends = WayEnds-tree board op tree on in
-    cons_by board op on lane lanes (claim board on (request_on op on)) refl (is ∙ ap (λ (r : Route). r.lanes) ends.onwards)
 
 -- what is known of the first lanes of a list that hold a slot
 abbrev Count : World → OpId → ℕ → ℕ → ℕ → ℕ → ℕ → Option BridgeLane → Type 0
@@ -87,39 +38,10 @@ Count world o long far sum size lanes None = (lanes ≡ 0) × (sum ≡ size)
 Count world o long far sum size lanes (Some last) = reach_left world o long (far + lanes) (Some last) + sum + 2 * far ≡ 4 * long + 1 + size
 
 module _ (board : Board) (valid : IsValid board) (h : List Event) (run : Run board h) where
-  -- each slot has one item
-  has_item : (lane : BridgeLane) → AllByRecursion (HasOneItem (both (world_of board h) lane)) (world_of board h lane).held
-  has_item lane = HasOneItem-each (both (world_of board h) lane) (Slots-run board h lane run)
-
-  -- each slot is on the way of its operation
-  reaches : (lane : BridgeLane) → AllByRecursion (Reaches board h lane) (world_of board h lane).held
-  reaches lane = Reaches-run board (IsTree-valid board valid) (WellFormed-numbers board valid.well_formed) (WellFormed-single board valid.well_formed) h run lane
-
-  -- a slot that is held for an operation
-  pub record Own (lane : BridgeLane) (o : OpId) (slot : Slot) : Type 0 where
-    pub found : find (is_slot_of o) (world_of board h lane).held ≡ Some slot
-    pub is_for : slot.op ≡ o
-    pub item : HasOneItem (both (world_of board h) lane) slot
-    pub reach : Reaches board h lane slot
-
-  -- it is found by any test that finds it
-  pub own_by : (lane : BridgeLane) (o : OpId) (test : Slot → Bool) (slot : Slot) → find test (world_of board h lane).held ≡ Some slot → slot.op ≡ o → Own lane o slot
-  own_by lane o test slot some is_for =
-      let held : List Slot = (world_of board h lane).held in
-      let reach = Each-find (Reaches board h lane) test held slot (reaches lane) some in
-      let only : total (slots_of o) held ≡ 1 = subst (λ p. total (slots_of p) held ≡ 1) is_for reach.only in
-      let self : same_op o o ≡ true = same_op_self o in
-      let passes : is_slot_of o slot ≡ true = rw is_for self in
-      record { found = found_only o test held slot (omega arith) some passes; is_for = is_for; item = Each-find (HasOneItem (both (world_of board h) lane)) test held slot (has_item lane) some; reach = reach }
-
-  -- the slot of an operation
-  pub own_of : (lane : BridgeLane) (o : OpId) (slot : Slot) → find (is_slot_of o) (world_of board h lane).held ≡ Some slot → Own lane o slot
-  own_of lane o slot some = own_by lane o (is_slot_of o) slot some (same_op_true slot.op o (find_passes (is_slot_of o) (world_of board h lane).held slot some))
-
   -- a lane that an operation passed has brought it so far
   pub passed_holds : (lane : BridgeLane) (o : OpId) → Passed (world_of board h) o lane → list_any (is_slot_of o) (world_of board h lane).held ≡ true
   passed_holds lane o passed =
-      let own = own_by lane o (has_number passed.number) passed.held.slot passed.held.is_held passed.held.is_for in
+      let own = own_by board valid h run lane o (has_number passed.number) passed.held.slot passed.held.is_held passed.held.is_for in
       find_any (is_slot_of o) (world_of board h lane).held passed.held.slot own.found
 
   module _ (o : OpId) (op : Op) where
@@ -128,7 +50,7 @@ module _ (board : Board) (valid : IsValid board) (h : List Event) (run : Run boa
     passed_stage lane passed =
         let slot : Slot = passed.held.slot in
         let held : List Slot = (world_of board h lane).held in
-        let own = own_by lane o (has_number passed.number) slot passed.held.is_held passed.held.is_for in
+        let own = own_by board valid h run lane o (has_number passed.number) slot passed.held.is_held passed.held.is_for in
         let number : slot.number ≡ passed.number = eqb-true slot.number passed.number (find_passes (has_number passed.number) held slot passed.held.is_held) in
         let there : list_any (is_ask_of passed.number) (world_of board h lane).standing ≡ true = find_any (is_ask_of passed.number) (world_of board h lane).standing (Ask o passed.number) passed.stands in
         let stands : list_any (is_ask_of slot.number) (world_of board h lane).standing ≡ true = subst (λ n. list_any (is_ask_of n) (world_of board h lane).standing ≡ true) (sym number) there in
@@ -202,7 +124,7 @@ module _ (board : Board) (valid : IsValid board) (h : List Event) (run : Run boa
         → slot_left long far (world_of board h lane) (world_of board h (lane_back lane)) (find (is_slot_of o) (world_of board h lane).held)
         + stage rest (world_of board h lane) (world_of board h (lane_back lane)) (find (is_slot_of o) (world_of board h lane).held) + 2 * far ≡ 4 * long + 4
     furthest lane slot long far rest found sum some =
-        let own = own_of lane o slot found in
+        let own = own_of board valid h run lane o slot found in
         let x : Both = both (world_of board h) lane in
         let a : Bool = list_any (is_ask_of slot.number) x.here.flight in
         let b : Bool = list_any (is_ask_of slot.number) x.here.standing in
@@ -260,7 +182,7 @@ module _ (board : Board) (valid : IsValid board) (h : List Event) (run : Run boa
         let behind : (l : BridgeLane) → B l =
         λ l holds.
         let at = any_some (is_slot_of o) (world l).held holds in
-        let own = own_of l o at.0 at.1 in
+        let own = own_of board valid h run l o at.0 at.1 in
         let is_op_too : op_of board o ≡ Some own.reach.op = subst (λ p. op_of board p ≡ Some own.reach.op) own.is_for own.reach.is_op in
         let is_master_too : slice_get board.masters o.master ≡ Some own.reach.master = subst (λ p. slice_get board.masters p.master ≡ Some own.reach.master) own.is_for own.reach.is_master in
         let ops : own.reach.op ≡ op = cc in

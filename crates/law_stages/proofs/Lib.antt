@@ -1,5 +1,5 @@
-pub mod AnyLemmas
 pub mod StageLemmas
 pub mod CountLemmas
 pub mod OwnLemmas
 pub mod SameLemmas
+pub mod Laws

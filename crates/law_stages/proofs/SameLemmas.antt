@@ -12,12 +12,13 @@ use Rattle.history_model.specs.declared.item.Carried.{Carried}
 use Rattle.history_model.specs.declared.item.Carried.TheVariants.{Post, Ask, Done, Room, Gone}
 use Rattle.history_model.specs.declared.item.Slot.{Slot}
 use Rattle.history_model.specs.Lanes.{Both, is_of, is_done_for, has_number, lowest_free, ask_enters, reply_to, item_ends, slot_taken, Stands, Frees, Drops, takes_effect, came_off}
-use Rattle.history_model.specs.World.{World, lane_back, both, moved}
+use Rattle.history_model.specs.World.{World, both, moved}
+use Rattle.board_model.specs.Ways.{lane_back}
 use Rattle.history_model.specs.Local.{is_ask_of, is_gone_of}
 use Rattle.history_model.specs.Left.{is_slot_of}
-use Rattle.law_slots.proofs.BridgeLemmas.{flip, both_back, moved_keeps}
-use Rattle.law_slots.proofs.LowestFreeLemmas.{lowest_free-free}
-use Rattle.law_stages.proofs.AnyLemmas.{any-push_other, any-less_found, any-less_kind, find-push_other, find-less_same, found_fails}
+use Rattle.history_facts.proofs.BridgeLemmas.{flip, both_back, moved_keeps}
+use Rattle.law_slots.proofs.Laws.{lowest_free-free}
+use Rattle.list_facts.proofs.AnyLemmas.{any-push_other, any-less_found, any-less_kind, find-push_other, find-less_same, found_fails}
 use Rattle.law_stages.specs.Stages.{stage}
 
 -- the lane has brought the operation as far

@@ -9,7 +9,7 @@ use Rattle.history_model.specs.Lanes.{Both, is_done_for}
 use Rattle.history_model.specs.Local.{is_ask_of, is_gone_of}
 use Rattle.law_stages.specs.Stages.{stage}
 use Rattle.law_slots.specs.Slots.{hit, ask_weight, done_weight, gone_weight, ItemOf, ask_flies, ask_stands, done_flies, done_stands, gone_flies, HasOneItem}
-use Rattle.law_stages.proofs.AnyLemmas.{find_any, weigh_none, any_weighs}
+use Rattle.list_facts.proofs.AnyLemmas.{find_any, weigh_none, any_weighs}
 
 -- what is left by the furthest slot and how far its lane has brought it
 pub chain : (long far rest : ℕ) (a b c d e : Bool) → far + rest ≡ long → 1 ≤ far → (a || (b || (c || (d || e)))) ≡ true

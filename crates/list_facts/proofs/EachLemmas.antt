@@ -1,5 +1,5 @@
 -- What holds of each element of a list, by recursion on the list.
-use Rattle.std.proofs.Common.{◌≡◌, ℕ, ◌≤◌, Bool, true, false, cond, List, [], ◌∷◌, ◌++◌, Some, subst, arith}
+use Rattle.std.proofs.Common.{◌≡◌, ℕ, zero, suc, slice_get, ◌≤◌, Bool, true, false, cond, List, [], ◌∷◌, ◌++◌, Some, subst, arith}
 use Rattle.std.specs.List.{find, AllByRecursion}
 use Rattle.list_facts.specs.Lists.{less, total}
 
@@ -52,3 +52,9 @@ Each-within {X} (x ∷ xs) =
 pub Each-both : {X : Type 0} (P Q : X → Type 0) (xs : List X) → AllByRecursion P xs → AllByRecursion Q xs → AllByRecursion (λ x. P x × Q x) xs
 Each-both P Q [] first second = tt
 Each-both P Q (x ∷ xs) first second = ((first.0, second.0), Each-both P Q xs first.1 second.1)
+
+-- the element at a place is one of them
+pub Each-slice_get : {X : Type 0} (P : X → Type 0) (xs : List X) (place : ℕ) (x : X) → AllByRecursion P xs → slice_get xs place ≡ Some x → P x
+Each-slice_get P [] place x each some = cc
+Each-slice_get P (y ∷ xs) zero x each some = let same : y ≡ x = cc in subst P same each.0
+Each-slice_get P (y ∷ xs) (suc place) x each some = Each-slice_get P xs place x each.1 some

@@ -15,7 +15,8 @@ use Rattle.history_model.specs.Lanes.{is_of}
 use Rattle.history_model.specs.World.{world_of}
 use Rattle.history_model.specs.Program.{turn_of}
 use Rattle.history_model.specs.Answers.{is_on, is_turn, presents_item, presents, wants}
-use Rattle.law_slots.proofs.RequestLemmas.{same_op_true, Each-slice_get}
+use Rattle.history_facts.proofs.RequestLemmas.{same_op_true}
+use Rattle.list_facts.proofs.EachLemmas.{Each-slice_get}
 use Rattle.next_event.specs.Fits.{MasterFits}
 
 -- what is presented stands

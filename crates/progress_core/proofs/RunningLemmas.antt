@@ -8,8 +8,7 @@ use Rattle.board_model.proofs.FormLemmas.{WellFormed-parts}
 use Rattle.bus_tree.proofs.DecodableLemmas.{IsDecodable-valid}
 use Rattle.history_model.specs.declared.event.Event.{Event}
 use Rattle.history_model.specs.Runs.{Run}
-use Rattle.law_slots.proofs.DepthsLemmas.{Within-eight}
-use Rattle.law_slots.proofs.WellFormedLemmas.{WellFormed-depths}
+use Rattle.law_slots.proofs.Laws.{Within-eight, WellFormed-depths}
 use Rattle.progress_core.specs.Running.{IsRunning}
 
 not_above : (most n : ℕ) → nat_lt most n ≡ false → n ≤ most

@@ -15,7 +15,6 @@ use Rattle.board_printer.specs.Targets.{target_lines}
 use Rattle.board_printer.specs.Masters.{master_lines}
 use Rattle.board_printer.specs.Boards.{is_short_bridge, is_short_target, is_short_board, first_line, planned_line, board_text}
 use Rattle.roundtrip_words.specs.Printed.{joined}
-use Rattle.roundtrip_words.proofs.WordLemmas.{line_is}
 use Rattle.board_statements.specs.declared.fault.LineFault.{LineFault}
 use Rattle.board_statements.specs.Statements.{first_line_of}
 use Rattle.roundtrip_lines.proofs.TargetTexts.{first_may, second_may}
@@ -31,6 +30,7 @@ use Rattle.roundtrip_board.proofs.BridgeSteps.{bridge_step}
 use Rattle.roundtrip_board.proofs.TargetSteps.{target_step}
 use Rattle.roundtrip_board.proofs.MasterSteps.{master_step}
 use Rattle.roundtrip_board.proofs.PlanSteps.{discard_step, drop_step}
+use Rattle.roundtrip_words.proofs.Laws.{line_is}
 
 -- the lines behind the first
 abbrev lines_behind : Board → List Line

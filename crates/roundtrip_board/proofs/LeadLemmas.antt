@@ -9,7 +9,6 @@ use Rattle.board_text.specs.Lines.{is_newline, is_allowed, line_fault, lines_of}
 use Rattle.board_text.specs.Tokens.{words_of}
 use Rattle.board_printer.specs.Lines.{Line, line_text, text_of}
 use Rattle.roundtrip_words.specs.Printed.{joined}
-use Rattle.roundtrip_words.proofs.WordLemmas.{line_is, split_line, ends_behind}
 use Rattle.board_statements.specs.declared.fault.LineFault.{LineFault}
 use Rattle.board_statements.specs.declared.statement.Statement.{Statement}
 use Rattle.board_statements.specs.Statements.{statement_form, statement_of}
@@ -19,6 +18,7 @@ use Rattle.board_draft.specs.Steps.{◌>>=◌}
 use Rattle.board_draft.specs.Add.{add}
 use Rattle.board_parser.specs.OneLine.{some_of, read_words, read_more, read_unless, read_line}
 use Rattle.board_parser.specs.Boards.{then_lines, read_lines}
+use Rattle.roundtrip_words.proofs.Laws.{line_is, split_line, ends_behind}
 
 -- the reading goes on with the text in a draft of this kind
 pub record Arrives (Q : Draft → Type 0) (reading : Result (Option Draft) (ℕ × LineFault)) (text : List ℕ) : Type 0 where

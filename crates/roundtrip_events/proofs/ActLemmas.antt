@@ -17,7 +17,6 @@ use Rattle.history_model.specs.declared.event.Event.TheVariants.{Act}
 use Rattle.roundtrip_lines.specs.Fits.{BoardFits}
 use Rattle.roundtrip_lines.proofs.AllowedTexts.{width}
 use Rattle.roundtrip_words.specs.Printed.{has_words_alone, joined}
-use Rattle.roundtrip_words.proofs.NumberLemmas.{decimal_word}
 use Rattle.trace_text.specs.Words.{by_word, op_word, place_words}
 use Rattle.trace_text.specs.Events.{step_word, result_words, act_line, has_initiator, has_place, is_step_at, has_line}
 use Rattle.trace_lines.specs.declared.line.TraceLine.TheVariants.{Happens}
@@ -30,6 +29,7 @@ use Rattle.roundtrip_names.proofs.OperationLemmas.{op_is_read, op_is_word, op_is
 use Rattle.roundtrip_events.proofs.LineLemmas.{event_by_kind}
 use Rattle.roundtrip_events.proofs.LaneLemmas.{bus_small, bus_read, bus_no_end, by_read, by_plain, by_short}
 use Rattle.roundtrip_events.proofs.PlaceLemmas.{kind_for, kind_told, step_plain, step_short, stands}
+use Rattle.roundtrip_words.proofs.Laws.{decimal_word}
 
 -- the parts of a transaction that has a line
 pub record ActParts (board : Board) (bus : ℕ) (by : By) (op : OpId) (step : Step) (place : Place) : Type 0 where

@@ -19,9 +19,9 @@ use Rattle.history_model.specs.declared.event.Event.TheVariants.{Arrive}
 use Rattle.roundtrip_lines.specs.Fits.{BoardFits}
 use Rattle.roundtrip_lines.proofs.AllowedTexts.{width}
 use Rattle.roundtrip_words.specs.Printed.{is_word, has_words_alone, joined}
-use Rattle.roundtrip_words.proofs.NumberLemmas.{decimal_word}
 use Rattle.trace_text.specs.Words.{lane_word}
 use Rattle.trace_text.specs.Events.{mark_words, arrival_line}
+use Rattle.roundtrip_words.proofs.Laws.{decimal_word}
 use Rattle.trace_lines.specs.declared.kind.Kind.TheVariants as kinds
 use Rattle.trace_lines.specs.Words.{only_where, bus_in, lane_in}
 use Rattle.trace_lines.specs.declared.line.TraceLine.TheVariants.{Happens}

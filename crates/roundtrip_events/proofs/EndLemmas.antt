@@ -4,11 +4,11 @@ use Rattle.std.specs.Prelude.{codes}
 use Rattle.std.specs.Fmt.{decimal}
 use Rattle.board_model.specs.declared.board.Board.{Board}
 use Rattle.roundtrip_words.specs.Printed.{has_words_alone, joined}
-use Rattle.roundtrip_words.proofs.NumberLemmas.{decimal_word}
 use Rattle.trace_lines.specs.declared.line.TraceLine.TheVariants.{Ends}
 use Rattle.trace_lines.specs.Lines.{ends_with, pieces_line, line_of}
 use Rattle.roundtrip_names.proofs.NumberLemmas.{number_is_read, number_is_short}
 use Rattle.roundtrip_events.proofs.LineLemmas.{line_cut, word_some}
+use Rattle.roundtrip_words.proofs.Laws.{decimal_word}
 
 -- the words of the last line are words
 pub end_plain : (n : ℕ) → n < 2 ^ 32 → has_words_alone (codes "end" ∷ decimal n ∷ []) ≡ true

@@ -19,11 +19,11 @@ use Rattle.history_model.specs.declared.event.By.TheVariants.{Master, Lane as Fr
 use Rattle.roundtrip_lines.specs.Ranges.{BridgeFits}
 use Rattle.roundtrip_lines.specs.Fits.{BoardFits}
 use Rattle.roundtrip_words.specs.Printed.{is_word_byte, is_word}
-use Rattle.roundtrip_words.proofs.NumberLemmas.{decimal_word}
 use Rattle.trace_text.specs.Words.{lane_word, by_word}
 use Rattle.trace_text.specs.Events.{has_initiator}
 use Rattle.trace_lines.specs.Words.{number_of, at_most, bus_in, bridge_in, towards, without_last, last_byte, lane_in, by_in}
 use Rattle.roundtrip_names.proofs.NumberLemmas.{number_is_read, number_is_short}
+use Rattle.roundtrip_words.proofs.Laws.{decimal_word}
 
 -- the number of a bridge of the board fits eight bits
 bridge_small : (bus : ℕ) (bridges : List Bridge) → AllByRecursion BridgeFits bridges → list_any (has_bus bus) bridges ≡ true → bus < 2 ^ 8

@@ -18,10 +18,10 @@ use Rattle.roundtrip_lines.specs.Fits.{BoardFits}
 use Rattle.roundtrip_lines.proofs.AllowedTexts.{width}
 use Rattle.roundtrip_lines.proofs.PartTexts.{word_length}
 use Rattle.roundtrip_words.specs.Printed.{is_word}
-use Rattle.roundtrip_words.proofs.NumberLemmas.{decimal_word, eight_word}
 use Rattle.trace_text.specs.Words.{lane_word, target_name, place_words, outcome_word}
 use Rattle.trace_text.specs.Events.{step_word, result_words, has_place, is_step_at}
 use Rattle.trace_lines.specs.declared.kind.Kind.{Kind}
+use Rattle.roundtrip_words.proofs.Laws.{decimal_word, eight_word}
 use Rattle.trace_lines.specs.declared.kind.Kind.TheVariants as kinds
 use Rattle.trace_lines.specs.Words.{header_in, target_in}
 use Rattle.trace_lines.specs.Events.{kind_of, has_words_for, reader_in, done_by}

@@ -12,7 +12,6 @@ use Rattle.pci_command.specs.declared.op_id.Outcome.TheVariants.{Value, Written,
 use Rattle.board_text.specs.Numbers.{hex_answer}
 use Rattle.board_printer.specs.Numbers.{hex, word_text}
 use Rattle.roundtrip_words.specs.Printed.{is_word}
-use Rattle.roundtrip_words.proofs.NumberLemmas.{eight_again, eight_word}
 use Rattle.roundtrip_lines.proofs.PartTexts.{word_length}
 use Rattle.trace_text.specs.Words.{outcome_word}
 use Rattle.trace_text.specs.Events.{is_completion}
@@ -20,6 +19,7 @@ use Rattle.trace_lines.specs.Words.{only_where, answered, is_lower_case, value_o
 use Rattle.roundtrip_events.specs.Fits.{OutcomeFits}
 use Rattle.roundtrip_names.proofs.NumberLemmas.{number_is_read}
 use Rattle.roundtrip_events.proofs.LaneLemmas.{lengths_differ}
+use Rattle.roundtrip_words.proofs.Laws.{eight_again, eight_word}
 
 -- no digit is a letter in upper case
 glyph_lower : (d : ℕ) → d < 16 → is_lower_case (digit_glyph false d) ≡ true

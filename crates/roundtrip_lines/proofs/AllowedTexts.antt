@@ -5,8 +5,8 @@ use Rattle.std.proofs.lemmas.List.{length-append}
 use Rattle.board_text.specs.Lines.{line_fault}
 use Rattle.board_printer.specs.Lines.{Line, spaced, line_text}
 use Rattle.roundtrip_words.specs.Printed.{has_words_alone, joined}
-use Rattle.roundtrip_words.proofs.WordLemmas.{joined_allowed}
 use Rattle.roundtrip_lines.proofs.WordTexts.{line_of}
+use Rattle.roundtrip_words.proofs.Laws.{joined_allowed}
 
 -- the bytes of the words, and one behind each
 abbrev pub width : List (List ℕ) → ℕ

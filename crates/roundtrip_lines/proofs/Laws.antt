@@ -36,7 +36,8 @@ use Rattle.roundtrip_lines.proofs.MasterTexts.{master_is_read, op_is_read, disca
 use Rattle.roundtrip_lines.proofs.WordTexts.{words_are_read}
 use Rattle.roundtrip_lines.proofs.AllowedTexts.{width, line_is_allowed}
 use Rattle.roundtrip_lines.proofs.WidthTexts.{decimal_width, half_width, target_width, master_width, range_width, opening_width, op_width, plan_width, bridge_width}
-use Rattle.roundtrip_lines.proofs.PlainTexts.{DecimalsFit, half_plain, decimal_plain, target_plain, master_plain, range_plain, opening_plain, op_plain, plan_plain, bridge_plain}
+use Rattle.roundtrip_lines.proofs.PlainTexts.{DecimalsFit, target_plain, master_plain, range_plain, opening_plain, op_plain, plan_plain, bridge_plain}
+use Rattle.roundtrip_words.proofs.Laws.{four_word, decimal_word}
 
 abbrev statement_so : Statement → Result Statement LineFault
 statement_so statement = Ok statement
@@ -60,13 +61,13 @@ target_law wide target fits formed =
 
 pub id_law : (wide : Bool) (vendor model : ℕ) → vendor < 2 ^ 16 → model < 2 ^ 16 → IsReadAs wide (codes "id" ∷ half_text vendor ∷ half_text model ∷ []) (Identifies vendor model)
 id_law wide vendor model of_vendor of_model =
-    reads_as wide (codes "id" ∷ half_text vendor ∷ half_text model ∷ []) (Identifies vendor model) (rw (half_plain vendor, half_plain model) refl) (let a = half_width vendor in let b = half_width model in omega (arith, a, b)) (id_is_read wide vendor model of_vendor of_model)
+    reads_as wide (codes "id" ∷ half_text vendor ∷ half_text model ∷ []) (Identifies vendor model) (rw (four_word vendor, four_word model) refl) (let a = half_width vendor in let b = half_width model in omega (arith, a, b)) (id_is_read wide vendor model of_vendor of_model)
 
 pub stall_law : (wide : Bool) (tokens : ℕ) → tokens ≤ 1000000 → IsReadAs wide (codes "stall" ∷ decimal tokens ∷ []) (Stalls tokens)
-stall_law wide tokens few = reads_as wide (codes "stall" ∷ decimal tokens ∷ []) (Stalls tokens) (rw (decimal_plain tokens (omega arith)) refl) (let a = decimal_width tokens (omega arith) in omega (arith, a)) (stall_is_read wide tokens few)
+stall_law wide tokens few = reads_as wide (codes "stall" ∷ decimal tokens ∷ []) (Stalls tokens) (rw (decimal_word tokens (omega arith)) refl) (let a = decimal_width tokens (omega arith) in omega (arith, a)) (stall_is_read wide tokens few)
 
 pub burst_law : (wide : Bool) (phases : ℕ) → 1 ≤ phases → phases ≤ 8 → IsReadAs wide (codes "burst" ∷ decimal phases ∷ []) (Bursts phases)
-burst_law wide phases some few = reads_as wide (codes "burst" ∷ decimal phases ∷ []) (Bursts phases) (rw (decimal_plain phases (omega arith)) refl) (let a = decimal_width phases (omega arith) in omega (arith, a)) (burst_is_read wide phases some few)
+burst_law wide phases some few = reads_as wide (codes "burst" ∷ decimal phases ∷ []) (Bursts phases) (rw (decimal_word phases (omega arith)) refl) (let a = decimal_width phases (omega arith) in omega (arith, a)) (burst_is_read wide phases some few)
 
 pub claim_law : (wide : Bool) (range : Range) → RangeFits range → is_well_formed_range range ≡ true → (wide || is_short_range range) ≡ true → IsReadAs wide (range_line (codes "range") range) (Claims range)
 claim_law wide range fits formed may = reads_as wide (range_line (codes "range") range) (Claims range) (range_plain (codes "range") range refl) (range_width (codes "range") range (omega arith)) (claim_is_read wide range fits formed may)

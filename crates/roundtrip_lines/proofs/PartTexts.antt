@@ -10,7 +10,8 @@ use Rattle.pci_command.specs.declared.phases.Phase.{Phase}
 use Rattle.board_printer.specs.Numbers.{hex, word_text, half_text, address_text, phase_text}
 use Rattle.board_statements.specs.declared.fault.LineFault.{LineFault}
 use Rattle.board_statements.specs.Words.{hex_of, has_mark, before_mark, behind_mark, lower_of, long_of, digit_of, data_word_of}
-use Rattle.roundtrip_lines.proofs.NumberTexts.{number, glyph_value, glyph_is_digit, hex_digits, hex_length, hex_is_read}
+use Rattle.roundtrip_lines.proofs.NumberTexts.{number, hex_is_read}
+use Rattle.roundtrip_words.proofs.Laws.{glyph_value, glyph_is_digit, hex_digits, hex_length}
 
 pub word_is_read : (n : ℕ) → n < 2 ^ 32 → hex_of 8 (word_text n) ≡ number n
 unfolding word_text

@@ -23,7 +23,7 @@ use Rattle.board_model.specs.declared.agents.Master.{Master}
 use Rattle.board_model.specs.declared.op.Op.{Op}
 use Rattle.board_model.specs.declared.op.Op.TheVariants.{Read, Write, CfgRead, CfgWrite, Poll}
 use Rattle.board_model.specs.declared.board.Planned.{Planned}
-use Rattle.board_printer.specs.Numbers.{hex, word_text, half_text, address_text, enables_text, phase_text}
+use Rattle.board_printer.specs.Numbers.{word_text, address_text, enables_text, phase_text}
 use Rattle.board_printer.specs.Spaces.{space_word, poll_word, command_word, direction_word}
 use Rattle.board_printer.specs.Bridges.{window_words, depth_words, mode_words, option_words, bridge_line}
 use Rattle.board_printer.specs.Targets.{target_line, range_line, opening_line}
@@ -31,7 +31,7 @@ use Rattle.board_printer.specs.Masters.{master_line, op_line}
 use Rattle.board_printer.specs.Boards.{planned_line}
 use Rattle.roundtrip_words.specs.Printed.{is_word_byte, is_word}
 use Rattle.roundtrip_lines.specs.Ranges.{BridgeFits, TargetFits, MasterFits}
-use Rattle.roundtrip_lines.proofs.NumberTexts.{hex_digits, hex_length, decimal_digits, decimal_some, glyph_is_digit}
+use Rattle.roundtrip_words.proofs.Laws.{hex_length, glyph_is_digit, hex_words, eight_word, decimal_word}
 
 -- a byte that passes a test is none that fails it
 apart_from : (test : ℕ → Bool) (mark byte : ℕ) → test mark ≡ false → test byte ≡ true → eqb byte mark ≡ false
@@ -67,9 +67,6 @@ all_plain_by test plain (byte ∷ word) all =
 digit_bounds : (byte : ℕ) → is_digit byte 16 ≡ true → (33 ≤ byte) × (byte ≤ 126)
 digit_bounds byte digit = (grind (arith, nat_tests), grind (arith, nat_tests))
 
-decimal_bounds : (byte : ℕ) → is_digit byte 10 ≡ true → (33 ≤ byte) × (byte ≤ 126)
-decimal_bounds byte digit = (grind (arith, nat_tests), grind (arith, nat_tests))
-
 start_bounds : (byte : ℕ) → is_name_start byte ≡ true → (33 ≤ byte) × (byte ≤ 126)
 start_bounds byte start = (grind (arith, nat_tests), grind (arith, nat_tests))
 
@@ -78,9 +75,6 @@ name_bounds byte later = (grind (arith, nat_tests), grind (arith, nat_tests))
 
 digit_plain : IsPlain (λ byte. is_digit byte 16)
 digit_plain = record { mark = refl; printing = digit_bounds }
-
-decimal_digit_plain : IsPlain (λ byte. is_digit byte 10)
-decimal_digit_plain = record { mark = refl; printing = decimal_bounds }
 
 start_plain : IsPlain is_name_start
 start_plain = record { mark = refl; printing = start_bounds }
@@ -91,24 +85,13 @@ later_plain = record { mark = refl; printing = name_bounds }
 plain_word : (word : List ℕ) → 0 < length word → list_all is_word_byte word ≡ true → is_word word ≡ true
 plain_word word some all = rw (lt-ltb 0 (length word) some, all) refl
 
-hex_plain : (k n : ℕ) → list_all is_word_byte (hex k n) ≡ true
-hex_plain k n = all_plain_by (λ byte. is_digit byte 16) digit_plain (hex k n) (hex_digits k n)
-
-pub word_plain : (n : ℕ) → is_word (word_text n) ≡ true
-unfolding word_text
-word_plain n = plain_word (hex 8 n) (let size = hex_length 8 n in omega arith) (hex_plain 8 n)
-
 word_bytes : (n : ℕ) → list_all is_word_byte (word_text n) ≡ true
 unfolding word_text
-word_bytes n = hex_plain 8 n
+word_bytes n = hex_words 8 n
 
 word_some : (n : ℕ) → 0 < length (word_text n)
 unfolding word_text
 word_some n = let size = hex_length 8 n in omega arith
-
-pub half_plain : (n : ℕ) → is_word (half_text n) ≡ true
-unfolding half_text
-half_plain n = plain_word (hex 4 n) (let size = hex_length 4 n in omega arith) (hex_plain 4 n)
 
 -- more bytes behind those of a word
 longer_plain : (word more : List ℕ) → 0 < length word → list_all is_word_byte word ≡ true → list_all is_word_byte more ≡ true → is_word (word ++ more) ≡ true
@@ -121,7 +104,7 @@ unfolding address_text
 address_plain n =
     let P : Bool → Type 0 = λ b. is_word (cond b (word_text n) (word_text (n / 2 ^ 32) ++ 58 ∷ word_text (n % 2 ^ 32))) ≡ true in
     elim (ltb n (2 ^ 32)) as P [
-      | true ↦ word_plain n
+      | true ↦ eight_word n
       | false ↦ longer_plain (word_text (n / 2 ^ 32)) (58 ∷ word_text (n % 2 ^ 32)) (word_some (n / 2 ^ 32)) (word_bytes (n / 2 ^ 32)) (rw (word_bytes (n % 2 ^ 32)) refl)
     ]
 
@@ -134,10 +117,6 @@ phase_plain phase =
     let enables : list_all is_word_byte (enables_text bits) ≡ true = elim (eqb bits 15) as P [ true ↦ refl | false ↦ rw digit refl ] in
     longer_plain (word_text phase.value) (enables_text bits) (word_some phase.value) (word_bytes phase.value) enables
 
-pub decimal_plain : (n : ℕ) → n < 2 ^ 32 → is_word (decimal n) ≡ true
-decimal_plain n below =
-    plain_word (decimal n) (decimal_some n below) (all_plain_by (λ byte. is_digit byte 10) decimal_digit_plain (decimal n) (decimal_digits n below))
-
 name_plain : (name : List ℕ) → is_name name ≡ true → is_word name ≡ true
 name_plain [] named = absurd (let apart : false ≡ true = named in cc)
 name_plain (byte ∷ name) named =
@@ -148,12 +127,12 @@ name_plain (byte ∷ name) named =
 pub target_plain : (target : Target) → TargetFits target → target.device ≤ 31 → list_all is_word (target_line target) ≡ true
 target_plain target fits few =
     let of_bus = fits.bus in
-    rw (name_plain target.name fits.name, decimal_plain target.bus (omega arith), decimal_plain target.device (omega arith)) refl
+    rw (name_plain target.name fits.name, decimal_word target.bus (omega arith), decimal_word target.device (omega arith)) refl
 
 pub master_plain : (master : Master) → MasterFits master → list_all is_word (master_line master) ≡ true
 master_plain master fits =
     let of_bus = fits.bus in
-    rw (name_plain master.name fits.name, decimal_plain master.bus (omega arith)) refl
+    rw (name_plain master.name fits.name, decimal_word master.bus (omega arith)) refl
 
 space_plain : (space : Space) → is_word (space_word space) ≡ true
 space_plain Mem = refl
@@ -180,7 +159,7 @@ pub range_plain : (word : List ℕ) (range : Range) → is_word word ≡ true �
 range_plain word range plain = rw (plain, space_plain range.space, address_plain range.base, address_plain range.size) refl
 
 pub opening_plain : (opening : Opening) → list_all is_word (opening_line opening) ≡ true
-opening_plain opening = rw (space_plain opening.space, address_plain opening.address, word_plain opening.value) refl
+opening_plain opening = rw (space_plain opening.space, address_plain opening.address, eight_word opening.value) refl
 
 phases_plain : (phases : List Phase) → list_all is_word (map phase_text phases) ≡ true
 phases_plain [] = refl
@@ -197,16 +176,16 @@ DecimalsFit (Poll space address mask value tries) = tries < 2 ^ 32
 pub op_plain : (op : Op) → DecimalsFit op → list_all is_word (op_line op) ≡ true
 op_plain (Read command address) fits = rw (command_plain command, address_plain address) refl
 op_plain (Write command address phases) fits = rw (command_plain command, address_plain address, phases_plain phases) refl
-op_plain (CfgRead bus device register) fits = rw (decimal_plain bus fits.0, decimal_plain device fits.1, decimal_plain register fits.2) refl
-op_plain (CfgWrite bus device register phase) fits = rw (decimal_plain bus fits.0, decimal_plain device fits.1, decimal_plain register fits.2, phase_plain phase) refl
-op_plain (Poll space address mask value tries) fits = rw (poll_plain space, address_plain address, word_plain mask, word_plain value, decimal_plain tries fits) refl
+op_plain (CfgRead bus device register) fits = rw (decimal_word bus fits.0, decimal_word device fits.1, decimal_word register fits.2) refl
+op_plain (CfgWrite bus device register phase) fits = rw (decimal_word bus fits.0, decimal_word device fits.1, decimal_word register fits.2, phase_plain phase) refl
+op_plain (Poll space address mask value tries) fits = rw (poll_plain space, address_plain address, eight_word mask, eight_word value, decimal_word tries fits) refl
 
 direction_plain : (up : Bool) → is_word (direction_word up) ≡ true
 direction_plain true = refl
 direction_plain false = refl
 
 pub plan_plain : (word : List ℕ) (planned : Planned) → is_word word ≡ true → planned.bus < 2 ^ 32 → planned.count < 2 ^ 32 → list_all is_word (planned_line word planned) ≡ true
-plan_plain word planned plain of_bus of_count = rw (plain, decimal_plain planned.bus of_bus, direction_plain planned.up, decimal_plain planned.count of_count) refl
+plan_plain word planned plain of_bus of_count = rw (plain, decimal_word planned.bus of_bus, direction_plain planned.up, decimal_word planned.count of_count) refl
 
 window_plain : (word : List ℕ) (frame : Option Window) → is_word word ≡ true → list_all is_word (window_words word frame) ≡ true
 window_plain word None plain = refl
@@ -215,7 +194,7 @@ window_plain word (Some it) plain = rw (plain, address_plain it.base, address_pl
 depth_plain : (word : List ℕ) (n : ℕ) → is_word word ≡ true → n < 2 ^ 32 → list_all is_word (depth_words word n) ≡ true
 depth_plain word n plain below =
     let P : Bool → Type 0 = λ b. list_all is_word (cond b [] (word ∷ decimal n ∷ [])) ≡ true in
-    elim (eqb n 4) as P [ true ↦ refl | false ↦ rw (plain, decimal_plain n below) refl ]
+    elim (eqb n 4) as P [ true ↦ refl | false ↦ rw (plain, decimal_word n below) refl ]
 
 mode_plain : (mode : Bool) → list_all is_word (mode_words mode) ≡ true
 mode_plain true = refl
@@ -235,4 +214,4 @@ bridge_plain bridge fits of_device of_posted of_delayed =
     (join_plain (window_words (codes "io") bridge.io) _ (window_plain (codes "io") bridge.io refl)
     (join_plain (depth_words (codes "posted") bridge.posted) _ (depth_plain (codes "posted") bridge.posted refl (omega arith))
     (join_plain (depth_words (codes "delayed") bridge.delayed) _ (depth_plain (codes "delayed") bridge.delayed refl (omega arith)) (mode_plain bridge.mode))))) in
-    rw (decimal_plain bridge.bus (omega arith), decimal_plain bridge.parent (omega arith), decimal_plain bridge.device (omega arith), decimal_plain bridge.last (omega arith), options) refl
+    rw (decimal_word bridge.bus (omega arith), decimal_word bridge.parent (omega arith), decimal_word bridge.device (omega arith), decimal_word bridge.last (omega arith), options) refl

@@ -29,10 +29,10 @@ use Rattle.board_printer.specs.Targets.{target_line, range_line, opening_line}
 use Rattle.board_printer.specs.Masters.{master_line, op_line}
 use Rattle.board_printer.specs.Boards.{planned_line}
 use Rattle.roundtrip_lines.specs.Ranges.{BridgeFits, TargetFits, MasterFits}
-use Rattle.roundtrip_lines.proofs.NumberTexts.{hex_length}
 use Rattle.roundtrip_lines.proofs.PartTexts.{word_length}
 use Rattle.roundtrip_lines.proofs.PlainTexts.{DecimalsFit}
 use Rattle.roundtrip_lines.proofs.AllowedTexts.{width, width-append}
+use Rattle.roundtrip_words.proofs.Laws.{hex_length}
 
 pub decimal_width : (n : ℕ) → n < 2 ^ 32 → length (decimal n) ≤ 10
 decimal_width n below = length-decimal-le 10 n (omega arith) (omega arith) (omega arith)

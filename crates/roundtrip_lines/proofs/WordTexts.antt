@@ -4,7 +4,7 @@ use Rattle.std.proofs.lemmas.List.{length-append}
 use Rattle.board_text.specs.Tokens.{words_of}
 use Rattle.board_printer.specs.Lines.{Line, line_text}
 use Rattle.roundtrip_words.specs.Printed.{has_words_alone, joined}
-use Rattle.roundtrip_words.proofs.WordLemmas.{words_again, line_is}
+use Rattle.roundtrip_words.proofs.Laws.{words_again, line_is}
 
 -- what stands before one last byte is determined
 last_off : (xs ys : List ℕ) (z : ℕ) → xs ++ z ∷ [] ≡ ys ++ z ∷ [] → xs ≡ ys

@@ -4,8 +4,8 @@ use Rattle.std.specs.Fmt.{decimal}
 use Rattle.std.proofs.lemmas.Bool.{cases_lt}
 use Rattle.std.proofs.lemmas.Bool.Decides.{nat_tests}
 use Rattle.std.proofs.lemmas.Fmt.{decimal_digit, decimal_nonempty, first_decimal, length-decimal-le}
-use Rattle.roundtrip_words.proofs.NumberLemmas.{decimal_again}
 use Rattle.trace_lines.specs.Words.{answered, has_no_zero_before, number_of}
+use Rattle.roundtrip_words.proofs.Laws.{decimal_again}
 
 -- a word with a first digit above 0 has no zero before another digit
 no_zero_first : (word : List ℕ) → 0 < length word → 48 < get_or word 0 0 → has_no_zero_before word ≡ true

@@ -7,8 +7,8 @@ use Rattle.board_text.specs.Lines.{is_newline, without_empty_end, lines_of}
 use Rattle.board_text.proofs.CutLemmas.{onto_line}
 use Rattle.board_printer.specs.Lines.{Line, line_text, text_of}
 use Rattle.roundtrip_words.specs.Printed.{joined}
-use Rattle.roundtrip_words.proofs.WordLemmas.{line_is, first_piece}
 use Rattle.trace_reader.proofs.CutLemmas.{IsWhole, empty_is_whole}
+use Rattle.roundtrip_words.proofs.Laws.{line_is, first_piece}
 
 -- a byte before the pieces of a text is one before the first of them, whatever pieces stand behind
 onto_more : (test : ℕ → Bool) (byte : ℕ) (text : List ℕ) (pieces : List (List ℕ)) → onto_first byte (slice_split test text ++ pieces) ≡ onto_first byte (slice_split test text) ++ pieces

@@ -12,7 +12,6 @@ use Rattle.board_printer.specs.Lines.{Line, line_text, text_of}
 use Rattle.board_printer.specs.Boards.{board_lines, board_text}
 use Rattle.roundtrip_lines.specs.Fits.{BoardFits}
 use Rattle.roundtrip_words.specs.Printed.{joined}
-use Rattle.roundtrip_words.proofs.WordLemmas.{lines_again}
 use Rattle.board_parser.specs.Boards.{read_lines, ended}
 use Rattle.roundtrip_board.proofs.BoardLemmas.{board_law}
 use Rattle.trace_text.specs.Events.{event_line, HasLine}
@@ -24,6 +23,7 @@ use Rattle.roundtrip_events.specs.Fits.{EventFits}
 use Rattle.roundtrip_trace.proofs.NewlineLemmas.{line_is_whole, text_is_whole}
 use Rattle.roundtrip_trace.proofs.BoardPartLemmas.{parts_of, draft_of}
 use Rattle.roundtrip_trace.proofs.EventPartLemmas.{Bears, end_of, lines_from, words_from, events_from}
+use Rattle.roundtrip_words.proofs.Laws.{lines_again}
 
 -- the lines before the board and before the events
 abbrev first : Line

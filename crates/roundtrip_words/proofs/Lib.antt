@@ -1,2 +1,4 @@
+pub mod DigitLemmas
 pub mod WordLemmas
 pub mod NumberLemmas
+pub mod Laws

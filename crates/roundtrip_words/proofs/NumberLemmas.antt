@@ -1,69 +1,45 @@
 -- Numbers that were printed: their digits, and what is read.
-use Rattle.std.proofs.Common.{◌≡◌, ℕ, ◌*◌, ◌/◌, ◌%◌, ◌^◌, ◌<◌, Bool, true, false, ltb, List, [], ◌∷◌, length, Ok, zero, suc, refl, arith}
+use Rattle.std.proofs.Common.{◌≡◌, ℕ, ◌/◌, ◌%◌, ◌^◌, ◌<◌, true, false, ltb, List, [], ◌∷◌, length, Ok, zero, suc, refl, arith}
 use Rattle.std.specs.List.{list_all}
 use native.Mathlib.Numerals.{unary_clauses}
-use Rattle.std.specs.Char.{is_digit, digit_value}
+use Rattle.std.specs.Char.{digit_value}
 use Rattle.std.specs.Fmt.{decimal, digit_glyph}
-use Rattle.std.specs.Str.Parse.{digits_value, AllDigits}
+use Rattle.std.specs.Str.Parse.{AllDigits}
 use Rattle.std.proofs.lemmas.Bool.Decides.{nat_tests}
-use Rattle.std.proofs.lemmas.List.{length-append}
 use Rattle.std.proofs.lemmas.List.Folds.{list_all-append}
 use Rattle.std.proofs.lemmas.Str.Parse.{digit_from_value}
 use Rattle.std.proofs.lemmas.Fmt.{decimal_is_IsNumeral, length-decimal-le}
-use Rattle.std.proofs.lemmas.Int.Digits.{digits_value_push}
 use Rattle.board_text.specs.Numbers.{hex_answer, decimal_answer}
 use Rattle.board_printer.specs.Numbers.{hex, word_text, half_text}
+use Rattle.roundtrip_words.proofs.DigitLemmas.{hex_digits, hex_length, hex_value, from_all_digits}
 use Rattle.roundtrip_words.specs.Printed.{is_word_byte, is_word}
-
--- a digit of the base, and a character of a word
-abbrev is_digit_byte : ℕ → ℕ → Bool
-is_digit_byte radix byte = is_digit byte radix
 
 digit_is_word : (byte : ℕ) → digit_value byte < 10 → is_word_byte byte ≡ true
 digit_is_word byte small = let range = digit_from_value byte small in grind (arith, nat_tests, range)
 
-digits_are_words : (bytes : List ℕ) → AllDigits 10 bytes → (list_all (is_digit_byte 10) bytes ≡ true) × (list_all is_word_byte bytes ≡ true)
-digits_are_words [] all = (refl, refl)
+digits_are_words : (bytes : List ℕ) → AllDigits 10 bytes → list_all is_word_byte bytes ≡ true
+digits_are_words [] all = refl
 digits_are_words (byte ∷ bytes) all =
     let later = digits_are_words bytes all.1 in
     let word = digit_is_word byte all.0 in
-    let digit : is_digit_byte 10 byte ≡ true = grind (arith, nat_tests) in
-    (cc, cc)
+    cc
 
-glyph_is_digit : (d : ℕ) → d < 16 → (digit_value (digit_glyph false d) ≡ d) × (is_word_byte (digit_glyph false d) ≡ true)
-glyph_is_digit d small = (grind (arith, nat_tests), grind (arith, nat_tests))
+glyph_is_word : (d : ℕ) → d < 16 → is_word_byte (digit_glyph false d) ≡ true
+glyph_is_word d small = grind (arith, nat_tests)
 
-hex_digits : (k n : ℕ) → (list_all (is_digit_byte 16) (hex k n) ≡ true) × (list_all is_word_byte (hex k n) ≡ true)
-hex_digits zero n = (refl, refl)
-hex_digits (suc k) n =
-    let last = glyph_is_digit (n % 16) (omega arith) in
-    let here : is_digit_byte 16 (digit_glyph false (n % 16)) ≡ true = rw (last.0) (grind (arith, nat_tests)) in
-    let word = last.1 in
-    let front = hex_digits k (n / 16) in
-    let front_digits = front.0 in
-    let front_words = front.1 in
-    let digits = list_all-append (is_digit_byte 16) (hex k (n / 16)) (digit_glyph false (n % 16) ∷ []) in
+-- the bytes of a number in base 16 are those of a word
+pub hex_words : (k n : ℕ) → list_all is_word_byte (hex k n) ≡ true
+hex_words zero n = refl
+hex_words (suc k) n =
+    let word = glyph_is_word (n % 16) (omega arith) in
+    let front = hex_words k (n / 16) in
     let words = list_all-append is_word_byte (hex k (n / 16)) (digit_glyph false (n % 16) ∷ []) in
-    (cc, cc)
-
-hex_length : (k n : ℕ) → length (hex k n) ≡ k
-hex_length zero n = refl
-hex_length (suc k) n = omega (arith, hex_length k (n / 16), length-append (hex k (n / 16)) (digit_glyph false (n % 16) ∷ []))
-
-hex_value : (k n : ℕ) → n < 16 ^ k → digits_value 16 (hex k n) ≡ n
-hex_value zero n small = omega (arith, small)
-hex_value (suc k) n small =
-    let last = glyph_is_digit (n % 16) (omega arith) in
-    let value = last.0 in
-    let push = digits_value_push 16 (hex k (n / 16)) (digit_glyph false (n % 16)) in
-    let power : 16 ^ suc k ≡ 16 ^ k * 16 = simp unary_clauses refl in
-    let front = hex_value k (n / 16) (omega (arith, small, power)) in
-    omega (arith, push, value, front)
+    cc
 
 pub decimal_again : (n : ℕ) → n < 2 ^ 32 → decimal_answer (decimal n) ≡ Ok n
 decimal_again n small =
     let numeral = decimal_is_IsNumeral n (omega arith) in
-    let digits = (digits_are_words (decimal n) numeral.0.1).0 in
+    let digits = from_all_digits 10 (decimal n) numeral.0.1 in
     let value = numeral.1 in
     let some : ltb 0 (length (decimal n)) ≡ true = grind (arith, nat_tests, numeral.0.0) in
     let short : ltb 10 (length (decimal n)) ≡ false = grind (arith, nat_tests, length-decimal-le 10 n (omega arith) (omega arith) (omega arith)) in
@@ -73,13 +49,13 @@ decimal_again n small =
 pub decimal_word : (n : ℕ) → n < 2 ^ 32 → is_word (decimal n) ≡ true
 decimal_word n small =
     let numeral = decimal_is_IsNumeral n (omega arith) in
-    let bytes = (digits_are_words (decimal n) numeral.0.1).1 in
+    let bytes = digits_are_words (decimal n) numeral.0.1 in
     let some : ltb 0 (length (decimal n)) ≡ true = grind (arith, nat_tests, numeral.0.0) in
     rw (some, bytes) refl
 
 hex_again : (k n : ℕ) → n < 16 ^ k → 0 < k → hex_answer (hex k n) k ≡ Ok n
 hex_again k n small some =
-    let digits = (hex_digits k n).0 in
+    let digits = hex_digits k n in
     let value = hex_value k n small in
     let long : ltb 0 (length (hex k n)) ≡ true = grind (arith, nat_tests, hex_length k n) in
     let short : ltb k (length (hex k n)) ≡ false = grind (arith, nat_tests, hex_length k n) in
@@ -87,7 +63,7 @@ hex_again k n small some =
 
 hex_word : (k n : ℕ) → 0 < k → is_word (hex k n) ≡ true
 hex_word k n some =
-    let bytes = (hex_digits k n).1 in
+    let bytes = hex_words k n in
     let long : ltb 0 (length (hex k n)) ≡ true = grind (arith, nat_tests, hex_length k n) in
     rw (long, bytes) refl
 

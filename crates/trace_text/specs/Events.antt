@@ -9,7 +9,7 @@ use Rattle.board_model.specs.declared.bridge.Place.{Place}
 use Rattle.board_model.specs.declared.bridge.Place.TheVariants.{Target, Header, Lane, Nobody}
 use Rattle.board_model.specs.declared.board.Board.{Board}
 use Rattle.board_model.specs.Requests.{op_of}
-use Rattle.board_model.specs.Ways.{end_of}
+use Rattle.board_model.specs.Ways.{end_of, is_lane}
 use Rattle.board_model.specs.Valid.{has_bridge_to, is_bus}
 use Rattle.history_model.specs.declared.event.By.{By}
 use Rattle.history_model.specs.declared.event.By.TheVariants.{Master, Lane as FromLane}
@@ -87,12 +87,6 @@ is_header (Target index) = false
 is_header (Header bus) = true
 is_header (Lane lane) = false
 is_header Nobody = false
-
-abbrev pub is_lane : Place → Bool
-is_lane (Target index) = false
-is_lane (Header bus) = false
-is_lane (Lane lane) = true
-is_lane Nobody = false
 
 abbrev pub is_nobody : Place → Bool
 is_nobody (Target index) = false

@@ -1,5 +1,5 @@
-use Rattle.board_laws.proofs.ValidLemmas.{IsTree-valid}
-use Rattle.law_slots.proofs.WellFormedLemmas.{WellFormed-numbers, WellFormed-single}
+use Rattle.board_laws.proofs.Laws.{IsTree-valid}
+use Rattle.law_slots.proofs.Laws.{WellFormed-numbers, WellFormed-single}
 use Rattle.law_reach.proofs.ReachLemmas.{Reaches-run}
 use Rattle.law_reach.proofs.slots_reach.Goals as goal
 

@@ -1,9 +1,8 @@
-use Rattle.std.proofs.Common.{sym, subst}
+use Rattle.std.proofs.Common.{sym, subst, Option}
 use Rattle.history_model.specs.declared.event.Event.{Event}
 use Rattle.history_model.specs.declared.event.Mark.{Mark}
 use Rattle.history_model.specs.declared.why.Why.TheVariants.{N1, N2, N3, N4, N5}
 use Rattle.history_model.specs.Runs.{history_of}
-use Rattle.std.proofs.Common.{Option}
 use Rattle.history_core.specs.Verdicts.{cause_in, Holds, HoldsOfArrival}
 use Rattle.history_core.proofs.VerdictLemmas.{of_act, of_arrival, named_exactly, allowed_exactly}
 use Rattle.history_core.proofs.allowing.allowed.Goals as goal

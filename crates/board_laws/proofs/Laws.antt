@@ -1,0 +1,18 @@
+-- What the laws of boards state, and what other crates rest on besides.
+
+-- what a lane takes is not claimed by the other lane of its bridge, and a lane that claims starts there
+pub use Rattle.board_laws.proofs.TurnLemmas.{no_turn, starts_here}
+-- at most one of all that decode a request claims it
+pub use Rattle.board_laws.proofs.ClaimantLemmas.{OneClaimant-valid}
+-- a valid board is a tree
+pub use Rattle.board_laws.proofs.ValidLemmas.{IsTree-valid}
+-- a way ends, and each lane of it has a lower rank than the one before
+pub use Rattle.board_laws.proofs.EndLemmas.{WayEnds-tree, rank-falls}
+-- facts on the definitions of this crate
+
+-- the targets of a well-formed board are formed
+pub use Rattle.board_laws.proofs.ValidLemmas.{targets_formed}
+-- a lane that claims goes up from its bus, or down into a child
+pub use Rattle.board_laws.proofs.StepLemmas.{steps, Up, Down}
+-- the bridge that is found by a number has it
+pub use Rattle.board_laws.proofs.WayLemmas.{number_of}

@@ -1,0 +1,12 @@
+pub mod WantsLemmas
+pub mod BridgeLemmas
+pub mod AnswerLemmas
+pub mod KeptLemmas
+pub mod EqualLemmas
+pub mod RequestLemmas
+pub mod MovedLemmas
+pub mod PostedLemmas
+pub mod BlockLemmas
+pub mod PathLemmas
+pub mod StoreLemmas
+pub mod TurnLemmas

@@ -1,5 +1,0 @@
-pub mod ToldLemmas
-pub mod SaidLemmas
-pub mod TurnLemmas
-pub mod BusLemmas
-pub mod LineLemmas

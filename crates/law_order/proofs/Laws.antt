@@ -1,0 +1,32 @@
+-- What the laws of order state, and what other crates rest on besides.
+
+-- the posted writes that a lane accepted are those that left it, that stand and that fly, in their order
+pub use Rattle.law_order.proofs.OrderRunLemmas.{InOrder-run}
+-- what was sent on a lane is what came, and then what is in flight
+pub use Rattle.law_order.proofs.SentLemmas.{sent_received, sent_counted}
+-- what is owed and what is held, counted
+pub use Rattle.law_order.proofs.CreditCounts.{owed_counted}
+pub use Rattle.law_order.proofs.SlotCounts.{held_counted}
+-- each posted write is its master's
+pub use Rattle.law_order.proofs.MasterLemmas.{Owned-run, standing_owned, flying_owned}
+-- a master ends each operation at most once
+pub use Rattle.law_order.proofs.OnceLemmas.{ends_once, turn_not_ended}
+-- a posted write landed once, was lost once, or is one item on one lane
+pub use Rattle.law_order.proofs.BalanceLemmas.{OnePost-run}
+-- each posted write is on its way
+pub use Rattle.law_order.proofs.OnWayLemmas.{OnWay-run, OnWay-stands, OnWay-flies}
+pub use Rattle.law_order.proofs.DirectLemmas.{direct_way}
+-- the rest of a burst waits where a target took its part
+pub use Rattle.law_order.proofs.PartsLemmas.{PartsAt-run}
+-- on a well-formed board one claims all of a write, and aborts all of it or nothing
+pub use Rattle.law_order.proofs.BurstLemmas.{OneClaimant-formed, AbortWhole-formed}
+-- facts on the definitions of this crate
+
+-- the item of a write in memory, and what its request says
+pub use Rattle.law_order.proofs.PostLemmas.{post_of, op_is_posted}
+-- a write goes through in parts, and what is left of it is claimed as the whole
+pub use Rattle.law_order.proofs.LandLemmas.{Short, Short-run, rest_claimed, write_lands}
+-- a part of a write begins at a word of its own
+pub use Rattle.law_order.proofs.WordLemmas.{part_word}
+-- sums over the lanes of a board
+pub use Rattle.law_order.proofs.LaneSums.{over-one, over-plus, over-same}

@@ -1,0 +1,10 @@
+-- What the law of progress states, and what other crates rest on besides.
+
+-- an event comes next, or the run is complete
+pub use Rattle.law_progress.proofs.GoOnLemmas.{goes_on, runs_go_on}
+-- facts on the definitions of this crate
+
+-- nothing is on a lane of no bridge
+pub use Rattle.law_progress.proofs.ArrivalLemmas.{no_bridge_empty}
+-- a valid board meets all that this rests on
+pub use Rattle.law_progress.proofs.SoundLemmas.{Sound-valid}

@@ -1,0 +1,4 @@
+pub mod ToldLemmas
+pub mod SaidLemmas
+pub mod BusLemmas
+pub mod LineLemmas
