@@ -11,7 +11,7 @@ use Rattle.board_model.specs.declared.agents.Target.{Target}
 use Rattle.board_model.specs.declared.agents.Master.{Master}
 use Rattle.board_model.specs.declared.board.Board.{Board}
 use Rattle.board_model.specs.WellFormed.{agents_on, is_well_formed}
-use Rattle.board_model.proofs.FormLemmas.{WellFormed-parts}
+use Rattle.board_model.proofs.Laws.{WellFormed-parts}
 
 -- how many of the agents are on the bus, by the bus of each
 abbrev on_bus : {X : Type 0} → (X → ℕ) → ℕ → List X → ℕ

@@ -12,7 +12,6 @@ use Rattle.board_model.specs.declared.board.Board.{Board}
 use Rattle.board_model.specs.declared.op.Op.{Op}
 use Rattle.board_model.specs.Requests.{tries_of}
 use Rattle.board_model.specs.WellFormed.{is_well_formed_bridge, is_well_formed_target, is_well_formed_op, operations_in}
-use Rattle.board_model.proofs.FormLemmas.{Target-from, Master-parts}
 use Rattle.bridge_header.specs.Windows.{reading_of}
 use Rattle.board_statements.specs.declared.fault.LineFault.{LineFault}
 use Rattle.board_statements.specs.declared.statement.Statement.{Statement}
@@ -33,6 +32,7 @@ use Rattle.board_draft.proofs.HeaderLemmas.{header_formed}
 use Rattle.board_draft.proofs.TargetLemmas.{IsDetailed, range_detail, abort_detail, opening_detail, identity_detail, stalls_detail, burst_detail}
 use Rattle.board_draft.proofs.OpLemmas.{op_formed}
 use Rattle.board_draft.proofs.SoundLemmas.{IsSound, HasPlace, place_by, TargetSound, MasterSound, OwnerSound, owner_closed, with_bridge, with_discard, with_drop}
+use Rattle.board_model.proofs.Laws.{Target-from, Master-parts}
 
 pub record IsDraftSound (draft : Draft) : Type 0 where
   pub board : IsSound draft.board

@@ -12,13 +12,13 @@ use Rattle.board_model.specs.declared.board.Board.{Board}
 use Rattle.board_model.specs.declared.board.Planned.{Planned}
 use Rattle.board_model.specs.Requests.{tries_of}
 use Rattle.board_model.specs.WellFormed.{is_well_formed, is_well_formed_bridge, is_well_formed_target, is_well_formed_master, is_well_formed_plan, are_numbered_apart, are_targets_named_apart, are_masters_named_apart, is_target_named, is_master_named, has_bus, children_on, agents_on, operations_in}
-use Rattle.board_model.proofs.FormLemmas.{WellFormed-from}
 use Rattle.board_statements.specs.declared.fault.LineFault.{LineFault}
 use Rattle.board_draft.specs.declared.draft.Owner.{Owner}
 use Rattle.board_draft.specs.declared.draft.Owner.TheVariants.{Nobody, OfTarget, OfMaster}
 use Rattle.board_draft.specs.Drafts.{with_owner}
 use Rattle.board_draft.specs.Targets.{is_name_used, agent_fault}
 use Rattle.board_draft.proofs.PushLemmas.{all-push, length-push, count-push, numbered-push, masters-push, targets-push, targets-beside}
+use Rattle.board_model.proofs.Laws.{WellFormed-from}
 
 pub record IsSound (board : Board) : Type 0 where
   pub few_bridges : length board.bridges ≤ 31

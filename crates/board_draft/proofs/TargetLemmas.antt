@@ -11,11 +11,11 @@ use Rattle.board_model.specs.declared.agents.Range.{Range}
 use Rattle.board_model.specs.declared.agents.Opening.{Opening}
 use Rattle.board_model.specs.declared.agents.Target.{Target}
 use Rattle.board_model.specs.WellFormed.{is_within, is_range_in, is_well_formed_range, is_dword_in, is_well_formed_opening, registers_of, is_well_formed_target}
-use Rattle.board_model.proofs.FormLemmas.{Within-parts, Target-parts, Target-from}
 use Rattle.board_draft.specs.Targets.{unit_of, end_of, is_in_units, set_identity, set_stalls, set_burst, add_range, add_abort, add_opening}
 use Rattle.board_draft.specs.Formed.{is_size, is_address}
 use Rattle.board_draft.proofs.AddedLemmas.{RangeFits, add_range-ok, add_abort-ok, add_opening-ok}
 use Rattle.board_draft.proofs.PushLemmas.{all-push, length-push}
+use Rattle.board_model.proofs.Laws.{Within-parts, Target-parts, Target-from}
 
 -- the target as before, with its name and bus, and well formed
 pub record IsDetailed (target changed : Target) : Type 0 where

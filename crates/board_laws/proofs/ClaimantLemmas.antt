@@ -20,11 +20,11 @@ use Rattle.board_model.specs.declared.board.Board.{Board}
 use Rattle.board_model.specs.Claims.{range_holds, window_holds, bridge_holds, decodes_down, claim_upwards, claim_by_bridge, claim_by_address, claim_by_header, claim_by_device, claim_by_bus, is_type_0, device_in, bus_in, claim_in_configuration, claim_in_space, claim}
 use Rattle.board_model.specs.WellFormed.{has_bus, are_numbered_apart}
 use Rattle.board_model.specs.Valid.{some_two, are_beside, is_numbered, is_nested, bridges_meet, own_covers, is_reached, window_is_reached, windows_are_reached, last_of, ranges_are_reached, child_meets, targets_meet, ranges_meet, targets_share_a_device, bridges_share_a_device, is_device_of, IsValid}
-use Rattle.board_model.proofs.FormLemmas.{WellFormed-parts}
 use Rattle.board_laws.specs.Claimants.{decodes, decodes_up, is_target_device, is_bridge_device, leads_to, targets_from, lanes_down_that, headers_that, claimants_by_address, claimants_in_configuration, claimants_in, claimants, one_of, OneClaimant}
 use Rattle.board_laws.proofs.StepLemmas.{own_of}
 use Rattle.board_laws.proofs.OneLemmas.{Found, found_any, found_place, filter_none, filter_one, target_list, targets_one}
 use Rattle.board_laws.proofs.SpanLemmas.{Inside, inside_window, Holds, Holds-range, bridge-covers, bridges-meet, targets-meet, child-meets}
+use Rattle.board_model.proofs.Laws.{WellFormed-parts}
 
 -- where no element passes one test, none passes a narrower one
 none_narrower : {X : Type 0} (wide narrow : X → Bool) → ((x : X) → wide x ≡ false → narrow x ≡ false) → (xs : List X) → list_any wide xs ≡ false → list_any narrow xs ≡ false

@@ -8,10 +8,9 @@ pub use Rattle.board_laws.proofs.ClaimantLemmas.{OneClaimant-valid}
 pub use Rattle.board_laws.proofs.ValidLemmas.{IsTree-valid}
 -- a way ends, and each lane of it has a lower rank than the one before
 pub use Rattle.board_laws.proofs.EndLemmas.{WayEnds-tree, rank-falls}
+
 -- facts on the definitions of this crate
 
--- the targets of a well-formed board are formed
-pub use Rattle.board_laws.proofs.ValidLemmas.{targets_formed}
 -- a lane that claims goes up from its bus, or down into a child
 pub use Rattle.board_laws.proofs.StepLemmas.{steps, Up, Down}
 -- the bridge that is found by a number has it

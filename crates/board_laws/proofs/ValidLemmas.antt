@@ -7,8 +7,8 @@ use Rattle.list_facts.proofs.TestLemmas.{Each-list_any}
 use Rattle.board_model.specs.declared.bridge.Bridge.{Bridge}
 use Rattle.board_model.specs.declared.board.Board.{Board}
 use Rattle.board_model.specs.Valid.{is_numbered, is_nested, are_beside, some_two, IsValid}
-use Rattle.board_model.proofs.FormLemmas.{WellFormed-parts}
 use Rattle.board_laws.specs.Trees.{IsTree}
+use Rattle.board_model.proofs.Laws.{WellFormed-parts}
 
 numbered-falls : (parent bus : ℕ) (bounded nested : Bool) → (not (ltb parent bus && bounded) || nested) ≡ false → parent < bus
 numbered-falls parent bus bounded nested none =

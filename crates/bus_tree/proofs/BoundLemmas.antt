@@ -16,9 +16,8 @@ use Rattle.board_model.specs.WellFormed.{is_well_formed_op, is_well_formed_maste
 use Rattle.board_model.specs.Requests.{phases_of, request_on, tries_of, is_posted}
 use Rattle.board_model.specs.Claims.{claim}
 use Rattle.board_model.specs.Ways.{Route, route_by, route_within, route_of, way, end_of, aborts_at, pieces_in, pieces_at, pieces_by, pieces_of, cost_of_try, cost_of, longest_way, bound_of}
-use Rattle.board_model.proofs.FormLemmas.{WellFormed-parts, Target-parts, Master-parts}
-use Rattle.board_model.proofs.OpLemmas.{op_phases}
 use Rattle.bus_tree.specs.Decodable.{IsDecodable}
+use Rattle.board_model.proofs.Laws.{WellFormed-parts, Target-parts, Master-parts, op_phases}
 
 -- A way takes at most as many lanes as the board has bridges.
 

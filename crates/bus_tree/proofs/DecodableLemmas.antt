@@ -8,9 +8,9 @@ use Rattle.board_model.specs.declared.bridge.Bridge.{Bridge}
 use Rattle.board_model.specs.declared.board.Board.{Board}
 use Rattle.board_model.specs.WellFormed.{is_well_formed_bridge, is_well_formed_target, is_well_formed}
 use Rattle.board_model.specs.Valid.{lacks_a_bus, is_numbered, is_nested, is_no_tree, IsValid}
-use Rattle.board_model.proofs.FormLemmas.{WellFormed-parts, Target-parts}
 use Rattle.bus_tree.specs.Decodable.{IsReadBack, IsDecodable}
 use Rattle.bus_tree.proofs.FewLemmas.{few_targets}
+use Rattle.board_model.proofs.Laws.{WellFormed-parts, Target-parts}
 
 numbered : (ordered nested : Bool) → (not ordered || not nested) ≡ false → ordered ≡ true
 numbered true nested none = refl

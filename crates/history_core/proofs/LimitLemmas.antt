@@ -5,7 +5,7 @@ use Rattle.board_model.specs.declared.op.Op.{Op}
 use Rattle.board_model.specs.declared.board.Board.{Board}
 use Rattle.board_model.specs.Requests.{op_of}
 use Rattle.board_model.specs.WellFormed.{is_well_formed}
-use Rattle.board_model.proofs.OpLemmas.{op_limits}
+use Rattle.board_model.proofs.Laws.{op_limits}
 
 some_op : (board : Board) (o : OpId) (found : Option Op) → op_of board o ≡ found → IsSome found → is_well_formed board ≡ true → (o.index < 1024) × (o.attempt < 65536)
 some_op board o None at there formed = cc

@@ -18,12 +18,11 @@ use Rattle.board_model.specs.declared.board.Planned.{Planned}
 use Rattle.board_model.specs.WellFormed.{is_well_formed, is_well_formed_op, is_well_formed_master, is_well_formed_plan}
 use Rattle.board_model.specs.Requests.{op_of, phases_of, request_on, tries_of, is_posted}
 use Rattle.board_model.specs.Ways.{way, pieces_of, cost_of, longest_way, bound_of}
-use Rattle.board_model.proofs.FormLemmas.{WellFormed-parts, Master-parts, Within-parts}
-use Rattle.board_model.proofs.OpLemmas.{op_tries}
 use Rattle.history_model.specs.World.{world_of}
 use Rattle.history_model.specs.Program.{turn_of}
 use Rattle.history_model.specs.Left.{bridge_left, delayed_left, op_left, program_left, programs_left, stalls_left, discard_left, drop_left, left_of}
 use Rattle.law_bound.specs.Begins.{IsTried, Begins}
+use Rattle.board_model.proofs.Laws.{WellFormed-parts, Master-parts, Within-parts, op_tries}
 
 -- A posted write is tried once, and of a delayed request no lane holds a slot.
 

@@ -25,10 +25,10 @@ use Rattle.history_model.specs.declared.item.Answer.TheVariants.{Gives}
 use Rattle.history_model.specs.Words.{phases_parted, parted_by, through}
 use Rattle.history_model.specs.Answers.{answer}
 use Rattle.history_model.specs.Runs.{Allowed, Run}
-use Rattle.law_slots.proofs.PartLemmas.{PartLeft, answered_part}
-use Rattle.law_slots.proofs.RequestLemmas.{same_op_true, request_is_of}
 use Rattle.law_order.specs.Order.{is_posted_in, is_posted_op}
 use Rattle.law_order.proofs.BurstLemmas.{read_not_posted, op_formed, masters_formed}
+use Rattle.law_slots.proofs.Laws.{PartLeft, answered_part}
+use Rattle.history_facts.proofs.RequestLemmas.{same_op_true, request_is_of}
 
 module _ (board : Board) (o : OpId) (op : Op) (is_op : op_of board o ≡ Some op) where
   -- what goes through in a part is less than what is left

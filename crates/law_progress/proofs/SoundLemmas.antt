@@ -7,7 +7,6 @@ use Rattle.board_model.specs.declared.bridge.Bridge.{Bridge}
 use Rattle.board_model.specs.declared.board.Board.{Board}
 use Rattle.board_model.specs.WellFormed.{has_bus, is_well_formed_bridge, is_well_formed}
 use Rattle.board_model.specs.Valid.{IsValid}
-use Rattle.board_model.proofs.FormLemmas.{WellFormed-parts, Bridge-parts}
 use Rattle.board_laws.specs.Trees.{IsTree}
 use Rattle.board_laws.proofs.Laws.{IsTree-valid}
 use Rattle.history_model.specs.Answers.{bridge_to}
@@ -16,6 +15,7 @@ use Rattle.law_slots.specs.Phases.{DelayedAreSingle}
 use Rattle.law_slots.proofs.Laws.{WellFormed-numbers, WellFormed-single}
 use Rattle.law_order.specs.OnWay.{WritesHaveOneClaimant}
 use Rattle.law_order.proofs.Laws.{OneClaimant-formed}
+use Rattle.board_model.proofs.Laws.{WellFormed-parts, Bridge-parts}
 
 -- a bridge keeps at least one posted write and one delayed request
 abbrev pub HasRoom : Bridge → Type 0

@@ -30,10 +30,13 @@ pub use Rattle.law_slots.proofs.MatchedRunLemmas.{Matched-run}
 pub use Rattle.law_slots.proofs.LawfulLemmas.{Lawful-run}
 -- a well-formed board has different numbers, depths to eight, and single delayed requests
 pub use Rattle.law_slots.proofs.WellFormedLemmas.{WellFormed-numbers, WellFormed-depths, WellFormed-single}
+
 -- facts on the definitions of this crate
 
 -- who presents an operation is on the bus
 pub use Rattle.law_slots.proofs.LatchedLemmas.{wants-at}
+-- a request that is taken in parts has more data phases left
+pub use Rattle.law_slots.proofs.PartLemmas.{PartLeft, answered_part}
 -- a number weighs one for itself, and finds its slot
 pub use Rattle.law_slots.proofs.HeldLemmas.{hit-same}
 pub use Rattle.law_slots.proofs.OneItemLemmas.{Each-found_itself, ask_found}

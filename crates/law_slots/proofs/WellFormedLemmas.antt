@@ -16,9 +16,9 @@ use Rattle.board_model.specs.declared.op.Op.{Op}
 use Rattle.board_model.specs.declared.op.Op.TheVariants.{Read, Write, CfgRead, CfgWrite, Poll}
 use Rattle.board_model.specs.declared.board.Board.{Board}
 use Rattle.board_model.specs.WellFormed.{is_well_formed_bridge, write_space, is_well_formed_write, is_well_formed_op, is_well_formed_master, has_bus, are_numbered_apart, is_well_formed}
-use Rattle.board_model.proofs.FormLemmas.{WellFormed-parts, Bridge-parts, Master-parts}
 use Rattle.law_slots.specs.Depths.{same_number, DifferentNumbers, DepthsToEight}
 use Rattle.law_slots.specs.Phases.{IsPostedOrSingle, DelayedAreSingle}
+use Rattle.board_model.proofs.Laws.{WellFormed-parts, Bridge-parts, Master-parts}
 
 none_has : (bus : ℕ) (bridge : Bridge) (bridges : List Bridge) → bridge.bus ≡ bus → list_any (has_bus bus) bridges ≡ false → AllByRecursion (λ (other : Bridge). same_number bridge other ≡ false) bridges
 none_has bus bridge [] same none = tt

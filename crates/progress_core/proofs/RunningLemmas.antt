@@ -4,12 +4,12 @@ use Rattle.std.proofs.lemmas.Bool.Decides.{nat_tests}
 use Rattle.board_model.specs.declared.board.Board.{Board}
 use Rattle.board_model.specs.Ways.{bound_of}
 use Rattle.board_model.specs.Valid.{IsValid}
-use Rattle.board_model.proofs.FormLemmas.{WellFormed-parts}
 use Rattle.bus_tree.proofs.DecodableLemmas.{IsDecodable-valid}
 use Rattle.history_model.specs.declared.event.Event.{Event}
 use Rattle.history_model.specs.Runs.{Run}
 use Rattle.law_slots.proofs.Laws.{Within-eight, WellFormed-depths}
 use Rattle.progress_core.specs.Running.{IsRunning}
+use Rattle.board_model.proofs.Laws.{WellFormed-parts}
 
 not_above : (most n : ℕ) → nat_lt most n ≡ false → n ≤ most
 not_above most n none = grind (arith, nat_tests)

@@ -6,7 +6,6 @@ use Rattle.std.proofs.lemmas.Bool.{lt-ltb}
 use Rattle.std.proofs.lemmas.List.{append-nil}
 use Rattle.board_model.specs.declared.board.Board.{Board}
 use Rattle.board_model.specs.WellFormed.{is_well_formed, IsWellFormed}
-use Rattle.board_model.proofs.FormLemmas.{WellFormed-parts}
 use Rattle.board_text.specs.Lines.{line_fault, lines_of}
 use Rattle.board_text.specs.Tokens.{words_of}
 use Rattle.board_printer.specs.Lines.{Line, text_of}
@@ -31,6 +30,7 @@ use Rattle.roundtrip_board.proofs.TargetSteps.{target_step}
 use Rattle.roundtrip_board.proofs.MasterSteps.{master_step}
 use Rattle.roundtrip_board.proofs.PlanSteps.{discard_step, drop_step}
 use Rattle.roundtrip_words.proofs.Laws.{line_is}
+use Rattle.board_model.proofs.Laws.{WellFormed-parts}
 
 -- the lines behind the first
 abbrev lines_behind : Board → List Line

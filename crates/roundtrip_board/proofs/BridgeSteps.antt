@@ -7,7 +7,6 @@ use Rattle.board_model.specs.declared.bridge.Window.{Window}
 use Rattle.board_model.specs.declared.bridge.Bridge.{Bridge}
 use Rattle.board_model.specs.declared.board.Board.{Board}
 use Rattle.board_model.specs.WellFormed.{is_window, is_well_formed_bridge, has_bus, children_on, IsWellFormed}
-use Rattle.board_model.proofs.FormLemmas.{Window-parts, Bridge-parts}
 use Rattle.board_printer.specs.Bridges.{bridge_line}
 use Rattle.board_printer.specs.Boards.{is_short_bridge}
 use Rattle.board_statements.specs.declared.statement.Statement.TheVariants.{NewBridge}
@@ -18,6 +17,7 @@ use Rattle.board_draft.specs.Bridges.{is_whole, are_windows_whole, is_ordered, a
 use Rattle.roundtrip_board.proofs.LeadLemmas.{Steps, leads-line}
 use Rattle.roundtrip_board.proofs.PlaceLemmas.{each_of, all_of, may_of, length_of, count_of, numbered_of}
 use Rattle.roundtrip_board.proofs.StateLemmas.{so_far, Of, skip}
+use Rattle.board_model.proofs.Laws.{Window-parts, Bridge-parts}
 
 window_by : (unit end : ℕ) (window : Option Window) → is_window unit end window ≡ true → (is_whole unit window ≡ true) × (is_ordered window ≡ true)
 window_by unit end None h = (refl, refl)

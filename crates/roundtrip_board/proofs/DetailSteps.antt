@@ -12,7 +12,6 @@ use Rattle.board_model.specs.declared.agents.Opening.{Opening}
 use Rattle.board_model.specs.declared.agents.Target.{Target}
 use Rattle.board_model.specs.declared.board.Board.{Board}
 use Rattle.board_model.specs.WellFormed.{is_block, is_range_in, is_well_formed_range, is_dword_in, is_well_formed_opening, registers_of, IsWellFormedTarget}
-use Rattle.board_model.proofs.FormLemmas.{Block-parts}
 use Rattle.board_printer.specs.Lines.{Line}
 use Rattle.board_printer.specs.Numbers.{half_text}
 use Rattle.board_printer.specs.Targets.{id_lines, stall_lines, burst_lines, range_line, opening_line}
@@ -31,6 +30,7 @@ use Rattle.board_draft.specs.Add.{add}
 use Rattle.roundtrip_board.proofs.LeadLemmas.{Leads, Steps, leads-none, leads-to, leads-line}
 use Rattle.roundtrip_board.proofs.PlaceLemmas.{each_of, all_of, may_of, length_of, total_of}
 use Rattle.roundtrip_board.proofs.StateLemmas.{holding, Is, skip}
+use Rattle.board_model.proofs.Laws.{Block-parts}
 
 -- the target with so much of it
 abbrev pub part_of : Target → ℕ → ℕ → ℕ → ℕ → List Range → List Range → List Opening → Target

@@ -10,7 +10,6 @@ use Rattle.board_model.specs.declared.agents.Master.{Master}
 use Rattle.board_model.specs.declared.board.Board.{Board}
 use Rattle.board_model.specs.Requests.{tries_of}
 use Rattle.board_model.specs.WellFormed.{is_well_formed_op, is_well_formed_master, agents_on, operations_in, IsWellFormed}
-use Rattle.board_model.proofs.FormLemmas.{Master-parts}
 use Rattle.board_printer.specs.Masters.{op_line, master_line, master_lines}
 use Rattle.board_printer.specs.Boards.{is_short_op}
 use Rattle.board_statements.specs.declared.fault.LineFault.{LineFault}
@@ -30,6 +29,7 @@ use Rattle.roundtrip_board.proofs.PlaceLemmas.{each_of, all_of, may_of, length_o
 use Rattle.roundtrip_board.proofs.StateLemmas.{so_far, Of, holding, Is}
 use Rattle.roundtrip_board.proofs.OpSteps.{op_adds}
 use Rattle.roundtrip_board.proofs.TargetSteps.{no_agent_fault}
+use Rattle.board_model.proofs.Laws.{Master-parts}
 
 -- the master with so many of its operations
 abbrev program_of : Master → List Op → Master

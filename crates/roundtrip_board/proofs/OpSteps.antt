@@ -10,10 +10,10 @@ use Rattle.board_model.specs.declared.op.Op.TheVariants.{Read, Write, CfgRead, C
 use Rattle.board_model.specs.declared.agents.Master.{Master}
 use Rattle.board_model.specs.Requests.{tries_of}
 use Rattle.board_model.specs.WellFormed.{is_within, is_dword_in, read_space, write_space, is_well_formed_read, is_burst_in, is_well_formed_write, is_well_formed_op}
-use Rattle.board_model.proofs.FormLemmas.{Write-parts}
 use Rattle.board_draft.specs.Masters.{is_aligned, passes_block, add_op}
 use Rattle.roundtrip_board.proofs.StateLemmas.{skip}
 use Rattle.roundtrip_board.proofs.DetailSteps.{aligned_by}
+use Rattle.board_model.proofs.Laws.{Write-parts}
 
 read_by : (address : ℕ) (space : Option Space) → is_well_formed_read address space ≡ true → (address % 4 == 0) ≡ true
 read_by address None formed = absurd (let apart : false ≡ true = formed in cc)

@@ -6,7 +6,6 @@ use Rattle.std.proofs.lemmas.Bool.{or_from, lt-leb, leb-true, eq-eqb}
 use Rattle.board_model.specs.declared.agents.Target.{Target}
 use Rattle.board_model.specs.declared.board.Board.{Board}
 use Rattle.board_model.specs.WellFormed.{IsWellFormed, is_well_formed_target, is_target_named, is_master_named, agents_on}
-use Rattle.board_model.proofs.FormLemmas.{Target-parts}
 use Rattle.board_printer.specs.Targets.{target_line, id_lines, stall_lines, burst_lines, range_line, opening_line, target_lines}
 use Rattle.board_printer.specs.Boards.{is_short_range, is_short_target}
 use Rattle.board_statements.specs.declared.fault.LineFault.{LineFault}
@@ -22,6 +21,7 @@ use Rattle.roundtrip_board.proofs.LeadLemmas.{Leads, Steps, leads-append, leads-
 use Rattle.roundtrip_board.proofs.PlaceLemmas.{each_of, all_of, may_of, count_of, targets_of}
 use Rattle.roundtrip_board.proofs.StateLemmas.{so_far, Of, holding}
 use Rattle.roundtrip_board.proofs.DetailSteps.{part_of, Has, id_leads, stall_leads, burst_leads, range_step, abort_step, opening_step}
+use Rattle.board_model.proofs.Laws.{Target-parts}
 
 pass : (test : Bool) (fault : LineFault) (step : Option LineFault) → test ≡ false → cond test (Some fault) step ≡ step
 pass true fault step h = absurd (cc)

@@ -7,7 +7,6 @@ use Rattle.std.proofs.lemmas.Bool.{lt-ltb, eqb-true}
 use Rattle.board_model.specs.declared.bridge.Window.{Window}
 use Rattle.board_model.specs.declared.bridge.Bridge.{Bridge}
 use Rattle.board_model.specs.WellFormed.{is_window, is_well_formed_bridge}
-use Rattle.board_model.proofs.FormLemmas.{Window-parts, Bridge-parts}
 use Rattle.board_printer.specs.Numbers.{address_text}
 use Rattle.board_printer.specs.Bridges.{window_words, depth_words, mode_words, bridge_line}
 use Rattle.board_printer.specs.Boards.{is_short, is_short_window, is_short_bridge}
@@ -21,6 +20,7 @@ use Rattle.roundtrip_lines.specs.Ranges.{BridgeFits}
 use Rattle.roundtrip_lines.proofs.NumberTexts.{decimal_is_read}
 use Rattle.roundtrip_lines.proofs.PartTexts.{address_is_read, address_has_none}
 use Rattle.roundtrip_lines.proofs.TargetTexts.{first_may, second_may}
+use Rattle.board_model.proofs.Laws.{Window-parts, Bridge-parts}
 
 -- a word with no such byte does not begin with one
 not_this : (mark : ℕ) (word rest : List ℕ) → has_mark mark word ≡ false → bytes_eq word (mark ∷ rest) ≡ false

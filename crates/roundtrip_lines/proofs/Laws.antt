@@ -16,7 +16,6 @@ use Rattle.board_model.specs.declared.op.Op.TheVariants.{Read, Write, CfgRead, C
 use Rattle.board_model.specs.declared.board.Board.{Board}
 use Rattle.board_model.specs.declared.board.Planned.{Planned}
 use Rattle.board_model.specs.WellFormed.{is_well_formed_bridge, is_well_formed_target, is_well_formed_range, is_well_formed_opening, is_well_formed_op, is_well_formed_plan}
-use Rattle.board_model.proofs.FormLemmas.{Bridge-parts, Target-parts}
 use Rattle.board_printer.specs.Lines.{Line, line_text}
 use Rattle.board_printer.specs.Numbers.{half_text}
 use Rattle.board_printer.specs.Bridges.{bridge_line}
@@ -38,6 +37,7 @@ use Rattle.roundtrip_lines.proofs.AllowedTexts.{width, line_is_allowed}
 use Rattle.roundtrip_lines.proofs.WidthTexts.{decimal_width, half_width, target_width, master_width, range_width, opening_width, op_width, plan_width, bridge_width}
 use Rattle.roundtrip_lines.proofs.PlainTexts.{DecimalsFit, target_plain, master_plain, range_plain, opening_plain, op_plain, plan_plain, bridge_plain}
 use Rattle.roundtrip_words.proofs.Laws.{four_word, decimal_word}
+use Rattle.board_model.proofs.Laws.{Bridge-parts, Target-parts}
 
 abbrev statement_so : Statement → Result Statement LineFault
 statement_so statement = Ok statement

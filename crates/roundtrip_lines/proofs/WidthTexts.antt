@@ -21,7 +21,6 @@ use Rattle.board_model.specs.declared.op.Op.{Op}
 use Rattle.board_model.specs.declared.op.Op.TheVariants.{Read, Write, CfgRead, CfgWrite, Poll}
 use Rattle.board_model.specs.declared.board.Planned.{Planned}
 use Rattle.board_model.specs.WellFormed.{is_well_formed_op}
-use Rattle.board_model.proofs.OpLemmas.{op_phases}
 use Rattle.board_printer.specs.Numbers.{word_text, half_text, address_text, enables_text, phase_text}
 use Rattle.board_printer.specs.Spaces.{space_word, poll_word, command_word, direction_word}
 use Rattle.board_printer.specs.Bridges.{window_words, depth_words, mode_words, option_words, bridge_line}
@@ -33,6 +32,7 @@ use Rattle.roundtrip_lines.proofs.PartTexts.{word_length}
 use Rattle.roundtrip_lines.proofs.PlainTexts.{DecimalsFit}
 use Rattle.roundtrip_lines.proofs.AllowedTexts.{width, width-append}
 use Rattle.roundtrip_words.proofs.Laws.{hex_length}
+use Rattle.board_model.proofs.Laws.{op_phases}
 
 pub decimal_width : (n : ℕ) → n < 2 ^ 32 → length (decimal n) ≤ 10
 decimal_width n below = length-decimal-le 10 n (omega arith) (omega arith) (omega arith)

@@ -11,7 +11,6 @@ use Rattle.board_model.specs.declared.agents.Master.{Master}
 use Rattle.board_model.specs.declared.board.Board.{Board}
 use Rattle.board_model.specs.Requests.{op_of}
 use Rattle.board_model.specs.WellFormed.{is_well_formed}
-use Rattle.board_model.proofs.FormLemmas.{WellFormed-parts}
 use Rattle.roundtrip_words.specs.Printed.{is_word_byte, is_word}
 use Rattle.roundtrip_lines.specs.Fits.{ProgramFits, BoardFits}
 use Rattle.trace_text.specs.Words.{master_name, names_poll, try_text, op_word}
@@ -23,6 +22,7 @@ use Rattle.roundtrip_names.proofs.PlaceLemmas.{masters_apart, place_found}
 use Rattle.roundtrip_names.proofs.MarkLemmas.{split_at_dot, number_has_no_dot}
 use Rattle.roundtrip_names.proofs.ThereLemmas.{There, op_is_there}
 use Rattle.roundtrip_words.proofs.Laws.{decimal_word}
+use Rattle.board_model.proofs.Laws.{WellFormed-parts}
 
 -- the name of the master of an operation is a name
 name_of : (board : Board) (o : OpId) (there : There board o) → BoardFits board → NameWord there.master.name

@@ -3,13 +3,13 @@ use Rattle.std.proofs.Common.{◌≡◌, ℕ, ◌^◌, ◌<◌, true, length, So
 use Rattle.board_model.specs.declared.agents.Target.{Target}
 use Rattle.board_model.specs.declared.board.Board.{Board}
 use Rattle.board_model.specs.WellFormed.{is_well_formed}
-use Rattle.board_model.proofs.FormLemmas.{WellFormed-parts}
 use Rattle.roundtrip_lines.specs.Fits.{DetailsFit, BoardFits}
 use Rattle.trace_text.specs.Words.{target_name}
 use Rattle.trace_lines.specs.Words.{target_in}
 use Rattle.roundtrip_names.proofs.NameLemmas.{NameWord, name_is_word}
 use Rattle.roundtrip_names.proofs.PartLemmas.{each_at}
 use Rattle.roundtrip_names.proofs.PlaceLemmas.{targets_apart, place_found, element_at}
+use Rattle.board_model.proofs.Laws.{WellFormed-parts}
 
 -- the name of a target that is there is a name
 pub target_is_word : (board : Board) (index : ℕ) → BoardFits board → index < length board.targets → NameWord (target_name board index)

@@ -8,8 +8,8 @@ use Rattle.board_model.specs.declared.agents.Master.{Master}
 use Rattle.board_model.specs.declared.board.Board.{Board}
 use Rattle.board_model.specs.Requests.{op_of, tries_of}
 use Rattle.board_model.specs.WellFormed.{is_well_formed}
-use Rattle.board_model.proofs.OpLemmas.{op_there, op_limits}
 use Rattle.trace_text.specs.Words.{is_poll, names_poll}
+use Rattle.board_model.proofs.Laws.{op_there, op_limits}
 
 -- the master of an operation that is there, its small numbers, and one try alone where it is no poll
 pub record There (board : Board) (o : OpId) : Type 0 where

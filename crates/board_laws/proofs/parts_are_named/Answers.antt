@@ -1,4 +1,4 @@
-use Rattle.board_model.proofs.FormLemmas.{Bridge-parts, Bridge-from, Window-parts, Window-from, Target-parts, Target-from, Block-parts, Block-from, Master-parts, Master-from}
+use Rattle.board_model.proofs.Laws.{Bridge-parts, Bridge-from, Window-parts, Window-from, Target-parts, Target-from, Block-parts, Block-from, Master-parts, Master-from}
 use Rattle.board_laws.proofs.parts_are_named.Goals as goal
 
 pub returns : goal.returns

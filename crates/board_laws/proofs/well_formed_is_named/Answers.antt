@@ -1,4 +1,4 @@
-use Rattle.board_model.proofs.FormLemmas.{WellFormed-parts, WellFormed-from}
+use Rattle.board_model.proofs.Laws.{WellFormed-parts, WellFormed-from}
 use Rattle.board_laws.proofs.well_formed_is_named.Goals as goal
 
 pub returns : goal.returns
