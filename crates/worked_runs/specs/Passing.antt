@@ -5,11 +5,13 @@ use Rattle.pci_command.specs.declared.command.Space.TheVariants.{Mem, Io}
 use Rattle.pci_command.specs.declared.op_id.OpId.{OpId}
 use Rattle.pci_command.specs.declared.op_id.Outcome.TheVariants.{Written}
 use Rattle.board_model.specs.declared.bridge.Place.TheVariants.{Target, Lane}
+use Rattle.board_model.specs.declared.op.Op.{Op}
 use Rattle.board_model.specs.declared.op.Op.TheVariants.{Read as ReadOp, Write as WriteOp}
 use Rattle.board_model.specs.declared.board.Board.{Board}
 use Rattle.history_model.specs.declared.event.By.TheVariants.{Master, Lane as ByLane}
 use Rattle.history_model.specs.declared.event.Mark.TheVariants.{Plain}
-use Rattle.history_model.specs.declared.event.Step.TheVariants.{Land, Read, Accept, Latch, Take, Stall}
+use Rattle.history_model.specs.declared.event.Step.{Step}
+use Rattle.history_model.specs.declared.event.Step.TheVariants.{Land, Accept, Latch, Take, Stall}
 use Rattle.history_model.specs.declared.event.Event.{Event}
 use Rattle.history_model.specs.declared.event.Event.TheVariants.{Act, Arrive}
 
@@ -82,12 +84,11 @@ passing_events =
     Arrive (record { bus = 1; up = false }) Plain ∷
     []
 
--- a posted write and a read of its dword, both by one master
-abbrev pub behind_board : Board
-behind_board =
+-- a posted write, and another operation of its master behind it
+abbrev pub behind_board : Op → Board
+behind_board second =
     record {
-      bridges =
-          record { bus = 1; parent = 0; device = 1; last = 1; mem = None; pref = None; io = None; posted = 4; delayed = 4; mode = false } ∷ [];
+      bridges = record { bus = 1; parent = 0; device = 1; last = 1; mem = None; pref = None; io = None; posted = 4; delayed = 4; mode = false } ∷ [];
       targets =
           record {
             name = codes "ram";
@@ -97,7 +98,7 @@ behind_board =
             model = 0x1;
             stalls = 0;
             burst = 8;
-            ranges = record { space = Mem; base = 0x10000000; size = 0x1000 } ∷ [];
+            ranges = record { space = Mem; base = 0x10000000; size = 0x1000 } ∷ record { space = Io; base = 0x1000; size = 0x10 } ∷ [];
             aborts = [];
             openings = [];
           } ∷ [];
@@ -105,18 +106,29 @@ behind_board =
           record {
             name = codes "dev";
             bus = 1;
-            ops = WriteOp MemWrite 0x10000000 (record { value = 0x9; enables = 15 } ∷ []) ∷ ReadOp MemRead 0x10000000 ∷ [];
+            ops = WriteOp MemWrite 0x10000000 (record { value = 0x9; enables = 15 } ∷ []) ∷ second ∷ [];
           } ∷ [];
       discards = [];
       drops = [];
     }
 
--- the read is presented before the posted write that stands before it
-abbrev pub behind_events : List Event
-behind_events =
+-- a read of the dword that the posted write changes, a write in I/O space, and a second posted write
+abbrev pub read_behind : Op
+read_behind = ReadOp MemRead 0x10000000
+
+abbrev pub io_write_behind : Op
+io_write_behind = WriteOp IoWrite 0x1000 (record { value = 0x1; enables = 15 } ∷ [])
+
+abbrev pub write_behind : Op
+write_behind = WriteOp MemWrite 0x10000004 (record { value = 0xa; enables = 15 } ∷ [])
+
+-- the second operation enters the lane by the one step, and ends by the other before the posted write that stands
+-- before it
+abbrev pub behind_events : Step → Step → List Event
+behind_events enters ends =
     Act 1 Master (op 0 0 0) Accept (Lane (record { bus = 1; up = true })) ∷
-    Act 1 Master (op 0 1 0) Latch (Lane (record { bus = 1; up = true })) ∷
+    Act 1 Master (op 0 1 0) enters (Lane (record { bus = 1; up = true })) ∷
     Arrive (record { bus = 1; up = true }) Plain ∷
     Arrive (record { bus = 1; up = true }) Plain ∷
-    Act 0 (ByLane (record { bus = 1; up = true })) (op 0 1 0) (Read 0x0) (Target 0) ∷
+    Act 0 (ByLane (record { bus = 1; up = true })) (op 0 1 0) ends (Target 0) ∷
     []

@@ -3,6 +3,7 @@
 
 ghost use Rattle.std.specs.Prelude.{◌≡◌, ℕ, false, IsTrue, [], ◌∷◌, ◌++◌, map, take, reverse};
 ghost use Rattle.board_model.specs.Ways.{bound_of};
+ghost use Rattle.history_model.specs.declared.event.Step.TheVariants.{Land, Read, Accept, Latch};
 ghost use Rattle.history_model.specs.Runs.{Run, Complete, history_of};
 ghost use Rattle.history_model.specs.Local.{Matched};
 ghost use Rattle.history_model.specs.Knowledge.{Told, saw};
@@ -18,7 +19,7 @@ ghost use Rattle.worked_runs.specs.Unclaimed.{unclaimed_board, unclaimed_events,
 ghost use Rattle.worked_runs.specs.Discards.{discarded_board, discarded_events, landed_twice_board, landed_twice_events, dropped_board, dropped_events};
 ghost use Rattle.worked_runs.specs.Registers.{registers_board, registers_events};
 ghost use Rattle.worked_runs.specs.Wide.{wide_board, wide_events};
-ghost use Rattle.worked_runs.specs.Passing.{passing_board, passing_events, behind_board, behind_events};
+ghost use Rattle.worked_runs.specs.Passing.{passing_board, passing_events, behind_board, behind_events, read_behind, io_write_behind, write_behind};
 ghost use Rattle.worked_runs.specs.Crossing.{crossing_board, crossing_events, crossing_posted_board, crossing_posted_events};
 ghost use Rattle.worked_runs.specs.Stealing.{stealing_board, stealing_events, held_back_events};
 
@@ -135,11 +136,19 @@ pub fn completion_waits_for_posted_write()
     ensures behind { ¬ Run flag_board (history_of (take 11 flag_events ++ early_completion ∷ [])) }
 {}
 
-/// Neither does a delayed read request. It guards the entry for a read request behind a posted
+/// Neither does a delayed request, to read or to write. It guards the entries for both behind a posted
 /// write: No.
 pub fn request_waits_for_posted_write()
-    ensures before { Run behind_board (history_of (take 4 behind_events)) }
-    ensures behind { ¬ Run behind_board (history_of behind_events) }
+    ensures read_before { Run (behind_board read_behind) (history_of (take 4 (behind_events Latch (Read 0)))) }
+    ensures read { ¬ Run (behind_board read_behind) (history_of (behind_events Latch (Read 0))) }
+    ensures write_before { Run (behind_board io_write_behind) (history_of (take 4 (behind_events Latch Land))) }
+    ensures write { ¬ Run (behind_board io_write_behind) (history_of (behind_events Latch Land)) }
+{}
+
+/// Nor does a younger posted write. It guards the entry for two posted writes: No.
+pub fn posted_write_waits_for_posted_write()
+    ensures before { Run (behind_board write_behind) (history_of (take 4 (behind_events Accept Land))) }
+    ensures behind { ¬ Run (behind_board write_behind) (history_of (behind_events Accept Land)) }
 {}
 
 /// A write's completion passes a posted write that its target stalls. It guards the entry for a
