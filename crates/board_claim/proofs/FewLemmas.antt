@@ -1,5 +1,5 @@
 -- A well-formed board has at most eight agents on a bus, so at most 2,048 targets and as many masters.
-use Rattle.std.proofs.Common.{◌≡◌, ℕ, Bool, true, false, ◌+◌, ◌*◌, ◌<◌, ◌≤◌, List, [], ◌∷◌, take, get_or, length, suc, zero, refl, subst, arith, lit≤, ◌&&◌, ◌==◌, nat_le, nat_lt, count_by, cond, ◌⊎◌, inl, inr}
+use Rattle.std.proofs.Common.{◌≡◌, ℕ, Bool, true, false, ◌+◌, ◌*◌, ◌<◌, ◌≤◌, List, [], ◌∷◌, take, get_or, length, suc, zero, refl, subst, arith, lit≤, ◌==◌, nat_le, nat_lt, count_by, cond, ◌⊎◌, inl, inr}
 use Rattle.std.specs.List.{list_all, AllByRecursion}
 use Rattle.std.proofs.lemmas.Bool.{and_parts, leb-true}
 use Rattle.std.proofs.lemmas.Bool.Decides.{nat_tests}

@@ -1,6 +1,6 @@
 -- Of all who would claim a request on a bus of a valid board there is at most one.
 use Rattle.std.proofs.Common.{◌≡◌, ℕ, ◌≤◌, Bool, true, false, cond, eqb, leb, not, ◌&&◌, ◌||◌, List, [], ◌∷◌, ◌++◌, length, map, filter, Option, Some, None, option_to_list, refl, subst, ⊎_elim, arith, eqb-true}
-use Rattle.std.specs.List.{find, list_any, list_all, position_from, AllByRecursion}
+use Rattle.std.specs.List.{find, list_any, position_from}
 use Rattle.std.proofs.lemmas.Bool.{and_parts, and_from, or_parts, or_cases}
 use Rattle.std.proofs.lemmas.Bool.Decides.{nat_tests}
 use Rattle.list_facts.proofs.FindLemmas.{find_passes}

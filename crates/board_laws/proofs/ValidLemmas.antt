@@ -1,5 +1,5 @@
 -- A valid board is a tree.
-use Rattle.std.proofs.Common.{◌≡◌, ℕ, ◌<◌, Bool, true, false, ltb, not, ◌&&◌, ◌||◌, List, [], ◌∷◌, refl, ltb-true}
+use Rattle.std.proofs.Common.{◌≡◌, ℕ, ◌<◌, Bool, true, false, ltb, not, ◌&&◌, ◌||◌, refl, ltb-true}
 use Rattle.std.specs.List.{list_any}
 use Rattle.std.proofs.lemmas.Bool.{or_parts}
 use Rattle.list_facts.proofs.EachLemmas.{Each-weaker}

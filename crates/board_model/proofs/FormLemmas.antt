@@ -1,5 +1,5 @@
 -- What is well formed, by name: from each test the record beside it, and back.
-use Rattle.std.proofs.Common.{◌≡◌, ℕ, ◌^◌, true, List, length, Some}
+use Rattle.std.proofs.Common.{◌≡◌, ℕ, true, List, Some}
 use Rattle.std.proofs.lemmas.Bool.{and_parts, and_from, leb-true, le-leb, ltb-true, lt-ltb}
 use Rattle.pci_command.specs.declared.command.Space.{Space}
 use Rattle.pci_command.specs.declared.phases.Phase.{Phase}

@@ -1,8 +1,6 @@
 -- All data phases of a write in memory have one claimant, on a well-formed board.
-use Rattle.std.proofs.Common.{◌≡◌, ℕ, ◌+◌, ◌*◌, ◌/◌, ◌%◌, ◌<◌, ◌≤◌, Bool, true, ◌&&◌, cond, nat_le, nat_lt, List, length, Option, Some, None, refl, sym, subst, arith, slice_get}
-use Rattle.std.specs.List.{list_all, list_any, AllByRecursion}
-use Rattle.std.specs.Option.{option_and_then}
-use Rattle.std.proofs.lemmas.Option.{cond_some}
+use Rattle.std.proofs.Common.{◌≡◌, ℕ, ◌+◌, ◌*◌, ◌/◌, ◌%◌, ◌<◌, ◌≤◌, true, nat_le, List, length, sym, subst, arith}
+use Rattle.std.specs.List.{list_any}
 use Rattle.std.proofs.lemmas.Bool.{and_parts, leb-true}
 use Rattle.list_facts.proofs.TestLemmas.{list_all-get}
 use Rattle.pci_command.specs.declared.command.Command.{Command}
@@ -11,18 +9,16 @@ use Rattle.pci_command.specs.declared.command.Space.{Space}
 use Rattle.pci_command.specs.declared.command.Space.TheVariants.{Mem, Io, Cfg}
 use Rattle.pci_command.specs.declared.phases.Phase.{Phase}
 use Rattle.pci_command.specs.declared.request.Request.{Request}
-use Rattle.pci_command.specs.declared.op_id.OpId.{OpId}
 use Rattle.pci_command.specs.Command.{plain_of, space_of}
 use Rattle.pci_command.specs.Same.{same_command}
-use Rattle.board_model.specs.declared.agents.Master.{Master}
 use Rattle.board_model.specs.declared.agents.Target.{Target as TargetAgent}
 use Rattle.board_model.specs.Ways.{aborts_at}
 use Rattle.board_model.specs.declared.op.Op.{Op}
 use Rattle.board_model.specs.declared.op.Op.TheVariants.{Read, Write, CfgRead, CfgWrite, Poll}
 use Rattle.board_model.specs.declared.board.Board.{Board}
-use Rattle.board_model.specs.Requests.{tries_of, op_of, command_of, address_on, phases_of, request_on, is_posted}
+use Rattle.board_model.specs.Requests.{command_of, address_on, phases_of, request_on, is_posted}
 use Rattle.board_model.specs.Claims.{range_holds, claim_in_space, claim}
-use Rattle.board_model.specs.WellFormed.{read_space, write_space, is_well_formed_bridge, is_well_formed_target, is_well_formed_read, is_well_formed_write, is_well_formed_op, is_well_formed_master, is_well_formed}
+use Rattle.board_model.specs.WellFormed.{read_space, write_space, is_well_formed_target, is_well_formed_read, is_well_formed_write, is_well_formed_op, is_well_formed}
 use Rattle.board_model.proofs.Laws.{WellFormed-parts, Write-parts, op_formed}
 use Rattle.history_model.specs.Words.{without}
 use Rattle.history_facts.proofs.RequestLemmas.{request_is_of}

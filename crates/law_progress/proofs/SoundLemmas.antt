@@ -1,5 +1,5 @@
 -- What is asked of a board here, which a valid board meets.
-use Rattle.std.proofs.Common.{◌≡◌, ℕ, ◌≤◌, Bool, true, false, ◌&&◌, nat_le, List, [], ◌∷◌, Some, refl, arith}
+use Rattle.std.proofs.Common.{◌≡◌, ℕ, ◌≤◌, true, Some}
 use Rattle.std.specs.List.{AllByRecursion}
 use Rattle.list_facts.proofs.EachLemmas.{Each-weaker, Each-find}
 use Rattle.list_facts.proofs.TestLemmas.{Each-list_all}
