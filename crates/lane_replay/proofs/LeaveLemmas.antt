@@ -6,7 +6,7 @@ use Rattle.std.proofs.lemmas.List.Folds.{find_at}
 use Rattle.std.proofs.lemmas.Option.{cond_some, slice_get_past, slice_get-get_or}
 use Rattle.std.proofs.lemmas.List.{take_all}
 use Rattle.list_facts.specs.Lists.{less, before}
-use Rattle.list_facts.proofs.FindLemmas.{less-none}
+use Rattle.list_facts.proofs.FindLemmas.{less-none, length-less}
 
 remove-position_or_len : {X : Type 0} (test : X → Bool) (xs : List X) → remove xs (position_or_len test xs) ≡ less test xs
 remove-position_or_len test [] = refl
@@ -42,6 +42,10 @@ finds_first test xs place d found =
     let n = position_or_len test xs in
     let within : n < length xs = ltb-true n (length xs) at.0 in
     find_at test xs ∙ (slice_get-get_or xs n d within ∙ ap (λ (i : ℕ). Some (get_or xs i d)) at.1)
+
+-- no more are left
+pub no_more : {X : Type 0} (test : X → Bool) (xs : List X) → length (less test xs) ≤ length xs
+no_more test xs = length-less test xs
 
 before-position_or_len : {X : Type 0} (test : X → Bool) (xs : List X) → before test xs ≡ take (position_or_len test xs) xs
 before-position_or_len test [] = refl
