@@ -8,7 +8,6 @@ pub use Rattle.board_laws.proofs.ClaimantLemmas.{OneClaimant-valid}
 pub use Rattle.board_laws.proofs.ValidLemmas.{IsTree-valid}
 -- a way ends, and each lane of it has a lower rank than the one before
 pub use Rattle.board_laws.proofs.EndLemmas.{WayEnds-tree, rank-falls}
-
 -- facts on the definitions of this crate
 
 -- a lane that claims goes up from its bus, or down into a child

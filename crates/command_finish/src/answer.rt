@@ -5,9 +5,9 @@ ghost use Rattle.command_finish.specs.Finished.{AnswersFinish, RefusesFinish, Fi
 use bus_tree::Tree;
 use command_check::{TreeTrace, read_tree_trace};
 use history_model::Event;
-use roundtrip_runs::run_has_lines;
 use pci_command::{List, NoMemory};
 use program_status::Status;
+use roundtrip_runs::run_has_lines;
 use roundtrip_trace::printed_trace_is_read;
 use std::alloc::Global;
 use trace_check::{Verdict, check};

@@ -4,7 +4,6 @@
 pub use Rattle.law_changes.proofs.ActLemmas.{ends_there}
 -- what is left of a program falls as its operation ends
 pub use Rattle.law_changes.proofs.ProgramLemmas.{turn_master, follows_left}
-
 -- facts on the definitions of this crate
 
 -- an operation that is there stands in the program of its master

@@ -20,7 +20,6 @@ pub use Rattle.law_order.proofs.DirectLemmas.{direct_way}
 pub use Rattle.law_order.proofs.PartsLemmas.{PartsAt-run}
 -- on a well-formed board one claims all of a write, and aborts all of it or nothing
 pub use Rattle.law_order.proofs.BurstLemmas.{OneClaimant-formed, AbortWhole-formed}
-
 -- facts on the definitions of this crate
 
 -- the item of a write in memory, and what its request says

@@ -2,7 +2,6 @@
 
 -- an event comes next, or the run is complete
 pub use Rattle.law_progress.proofs.GoOnLemmas.{goes_on, runs_go_on}
-
 -- facts on the definitions of this crate
 
 -- nothing is on a lane of no bridge

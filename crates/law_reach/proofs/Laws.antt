@@ -2,7 +2,6 @@
 
 -- each held slot is on the way of its operation, and every lane before it was passed
 pub use Rattle.law_reach.proofs.ReachLemmas.{Reaches-run}
-
 -- facts on the definitions of this crate
 
 -- a request that stands is the first of its number

@@ -30,7 +30,6 @@ pub use Rattle.law_slots.proofs.MatchedRunLemmas.{Matched-run}
 pub use Rattle.law_slots.proofs.LawfulLemmas.{Lawful-run}
 -- a well-formed board has different numbers, depths to eight, and single delayed requests
 pub use Rattle.law_slots.proofs.WellFormedLemmas.{WellFormed-numbers, WellFormed-depths, WellFormed-single}
-
 -- facts on the definitions of this crate
 
 -- who presents an operation is on the bus

@@ -2,7 +2,6 @@
 
 -- what is left of an operation and its stages make up one number
 pub use Rattle.law_stages.proofs.CountLemmas.{delayed_sum}
-
 -- facts on the definitions of this crate
 
 -- the stage of a lane that the operation passed, and of one where no slot is held for it
