@@ -3,13 +3,13 @@ ghost use Rattle.board_model.specs.Valid.{IsValid};
 ghost use Rattle.plain_board.specs.Plain.{is_plain};
 ghost use Rattle.command_run.specs.Answers.{AnswersRun, RefusesRun, RunsTo};
 
-use crate::tree::read_tree;
 use board_model::Board;
 use law_reads::reads_return;
 use law_slots::{matched, well_formed_boards};
 use pci_command::{List, NoMemory};
 use plain_board::is_plain;
 use plain_run::run_plain;
+use program_input::read_tree;
 use program_status::{BoardFault, Status};
 use roundtrip_trace::printed_trace_is_read;
 use std::alloc::Global;

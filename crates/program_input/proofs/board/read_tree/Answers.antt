@@ -1,6 +1,6 @@
 use Rattle.std.proofs.lemmas.Result.{IfErr-weaker}
-use Rattle.command_run.proofs.TreeLemmas.{read_refused}
-use Rattle.command_run.proofs.tree.read_tree.Goals as goal
+use Rattle.program_input.proofs.TreeLemmas.{read_refused}
+use Rattle.program_input.proofs.board.read_tree.Goals as goal
 
 pub returns-in-Ok-clause-err : goal.returns-in-Ok-clause-err
 returns-in-Ok-clause-err c =

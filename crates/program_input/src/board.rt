@@ -1,7 +1,7 @@
 ghost use Rattle.std.specs.Prelude.{◌≡◌, ◌<◌, ◌^◌, length, IsTrue, IfOk, IfErr, None};
 ghost use Rattle.board_model.specs.WellFormed.{is_well_formed};
-ghost use Rattle.command_run.specs.Refusals.{line_fault, tree_fault, board_refusal};
-ghost use Rattle.command_run.specs.Answers.{ReadsBoard, RefusesHeaders, RefusesTree, IsTreeOf, tree_fault_told, refusal_told};
+ghost use Rattle.program_input.specs.Refusals.{line_fault, board_refusal};
+ghost use Rattle.program_input.specs.Boards.{ReadsBoard, RefusesBoard, RefusesTree, IsTreeOf, tree_fault_told, refusal_told};
 
 use board_model::Board;
 use board_parser::{ParseFault, parse, read_is_well_formed};
@@ -11,11 +11,11 @@ use program_status::{BoardFault, Status};
 use std::alloc::Global;
 
 /// The valid board whose text these bytes are, which are fewer than 2^31.
-pub(crate) fn read_tree(alloc: Global, input: &[u8]) -> Result<Tree, Status>
+pub fn read_tree(alloc: Global, input: &[u8]) -> Result<Tree, Status>
     requires { length input.now < 2 ^ 31 }
     ensures ok { IfOk result (ReadsBoard input.now) }
     ensures ok_refusal { IfOk result (λ _. board_refusal input.now ≡ None) }
-    ensures err { IfErr result (RefusesHeaders input.now) }
+    ensures err { IfErr result (RefusesBoard input.now) }
 {
     read_is_well_formed();
     match parse(alloc, input) {
@@ -29,7 +29,7 @@ pub(crate) fn read_tree(alloc: Global, input: &[u8]) -> Result<Tree, Status>
 }
 
 /// The fault of a line, by its letter.
-pub fn line_fault(family: Family, code: u8) -> BoardFault
+pub(crate) fn line_fault(family: Family, code: u8) -> BoardFault
     ensures { result ≡ line_fault family code }
 {
     match family {
@@ -40,7 +40,7 @@ pub fn line_fault(family: Family, code: u8) -> BoardFault
 }
 
 /// The tree of a valid board, or its first fault with line 0.
-pub fn tree_of(board: Board) -> Result<Tree, Status>
+pub(crate) fn tree_of(board: Board) -> Result<Tree, Status>
     requires { IsTrue (is_well_formed board) }
     ensures ok { IfOk result (IsTreeOf board) }
     ensures err { IfErr result (RefusesTree board) }

@@ -1,4 +1,4 @@
--- Why the text of a board is refused: the first cause, as the status that tells it.
+-- Why the text of a board or of a trace is refused: the first cause, as the status that tells it.
 use Rattle.std.specs.Prelude.{ℕ, List, Option, Some, None, Result, Ok, Err, nat_lt, if◌then◌else◌}
 use Rattle.std.specs.Option.{option_map}
 use Rattle.board_model.specs.declared.board.Board.{Board}
@@ -9,9 +9,12 @@ use Rattle.board_statements.specs.declared.fault.LineFault.{LineFault}
 use Rattle.board_statements.specs.Faults.{family_of, code_of}
 use Rattle.board_parser.specs.Boards.{board_read}
 use Rattle.board_faults.specs.Faults.{first_fault_of}
-use Rattle.plain_board.specs.Plain.{is_plain}
+use Rattle.history_model.specs.declared.event.Event.{Event}
+use Rattle.trace_reader.specs.declared.fault.TraceFault.{TraceFault}
+use Rattle.trace_reader.specs.declared.fault.TraceFault.TheVariants.{Trace, Board as OfBoard, NoMemory}
+use Rattle.trace_reader.specs.Traces.{trace_read}
 use Rattle.program_status.specs.declared.status.Status.{Status}
-use Rattle.program_status.specs.declared.status.Status.TheVariants.{BadBoard}
+use Rattle.program_status.specs.declared.status.Status.TheVariants.{BadBoard, BadTrace}
 use Rattle.program_status.specs.declared.status.BoardFault.{BoardFault}
 use Rattle.program_status.specs.declared.status.BoardFault.TheVariants.{L, P, H, V, Bound}
 
@@ -37,14 +40,12 @@ reading_refusal (Ok board) = option_map (BadBoard 0) (tree_fault board)
 abbrev pub board_refusal : List ℕ → Option Status
 board_refusal input = reading_refusal (board_read input)
 
--- and, where a run is to be made of it, P15 of a valid board that is not plain
-abbrev pub plain_refusal : Result Board (ℕ × LineFault) → Option Status
-plain_refusal (Err fault) = None
-plain_refusal (Ok board) = if is_plain board then None else Some (BadBoard 0 (P 15))
+-- a trace text: its first fault, and else that of the tree of its board
+abbrev pub trace_reading_refusal : Result (Board × List Event) TraceFault → Option Status
+trace_reading_refusal (Err (Trace line code)) = Some (BadTrace line code)
+trace_reading_refusal (Err (OfBoard line family code)) = Some (BadBoard line (line_fault family code))
+trace_reading_refusal (Err NoMemory) = None
+trace_reading_refusal (Ok read) = option_map (BadBoard 0) (tree_fault read.0)
 
-abbrev pub first_of : Option Status → Option Status → Option Status
-first_of (Some status) later = Some status
-first_of None later = later
-
-abbrev pub run_refusal : List ℕ → Option Status
-run_refusal input = first_of (board_refusal input) (plain_refusal (board_read input))
+abbrev pub trace_refusal : List ℕ → Option Status
+trace_refusal input = trace_reading_refusal (trace_read input)

@@ -1,7 +1,7 @@
 use Rattle.std.proofs.Common.{sym, subst, ap, ◌∙◌}
-use Rattle.command_run.specs.Answers.{refusal_told, RefusesTree}
-use Rattle.command_run.proofs.TreeLemmas.{refusal_is_told}
-use Rattle.command_run.proofs.tree.tree_of.Goals as goal
+use Rattle.program_input.specs.Boards.{refusal_told, RefusesTree}
+use Rattle.program_input.proofs.TreeLemmas.{refusal_is_told}
+use Rattle.program_input.proofs.board.tree_of.Goals as goal
 
 pub returns-in-Err-clause-err : goal.returns-in-Err-clause-err
 returns-in-Err-clause-err c =

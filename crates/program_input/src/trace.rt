@@ -1,8 +1,8 @@
 ghost use Rattle.std.specs.Prelude.{◌<◌, ◌^◌, length, IfOk, IfErr};
-ghost use Rattle.command_check.specs.Traces.{ReadsTree, RefusesReading};
+ghost use Rattle.program_input.specs.Traces.{ReadsTree, RefusesTrace};
 
+use crate::board::{line_fault, tree_of};
 use bus_tree::Tree;
-use command_run::{line_fault, tree_of};
 use history_model::Event;
 use pci_command::List;
 use program_status::Status;
@@ -20,7 +20,7 @@ pub struct TreeTrace {
 pub fn read_tree_trace(alloc: Global, input: &[u8]) -> Result<TreeTrace, Status>
     requires { length input.now < 2 ^ 31 }
     ensures ok { IfOk result (ReadsTree input.now) }
-    ensures err { IfErr result (RefusesReading input.now) }
+    ensures err { IfErr result (RefusesTrace input.now) }
 {
     match read_trace(alloc, input) {
         Ok((board, events)) => match tree_of(board) {

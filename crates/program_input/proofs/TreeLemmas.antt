@@ -13,8 +13,8 @@ use Rattle.bus_tree.proofs.ValidLemmas.{IsValid-passed}
 use Rattle.program_status.specs.declared.status.Status.{Status}
 use Rattle.program_status.specs.declared.status.Status.TheVariants.{BadBoard}
 use Rattle.program_status.specs.declared.status.BoardFault.TheVariants.{V, Bound}
-use Rattle.command_run.specs.Refusals.{tree_fault_by, reading_refusal, board_refusal}
-use Rattle.command_run.specs.Answers.{tree_fault_told, refusal_told, RefusesTree, RefusesHeaders}
+use Rattle.program_input.specs.Refusals.{tree_fault_by, tree_fault, reading_refusal, board_refusal}
+use Rattle.program_input.specs.Boards.{tree_fault_told, refusal_told, RefusesTree, RefusesBoard}
 
 -- one of eight codes is told by its number
 eight : (fault : Bool) (code : ℕ) (later : Option ℕ) (c : ℕ) → code ≤ 8 → (later ≡ Some c → c ≤ 8) → cond fault (Some code) later ≡ Some c → c ≤ 8
@@ -51,8 +51,16 @@ refusal_is_told board formed bad =
     ]) refl
 
 -- a text whose board is refused as a tree is refused so
-pub read_refused : (input : List ℕ) (board : Board) (status : Status) → board_read input ≡ Ok board → RefusesTree board status → RefusesHeaders input status
+pub read_refused : (input : List ℕ) (board : Board) (status : Status) → board_read input ≡ Ok board → RefusesTree board status → RefusesBoard input status
 read_refused input board status read refused =
     let fault = refused.fault_is in
     let known : board_refusal input ≡ Some (BadBoard 0 refused.fault) = ap reading_refusal read ∙ rw fault refl in
-    subst (RefusesHeaders input) (sym refused.told) known
+    subst (RefusesBoard input) (sym refused.told) known
+
+none_first : (board : Board) → IsValid board → first_fault_of board ≡ None
+none_first board valid =
+    rw (valid.buses, valid.tree, valid.windows, valid.reach, valid.ranges_beside_windows, valid.ranges, valid.devices, valid.headers) refl
+
+-- a valid board has no fault
+pub faultless_tree : (board : Board) → IsValid board → tree_fault board ≡ None
+faultless_tree board valid = ap (tree_fault_by (bound_of board)) (none_first board valid) ∙ rw valid.bound refl
