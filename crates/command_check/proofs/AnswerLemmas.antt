@@ -3,8 +3,9 @@ use Rattle.std.proofs.Common.{◌≡◌, ℕ, List, length, subst, ap, ◌∙◌
 use Rattle.board_model.specs.Ways.{bound_of}
 use Rattle.history_model.specs.declared.event.Event.{Event}
 use Rattle.trace_check.specs.Verdicts.{CompleteRun}
-use Rattle.command_check.specs.declared.read.TreeTrace.{TreeTrace}
-use Rattle.command_check.specs.Traces.{check_text, AnswersCheck, ReadsTree, Confirms}
+use Rattle.program_input.specs.declared.trace.TreeTrace.{TreeTrace}
+use Rattle.program_input.specs.Traces.{ReadsTree}
+use Rattle.command_check.specs.Answers.{check_text, AnswersCheck, Confirms}
 
 pub confirmed : (input : List ℕ) (read : TreeTrace) (events : List Event) (text : List ℕ) → ReadsTree input read → events ≡ read.events → Confirms read.tree events text → AnswersCheck input text
 confirmed input read events text reads same confirms =

@@ -1,9 +1,9 @@
 ghost use Rattle.std.specs.Prelude.{◌≡◌, ◌++◌, ◌<◌, ◌^◌, length, IfOk, IfErr, OnOk, string_bytes};
-ghost use Rattle.command_check.specs.Traces.{AnswersCheck, RefusesCheck, Confirms, Objects, check_text};
+ghost use Rattle.command_check.specs.Answers.{AnswersCheck, RefusesCheck, Confirms, Objects, check_text};
 
-use crate::read::read_tree_trace;
 use bus_tree::Tree;
 use history_model::Event;
+use program_input::read_tree_trace;
 use program_status::Status;
 use std::alloc::{AllocError, Global};
 use trace_check::{Verdict, check};

@@ -3,8 +3,10 @@ use Rattle.std.proofs.Common.{◌≡◌, ℕ, List, refl, subst}
 use Rattle.board_model.specs.declared.board.Board.{Board}
 use Rattle.history_model.specs.declared.event.Event.{Event}
 use Rattle.history_model.specs.Runs.{Run, history_of}
-use Rattle.command_check.proofs.ServedLemmas.{no_refused, not_refused, same_trace}
-use Rattle.command_finish.specs.Finished.{RefusesFinish, IsRunTrace}
+use Rattle.trace_check.proofs.RefusedLemmas.{no_refused}
+use Rattle.program_input.specs.Traces.{IsRunTrace}
+use Rattle.program_input.proofs.TraceLemmas.{same_trace, not_refused}
+use Rattle.command_finish.specs.Answers.{RefusesFinish}
 use Rattle.program_status.specs.declared.status.Status.{Status}
 use Rattle.program_status.specs.declared.status.Status.TheVariants.{Done, NoMemory, Usage, ReadFault, WriteFault, TooLong, BadBoard, BadTrace, NotRun, Incomplete}
 

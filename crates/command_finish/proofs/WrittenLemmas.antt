@@ -1,8 +1,8 @@
 -- What finish writes is the text of a valid board and of a complete run of it.
 use Rattle.std.proofs.Common.{ℕ, List}
-use Rattle.command_check.specs.Traces.{IsCompleteTrace}
-use Rattle.command_check.proofs.WrittenLemmas.{faultless_tree}
-use Rattle.command_finish.specs.Finished.{AnswersFinish}
+use Rattle.program_input.specs.Traces.{IsCompleteTrace}
+use Rattle.program_input.proofs.TreeLemmas.{faultless_tree}
+use Rattle.command_finish.specs.Answers.{AnswersFinish}
 
 -- the run that is written is that which went on to its end
 pub finished_is_complete : (input text : List ℕ) → AnswersFinish input text → IsCompleteTrace text

@@ -1,16 +1,16 @@
 ghost use Rattle.std.specs.Prelude.{◌<◌, ◌^◌, length, IfOk, IfErr};
 ghost use Rattle.history_model.specs.Runs.{Run, history_of};
-ghost use Rattle.command_finish.specs.Finished.{AnswersFinish, RefusesFinish, FinishesTo};
+ghost use Rattle.command_finish.specs.Answers.{AnswersFinish, RefusesFinish, FinishesTo};
 
 use bus_tree::Tree;
-use command_check::{TreeTrace, read_tree_trace};
 use history_model::Event;
 use pci_command::{List, NoMemory};
+use program_input::{TreeTrace, read_tree_trace};
 use program_status::Status;
 use roundtrip_runs::run_has_lines;
 use roundtrip_trace::printed_trace_is_read;
 use std::alloc::Global;
-use trace_check::{Verdict, check};
+use trace_check::first_refused;
 use trace_finish::finish;
 use trace_text::print_trace;
 
@@ -21,14 +21,12 @@ pub fn answer_finish(alloc: Global, input: &[u8]) -> Result<Vec<u8>, Status>
     ensures err { IfErr result (RefusesFinish input.now) }
 {
     let TreeTrace { tree, events } = read_tree_trace(alloc, input)?;
-    match check(&tree, events.as_slice()) {
-        Verdict::NotRun { event, why } => Err(Status::NotRun { event, why }),
-        Verdict::Complete | Verdict::Incomplete { .. } => {
-            match finished_text(alloc, &tree, events) {
-                Ok(text) => Ok(text.into_vec()),
-                Err(_) => Err(Status::NoMemory),
-            }
-        }
+    match first_refused(tree.board(), events.as_slice()) {
+        Some((event, why)) => Err(Status::NotRun { event, why }),
+        None => match finished_text(alloc, &tree, events) {
+            Ok(text) => Ok(text.into_vec()),
+            Err(_) => Err(Status::NoMemory),
+        },
     }
 }
 

@@ -1,9 +1,9 @@
-//! What the program writes for the trace text of a run that goes on to its end, or why it refuses it.
+//! `finish`: what the program writes for the trace text of a run, or why it refuses it.
 #![tactic(auto)]
 
 ghost use Rattle.std.specs.Prelude.{ℕ, List};
-ghost use Rattle.command_check.specs.Traces.{IsCompleteTrace};
-ghost use Rattle.command_finish.specs.Finished.{AnswersFinish};
+ghost use Rattle.program_input.specs.Traces.{IsCompleteTrace};
+ghost use Rattle.command_finish.specs.Answers.{AnswersFinish};
 
 mod answer;
 

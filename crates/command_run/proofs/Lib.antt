@@ -1,1 +1,1 @@
-pub mod TreeLemmas
+pub mod WrittenLemmas

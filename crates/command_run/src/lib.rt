@@ -1,10 +1,15 @@
-//! What the program writes for the text of a board, or why it refuses it.
+//! `run`: what the program writes for the text of a plain board, or why it refuses it.
 #![tactic(auto)]
 
-mod headers;
-mod run;
-mod tree;
+ghost use Rattle.std.specs.Prelude.{ℕ, List};
+ghost use Rattle.program_input.specs.Traces.{IsCompleteTrace};
+ghost use Rattle.command_run.specs.Answers.{AnswersRun};
 
-pub use headers::answer_headers;
-pub use run::answer_run;
-pub use tree::{line_fault, tree_of};
+mod answer;
+
+pub use answer::answer_run;
+
+/// What a run writes of a board is the text of a valid board and of a complete run of it.
+pub fn written_runs_are_complete()
+    ensures { (input trace : List ℕ) → AnswersRun input trace → IsCompleteTrace trace }
+{}

@@ -95,6 +95,6 @@ pub fn posts_are_on_their_way()
 pub fn parts_wait_for_the_rest()
     ensures waits { (board : Board) (h : List Event) (o : OpId) (op : Op) (master : Master) → WritesHaveOneClaimant board → WritesAbortWhole board → op_of board o ≡ Some op → slice_get board.masters o.master ≡ Some master → is_posted_op board o ≡ true → Run board h → 1 ≤ through h o → PartsAt board h o op master.bus }
     ensures fewer { (board : Board) (h : List Event) (o : OpId) (op : Op) → op_of board o ≡ Some op → Run board h → 1 ≤ length (phases_of op) → through h o < length (phases_of op) }
-    ensures some_phase { (board : Board) (o : OpId) (op : Op) → is_well_formed board ≡ true → op_of board o ≡ Some op → is_posted_op board o ≡ true → 1 ≤ length (phases_of op) }
+    ensures some_phase { (board : Board) (o : OpId) (op : Op) → is_well_formed board ≡ true → op_of board o ≡ Some op → 1 ≤ length (phases_of op) }
     ensures well_formed { (board : Board) → is_well_formed board ≡ true → WritesAbortWhole board }
 {}

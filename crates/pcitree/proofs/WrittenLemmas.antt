@@ -1,8 +1,8 @@
 -- What `run` and `finish` wrote is what `check` wants.
 use Rattle.std.proofs.Common.{◌≡◌, ℕ, true, List, Option, Some, None, IfSome, subst}
 use Rattle.command_run.specs.Answers.{AnswersRun}
-use Rattle.command_check.specs.Traces.{IsCompleteTrace}
-use Rattle.command_finish.specs.Finished.{AnswersFinish}
+use Rattle.program_input.specs.Traces.{IsCompleteTrace}
+use Rattle.command_finish.specs.Answers.{AnswersFinish}
 use Rattle.pcitree.specs.declared.words.Form.{Form}
 use Rattle.pcitree.specs.declared.words.Form.TheVariants.{RunSteady, Headers, Check, Finish}
 use Rattle.pcitree.specs.Ends.{Finishes, writes_trace, WritesRun}

@@ -1,9 +1,12 @@
 -- What each form of the words asks for: how an input is answered, and with which status it is refused.
 use Rattle.std.specs.Prelude.{◌≡◌, ℕ, ◌^◌, ◌≤◌, ◌<◌, List, length, None}
-use Rattle.command_run.specs.Refusals.{board_refusal, run_refusal}
-use Rattle.command_run.specs.Answers.{AnswersRun, AnswersHeaders, RefusesRun, RefusesHeaders}
-use Rattle.command_check.specs.Traces.{AnswersCheck, RefusesCheck, IsCompleteTrace}
-use Rattle.command_finish.specs.Finished.{AnswersFinish, RefusesFinish, IsRunTrace}
+use Rattle.program_input.specs.Refusals.{board_refusal}
+use Rattle.program_input.specs.Boards.{RefusesBoard}
+use Rattle.program_input.specs.Traces.{IsCompleteTrace, IsRunTrace}
+use Rattle.command_run.specs.Answers.{AnswersRun, RefusesRun, run_refusal}
+use Rattle.command_headers.specs.Answers.{AnswersHeaders}
+use Rattle.command_check.specs.Answers.{AnswersCheck, RefusesCheck}
+use Rattle.command_finish.specs.Answers.{AnswersFinish, RefusesFinish}
 use Rattle.program_status.specs.declared.status.Status.{Status}
 use Rattle.program_status.specs.declared.status.Status.TheVariants.{Done, NoMemory, Usage, ReadFault, WriteFault, TooLong, BadBoard, BadTrace, NotRun, Incomplete}
 use Rattle.pcitree.specs.declared.words.Form.{Form}
@@ -26,7 +29,7 @@ AnswersTo Finish input text = AnswersFinish input text
 -- the status that refuses an input
 abbrev pub Refuses : Form → List ℕ → Status → Type 0
 Refuses RunSteady input status = RefusesRun input status
-Refuses Headers input status = RefusesHeaders input status
+Refuses Headers input status = RefusesBoard input status
 Refuses Check input status = RefusesCheck input status
 Refuses Finish input status = RefusesFinish input status
 

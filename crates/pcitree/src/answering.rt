@@ -4,7 +4,8 @@ ghost use Rattle.pcitree.specs.Answers.{limit_of, AnswersTo, Refuses};
 use crate::words::Form;
 use command_check::answer_check;
 use command_finish::answer_finish;
-use command_run::{answer_headers, answer_run};
+use command_headers::answer_headers;
+use command_run::answer_run;
 use program_status::Status;
 use std::alloc::Global;
 

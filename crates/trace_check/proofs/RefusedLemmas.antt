@@ -1,12 +1,14 @@
 -- The first event that is not allowed after those before it.
-use Rattle.std.proofs.Common.{◌≡◌, ℕ, suc, ◌+◌, ◌<◌, List, ◌++◌, length, take, drop, get_or, Result, Err, Some, sym, ap, ◌∙◌, arith}
-use Rattle.std.proofs.lemmas.List.{take-append-drop, length-take-le}
+use Rattle.std.proofs.Common.{◌≡◌, ℕ, suc, ◌+◌, ◌<◌, List, [], ◌∷◌, ◌++◌, append_assoc, reverse, length, take, drop, get_or, Result, Err, Some, subst, sym, ap, ◌∙◌, arith}
+use Rattle.std.proofs.lemmas.List.{take-append-drop, length-take-le, reverse-append}
 use Rattle.std.proofs.Math.Seq.{drop-cons}
 use Rattle.board_model.specs.declared.board.Board.{Board}
 use Rattle.history_model.specs.declared.event.Event.{Event}
 use Rattle.history_model.specs.declared.why.Why.{Why}
 use Rattle.history_model.specs.declared.why.Why.TheVariants.{N1, N2, N3, N4, N5}
 use Rattle.history_model.specs.Runs.{Run, history_of}
+use Rattle.law_slots.proofs.PrefixLemmas.{Run-before}
+use Rattle.history_core.proofs.VerdictLemmas.{allowed_exactly}
 use Rattle.history_core.specs.Whys.{IsNotPresented, IsAnsweredOtherwise, IsRetried, HasNothingInFlight, IsMarkedOtherwise}
 use Rattle.history_core.specs.Verdicts.{Holds}
 use Rattle.trace_check.specs.Verdicts.{FirstRefused}
@@ -36,3 +38,17 @@ refused_by board events i d why within run cause =
       run = run;
       cause = cause;
     }
+
+history_split : (before : List Event) (e : Event) (after : List Event) → history_of (before ++ e ∷ after) ≡ reverse after ++ e ∷ history_of before
+history_split before e after =
+    reverse-append before (e ∷ after) ∙ ap (λ (l : List Event). l ++ reverse before) (reverse-append (e ∷ []) after) ∙ append_assoc (reverse after) (e ∷ []) (reverse before)
+
+-- in a run no event is refused
+pub no_refused : (board : Board) (events : List Event) (number : ℕ) (why : Why) → Run board (history_of events) → FirstRefused board events number why → ⊥
+no_refused board events number why run refused =
+    let P : List Event → Type 0 = λ l. Run board l in
+    let whole = ap history_of refused.split ∙ history_split refused.before refused.event refused.after in
+    let last = Run-before board (reverse refused.after) (refused.event ∷ history_of refused.before) (subst P whole run) in
+    let exact = allowed_exactly board (history_of refused.before) refused.event (Err why) refused.cause in
+    let no = exact.1 last.0 in
+    absurd cc

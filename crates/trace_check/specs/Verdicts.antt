@@ -1,5 +1,5 @@
 -- What a list of events of a board is, the first event first.
-use Rattle.std.specs.Prelude.{◌≡◌, ℕ, ◌+◌, ◌≤◌, List, ◌∷◌, ◌++◌, length, Some}
+use Rattle.std.specs.Prelude.{◌≡◌, ℕ, ◌+◌, ◌<◌, ◌≤◌, List, ◌∷◌, ◌++◌, length, Some}
 use Rattle.board_model.specs.declared.board.Board.{Board}
 use Rattle.board_model.specs.Ways.{bound_of}
 use Rattle.history_model.specs.declared.event.Event.{Event}
@@ -22,6 +22,10 @@ pub record FirstRefused (board : Board) (events : List Event) (number : ℕ) (wh
   pub run : Run board (history_of before)
   pub cause : Holds board (history_of before) event (Some why)
 
+-- the same of a number and a cause
+abbrev pub RefusesFirst : Board → List Event → ℕ × Why → Type 0
+RefusesFirst board events refused = FirstRefused board events refused.0 refused.1
+
 -- a run, in which each completion is taken by the operation that it was made for, to the end of all programs; it
 -- has at most as many events as the board's bound
 pub record CompleteRun (board : Board) (events : List Event) : Type 0 where
@@ -31,13 +35,16 @@ pub record CompleteRun (board : Board) (events : List Event) : Type 0 where
   pub returns : ReadsReturn board (history_of events)
   pub bound : length events ≤ bound_of board
 
--- such a run that is not complete, and how many events can follow it at most: no run that goes on from it has more
+-- such a run that is not complete, and how many events can follow it at most: at least one is left, and no run that
+-- goes on from it has more
 pub record IncompleteRun (board : Board) (events : List Event) (left : ℕ) : Type 0 where
   pub run : Run board (history_of events)
   pub incomplete : ¬ Complete board (history_of events)
   pub matched : Matched board (history_of events)
   pub returns : ReadsReturn board (history_of events)
+  pub bound : length events ≤ bound_of board
   pub left_is : left ≡ left_of board (history_of events)
+  pub goes_on : 0 < left
   pub follow : (later : List Event) → Run board (later ++ history_of events) → length later ≤ left
 
 -- the verdict that is right

@@ -1,14 +1,15 @@
 ghost use Rattle.std.specs.Prelude.{◌<◌, ◌^◌, length, IsTrue, MatchOption};
 ghost use Rattle.board_model.specs.WellFormed.{is_well_formed};
 ghost use Rattle.history_model.specs.Runs.{Run, history_of};
-ghost use Rattle.trace_check.specs.Verdicts.{Judges};
+ghost use Rattle.trace_check.specs.Verdicts.{Judges, RefusesFirst};
 
 use crate::Verdict;
 use board_model::Board;
 use bus_tree::Tree;
 use history_core::{allowed, complete};
-use history_model::Event;
-use law_bound::runs_end;
+use history_model::{Event, Why};
+use law_bound::{left_falls, runs_end};
+use law_progress::runs_go_on;
 use law_reads::reads_return;
 use law_slots::{matched, well_formed_boards};
 use progress_core::left;
@@ -19,25 +20,22 @@ pub fn check(tree: &Tree, events: &[Event]) -> Verdict
     requires { length events.now < 2 ^ 32 }
     ensures { Judges tree.now events.now result }
 {
-    let board = tree.board();
-    match first_refused(board, events) {
-        Some(verdict) => verdict,
+    match first_refused(tree.board(), events) {
+        Some((event, why)) => Verdict::NotRun { event, why },
         None => verdict_of_run(tree, events),
     }
 }
 
-/// The verdict on the first event that is not allowed after those before it, if there is one.
-fn first_refused(board: &Board, events: &[Event]) -> Option<Verdict>
+/// The number, from 1 on, of the first event that is not allowed after those before it, and why, if
+/// there is one. There are fewer than 2^32 events.
+pub fn first_refused(board: &Board, events: &[Event]) -> Option<(u32, Why)>
     requires formed { IsTrue (is_well_formed board.now) }
     requires few { length events.now < 2 ^ 32 }
-    ensures { MatchOption result (Run board.now (history_of events.now)) (Judges board.now events.now) }
+    ensures { MatchOption result (Run board.now (history_of events.now)) (RefusesFirst board.now events.now) }
 {
     for (index, event) in events.iter().enumerate() {
         if let Err(why) = allowed(board, &events[..index], event) {
-            return Some(Verdict::NotRun {
-                event: index as u32 + 1,
-                why,
-            });
+            return Some((index as u32 + 1, why));
         }
     }
     None
@@ -49,7 +47,9 @@ fn verdict_of_run(tree: &Tree, events: &[Event]) -> Verdict
 {
     matched();
     well_formed_boards();
+    left_falls();
     runs_end();
+    runs_go_on();
     reads_return();
     if complete(tree.board(), events) {
         Verdict::Complete

@@ -1,9 +1,0 @@
-use Rattle.std.proofs.Common.{sym, subst, ap, ◌∙◌}
-use Rattle.command_run.specs.Answers.{refusal_told, RefusesTree}
-use Rattle.command_run.proofs.TreeLemmas.{refusal_is_told}
-use Rattle.command_run.proofs.tree.tree_of.Goals as goal
-
-pub returns-in-Err-clause-err : goal.returns-in-Err-clause-err
-returns-in-Err-clause-err c =
-    subst (RefusesTree c.args.board) (sym (c.told.ensures ∙ ap refusal_told c.in-Err.ensures.refusal))
-    (refusal_is_told c.args.board c.requires (λ valid. let none = c.in-Err.ensures.valid.1 valid in absurd cc))

@@ -1,0 +1,9 @@
+//! What the words of the program have in common: an input is read as a valid board, or as a valid
+//! board and events of it, or is refused with the status that tells its first fault.
+#![tactic(auto)]
+
+mod board;
+mod trace;
+
+pub use board::read_tree;
+pub use trace::{TreeTrace, read_tree_trace};
