@@ -91,7 +91,7 @@ pub fn posts_are_on_their_way()
 /// claims it and does not abort it; or it landed. This needs that all data phases of a write are
 /// claimed by whom the first one is, and aborted as it is, which holds on every well-formed board.
 /// On any board fewer data phases go through in parts than an operation has, if it has one, as every
-/// write in memory has on a well-formed board: the last ones land.
+/// operation has on a well-formed board: the last ones land.
 pub fn parts_wait_for_the_rest()
     ensures waits { (board : Board) (h : List Event) (o : OpId) (op : Op) (master : Master) → WritesHaveOneClaimant board → WritesAbortWhole board → op_of board o ≡ Some op → slice_get board.masters o.master ≡ Some master → is_posted_op board o ≡ true → Run board h → 1 ≤ through h o → PartsAt board h o op master.bus }
     ensures fewer { (board : Board) (h : List Event) (o : OpId) (op : Op) → op_of board o ≡ Some op → Run board h → 1 ≤ length (phases_of op) → through h o < length (phases_of op) }

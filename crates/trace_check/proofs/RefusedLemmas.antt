@@ -7,11 +7,11 @@ use Rattle.history_model.specs.declared.event.Event.{Event}
 use Rattle.history_model.specs.declared.why.Why.{Why}
 use Rattle.history_model.specs.declared.why.Why.TheVariants.{N1, N2, N3, N4, N5}
 use Rattle.history_model.specs.Runs.{Run, history_of}
-use Rattle.law_slots.proofs.PrefixLemmas.{Run-before}
 use Rattle.history_core.proofs.VerdictLemmas.{allowed_exactly}
 use Rattle.history_core.specs.Whys.{IsNotPresented, IsAnsweredOtherwise, IsRetried, HasNothingInFlight, IsMarkedOtherwise}
 use Rattle.history_core.specs.Verdicts.{Holds}
 use Rattle.trace_check.specs.Verdicts.{FirstRefused}
+use Rattle.law_slots.proofs.Laws.{Run-before}
 
 -- the cause that was answered is the cause that holds
 pub holds_by : {T : Type 0} (board : Board) (h : List Event) (e : Event) (r : Result T Why)
