@@ -1,5 +1,5 @@
--- How a bridge decodes addresses: PCI-to-PCI Bridge Architecture Specification 1.1, chapter 4 (positive decoding
--- downwards, inverse decoding upwards) and section 3.1 (configuration transactions).
+-- How a bridge decodes addresses: PCI-to-PCI Bridge Architecture Specification 1.1, chapter 4 (from memory; positive decoding
+-- downwards, inverse decoding upwards) and section 3.1 (from memory; configuration transactions).
 use Rattle.std.specs.Prelude.{ℕ, Bool, true, false, ◌*◌, ◌/◌, ◌%◌, ◌^◌, Option, Some, None, not, ◌&&◌, ◌==◌, nat_lt, nat_le, if◌then◌else◌}
 use Rattle.pci_command.specs.declared.command.Space.{Space}
 use Rattle.pci_command.specs.declared.command.Space.TheVariants.{Mem, Io, Cfg}

@@ -1,5 +1,5 @@
 //! How a bridge decodes addresses, by the windows that its header says: PCI-to-PCI Bridge
-//! Architecture Specification 1.1, chapter 4 and section 3.1.
+//! Architecture Specification 1.1, chapter 4 and section 3.1 (from memory).
 #![tactic(auto)]
 
 mod configuration;

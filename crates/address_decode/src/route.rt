@@ -1,5 +1,5 @@
 /// Where a configuration address of type 1 goes that a bridge meets on its primary bus
-/// (PCI-to-PCI Bridge Architecture 1.1, section 3.1).
+/// (PCI-to-PCI Bridge Architecture 1.1, section 3.1, from memory).
 #[derive(Clone, Copy, Debug, Default, PartialEq, Eq, PartialOrd, Ord, Hash)]
 pub enum CfgRoute {
     /// To a device on the secondary bus, by this address of type 0.

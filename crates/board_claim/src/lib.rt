@@ -1,5 +1,5 @@
 //! Who claims a request on a bus, found by a look at every agent of the board: PCI-to-PCI Bridge
-//! Architecture Specification 1.1, chapter 4 (address decoding) and section 3.1 (configuration
+//! Architecture Specification 1.1, chapter 4 (address decoding) and section 3.1 (from memory; configuration
 //! transactions).
 #![tactic(auto)]
 

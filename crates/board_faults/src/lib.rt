@@ -1,5 +1,5 @@
 //! What a well-formed board has to be for its buses to be a tree in which each address has one
-//! owner: PCI-to-PCI Bridge Architecture Specification 1.1, chapters 3 and 4.
+//! owner: PCI-to-PCI Bridge Architecture Specification 1.1, chapters 3 and 4 (from memory).
 #![tactic(auto)]
 
 mod buses;

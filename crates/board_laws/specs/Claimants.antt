@@ -1,5 +1,5 @@
 -- All who would claim a request on a bus, each by its own rule of decoding and whoever else claims: PCI-to-PCI
--- Bridge Architecture Specification 1.1, chapter 4 (address decoding) and section 3.1 (configuration transactions).
+-- Bridge Architecture Specification 1.1, chapter 4 (address decoding) and section 3.1 (from memory; configuration transactions).
 use Rattle.std.specs.Prelude.{◌≡◌, ℕ, ◌+◌, ◌≤◌, Bool, true, false, not, ◌&&◌, ◌==◌, nat_le, List, [], ◌∷◌, ◌++◌, length, map, filter, if◌then◌else◌}
 use Rattle.std.specs.List.{list_any}
 use Rattle.pci_command.specs.declared.command.Space.{Space}

@@ -1,4 +1,4 @@
--- The least that is asked of a tree of buses here: PCI-to-PCI Bridge Architecture Specification 1.1, chapter 3
+-- The least that is asked of a tree of buses here: PCI-to-PCI Bridge Architecture Specification 1.1, chapter 3 (from memory)
 -- (the primary, secondary and subordinate bus numbers).
 use Rattle.std.specs.Prelude.{◌≡◌, ◌<◌, true}
 use Rattle.std.specs.List.{AllByRecursion}

@@ -1,5 +1,5 @@
 -- No request goes back through the bridge through which it came: PCI-to-PCI Bridge Architecture Specification
--- 1.1, chapter 4 (positive decoding downwards, inverse decoding upwards).
+-- 1.1, chapter 4 (from memory; positive decoding downwards, inverse decoding upwards).
 use Rattle.std.specs.Prelude.{◌≡◌, ◌≢◌, ℕ}
 use Rattle.board_model.specs.declared.bridge.Lane.{Lane as BridgeLane}
 use Rattle.board_model.specs.declared.bridge.Place.TheVariants.{Lane}

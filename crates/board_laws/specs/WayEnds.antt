@@ -1,4 +1,4 @@
--- Every way ends: PCI-to-PCI Bridge Architecture Specification 1.1, chapter 4 (address decoding) and section 3.1
+-- Every way ends: PCI-to-PCI Bridge Architecture Specification 1.1, chapter 4 (address decoding) and section 3.1 (from memory)
 -- (configuration transactions).
 use Rattle.std.specs.Prelude.{◌≡◌, ℕ, ◌+◌, ◌-◌, ◌≤◌, Bool, true, false, length, ◌==◌, AllPairs, if◌then◌else◌}
 use Rattle.std.specs.List.{IsDistinct, AllByRecursion}

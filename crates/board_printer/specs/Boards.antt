@@ -18,7 +18,7 @@ use Rattle.board_printer.specs.Targets.{target_lines}
 use Rattle.board_printer.specs.Masters.{master_lines}
 
 -- whether a number needs no upper half: an address from 2^32 on is driven in two address phases (PCI
--- Local Bus Specification 2.2, section 3.9)
+-- Local Bus Specification 2.2, section 3.9, from memory)
 abbrev pub is_short : ℕ → Bool
 is_short n = nat_lt n (2 ^ 32)
 

@@ -1,5 +1,5 @@
 -- The type 1 configuration header of a bridge, register by register and by offset: PCI-to-PCI Bridge Architecture
--- Specification 1.1, section 3.2.
+-- Specification 1.1, section 3.2 (from memory).
 use Rattle.std.specs.Prelude.{ℕ, Bool, true, false, ◌+◌, ◌*◌, ◌/◌, ◌%◌, ◌^◌, List, [], ◌∷◌, ◌++◌, Option, Some, None, nat_le, if◌then◌else◌, slice_index, replicate}
 use Rattle.board_model.specs.declared.bridge.Bridge.{Bridge}
 use Rattle.board_model.specs.declared.bridge.Window.{Window}

@@ -1,5 +1,5 @@
 -- What a type 1 header says of buses and windows, and when it is refused: PCI-to-PCI Bridge Architecture Specification
--- 1.1, section 3.2.
+-- 1.1, section 3.2 (from memory).
 use Rattle.std.specs.Prelude.{ℕ, Bool, ◌+◌, ◌*◌, ◌^◌, List, Option, Some, None, Result, Ok, Err, not, ◌&&◌, ◌||◌, ◌==◌, nat_lt, nat_le, if◌then◌else◌, slice_index}
 use Rattle.board_model.specs.declared.bridge.Bridge.{Bridge}
 use Rattle.board_model.specs.declared.bridge.Window.{Window}

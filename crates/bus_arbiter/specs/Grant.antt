@@ -1,4 +1,4 @@
--- Arbitration: PCI Local Bus Specification 2.2, section 3.4. The algorithm is the system's own;
+-- Arbitration: PCI Local Bus Specification 2.2, section 3.4 (from memory). The algorithm is the system's own;
 -- this one is a rotating priority over 32 request lines, which the specification calls fair.
 use Rattle.std.specs.Prelude.{◌≡◌, ℕ, ◌+◌, ◌-◌, ◌%◌, ◌<◌, ◌≤◌, ◌==◌, List, [], ◌∷◌, All, count_by}
 use Rattle.std.specs.Int.{bit_at}

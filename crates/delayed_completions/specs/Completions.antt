@@ -1,5 +1,5 @@
 -- The delayed completions that stand in a bridge until their master repeats its request: PCI Local
--- Bus Specification 2.2, sections 3.3.3.3.1 and 3.3.3.3.5.
+-- Bus Specification 2.2, sections 3.3.3.3.1 and 3.3.3.3.5 (from memory).
 use Rattle.std.specs.Prelude.{◌≡◌, ◌≢◌, ℕ, ◌≤◌, ◌==◌, Option, None, IsSome, List, [], ◌∷◌, length, if◌then◌else◌}
 use Rattle.std.specs.List.{find}
 use Rattle.delayed_completions.specs.declared.done_table.Done.{Done}

@@ -1,5 +1,5 @@
 -- The delayed requests that came over a bridge and stand until its other bus answers them: PCI
--- Local Bus Specification 2.2, sections 3.3.3.3.1 and 3.3.3.3.5.
+-- Local Bus Specification 2.2, sections 3.3.3.3.1 and 3.3.3.3.5 (from memory).
 use Rattle.std.specs.Prelude.{◌≡◌, ℕ, ◌<◌, ◌≤◌, Option, List, length, slice_get}
 use Rattle.std.specs.Option.{option_map}
 use Rattle.pci_command.specs.declared.request.Request.{Request}

@@ -1,5 +1,5 @@
 -- The slots of a bridge in which it keeps the requests that it retried and passes on, until their
--- initiator took the completion: PCI Local Bus Specification 2.2, sections 3.3.3.3.1 to 3.3.3.3.5.
+-- initiator took the completion: PCI Local Bus Specification 2.2, sections 3.3.3.3.1 to 3.3.3.3.5 (from memory).
 use Rattle.std.specs.Prelude.{◌≡◌, ◌≢◌, ℕ, ◌<◌, ◌≤◌, ◌==◌, ◌⊎◌, Option, None, IsSome, List, [], ◌∷◌, length, if◌then◌else◌}
 use Rattle.std.specs.List.{find}
 use Rattle.pci_command.specs.declared.request.Request.{Request}

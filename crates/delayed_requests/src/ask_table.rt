@@ -17,7 +17,7 @@ pub struct Ask {
 }
 
 /// The delayed requests that stand, in the order in which they came, at places from 0: at most
-/// `depth`, which is from 1 to 8 (PCI Local Bus 2.2, section 3.3.3.3.5). It takes no memory.
+/// `depth`, which is from 1 to 8 (PCI Local Bus 2.2, section 3.3.3.3.5, from memory). It takes no memory.
 #[derive(Debug, Drop)]
 pub struct AskTable {
     limit: u8,

@@ -1,6 +1,6 @@
 //! The delayed requests of one half of a bridge: the slots of those that it latched on its own bus
 //! and passed on, and those that came from the other bus and stand here (PCI Local Bus
-//! Specification 2.2, section 3.3.3.3).
+//! Specification 2.2, section 3.3.3.3, from memory).
 #![tactic(auto)]
 
 mod ask_table;

@@ -16,7 +16,7 @@ pub struct Slot {
 }
 
 /// The held slots, in the order in which their requests were latched: at most `depth`, which is
-/// from 1 to 8, with numbers below it (PCI Local Bus 2.2, section 3.3.3.3.5). It takes no memory.
+/// from 1 to 8, with numbers below it (PCI Local Bus 2.2, section 3.3.3.3.5, from memory). It takes no memory.
 #[derive(Debug, Drop)]
 pub struct SlotTable {
     limit: u8,

@@ -1,4 +1,4 @@
--- The configuration registers of a target, a dword each: PCI Local Bus Specification 2.2, section 6.1.
+-- The configuration registers of a target, a dword each: PCI Local Bus Specification 2.2, section 6.1 (from memory).
 use Rattle.std.specs.Prelude.{ℕ, ◌+◌, ◌-◌, ◌*◌, ◌/◌, ◌%◌, ◌^◌, List, [], ◌∷◌, ◌++◌, ◌&&◌, ◌==◌, nat_lt, nat_le, if◌then◌else◌, slice_index, bit_and, bit_or}
 use Rattle.pci_command.specs.declared.command.Space.{Space}
 use Rattle.pci_command.specs.declared.command.Space.TheVariants.{Mem, Io, Cfg}
@@ -6,7 +6,7 @@ use Rattle.pci_command.specs.declared.phases.Phase.{Phase}
 use Rattle.board_model.specs.declared.agents.Range.{Range}
 use Rattle.board_model.specs.declared.agents.Target.{Target}
 
--- bit 0 of a base address register: set for I/O (section 6.2.5.1)
+-- bit 0 of a base address register: set for I/O (section 6.2.5.1, from memory)
 abbrev pub io_bit : Space → ℕ
 io_bit Mem = 0
 io_bit Io = 1

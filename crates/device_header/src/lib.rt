@@ -1,4 +1,4 @@
-//! The configuration registers of a target: PCI Local Bus Specification 2.2, chapter 6.
+//! The configuration registers of a target: PCI Local Bus Specification 2.2, chapter 6 (from memory).
 #![tactic(auto)]
 
 ghost use Rattle.std.specs.Prelude.{◌≡◌, ◌<◌, ◌≤◌, ◌+◌, ◌*◌, ◌^◌, length, slice_index, if◌then◌else◌};

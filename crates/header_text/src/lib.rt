@@ -20,7 +20,7 @@ use std::alloc::{AllocError, Global};
 mod tests;
 
 /// For each bridge of the board, in order, the line `bridge B` and its 64 header bytes in four
-/// lines of sixteen (PCI-to-PCI Bridge Architecture 1.1, section 3.2).
+/// lines of sixteen (PCI-to-PCI Bridge Architecture 1.1, section 3.2, from memory).
 #[tactic(auto, unfolding(crate::specs::Headers::headers_text))]
 pub fn print_headers(alloc: Global, board: &Board) -> Result<List<u8>, NoMemory>
     ensures { IfOk result (λ text. text ≡ headers_text board.now) }

@@ -1,4 +1,4 @@
--- The kinds of steps: PCI Local Bus Specification 2.2, section 3.3.3 (termination by the target).
+-- The kinds of steps: PCI Local Bus Specification 2.2, section 3.3.3 (from memory; termination by the target).
 use Rattle.std.specs.Prelude.{Bool, true, false}
 use Rattle.history_model.specs.declared.event.Step.{Step}
 use Rattle.history_model.specs.declared.event.Step.TheVariants.{Land, Part, Read, Accept, Latch, Take, Stall, MasterAbort, TargetAbort}

@@ -1,5 +1,5 @@
 -- A lane of a bridge: a queue of what goes one way through it (PCI-to-PCI Bridge Architecture
--- Specification 1.1, chapter 5, Buffer Management). Its near end sends, on one bus, and its far end
+-- Specification 1.1, chapter 5, Buffer Management; from memory). Its near end sends, on one bus, and its far end
 -- receives, on the other. All lists are in the order of sending.
 use Rattle.std.specs.Prelude.{◌≡◌, ℕ, ◌+◌, ◌-◌, List, [], ◌++◌, length, take, drop}
 use Rattle.lane_items.specs.declared.item.Item.{Item}

@@ -1,5 +1,5 @@
 //! What is on the two lanes of a bridge after the events of a run, in tables that take no memory:
-//! PCI-to-PCI Bridge Architecture Specification 1.1, chapter 5 (buffer management).
+//! PCI-to-PCI Bridge Architecture Specification 1.1, chapter 5 (from memory; buffer management).
 #![tactic(auto)]
 
 mod bridge_lanes;

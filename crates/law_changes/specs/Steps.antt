@@ -1,4 +1,4 @@
--- The steps of delayed requests: PCI Local Bus Specification 2.2, section 3.3.3.3 (delayed transactions).
+-- The steps of delayed requests: PCI Local Bus Specification 2.2, section 3.3.3.3 (from memory; delayed transactions).
 use Rattle.history_model.specs.declared.event.Step.{Step}
 use Rattle.history_model.specs.declared.event.Step.TheVariants.{Land, Part, Read, Accept, Latch, Take, Stall, MasterAbort, TargetAbort}
 

@@ -1,4 +1,4 @@
--- The events of delayed requests: PCI Local Bus Specification 2.2, section 3.3.3.3 (delayed transactions).
+-- The events of delayed requests: PCI Local Bus Specification 2.2, section 3.3.3.3 (from memory; delayed transactions).
 use Rattle.std.specs.Prelude.{◌≡◌, Bool, true, false, List, [], ◌∷◌}
 use Rattle.board_model.specs.declared.board.Board.{Board}
 use Rattle.history_model.specs.declared.event.Event.{Event}

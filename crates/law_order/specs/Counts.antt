@@ -1,5 +1,5 @@
 -- Delayed requests latched at a lane, and slots that were freed there: PCI Local Bus Specification 2.2,
--- section 3.3.3.3 (delayed transactions).
+-- section 3.3.3.3 (from memory; delayed transactions).
 use Rattle.std.specs.Prelude.{ℕ, ◌+◌, List, [], ◌∷◌, if◌then◌else◌}
 use Rattle.board_model.specs.declared.bridge.Lane.{Lane as BridgeLane}
 use Rattle.board_model.specs.declared.bridge.Place.{Place}

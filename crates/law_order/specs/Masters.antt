@@ -1,4 +1,4 @@
--- Whose posted writes are on the lanes: PCI Local Bus Specification 2.2, section 3.2.5 (a posted write is
+-- Whose posted writes are on the lanes: PCI Local Bus Specification 2.2, section 3.2.5 (from memory; a posted write is
 -- complete for its master when the bridge took it).
 use Rattle.std.specs.Prelude.{◌≡◌, Bool, true, false, List, ◌&&◌}
 use Rattle.std.specs.List.{list_any}

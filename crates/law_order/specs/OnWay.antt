@@ -1,4 +1,4 @@
--- Where posted writes can be: PCI-to-PCI Bridge Architecture Specification 1.1, chapter 4 (address decoding).
+-- Where posted writes can be: PCI-to-PCI Bridge Architecture Specification 1.1, chapter 4 (from memory; address decoding).
 use Rattle.std.specs.Prelude.{◌≡◌, ℕ, ◌<◌, true, length, Some, slice_get}
 use Rattle.std.specs.List.{list_any}
 use Rattle.pci_command.specs.declared.request.Request.{Request}

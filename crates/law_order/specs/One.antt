@@ -1,5 +1,5 @@
 -- How often an operation ended at its master, and where its posted write is: PCI Local Bus Specification 2.2,
--- section 3.2.5 (posted writes).
+-- section 3.2.5 (from memory; posted writes).
 use Rattle.std.specs.Prelude.{◌≡◌, ℕ, Bool, true, false, ◌+◌, ◌≤◌, List, [], ◌∷◌, is_some, not, ◌&&◌, if◌then◌else◌}
 use Rattle.list_facts.specs.Lists.{total}
 use Rattle.pci_command.specs.declared.op_id.OpId.{OpId}

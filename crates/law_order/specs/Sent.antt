@@ -1,5 +1,5 @@
 -- What was sent on a lane, and how much of it came: PCI-to-PCI Bridge Architecture Specification 1.1,
--- chapter 5 (buffer management).
+-- chapter 5 (from memory; buffer management).
 use Rattle.std.specs.Prelude.{ℕ, ◌+◌, List, [], ◌∷◌, ◌++◌, take, Option, Some, None, if◌then◌else◌}
 use Rattle.std.specs.List.{find}
 use Rattle.pci_command.specs.declared.op_id.OpId.{OpId}

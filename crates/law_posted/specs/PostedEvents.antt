@@ -1,4 +1,4 @@
--- The events of posted writes and of their credits, and the stalls: PCI Local Bus Specification 2.2, section 3.2.5.
+-- The events of posted writes and of their credits, and the stalls: PCI Local Bus Specification 2.2, section 3.2.5 (from memory).
 use Rattle.std.specs.Prelude.{◌≡◌, Bool, true, false, List, [], ◌∷◌, ◌||◌}
 use Rattle.board_model.specs.declared.board.Board.{Board}
 use Rattle.history_model.specs.declared.event.Event.{Event}

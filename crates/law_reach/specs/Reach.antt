@@ -1,4 +1,4 @@
--- How far a delayed request has come: PCI-to-PCI Bridge Architecture Specification 1.1, chapter 5 (delayed
+-- How far a delayed request has come: PCI-to-PCI Bridge Architecture Specification 1.1, chapter 5 (from memory; delayed
 -- transactions).
 use Rattle.std.specs.Prelude.{◌≡◌, ℕ, true, false, List, [], ◌∷◌, Option, Some, None, slice_get, if◌then◌else◌}
 use Rattle.std.specs.List.{find, list_any, AllByRecursion}

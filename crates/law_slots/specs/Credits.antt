@@ -1,4 +1,4 @@
--- The credits of posted writes: PCI-to-PCI Bridge Architecture Specification 1.1, chapter 5 (buffer
+-- The credits of posted writes: PCI-to-PCI Bridge Architecture Specification 1.1, chapter 5 (from memory; buffer
 -- management).
 use Rattle.std.specs.Prelude.{◌≡◌, ℕ, ◌+◌}
 use Rattle.list_facts.specs.Lists.{total}

@@ -1,4 +1,4 @@
--- How much is on a lane at most: PCI-to-PCI Bridge Architecture Specification 1.1, chapter 5 (buffer
+-- How much is on a lane at most: PCI-to-PCI Bridge Architecture Specification 1.1, chapter 5 (from memory; buffer
 -- management).
 use Rattle.std.specs.Prelude.{ℕ, Bool, ◌+◌, ◌*◌, ◌<◌, ◌≤◌, ◌==◌, length}
 use Rattle.std.specs.List.{AllByRecursion, IsDistinct}

@@ -1,4 +1,4 @@
--- What the items of a lane carry: PCI Local Bus Specification 2.2, section 3.3.3.3 (a write in memory is
+-- What the items of a lane carry: PCI Local Bus Specification 2.2, section 3.3.3.3 (from memory; a write in memory is
 -- posted, every other transaction is delayed).
 use Rattle.std.specs.Prelude.{◌≡◌, Bool, true, false, Some}
 use Rattle.pci_command.specs.declared.command.Command.TheVariants.{MemWrite}

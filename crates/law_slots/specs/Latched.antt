@@ -1,4 +1,4 @@
--- For whom a slot is held: PCI-to-PCI Bridge Architecture Specification 1.1, chapter 5 (delayed
+-- For whom a slot is held: PCI-to-PCI Bridge Architecture Specification 1.1, chapter 5 (from memory; delayed
 -- transactions).
 use Rattle.std.specs.Prelude.{◌≡◌, ℕ, true, false, Some, slice_get}
 use Rattle.pci_command.specs.declared.request.Request.{Request}

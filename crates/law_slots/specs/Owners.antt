@@ -1,4 +1,4 @@
--- Who waits for a held slot: PCI Local Bus Specification 2.2, section 3.3.3.3.1 (a master repeats a delayed
+-- Who waits for a held slot: PCI Local Bus Specification 2.2, section 3.3.3.3.1 (from memory; a master repeats a delayed
 -- request until it ends).
 use Rattle.std.specs.Prelude.{◌≡◌, ℕ, ◌≤◌, Bool, Option, Some, List, if◌then◌else◌}
 use Rattle.std.specs.List.{find, AllByRecursion}

@@ -1,4 +1,4 @@
--- The data phases of delayed requests: PCI Local Bus Specification 2.2, section 3.3.3.3 (a delayed
+-- The data phases of delayed requests: PCI Local Bus Specification 2.2, section 3.3.3.3 (from memory; a delayed
 -- transaction has one data phase).
 use Rattle.std.specs.Prelude.{◌≡◌, ◌≤◌, false, length}
 use Rattle.std.specs.List.{AllByRecursion}

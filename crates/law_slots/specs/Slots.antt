@@ -1,5 +1,5 @@
--- Where the item of each held slot is: PCI-to-PCI Bridge Architecture Specification 1.1, chapter 5, and
--- PCI Local Bus Specification 2.2, section 3.3.3.3 (delayed transactions).
+-- Where the item of each held slot is: PCI-to-PCI Bridge Architecture Specification 1.1, chapter 5 (from memory), and
+-- PCI Local Bus Specification 2.2, section 3.3.3.3 (from memory; delayed transactions).
 use Rattle.std.specs.Prelude.{◌≡◌, ℕ, ◌+◌, ◌≤◌, List, Some, IsSome, ◌==◌, if◌then◌else◌}
 use Rattle.std.specs.List.{find, AllByRecursion}
 use Rattle.list_facts.specs.Lists.{total}

@@ -1,5 +1,5 @@
 -- How far the lanes of its way have brought a delayed request: PCI-to-PCI Bridge Architecture Specification 1.1,
--- chapter 5 (delayed transactions).
+-- chapter 5 (from memory; delayed transactions).
 use Rattle.std.specs.Prelude.{ℕ, ◌+◌, ◌*◌, length, Option, Some, None, if◌then◌else◌}
 use Rattle.std.specs.List.{find, list_any}
 use Rattle.pci_command.specs.declared.op_id.OpId.{OpId}

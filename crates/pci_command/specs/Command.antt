@@ -1,4 +1,4 @@
--- Bus commands: PCI Local Bus Specification 2.2, section 3.1.1.
+-- Bus commands: PCI Local Bus Specification 2.2, section 3.1.1 (from memory).
 use Rattle.std.specs.Prelude.{ℕ, Bool, true, false}
 use Rattle.pci_command.specs.declared.command.Command.{Command}
 use Rattle.pci_command.specs.declared.command.Command.TheVariants.{IoRead, IoWrite, MemRead, MemWrite, CfgRead, CfgWrite, MemReadMultiple, MemReadLine, MemWriteInvalidate}

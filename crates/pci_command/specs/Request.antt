@@ -1,4 +1,4 @@
--- The address phases of a request: PCI Local Bus Specification 2.2, sections 3.1.1 and 3.9.
+-- The address phases of a request: PCI Local Bus Specification 2.2, sections 3.1.1 and 3.9 (from memory).
 use Rattle.std.specs.Prelude.{ℕ, ◌/◌, ◌%◌, ◌^◌, List, [], ◌∷◌, nat_lt, if◌then◌else◌}
 use Rattle.pci_command.specs.declared.request.Request.{Request}
 use Rattle.pci_command.specs.Command.{code_of}

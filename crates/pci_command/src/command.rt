@@ -1,6 +1,6 @@
 ghost use Rattle.std.specs.Prelude.{◌≡◌, IfSome};
 
-/// An address space (PCI Local Bus 2.2, section 3.2.2).
+/// An address space (PCI Local Bus 2.2, section 3.2.2, from memory).
 #[derive(Clone, Copy, Debug, Default, PartialEq, Eq, PartialOrd, Ord, Hash)]
 pub enum Space {
     /// Memory, of 64-bit addresses.
@@ -12,7 +12,7 @@ pub enum Space {
     Cfg,
 }
 
-/// A bus command (PCI Local Bus 2.2, section 3.1.1), without the reserved ones, Interrupt
+/// A bus command (PCI Local Bus 2.2, section 3.1.1, from memory), without the reserved ones, Interrupt
 /// Acknowledge, Special Cycle and Dual Address Cycle.
 #[derive(Clone, Copy, Debug, Default, PartialEq, Eq, PartialOrd, Ord, Hash)]
 pub enum Command {

@@ -1,4 +1,4 @@
-//! The commands of the PCI Local Bus Specification 2.2, section 3.1.1, the requests that carry
+//! The commands of the PCI Local Bus Specification 2.2, section 3.1.1 (from memory), the requests that carry
 //! them, and the small lists that every other crate speaks of.
 #![tactic(auto)]
 

@@ -15,8 +15,8 @@ pub enum Outcome {
     /// A write was taken.
     #[default]
     Written,
-    /// Target abort (PCI Local Bus 2.2, section 3.3.3.2.1).
+    /// Target abort (PCI Local Bus 2.2, section 3.3.3.2.1, from memory).
     Aborted,
-    /// Master abort: nobody claimed it (PCI Local Bus 2.2, section 3.3.3.1).
+    /// Master abort: nobody claimed it (PCI Local Bus 2.2, section 3.3.3.1, from memory).
     Nobody,
 }

@@ -27,7 +27,7 @@ impl Request {
 }
 
 /// Whether two requests are the same: by this a master that repeats its request is known again
-/// (PCI Local Bus 2.2, section 3.3.3.3.1).
+/// (PCI Local Bus 2.2, section 3.3.3.3.1, from memory).
 pub fn same_request(a: &Request, b: &Request) -> bool
     ensures { IsTrue result ↔ (a.now ≡ b.now) }
 {

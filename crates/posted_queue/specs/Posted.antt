@@ -1,5 +1,5 @@
 -- The posted memory writes that a bridge holds for its other bus: PCI Local Bus Specification 2.2,
--- section 3.2.5 (posting) and appendix E (they leave in the order in which they came).
+-- section 3.2.5 (from memory; posting) and appendix E (they leave in the order in which they came).
 use Rattle.std.specs.Prelude.{ℕ, ◌≤◌, Option, None, Some, List, [], ◌∷◌, length}
 use Rattle.pci_command.specs.declared.op_id.OpId.{OpId}
 use Rattle.posted_queue.specs.declared.posted_table.Post.{Post}

@@ -13,7 +13,7 @@ pub struct Post {
 }
 
 /// The posted memory writes that stand, in the order in which they came: at most `depth`, which is
-/// from 1 to 8 (PCI Local Bus 2.2, section 3.2.5). It takes no memory.
+/// from 1 to 8 (PCI Local Bus 2.2, section 3.2.5, from memory). It takes no memory.
 #[derive(Debug, Drop)]
 pub struct PostedTable {
     limit: u8,
