@@ -1,7 +1,6 @@
 -- Numbers that were printed: their digits, and what is read.
 use Rattle.std.proofs.Common.{◌≡◌, ℕ, ◌/◌, ◌%◌, ◌^◌, ◌<◌, true, false, ltb, List, [], ◌∷◌, length, Ok, zero, suc, refl, arith}
 use Rattle.std.specs.List.{list_all}
-use native.Mathlib.Numerals.{unary_clauses}
 use Rattle.std.specs.Char.{digit_value}
 use Rattle.std.specs.Fmt.{decimal, digit_glyph}
 use Rattle.std.specs.Str.Parse.{AllDigits}
