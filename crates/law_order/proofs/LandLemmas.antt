@@ -139,7 +139,7 @@ Short-run board [] o op is_op posted run = λ some. absurd (omega (arith, some))
 Short-run board (e ∷ h) o op is_op posted run = event_short board h o op e is_op posted run.0 (Short-run board h o op is_op posted run.1)
 
 -- so what is left of a write is claimed by whom the whole is
-claims_from : (board : Board) (o : OpId) (on : ℕ) (request : Request) (gone : ℕ) → WritesHaveOneClaimant board → request_of board o on ≡ Some request → is_posted request ≡ true
+pub claims_from : (board : Board) (o : OpId) (on : ℕ) (request : Request) (gone : ℕ) → WritesHaveOneClaimant board → request_of board o on ≡ Some request → is_posted request ≡ true
     → Short gone (length request.phases) → claim board on (without gone request) ≡ claim board on request
 claims_from board o on request zero one is posted short =
     let whole : request.address + 4 * 0 ≡ request.address = omega arith in

@@ -24,9 +24,13 @@ pub use Rattle.law_order.proofs.BurstLemmas.{OneClaimant-formed, AbortWhole-form
 
 -- the item of a write in memory, and what its request says
 pub use Rattle.law_order.proofs.PostLemmas.{post_of, op_is_posted}
+-- a posted write that a lane presents is the oldest that stands there
+pub use Rattle.law_order.proofs.PostLemmas.{posts-less_first}
+-- where a target claims a write, its way is at its end, and it claims the whole
+pub use Rattle.law_order.proofs.DirectLemmas.{empty_way, whole_target}
 -- a write goes through in parts, and what is left of it is claimed as the whole
-pub use Rattle.law_order.proofs.LandLemmas.{Short, Short-run, rest_claimed, write_lands}
--- a part of a write begins at a word of its own
-pub use Rattle.law_order.proofs.WordLemmas.{part_word}
+pub use Rattle.law_order.proofs.LandLemmas.{Short, Short-run, claims_from, rest_claimed, write_lands}
+-- a target that claims a write takes it, in a part or whole, and a part begins at a word of its own
+pub use Rattle.law_order.proofs.WordLemmas.{OnlyTakes, takes_only, part_word}
 -- sums over the lanes of a board
 pub use Rattle.law_order.proofs.LaneSums.{over-one, over-plus, over-same}

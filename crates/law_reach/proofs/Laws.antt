@@ -6,6 +6,8 @@ pub use Rattle.law_reach.proofs.ReachLemmas.{Reaches-run}
 
 -- a request that stands is the first of its number
 pub use Rattle.law_reach.proofs.ReachLemmas.{ask_stands_first}
+-- who presents an operation is traced to its master, by slots held on its way
+pub use Rattle.law_reach.proofs.ReachLemmas.{Known, placed, trace}
 -- the slot of an operation, what it has, and whose turn it is
 pub use Rattle.law_reach.proofs.OwnLemmas.{Own, own_by, own_of, by_number, own_number, Stands, stands_of, no_slots, none_of, freed_none}
 -- a delayed operation that a lane presents stands there as its request, and passed the lane

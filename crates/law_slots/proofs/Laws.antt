@@ -34,6 +34,12 @@ pub use Rattle.law_slots.proofs.WellFormedLemmas.{WellFormed-numbers, WellFormed
 
 -- who presents an operation is on the bus
 pub use Rattle.law_slots.proofs.LatchedLemmas.{wants-at}
+-- a lane that claims a request begins on the bus
+pub use Rattle.law_slots.proofs.ClaimLemmas.{claim_starts}
+-- who presents an operation for which a slot is held waits for it
+pub use Rattle.law_slots.proofs.OwnersLatchLemmas.{wants-waits}
+-- slots under either rule of the bridge
+pub use Rattle.law_slots.proofs.SlotsRunLemmas.{Slots-kept, Slots-run_by}
 -- a request that is taken in parts has more data phases left
 pub use Rattle.law_slots.proofs.PartLemmas.{PartLeft, answered_part}
 -- a number weighs one for itself, and finds its slot
