@@ -1,5 +1,6 @@
 //! What holds of slots, credits and depths after every run of every board. Each law is the contract
-//! of a function that does nothing.
+//! of a function that does nothing. What a clause says `under_either_rule` holds of bridges that keep
+//! no local master too.
 #![tactic(auto)]
 
 ghost use Rattle.std.specs.Prelude.{◌≡◌, ◌++◌, ◌∷◌, ℕ, List, Bool, true, false, Some, None, is_some};
@@ -19,11 +20,12 @@ ghost use Rattle.history_model.specs.declared.event.Event.{Event};
 ghost use Rattle.history_model.specs.declared.event.Event.TheVariants.{Act};
 ghost use Rattle.history_model.specs.declared.item.Carried.{Carried};
 ghost use Rattle.history_model.specs.Lanes.{empty_lane};
-ghost use Rattle.history_model.specs.World.{both, world_of};
+ghost use Rattle.history_model.specs.World.{both, world_by, world_of};
 ghost use Rattle.history_model.specs.Program.{turn_of};
 ghost use Rattle.history_model.specs.Words.{through};
 ghost use Rattle.history_model.specs.Answers.{bridge_to, wants};
-ghost use Rattle.history_model.specs.Runs.{Run};
+ghost use Rattle.history_model.specs.declared.rule.Rule.{Rule};
+ghost use Rattle.history_model.specs.Runs.{RunBy, Run};
 ghost use Rattle.history_model.specs.Local.{Matched, is_lawful_on};
 ghost use Rattle.law_slots.specs.Slots.{Slots, HasOneItem, GoneHeld};
 ghost use Rattle.law_slots.specs.Standing.{CanStand};
@@ -41,6 +43,7 @@ ghost use Rattle.board_model.specs.Ways.{lane_back};
 /// is held twice.
 pub fn slots()
     ensures counted { (board : Board) (h : List Event) (lane : BridgeLane) → Run board h → Slots (both (world_of board h) lane) }
+    ensures under_either_rule { (rule : Rule) (board : Board) (h : List Event) (lane : BridgeLane) → RunBy rule board h → Slots (both (world_by rule board h) lane) }
     ensures one_item { (board : Board) (h : List Event) (lane : BridgeLane) → Run board h → AllByRecursion (HasOneItem (both (world_of board h) lane)) (world_of board h lane).held }
     ensures dropped { (board : Board) (h : List Event) (lane : BridgeLane) → Run board h → AllByRecursion (GoneHeld (world_of board h lane).held) (world_of board h (lane_back lane)).flight }
 {}
@@ -48,7 +51,8 @@ pub fn slots()
 /// The credits of each lane: it owes the posted writes in flight and standing, and those whose
 /// credit is in flight on the lane back.
 pub fn credits()
-    ensures { (board : Board) (h : List Event) (lane : BridgeLane) → Run board h → Credits (both (world_of board h) lane) }
+    ensures counted { (board : Board) (h : List Event) (lane : BridgeLane) → Run board h → Credits (both (world_of board h) lane) }
+    ensures under_either_rule { (rule : Rule) (board : Board) (h : List Event) (lane : BridgeLane) → RunBy rule board h → Credits (both (world_by rule board h) lane) }
 {}
 
 /// The depths of a bridge bound what is on each of its lanes. A bridge is found by its number, which
@@ -56,6 +60,7 @@ pub fn credits()
 /// held, 32 items in flight and 24 standing on any lane.
 pub fn depths()
     ensures of_bridge { (board : Board) (h : List Event) (lane : BridgeLane) (bridge : Bridge) → bridge_to board lane.bus ≡ Some bridge → Run board h → Within bridge.posted bridge.delayed (world_of board h lane) }
+    ensures under_either_rule { (rule : Rule) (board : Board) (h : List Event) (lane : BridgeLane) (bridge : Bridge) → bridge_to board lane.bus ≡ Some bridge → RunBy rule board h → Within bridge.posted bridge.delayed (world_by rule board h lane) }
     ensures of_each { (board : Board) (h : List Event) → DifferentNumbers board → Run board h → AllByRecursion (λ (bridge : Bridge). (up : Bool) → Within bridge.posted bridge.delayed (world_of board h (record { bus = bridge.bus; up = up }))) board.bridges }
     ensures to_eight { (board : Board) (h : List Event) (lane : BridgeLane) → DepthsToEight board → Run board h → Within 8 8 (world_of board h lane) }
 {}
@@ -67,7 +72,8 @@ pub fn prefixes()
 
 /// Only posted writes, delayed requests and completions stand on a lane.
 pub fn standing()
-    ensures { (board : Board) (h : List Event) (lane : BridgeLane) → Run board h → AllByRecursion CanStand (world_of board h lane).standing }
+    ensures stands { (board : Board) (h : List Event) (lane : BridgeLane) → Run board h → AllByRecursion CanStand (world_of board h lane).standing }
+    ensures under_either_rule { (rule : Rule) (board : Board) (h : List Event) (lane : BridgeLane) → RunBy rule board h → AllByRecursion CanStand (world_by rule board h lane).standing }
 {}
 
 /// Nothing is on the lanes of a bridge where no posted write was accepted and no delayed request
