@@ -1,0 +1,12 @@
+pub mod HalfLemmas
+pub mod JointLemmas
+pub mod EventLemmas
+pub mod TransferLemmas
+pub mod ThroughLemmas
+pub mod PlaceLemmas
+pub mod WovenLemmas
+pub mod RunLemmas
+pub mod FlightLemmas
+pub mod StampLemmas
+pub mod SortLemmas
+pub mod EndLemmas

@@ -1,0 +1,184 @@
+-- Events of all buses, each allowed by what its bus knows and each arrival after its sending, are a run.
+use Rattle.std.proofs.Common.{◌≡◌, ◌≢◌, ℕ, ◌+◌, ◌<◌, Bool, true, false, cond, ◌==◌, eqb, List, [], ◌∷◌, ◌++◌, length, Option, Some, None, refl, sym, ap, subst, ◌∙◌, arith}
+use Rattle.std.proofs.lemmas.Bool.{eqb-true, eqb-false, eq-eqb, and_parts}
+use Rattle.std.proofs.lemmas.List.{length-append}
+use Rattle.list_facts.proofs.EachLemmas.{Each-find}
+use Rattle.list_facts.proofs.FindLemmas.{find_passes}
+use Rattle.pci_command.specs.declared.op_id.OpId.{OpId}
+use Rattle.board_model.specs.declared.bridge.Bridge.{Bridge}
+use Rattle.board_model.specs.declared.bridge.Lane.{Lane as BridgeLane}
+use Rattle.board_model.specs.declared.bridge.Place.{Place}
+use Rattle.board_model.specs.declared.bridge.Place.TheVariants.{Lane}
+use Rattle.board_model.specs.declared.board.Board.{Board}
+use Rattle.board_model.specs.Ways.{primary_in, primary_of, start_of, end_of}
+use Rattle.board_laws.specs.Trees.{IsTree}
+use Rattle.history_model.specs.declared.event.By.{By}
+use Rattle.history_model.specs.declared.event.By.TheVariants.{Lane as ByLane}
+use Rattle.history_model.specs.declared.event.Mark.{Mark}
+use Rattle.history_model.specs.declared.event.Step.{Step}
+use Rattle.history_model.specs.declared.event.Event.{Event}
+use Rattle.history_model.specs.declared.event.Event.TheVariants.{Act, Arrive}
+use Rattle.history_model.specs.declared.item.Carried.{Carried}
+use Rattle.history_model.specs.declared.item.Carried.TheVariants.{Post, Ask, Done, Room, Gone}
+use Rattle.history_model.specs.declared.item.Answer.TheVariants.{Gives}
+use Rattle.history_model.specs.Lanes.{LaneState, empty_lane}
+use Rattle.history_model.specs.World.{World, after, world_of}
+use Rattle.history_model.specs.Words.{through, without}
+use Rattle.history_model.specs.Answers.{presents, wants, answer, bridge_to}
+use Rattle.history_model.specs.Runs.{mark_of, mark_of_first, Allowed, Run}
+use Rattle.history_model.specs.Local.{bus_of, local_world}
+use Rattle.law_local.specs.Joint.{on, ending, known, JointRun, IsTimely, IsSent, Woven, AllWoven}
+use Rattle.law_local.proofs.EventLemmas.{replaced, act_joint, arrive_joint, IsFront, Joints-alike}
+use Rattle.law_local.proofs.TransferLemmas.{wants_local}
+use Rattle.law_local.proofs.WovenLemmas.{Woven-fit, answer_local}
+use Rattle.history_facts.proofs.AnswerLemmas.{answered_at}
+use Rattle.law_slots.proofs.Laws.{claim_starts, wants-at, Quiet-empty, run_no_bridge}
+
+-- the two ends of a bridge's lane are on different buses
+pub lane_apart : (board : Board) (lane : BridgeLane) (bridge : Bridge) → IsTree board → bridge_to board lane.bus ≡ Some bridge → end_of board lane ≢ start_of board lane
+lane_apart board lane bridge tree is =
+    let number : bridge.bus ≡ lane.bus = eqb-true bridge.bus lane.bus (find_passes (λ (b : Bridge). b.bus == lane.bus) board.bridges bridge is) in
+    let below : bridge.parent < bridge.bus = Each-find (λ (b : Bridge). b.parent < b.bus) (λ (b : Bridge). b.bus == lane.bus) board.bridges bridge tree.falls is in
+    let primary : primary_of board lane.bus ≡ bridge.parent = ap primary_in is in
+    let differ : primary_of board lane.bus ≢ lane.bus = λ same. absurd (omega (arith, number, below, primary, same)) in
+    let P : Bool → Type 0 = λ up. end_of board (record { bus = lane.bus; up = up }) ≢ start_of board (record { bus = lane.bus; up = up }) in
+    elim lane.up as P [ true ↦ differ | false ↦ λ same. differ (sym same) ]
+
+-- something is on the lane only if it is one of a bridge
+something_apart : (board : Board) (h : List Event) (lane : BridgeLane) → IsTree board → Run board h → (world_of board h lane ≡ empty_lane → ⊥) → end_of board lane ≢ start_of board lane
+something_apart board h lane tree run some =
+    let P : Option Bridge → Type 0 = λ found. bridge_to board lane.bus ≡ found → end_of board lane ≢ start_of board lane in
+    (elim (bridge_to board lane.bus) as P [
+      | None ↦ λ none. absurd (some (Quiet-empty board h lane (run_no_bridge board lane.bus h none run)))
+      | Some bridge ↦ λ is. lane_apart board lane bridge tree is
+    ]) refl
+
+-- nothing is presented of nothing
+nothing_presented : (board : Board) (bus : ℕ) (o : OpId) (standing : List Carried) → standing ≡ [] → presents board bus o standing ≡ true → ⊥
+nothing_presented board bus o standing none presented =
+    let F : List Carried → Type 0 = λ xs. presents board bus o xs ≡ true in
+    let none_presented : false ≡ true = subst F none presented in cc
+
+module _ (board : Board) (sent : BridgeLane → List Carried) where
+  -- a bus knows its own event, and no other bus does
+  known_here : (e : Event) (h : List Event) (bus : ℕ) (l : BridgeLane) → bus_of board e ≡ bus → known board sent bus (e ∷ h) l ≡ after board (known board sent bus h) e l
+  known_here e h bus l is =
+      let test : eqb (bus_of board e) bus ≡ true = eq-eqb (bus_of board e) bus is in
+      let K : List Event → LaneState = λ p. local_world board (ending board bus sent) p l in
+      let P : Bool → Type 0 = λ b. eqb (bus_of board e) bus ≡ b → K (cond b (e ∷ on board bus h) (on board bus h)) ≡ after board (known board sent bus h) e l in
+      (elim (eqb (bus_of board e) bus) as P [ true ↦ λ _. refl | false ↦ λ no_test. let wrong : true ≡ false = sym test ∙ no_test in cc ]) refl
+
+  known_elsewhere : (e : Event) (h : List Event) (bus : ℕ) (l : BridgeLane) → bus_of board e ≢ bus → known board sent bus (e ∷ h) l ≡ known board sent bus h l
+  known_elsewhere e h bus l differ =
+      let K : List Event → LaneState = λ p. local_world board (ending board bus sent) p l in
+      let P : Bool → Type 0 = λ b. eqb (bus_of board e) bus ≡ b → K (cond b (e ∷ on board bus h) (on board bus h)) ≡ known board sent bus h l in
+      (elim (eqb (bus_of board e) bus) as P [ true ↦ λ same. absurd (differ (eqb-true (bus_of board e) bus same)) | false ↦ λ _. refl ]) refl
+
+  -- the worlds of the buses after an event
+  known_after : (e : Event) (h : List Event) (bus n : ℕ) (l : BridgeLane) → bus_of board e ≡ bus
+      → replaced (λ m. known board sent m h) bus (after board (known board sent bus h) e) n l ≡ known board sent n (e ∷ h) l
+  known_after e h bus n l is =
+      let P : Bool → Type 0 = λ b. eqb n bus ≡ b → (cond b (after board (known board sent bus h) e) (known board sent n h)) l ≡ known board sent n (e ∷ h) l in
+      (elim (eqb n bus) as P [
+        | true ↦ λ test.
+            let same : n ≡ bus = eqb-true n bus test in
+            subst (λ m. after board (known board sent bus h) e l ≡ known board sent m (e ∷ h) l) (sym same) (sym (known_here e h bus l is))
+        | false ↦ λ test. sym (known_elsewhere e h n l (λ same. eqb-false n bus test (sym same ∙ is)))
+      ]) refl
+
+  fronts : (e : Event) (h : List Event) (bus : ℕ) → bus_of board e ≡ bus → IsSent board sent bus (e ∷ h) → (l : BridgeLane) → start_of board l ≡ bus → IsFront (sent l) (after board (known board sent bus h) e l)
+  fronts e h bus is sends l starts = subst (IsFront (sent l)) (known_here e h bus l is) (sends l starts)
+
+  module _ (fit : Woven-fit board) where
+    begins_there : (h : List Event) (bus : ℕ) (by : By) (o : OpId) (step : Step) (place : Place) → Allowed board h (Act bus by o step place)
+        → (lane : BridgeLane) → place ≡ Lane lane → (start_of board lane ≡ bus) × (end_of board lane ≢ bus)
+    begins_there h bus by o step place allowed lane is =
+        let gives : answer board h bus by o ≡ Gives step (Lane lane) = allowed.1 ∙ ap (Gives step) is in
+        let at = answered_at board h bus by o step lane gives in
+        let starts : start_of board lane ≡ bus = claim_starts board bus (without (through h o) at.request) lane fit.distinct at.claims in
+        (starts, λ same. lane_apart board lane at.bridge fit.tree at.is_bridge (same ∙ sym starts))
+
+    ends_there : (h : List Event) (bus : ℕ) (by : By) (o : OpId) → Run board h → wants board h bus by o ≡ true → (lane : BridgeLane) → by ≡ ByLane lane → (end_of board lane ≡ bus) × (start_of board lane ≢ bus)
+    ends_there h bus by o run wanted lane is =
+        let wants_lane : wants board h bus (ByLane lane) o ≡ true = subst (λ b. wants board h bus b o ≡ true) is wanted in
+        let ends : end_of board lane ≡ bus = wants-at board h bus (ByLane lane) o wants_lane in
+        let st : List Carried = (world_of board h lane).standing in
+        let presented : presents board bus o st ≡ true = (and_parts (end_of board lane == bus) (presents board bus o st) wants_lane).1 in
+        let apart = something_apart board h lane fit.tree run (λ none. nothing_presented board bus o st (ap (λ (s : LaneState). s.standing) none) presented) in
+        (ends, λ same. apart (ends ∙ sym same))
+
+    -- an item that comes in time is in flight
+    in_flight : (h : List Event) (lane : BridgeLane) (mark : Mark) → JointRun board sent h → IsTimely board sent h (Arrive lane mark) → (world_of board h lane).flight ≢ []
+    in_flight h lane mark joint timely none =
+        let j = joint lane in
+        let near : LaneState = known board sent (start_of board lane) h lane in
+        let far : LaneState = known board sent (end_of board lane) h lane in
+        let later_is : j.later ≡ far.flight = ap (λ l. l ++ j.later) (sym none) ∙ j.flight in
+        let all : length near.flight + length j.later ≡ length (sent lane) = sym (length-append near.flight j.later) ∙ ap length j.sent in
+        let same : length j.later ≡ length far.flight = ap length later_is in
+        absurd (omega (arith, all, same, timely))
+
+    arrive_mark : (lane : BridgeLane) (w x : LaneState) (later flight : List Carried) (mark : Mark) → flight ≢ [] → w.asks ≡ x.asks → w.dones ≡ x.dones → mark_of_first board lane x (flight ++ later) ≡ Some mark → mark_of_first board lane w flight ≡ Some mark
+    arrive_mark lane w x later [] mark some asks dones is = absurd (some refl)
+    arrive_mark lane w x later (item ∷ rest) mark some asks dones is = ap Some (marks lane w x item asks dones) ∙ is
+      where
+        marks : (lane : BridgeLane) (w x : LaneState) (item : Carried) → w.asks ≡ x.asks → w.dones ≡ x.dones → mark_of board lane w item ≡ mark_of board lane x item
+        marks lane w x (Post op) asks dones = refl
+        marks lane w x (Ask op slot) asks dones = ap (λ n. mark_of board lane (record empty_lane { asks = n }) (Ask op slot)) asks
+        marks lane w x (Done op slot outcome) asks dones = ap (λ n. mark_of board lane (record empty_lane { dones = n }) (Done op slot outcome)) dones
+        marks lane w x Room asks dones = refl
+        marks lane w x (Gone slot) asks dones = refl
+
+    event_allowed : (h : List Event) (e : Event) → Run board h → JointRun board sent h → Woven board sent e h → Allowed board h e
+    event_allowed h (Act bus by o step place) run joint woven =
+        let wanted : wants board h bus by o ≡ true = wants_local board sent h bus joint run by o ∙ woven.allowed.0 in
+        (wanted, answer_local board fit sent h bus joint run by o wanted ∙ woven.allowed.1)
+    event_allowed h (Arrive lane mark) run joint woven =
+        let j = joint lane in
+        let w : LaneState = world_of board h lane in
+        let x : LaneState = known board sent (end_of board lane) h lane in
+        let some = in_flight h lane mark joint woven.timely in
+        let marked : mark_of_first board lane x (w.flight ++ j.later) ≡ Some mark = ap (mark_of_first board lane x) j.flight ∙ woven.allowed in
+        arrive_mark lane w x j.later w.flight mark some j.asks j.dones marked
+
+    event_joint : (h : List Event) (e : Event) → Run board h → JointRun board sent h → Woven board sent e h → JointRun board sent (e ∷ h)
+    event_joint h (Act bus by o step place) run joint woven =
+        let e : Event = Act bus by o step place in
+        let allowed = event_allowed h e run joint woven in
+        let knows : ℕ → World = λ n. known board sent n h in
+        let done = act_joint board sent (world_of board h) knows bus by o step place (begins_there h bus by o step place allowed) (ends_there h bus by o run allowed.0) (fronts e h bus refl woven.sends) joint in
+        Joints-alike board sent (after board (world_of board h) e) (world_of board (e ∷ h)) (replaced knows bus (after board (knows bus) e)) (λ n. known board sent n (e ∷ h)) (λ l. refl) (λ n l. known_after e h bus n l refl) done
+    event_joint h (Arrive lane mark) run joint woven =
+        let e : Event = Arrive lane mark in
+        let bus : ℕ = end_of board lane in
+        let knows : ℕ → World = λ n. known board sent n h in
+        let some = in_flight h lane mark joint woven.timely in
+        let apart = something_apart board h lane fit.tree run (λ none. some (ap (λ (s : LaneState). s.flight) none)) in
+        let done = arrive_joint board sent (world_of board h) knows lane mark (λ same. apart (sym same)) some (fronts e h bus refl woven.sends) joint in
+        Joints-alike board sent (after board (world_of board h) e) (world_of board (e ∷ h)) (replaced knows bus (after board (knows bus) e)) (λ n. known board sent n (e ∷ h)) (λ l. refl) (λ n l. known_after e h bus n l refl) done
+
+    -- nothing is ever sent on a lane that begins where it ends
+    first_joint : ((lane : BridgeLane) → end_of board lane ≡ start_of board lane → sent lane ≡ []) → JointRun board sent []
+    first_joint quiet lane =
+        let far : List Carried = ending board (end_of board lane) sent lane in
+        let near : List Carried = ending board (start_of board lane) sent lane in
+        let self : eqb (end_of board lane) (end_of board lane) ≡ true = eq-eqb (end_of board lane) (end_of board lane) refl in
+        let far_is : far ≡ sent lane = rw self refl in
+        let P : Bool → Type 0 = λ b. eqb (end_of board lane) (start_of board lane) ≡ b → cond b (sent lane) [] ≡ [] in
+        let near_is : near ≡ [] = (elim (eqb (end_of board lane) (start_of board lane)) as P [ true ↦ λ same. quiet lane (eqb-true (end_of board lane) (start_of board lane) same) | false ↦ λ _. refl ]) refl in
+        record {
+          asks = refl;
+          dones = refl;
+          standing = refl;
+          held = refl;
+          owed = refl;
+          later = sent lane;
+          flight = sym far_is;
+          sent = ap (λ l. l ++ sent lane) near_is;
+        }
+
+    pub woven_run : ((lane : BridgeLane) → end_of board lane ≡ start_of board lane → sent lane ≡ []) → (h : List Event) → AllWoven board sent h → Run board h × JointRun board sent h
+    woven_run quiet [] woven = (tt, first_joint quiet)
+    woven_run quiet (e ∷ h) woven =
+        let old = woven_run quiet h woven.1 in
+        ((event_allowed h e old.0 old.1 woven.0, old.0), event_joint h e old.0 old.1 woven.0)

@@ -1,0 +1,4 @@
+pub mod Halves
+pub mod Joint
+pub mod Stamps
+pub mod Quiet
