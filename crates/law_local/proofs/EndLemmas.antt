@@ -15,10 +15,10 @@ use Rattle.history_model.specs.World.{World, world_of}
 use Rattle.history_model.specs.Answers.{wants_in, answer_in, bridge_to}
 use Rattle.history_model.specs.Runs.{mark_of_first, Allowed, Run, Complete}
 use Rattle.history_model.specs.Local.{is_lawful, is_lawful_at, is_lawful_on}
-use Rattle.law_local.specs.Joint.{on, known, JointRun}
-use Rattle.law_local.specs.Quiet.{IsRetry, IsQuiet}
+use Rattle.law_local.specs.Known.{events_on, known, AllJoint}
+use Rattle.law_local.specs.Quiet.{IsRetry, AllQuiet}
 use Rattle.law_local.proofs.JointLemmas.{start_back}
-use Rattle.law_local.proofs.WovenLemmas.{Woven-fit, answer_local}
+use Rattle.law_local.proofs.AnswerLemmas.{IsFit, answer_local}
 use Rattle.law_local.proofs.TransferLemmas.{wants_local}
 use Rattle.board_laws.proofs.Laws.{IsTree-valid}
 use Rattle.law_slots.proofs.Laws.{WellFormed-numbers, WellFormed-single}
@@ -26,8 +26,8 @@ use Rattle.law_order.proofs.Laws.{OneClaimant-formed}
 use Rattle.law_progress.proofs.Laws.{Sound-valid, goes_on}
 
 -- a valid board is fit
-pub Woven-valid : (board : Board) → IsValid board → Woven-fit board
-Woven-valid board valid = record {
+pub IsFit-valid : (board : Board) → IsValid board → IsFit board
+IsFit-valid board valid = record {
   tree = IsTree-valid board valid;
   distinct = WellFormed-numbers board valid.well_formed;
   one = OneClaimant-formed board valid.well_formed;
@@ -49,12 +49,12 @@ lawful_shape item (Some bridge) w v x y standing held owed =
     ap (λ s. is_lawful bridge.posted bridge.delayed s v.held v.owed item) standing
     ∙ (ap (λ s. is_lawful bridge.posted bridge.delayed x.standing s v.owed item) held ∙ ap (λ n. is_lawful bridge.posted bridge.delayed x.standing y.held n item) owed)
 
-module _ (board : Board) (fit : Woven-fit board) (sent : BridgeLane → List Carried) (h : List Event) (joint : JointRun board sent h) (run : Run board h) where
-  not_allowed : (e : Event) → ((bus : ℕ) → IsQuiet board bus (known board sent bus h) (on board bus h)) → Allowed board h e → ⊥
+module _ (board : Board) (fit : IsFit board) (sent : BridgeLane → List Carried) (h : List Event) (joint : AllJoint board sent h) (run : Run board h) where
+  not_allowed : (e : Event) → AllQuiet board sent h → Allowed board h e → ⊥
   not_allowed (Act bus by o step place) quiet allowed =
       let own : World = known board sent bus h in
-      let wanted : wants_in board own (on board bus h) bus by o ≡ true = sym (wants_local board sent h bus joint run by o) ∙ allowed.0 in
-      let given : answer_in board own (on board bus h) bus by o ≡ Gives step place = sym (answer_local board fit sent h bus joint run by o allowed.0) ∙ allowed.1 in
+      let wanted : wants_in board own (events_on board bus h) bus by o ≡ true = sym (wants_local board sent h bus joint run by o) ∙ allowed.0 in
+      let given : answer_in board own (events_on board bus h) bus by o ≡ Gives step place = sym (answer_local board fit sent h bus joint run by o allowed.0) ∙ allowed.1 in
       subst IsRetry given ((quiet bus).retried by o wanted)
   not_allowed (Arrive lane mark) quiet allowed =
       let j = joint lane in
@@ -63,20 +63,21 @@ module _ (board : Board) (fit : Woven-fit board) (sent : BridgeLane → List Car
       some_marked board lane (world_of board h lane) (world_of board h lane).flight none mark allowed
 
   -- where no bus has anything more to do, the run is complete
-  pub quiet_complete : IsValid board → ((bus : ℕ) → IsQuiet board bus (known board sent bus h) (on board bus h)) → Complete board h
+  pub quiet_complete : IsValid board → AllQuiet board sent h → Complete board h
   quiet_complete valid quiet =
       elim (goes_on board h run (Sound-valid board valid)) [
         | inl next ↦ absurd (not_allowed next.event quiet next.allowed)
         | inr complete ↦ complete
       ]
 
-  -- what is in flight to a bus passes the bus's own test
-  pub lawful_known : (lane : BridgeLane) → (item : Carried) → is_lawful_on board (world_of board h) lane item ≡ is_lawful_on board (known board sent (end_of board lane) h) lane item
-  lawful_known lane item =
-      let bus : ℕ = end_of board lane in
-      let own : World = known board sent bus h in
-      let j = joint lane in
-      let F : ℕ → Type 0 = λ n. ((world_of board h (lane_back lane)).held ≡ (known board sent n h (lane_back lane)).held) × ((world_of board h (lane_back lane)).owed ≡ (known board sent n h (lane_back lane)).owed) in
-      let b = joint (lane_back lane) in
-      let back = subst F (start_back board lane) (b.held, b.owed) in
-      lawful_shape item (bridge_to board lane.bus) (world_of board h lane) (world_of board h (lane_back lane)) (own lane) (own (lane_back lane)) j.standing back.0 back.1
+-- an item passes the test of what the bus knows where the lane ends exactly where it passes that of the world
+pub lawful_known : (board : Board) (sent : BridgeLane → List Carried) (h : List Event) → AllJoint board sent h → (lane : BridgeLane) (item : Carried)
+    → is_lawful_on board (world_of board h) lane item ≡ is_lawful_on board (known board sent (end_of board lane) h) lane item
+lawful_known board sent h joint lane item =
+    let bus : ℕ = end_of board lane in
+    let own : World = known board sent bus h in
+    let j = joint lane in
+    let F : ℕ → Type 0 = λ n. ((world_of board h (lane_back lane)).held ≡ (known board sent n h (lane_back lane)).held) × ((world_of board h (lane_back lane)).owed ≡ (known board sent n h (lane_back lane)).owed) in
+    let b = joint (lane_back lane) in
+    let back = subst F (start_back board lane) (b.held, b.owed) in
+    lawful_shape item (bridge_to board lane.bus) (world_of board h lane) (world_of board h (lane_back lane)) (own lane) (own (lane_back lane)) j.standing back.0 back.1

@@ -18,8 +18,8 @@ use Rattle.history_model.specs.declared.event.Step.{Step}
 use Rattle.history_model.specs.declared.item.Carried.{Carried}
 use Rattle.history_model.specs.Lanes.{LaneState, Both, reply_to, is_of, item_ends, arrives}
 use Rattle.history_model.specs.World.{World, same_lane, both, moved, enters, at_place, lane_outcome, leaves, at_initiator}
-use Rattle.law_local.specs.Halves.{Half, MovesHalf}
-use Rattle.law_local.specs.Joint.{Joint}
+use Rattle.law_local.proofs.HalfLemmas.{Half, MovesHalf}
+use Rattle.law_local.specs.Known.{Joint}
 use Rattle.law_local.proofs.HalfLemmas.{enters_half, ends_half, arrives_half}
 use Rattle.law_local.proofs.JointLemmas.{end_back, start_back, moved_here, moved_back, moved_other, by_lanes, Joints, Joints-moved}
 use Rattle.history_facts.proofs.BridgeLemmas.{flip, lane_back_back, both_back}

@@ -22,13 +22,13 @@ use Rattle.history_model.specs.World.{World, is_own, slot_found, enters}
 use Rattle.history_model.specs.Words.{through, without}
 use Rattle.history_model.specs.Answers.{answer_in}
 use Rattle.law_local.proofs.EventLemmas.{Grows}
-use Rattle.law_local.proofs.WovenLemmas.{Woven-fit}
-use Rattle.law_local.proofs.RunLemmas.{lane_apart}
+use Rattle.law_local.proofs.AnswerLemmas.{IsFit}
+use Rattle.law_local.proofs.WovenLemmas.{lane_apart}
 use Rattle.history_facts.proofs.AnswerLemmas.{answered_in}
 use Rattle.law_slots.proofs.Laws.{claim_starts}
 
 -- a lane that answers is one of a bridge, begins on the bus and does not end there
-pub place_apart : (board : Board) (fit : Woven-fit board) (w : World) (p : List Event) (bus : ℕ) (by : By) (o : OpId) (step : Step) (place : Place) → answer_in board w p bus by o ≡ Gives step place
+pub place_apart : (board : Board) (fit : IsFit board) (w : World) (p : List Event) (bus : ℕ) (by : By) (o : OpId) (step : Step) (place : Place) → answer_in board w p bus by o ≡ Gives step place
     → (lane : BridgeLane) → place ≡ Lane lane → (start_of board lane ≡ bus) × (end_of board lane ≢ bus)
 place_apart board fit w p bus by o step place gives lane is =
     let at = answered_in board w p bus by o step lane (gives ∙ ap (Gives step) is) in

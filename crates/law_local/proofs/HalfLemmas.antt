@@ -15,8 +15,32 @@ use Rattle.history_model.specs.declared.item.Carried.TheVariants.{Post, Ask, Gon
 use Rattle.history_model.specs.declared.item.Slot.{Slot}
 use Rattle.history_model.specs.Lanes.{Both, has_number, is_of, is_done_for, lowest_free, post_enters, ask_enters, reply_to, item_ends, slot_taken, Effect, Stands, Credits, Frees, Drops, effect_of, takes_effect, asks_in, dones_in, came_off, arrives_first, arrives}
 use Rattle.history_model.specs.World.{is_own, slot_found, enters}
-use Rattle.law_local.specs.Halves.{Half, Sends, MovesHalf}
 use Rattle.history_facts.proofs.BridgeLemmas.{flip}
+
+-- a bus knows its half of a bridge: `here` is the lane that begins on the bus, `back` the lane that ends there;
+-- `later` is what will still be sent to it
+pub record Half (later : List Carried) (world local : Both) : Type 0 where
+  pub held : world.here.held ≡ local.here.held
+  pub owed : world.here.owed ≡ local.here.owed
+  pub asks : world.back.asks ≡ local.back.asks
+  pub dones : world.back.dones ≡ local.back.dones
+  pub standing : world.back.standing ≡ local.back.standing
+  pub flight : world.back.flight ++ later ≡ local.back.flight
+
+-- what a move of the bus leaves alone of the bridge, and what it sends
+pub record Sends (world moved local known : Both) : Type 0 where
+  pub items : List Carried
+  pub sent : moved.here.flight ≡ world.here.flight ++ items
+  pub sent_locally : known.here.flight ≡ local.here.flight ++ items
+  pub asks : moved.here.asks ≡ world.here.asks
+  pub dones : moved.here.dones ≡ world.here.dones
+  pub standing : moved.here.standing ≡ world.here.standing
+  pub held : moved.back.held ≡ world.back.held
+  pub owed : moved.back.owed ≡ world.back.owed
+
+-- a move of the bus keeps that it knows its half, and changes the other half only by what it sends
+abbrev pub MovesHalf : List Carried → Both → Both → Both → Both → Type 0
+MovesHalf later world moved local known = Half later moved known × Sends world moved local known
 
 -- nothing happens to the bridge
 pub half_stays : (later : List Carried) (w x : Both) → Half later w x → MovesHalf later w w x x

@@ -8,8 +8,8 @@ use Rattle.board_model.specs.Ways.{start_of, end_of, lane_back}
 use Rattle.history_model.specs.declared.item.Carried.{Carried}
 use Rattle.history_model.specs.Lanes.{LaneState, Both}
 use Rattle.history_model.specs.World.{World, same_lane, both, moved}
-use Rattle.law_local.specs.Halves.{Half, Sends, MovesHalf}
-use Rattle.law_local.specs.Joint.{Joint}
+use Rattle.law_local.proofs.HalfLemmas.{Half, Sends, MovesHalf}
+use Rattle.law_local.specs.Known.{Joint}
 use Rattle.history_facts.proofs.BridgeLemmas.{same_lane_true, same_lane_self, same_lane_back}
 
 pub end_back : (board : Board) (lane : BridgeLane) → end_of board (lane_back lane) ≡ start_of board lane

@@ -4,9 +4,9 @@ pub mod EventLemmas
 pub mod TransferLemmas
 pub mod ThroughLemmas
 pub mod PlaceLemmas
+pub mod AnswerLemmas
 pub mod WovenLemmas
-pub mod RunLemmas
 pub mod FlightLemmas
-pub mod StampLemmas
+pub mod GrowLemmas
 pub mod SortLemmas
 pub mod EndLemmas

@@ -33,7 +33,7 @@ use Rattle.history_model.specs.Words.{through, without}
 use Rattle.history_model.specs.Answers.{stalls_at, stalls_by, stalls_used, target_answer, header_answer, completion_passes, completion_answer, delayed_answer, posted_answer, lane_answer, bridge_to, answer_by, answer_to, answer}
 use Rattle.history_model.specs.Runs.{Allowed, Run}
 use Rattle.history_model.specs.Local.{bus_of}
-use Rattle.law_local.specs.Joint.{on}
+use Rattle.law_local.specs.Known.{events_on}
 use Rattle.board_model.specs.Ways.{lane_back}
 
 -- a position is not before the first
@@ -224,11 +224,11 @@ module _ (board : Board) (t : ℕ) (target : TargetAgent) (there : slice_get boa
   stalls_apart h (Arrive lane mark) allowed apart = refl
 
   -- the stall tokens of a target are used on its bus
-  pub stalls_local : (h : List Event) → Run board h → stalls_used h t ≡ stalls_used (on board target.bus h) t
+  pub stalls_local : (h : List Event) → Run board h → stalls_used h t ≡ stalls_used (events_on board target.bus h) t
   stalls_local [] run = refl
   stalls_local (e ∷ h) run =
       let old = stalls_local h run.1 in
-      let P : Bool → Type 0 = λ b. eqb (bus_of board e) target.bus ≡ b → stalls_by t e + stalls_used h t ≡ stalls_used (cond b (e ∷ on board target.bus h) (on board target.bus h)) t in
+      let P : Bool → Type 0 = λ b. eqb (bus_of board e) target.bus ≡ b → stalls_by t e + stalls_used h t ≡ stalls_used (cond b (e ∷ events_on board target.bus h) (events_on board target.bus h)) t in
       (elim (eqb (bus_of board e) target.bus) as P [
         | true ↦ λ _. ap (λ n. stalls_by t e + n) old
         | false ↦ λ apart. let none = stalls_apart h e run.0 (eqb-false (bus_of board e) target.bus apart) in omega (arith, old)

@@ -15,18 +15,19 @@ use Rattle.history_model.specs.Lanes.{LaneState}
 use Rattle.history_model.specs.World.{same_lane}
 use Rattle.history_model.specs.Local.{bus_of, local_world, AllowedLocally, LocalRun}
 use Rattle.law_order.specs.Sent.{arrives_by, arrivals}
-use Rattle.law_local.specs.Joint.{on, ending, known, IsTimely, Woven, AllWoven}
-use Rattle.law_local.specs.Stamps.{events_of, stamped_on, put_stamps, Falls, IsInTime, AllInTime, SortedParts}
+use Rattle.law_local.specs.Known.{events_on, coming_to, known}
+use Rattle.law_local.specs.Woven.{IsTimely, Woven, AllWoven}
+use Rattle.law_local.specs.Stamps.{events_of, stamped_on, put_stamps, stamps_put, Falls, IsInTime, AllInTime, SortedParts}
 use Rattle.law_local.proofs.EventLemmas.{IsFront, front_before}
-use Rattle.law_local.proofs.WovenLemmas.{Woven-fit}
-use Rattle.law_local.proofs.StampLemmas.{IsApart, event_grows, all_counted}
+use Rattle.law_local.proofs.AnswerLemmas.{IsFit}
+use Rattle.law_local.proofs.GrowLemmas.{IsApart, event_grows, all_counted}
 use Rattle.history_facts.proofs.BridgeLemmas.{same_lane_true}
 
-events_on : (board : Board) (bus : ℕ) (all : List Stamped) → on board bus (events_of all) ≡ events_of (stamped_on board bus all)
-events_on board bus [] = refl
-events_on board bus (s ∷ past) =
-    let P : Bool → Type 0 = λ b. cond b (s.event ∷ on board bus (events_of past)) (on board bus (events_of past)) ≡ events_of (cond b (s ∷ stamped_on board bus past) (stamped_on board bus past)) in
-    let rest = events_on board bus past in
+stamped_events : (board : Board) (bus : ℕ) (all : List Stamped) → events_on board bus (events_of all) ≡ events_of (stamped_on board bus all)
+stamped_events board bus [] = refl
+stamped_events board bus (s ∷ past) =
+    let P : Bool → Type 0 = λ b. cond b (s.event ∷ events_on board bus (events_of past)) (events_on board bus (events_of past)) ≡ events_of (cond b (s ∷ stamped_on board bus past) (stamped_on board bus past)) in
+    let rest = stamped_events board bus past in
     elim (bus_of board s.event == bus) as P [ true ↦ ap (λ (l : List Event). s.event ∷ l) rest | false ↦ rest ]
 
 length-same : (k stamp : ℕ) → length (replicate k stamp) ≡ k
@@ -45,17 +46,17 @@ in_front [] (y ∷ ys) (suc k) stamp least there low above = absurd (let wrong =
 in_front (x ∷ xs) ys zero stamp least there low above = omega arith
 in_front (x ∷ xs) ys (suc k) stamp least there low above = let rest = in_front xs ys k stamp least there low above in omega (arith, rest)
 
-module _ (board : Board) (fit : Woven-fit board) (sent : BridgeLane → List Carried) where
+module _ (board : Board) (fit : IsFit board) (sent : BridgeLane → List Carried) where
   abbrev Came : BridgeLane → BridgeLane → List Carried
-  Came lane = ending board (start_of board lane) sent
+  Came lane = coming_to board (start_of board lane) sent
 
   -- a lane's arrivals are events of its bus
-  arrivals_on : (lane : BridgeLane) (h : List Event) → arrivals lane h ≡ arrivals lane (on board (end_of board lane) h)
+  arrivals_on : (lane : BridgeLane) (h : List Event) → arrivals lane h ≡ arrivals lane (events_on board (end_of board lane) h)
   arrivals_on lane [] = refl
   arrivals_on lane (e ∷ h) =
       let rest = arrivals_on lane h in
       let bus : ℕ = end_of board lane in
-      let P : Bool → Type 0 = λ b. (bus_of board e == bus) ≡ b → arrives_by lane e + arrivals lane h ≡ arrivals lane (cond b (e ∷ on board bus h) (on board bus h)) in
+      let P : Bool → Type 0 = λ b. (bus_of board e == bus) ≡ b → arrives_by lane e + arrivals lane h ≡ arrivals lane (cond b (e ∷ events_on board bus h) (events_on board bus h)) in
       (elim (bus_of board e == bus) as P [
         | true ↦ λ _. ap (λ n. arrives_by lane e + n) rest
         | false ↦ λ apart. let none = elsewhere e apart in omega (arith, none, rest)
@@ -103,34 +104,34 @@ module _ (board : Board) (fit : Woven-fit board) (sent : BridgeLane → List Car
 
   -- the past of all buses up to an event
   record Good (stamps : BridgeLane → List ℕ) (past : List Stamped) : Type 0 where
-    local : (bus : ℕ) → LocalRun board bus (ending board bus sent) (on board bus (events_of past))
+    local : (bus : ℕ) → LocalRun board bus (coming_to board bus sent) (events_on board bus (events_of past))
     in_time : AllInTime board stamps past
     falls : Falls past
     fronts : (lane : BridgeLane) → IsFront (sent lane) (known board sent (start_of board lane) (events_of past) lane)
     parts : (lane : BridgeLane) → (more : List ℕ) × (stamps lane ≡ put_stamps board (Came lane) lane (stamped_on board (start_of board lane) past) ++ more)
         × AllByRecursion (λ m. AllByRecursion (λ (s : Stamped). s.stamp ≤ m) past) more
 
-  local_before : (bus : ℕ) (e : Event) (h : List Event) → LocalRun board bus (ending board bus sent) (on board bus (e ∷ h)) → LocalRun board bus (ending board bus sent) (on board bus h)
+  local_before : (bus : ℕ) (e : Event) (h : List Event) → LocalRun board bus (coming_to board bus sent) (events_on board bus (e ∷ h)) → LocalRun board bus (coming_to board bus sent) (events_on board bus h)
   local_before bus e h run =
-      let P : Bool → Type 0 = λ b. LocalRun board bus (ending board bus sent) (cond b (e ∷ on board bus h) (on board bus h)) → LocalRun board bus (ending board bus sent) (on board bus h) in
+      let P : Bool → Type 0 = λ b. LocalRun board bus (coming_to board bus sent) (cond b (e ∷ events_on board bus h) (events_on board bus h)) → LocalRun board bus (coming_to board bus sent) (events_on board bus h) in
       (elim (bus_of board e == bus) as P [ true ↦ λ r. r.2 | false ↦ λ r. r ]) run
 
-  allowed_last : (e : Event) (h : List Event) → LocalRun board (bus_of board e) (ending board (bus_of board e) sent) (on board (bus_of board e) (e ∷ h)) → AllowedLocally board (ending board (bus_of board e) sent) (on board (bus_of board e) h) e
+  allowed_last : (e : Event) (h : List Event) → LocalRun board (bus_of board e) (coming_to board (bus_of board e) sent) (events_on board (bus_of board e) (e ∷ h)) → AllowedLocally board (coming_to board (bus_of board e) sent) (events_on board (bus_of board e) h) e
   allowed_last e h run =
       let bus : ℕ = bus_of board e in
       let self : (bus_of board e == bus) ≡ true = eq-eqb bus bus refl in
-      let P : Bool → Type 0 = λ b. b ≡ true → LocalRun board bus (ending board bus sent) (cond b (e ∷ on board bus h) (on board bus h)) → AllowedLocally board (ending board bus sent) (on board bus h) e in
+      let P : Bool → Type 0 = λ b. b ≡ true → LocalRun board bus (coming_to board bus sent) (cond b (e ∷ events_on board bus h) (events_on board bus h)) → AllowedLocally board (coming_to board bus sent) (events_on board bus h) e in
       (elim (bus_of board e == bus) as P [ true ↦ λ _ r. r.1 | false ↦ λ wrong r. cc ]) self run
 
-  front_back : (s : Stamped) (past : List Stamped) (lane : BridgeLane) → IsApart board fit s.event → LocalRun board (start_of board lane) (Came lane) (on board (start_of board lane) (s.event ∷ events_of past))
+  front_back : (s : Stamped) (past : List Stamped) (lane : BridgeLane) → IsApart board fit s.event → LocalRun board (start_of board lane) (Came lane) (events_on board (start_of board lane) (s.event ∷ events_of past))
       → IsFront (sent lane) (known board sent (start_of board lane) (s.event ∷ events_of past) lane) → IsFront (sent lane) (known board sent (start_of board lane) (events_of past) lane)
   front_back s past lane apart run front =
       let bus : ℕ = start_of board lane in
       let h : List Event = events_of past in
       let K : List Event → LaneState = λ p. local_world board (Came lane) p lane in
-      let P : Bool → Type 0 = λ b. (bus_of board s.event == bus) ≡ b → LocalRun board bus (Came lane) (cond b (s.event ∷ on board bus h) (on board bus h)) → IsFront (sent lane) (K (cond b (s.event ∷ on board bus h) (on board bus h))) → IsFront (sent lane) (K (on board bus h)) in
+      let P : Bool → Type 0 = λ b. (bus_of board s.event == bus) ≡ b → LocalRun board bus (Came lane) (cond b (s.event ∷ events_on board bus h) (events_on board bus h)) → IsFront (sent lane) (K (cond b (s.event ∷ events_on board bus h) (events_on board bus h))) → IsFront (sent lane) (K (events_on board bus h)) in
       (elim (bus_of board s.event == bus) as P [
-        | true ↦ λ same r f. front_before (sent lane) (K (on board bus h)) (K (s.event ∷ on board bus h)) (event_grows board fit (Came lane) (on board bus h) s.event bus lane r.0 r.1 apart refl) f
+        | true ↦ λ same r f. front_before (sent lane) (K (events_on board bus h)) (K (s.event ∷ events_on board bus h)) (event_grows board fit (Came lane) (events_on board bus h) s.event bus lane r.0 r.1 apart refl) f
         | false ↦ λ _ r f. f
       ]) refl run front
 
@@ -182,14 +183,14 @@ module _ (board : Board) (fit : Woven-fit board) (sent : BridgeLane → List Car
       let P : Bool → Type 0 = λ b. (end_of board lane == y) ≡ b → b ≡ false in
       (elim (end_of board lane == y) as P [ true ↦ λ same. absurd (in_time.0 (eqb-true (end_of board lane) y same)) | false ↦ λ _. refl ]) refl in
       let none : Came lane lane ≡ [] = ap (λ b. cond b (sent lane) []) differ in
-      let same_events = events_on board y past in
+      let same_events = stamped_events board y past in
       let run_y : LocalRun board y (Came lane) (events_of q) = subst (LocalRun board y (Came lane)) same_events (before_it.local y) in
       let count = put_count lane none q run_y (each_on (λ (r : Stamped). IsApart board fit r.event) y past (all_apart stamps past before_it.in_time)) in
       let near : length (known board sent y h lane).flight ≡ length (local_world board (Came lane) (events_of q) lane).flight = ap (λ p. length (local_world board (Came lane) p lane).flight) same_events in
       let self : (end_of board lane == x) ≡ true = eq-eqb x x refl in
-      let comes : ending board x sent lane ≡ sent lane = ap (λ b. cond b (sent lane) []) self in
-      let far = all_counted board fit (ending board x sent) x lane refl in_time.0 (on board x h) (before_it.local x) in
-      let all : length (ending board x sent lane) ≡ length (sent lane) = ap length comes in
+      let comes : coming_to board x sent lane ≡ sent lane = ap (λ b. cond b (sent lane) []) self in
+      let far = all_counted board fit (coming_to board x sent) x lane refl in_time.0 (events_on board x h) (before_it.local x) in
+      let all : length (coming_to board x sent lane) ≡ length (sent lane) = ap length comes in
       let arrived = arrivals_on lane h in
       omega (arith, front, count, near, far, all, arrived)
 
@@ -207,7 +208,7 @@ module _ (board : Board) (fit : Woven-fit board) (sent : BridgeLane → List Car
 
   pub sorted_woven : (all : List Stamped) → SortedParts board sent all → AllWoven board sent (events_of all)
   sorted_woven all sorted =
-      let stamps : BridgeLane → List ℕ = λ lane. put_stamps board (Came lane) lane (stamped_on board (start_of board lane) all) in
+      let stamps : BridgeLane → List ℕ = stamps_put board sent all in
       all_woven stamps all (record {
         local = sorted.local;
         in_time = sorted.in_time;

@@ -31,7 +31,7 @@ use Rattle.history_model.specs.Runs.{Allowed, Run}
 use Rattle.history_model.specs.Local.{bus_of}
 use Rattle.law_order.specs.Order.{posts, is_posted_in, is_posted_op}
 use Rattle.law_order.specs.OnWay.{WritesHaveOneClaimant, OnWay}
-use Rattle.law_local.specs.Joint.{on}
+use Rattle.law_local.specs.Known.{events_on}
 use Rattle.history_facts.proofs.BridgeLemmas.{same_lane_true}
 use Rattle.law_slots.proofs.Laws.{wants-at, RightKind-run}
 use Rattle.history_facts.proofs.RequestLemmas.{same_op_true}
@@ -122,11 +122,11 @@ module _ (board : Board) (tree : IsTree board) (one : WritesHaveOneClaimant boar
       (elim (same_op p o) as P [ true ↦ λ same. part_at_end h bus by p step place run allowed same | false ↦ λ _. inl refl ]) refl
   event_at_end h (Arrive lane mark) run allowed = inl refl
 
-  through_end : (h : List Event) → Run board h → through h o ≡ through (on board End h) o
+  through_end : (h : List Event) → Run board h → through h o ≡ through (events_on board End h) o
   through_end [] run = refl
   through_end (e ∷ h) run =
       let old = through_end h run.1 in
-      let P : Bool → Type 0 = λ b. eqb (bus_of board e) End ≡ b → parted_by o e + through h o ≡ through (cond b (e ∷ on board End h) (on board End h)) o in
+      let P : Bool → Type 0 = λ b. eqb (bus_of board e) End ≡ b → parted_by o e + through h o ≡ through (cond b (e ∷ events_on board End h) (events_on board End h)) o in
       (elim (eqb (bus_of board e) End) as P [
         | true ↦ λ _. ap (λ n. parted_by o e + n) old
         | false ↦ λ apart. elim (event_at_end h e run.1 run.0) [
@@ -136,13 +136,13 @@ module _ (board : Board) (tree : IsTree board) (one : WritesHaveOneClaimant boar
       ]) refl
 
   -- on the bus where it is presented to a target it is known how far it went through
-  pub through_local : (h : List Event) (bus : ℕ) (by : By) → Run board h → wants board h bus by o ≡ true → IsTarget (claim board bus (request_on op bus)) → through h o ≡ through (on board bus h) o
-  through_local h bus by run wanted claims = through_end h run ∙ ap (λ n. through (on board n h) o) (at_end h bus by run wanted claims)
+  pub through_local : (h : List Event) (bus : ℕ) (by : By) → Run board h → wants board h bus by o ≡ true → IsTarget (claim board bus (request_on op bus)) → through h o ≡ through (events_on board bus h) o
+  through_local h bus by run wanted claims = through_end h run ∙ ap (λ n. through (events_on board n h) o) (at_end h bus by run wanted claims)
 
 -- no bus knows of more than went through
-pub through_on : (board : Board) (bus : ℕ) (o : OpId) (h : List Event) → through (on board bus h) o ≤ through h o
+pub through_on : (board : Board) (bus : ℕ) (o : OpId) (h : List Event) → through (events_on board bus h) o ≤ through h o
 through_on board bus o [] = omega arith
 through_on board bus o (e ∷ h) =
     let old = through_on board bus o h in
-    let P : Bool → Type 0 = λ b. through (cond b (e ∷ on board bus h) (on board bus h)) o ≤ parted_by o e + through h o in
+    let P : Bool → Type 0 = λ b. through (cond b (e ∷ events_on board bus h) (events_on board bus h)) o ≤ parted_by o e + through h o in
     elim (eqb (bus_of board e) bus) as P [ true ↦ omega (arith, old) | false ↦ omega (arith, old) ]

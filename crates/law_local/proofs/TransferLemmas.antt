@@ -24,7 +24,7 @@ use Rattle.history_model.specs.Program.{turn_of, turn_after, ending_of, ended, m
 use Rattle.history_model.specs.Answers.{is_on, is_turn, presents, wants, wants_in, delayed_answer, posted_answer, lane_answer}
 use Rattle.history_model.specs.Runs.{Allowed, Run}
 use Rattle.history_model.specs.Local.{bus_of}
-use Rattle.law_local.specs.Joint.{on, known, JointRun}
+use Rattle.law_local.specs.Known.{events_on, known, AllJoint}
 use Rattle.law_local.proofs.JointLemmas.{end_back}
 use Rattle.law_slots.proofs.Laws.{wants-at}
 
@@ -53,17 +53,17 @@ elsewhere board m bus turn h (Act at (ByLane lane) o step place) there allowed a
 elsewhere board m bus turn h (Arrive lane mark) there allowed apart = refl
 
 -- a master's turn, by the events of its bus alone
-pub turn_local : (board : Board) (m bus : ℕ) → is_on bus (slice_get board.masters m) ≡ true → (h : List Event) → Run board h → turn_of board h m ≡ turn_of board (on board bus h) m
+pub turn_local : (board : Board) (m bus : ℕ) → is_on bus (slice_get board.masters m) ≡ true → (h : List Event) → Run board h → turn_of board h m ≡ turn_of board (events_on board bus h) m
 turn_local board m bus there [] run = refl
 turn_local board m bus there (e ∷ h) run =
     let before_it = turn_local board m bus there h run.1 in
-    let P : Bool → Type 0 = λ b. eqb (bus_of board e) bus ≡ b → turn_of board (e ∷ h) m ≡ turn_of board (cond b (e ∷ on board bus h) (on board bus h)) m in
+    let P : Bool → Type 0 = λ b. eqb (bus_of board e) bus ≡ b → turn_of board (e ∷ h) m ≡ turn_of board (cond b (e ∷ events_on board bus h) (events_on board bus h)) m in
     (elim (eqb (bus_of board e) bus) as P [
       | true ↦ λ _. ap (λ turn. turn_after board m turn (ended e)) before_it
       | false ↦ λ apart. elsewhere board m bus (turn_of board h m) h e there run.0 apart ∙ before_it
     ]) refl
 
-module _ (board : Board) (sent : BridgeLane → List Carried) (h : List Event) (bus : ℕ) (joint : JointRun board sent h) (run : Run board h) where
+module _ (board : Board) (sent : BridgeLane → List Carried) (h : List Event) (bus : ℕ) (joint : AllJoint board sent h) (run : Run board h) where
   abbrev Knows : World
   Knows = known board sent bus h
 
@@ -81,9 +81,9 @@ module _ (board : Board) (sent : BridgeLane → List Carried) (h : List Event) (
       subst F at j.standing
 
   -- who presents what
-  pub wants_local : (by : By) (o : OpId) → wants board h bus by o ≡ wants_in board Knows (on board bus h) bus by o
+  pub wants_local : (by : By) (o : OpId) → wants board h bus by o ≡ wants_in board Knows (events_on board bus h) bus by o
   wants_local Master o =
-      let P : Bool → Type 0 = λ b. is_on bus (slice_get board.masters o.master) ≡ b → (b && is_turn o (turn_of board h o.master)) ≡ (b && is_turn o (turn_of board (on board bus h) o.master)) in
+      let P : Bool → Type 0 = λ b. is_on bus (slice_get board.masters o.master) ≡ b → (b && is_turn o (turn_of board h o.master)) ≡ (b && is_turn o (turn_of board (events_on board bus h) o.master)) in
       (elim (is_on bus (slice_get board.masters o.master)) as P [
         | true ↦ λ there. ap (is_turn o) (turn_local board o.master bus there h run)
         | false ↦ λ _. refl

@@ -1,219 +1,186 @@
--- Events of all buses, each allowed by what its bus knows, are a run.
-use Rattle.std.proofs.Common.{◌≡◌, ◌≢◌, ℕ, Bool, true, false, cond, ◌==◌, eqb, nat_lt, List, [], ◌∷◌, ◌++◌, length, Option, Some, None, ◌⊎◌, inl, inr, refl, sym, ap, subst, ◌∙◌, arith, slice_get}
-use Rattle.std.specs.Option.{option_and_then}
-use Rattle.std.proofs.lemmas.List.{append-nil}
-use Rattle.std.proofs.lemmas.Bool.{eqb-true, eqb-false}
-use Rattle.pci_command.specs.declared.request.Request.{Request}
+-- Events of all buses, each allowed by what its bus knows and each arrival after its sending, are a run.
+use Rattle.std.proofs.Common.{◌≡◌, ◌≢◌, ℕ, ◌+◌, ◌<◌, Bool, true, false, cond, ◌==◌, eqb, List, [], ◌∷◌, ◌++◌, length, Option, Some, None, refl, sym, ap, subst, ◌∙◌, arith}
+use Rattle.std.proofs.lemmas.Bool.{eqb-true, eqb-false, eq-eqb, and_parts}
+use Rattle.std.proofs.lemmas.List.{length-append}
+use Rattle.list_facts.proofs.EachLemmas.{Each-find}
+use Rattle.list_facts.proofs.FindLemmas.{find_passes}
 use Rattle.pci_command.specs.declared.op_id.OpId.{OpId}
-use Rattle.pci_command.specs.Command.{is_read, space_of}
-use Rattle.board_model.specs.declared.agents.Master.{Master as MasterAgent}
-use Rattle.board_model.specs.declared.agents.Target.{Target as TargetAgent}
+use Rattle.board_model.specs.declared.bridge.Bridge.{Bridge}
 use Rattle.board_model.specs.declared.bridge.Lane.{Lane as BridgeLane}
 use Rattle.board_model.specs.declared.bridge.Place.{Place}
-use Rattle.board_model.specs.declared.bridge.Place.TheVariants.{Target, Header, Lane, Nobody}
-use Rattle.board_model.specs.declared.op.Op.{Op}
+use Rattle.board_model.specs.declared.bridge.Place.TheVariants.{Lane}
 use Rattle.board_model.specs.declared.board.Board.{Board}
-use Rattle.board_model.specs.Requests.{op_of, tries_of, phases_of, request_on, request_of, is_posted}
-use Rattle.board_model.specs.Claims.{claim}
-use Rattle.board_model.specs.Ways.{Dword, aborts_at, address_in}
+use Rattle.board_model.specs.Ways.{primary_in, primary_of, start_of, end_of}
 use Rattle.board_laws.specs.Trees.{IsTree}
 use Rattle.history_model.specs.declared.event.By.{By}
+use Rattle.history_model.specs.declared.event.By.TheVariants.{Lane as ByLane}
+use Rattle.history_model.specs.declared.event.Mark.{Mark}
 use Rattle.history_model.specs.declared.event.Step.{Step}
-use Rattle.history_model.specs.declared.event.Step.TheVariants.{Land, Part, Read, Stall, TargetAbort}
 use Rattle.history_model.specs.declared.event.Event.{Event}
 use Rattle.history_model.specs.declared.event.Event.TheVariants.{Act, Arrive}
 use Rattle.history_model.specs.declared.item.Carried.{Carried}
-use Rattle.history_model.specs.declared.item.Answer.{Answer}
+use Rattle.history_model.specs.declared.item.Carried.TheVariants.{Post, Ask, Done, Room, Gone}
 use Rattle.history_model.specs.declared.item.Answer.TheVariants.{Gives}
-use Rattle.history_model.specs.World.{World, world_of}
-use Rattle.history_model.specs.Words.{through, without, Landing, landings_of, landings_by, brought, landed, merged, opens_as, value_of}
-use Rattle.history_model.specs.Answers.{stalls_used, target_step, target_answer, bridge_to, answer_by, answer_to, answer_in, answer, wants}
-use Rattle.history_model.specs.Runs.{Allowed, Run}
-use Rattle.history_model.specs.Local.{bus_of}
-use Rattle.law_slots.specs.Depths.{DifferentNumbers}
-use Rattle.law_slots.specs.Phases.{DelayedAreSingle}
-use Rattle.law_order.specs.Order.{is_posted_op}
-use Rattle.law_order.specs.OnWay.{WritesHaveOneClaimant}
-use Rattle.law_local.specs.Joint.{on, known, JointRun}
-use Rattle.law_local.proofs.ThroughLemmas.{through_local, through_on}
-use Rattle.law_local.proofs.PlaceLemmas.{target_on_bus, answered_target, event_on_bus, stalls_local}
-use Rattle.law_local.proofs.TransferLemmas.{lane_answer_local}
-use Rattle.history_facts.proofs.RequestLemmas.{request_is_of}
-use Rattle.law_slots.proofs.Laws.{delayed-not_parted, claim_starts}
-use Rattle.law_order.proofs.Laws.{op_is_posted, Short, Short-run, rest_claimed, claims_from}
-use Rattle.history_facts.proofs.PostedLemmas.{IsTarget, write_not_read, memory_no_header}
+use Rattle.history_model.specs.Lanes.{LaneState, empty_lane}
+use Rattle.history_model.specs.World.{World, after, world_of}
+use Rattle.history_model.specs.Words.{through, without}
+use Rattle.history_model.specs.Answers.{presents, wants, answer, bridge_to}
+use Rattle.history_model.specs.Runs.{mark_of, mark_of_first, Allowed, Run}
+use Rattle.history_model.specs.Local.{bus_of, local_world}
+use Rattle.law_local.specs.Known.{events_on, coming_to, BetweenBuses, known, AllJoint, JointRun}
+use Rattle.law_local.specs.Woven.{IsTimely, IsSent, Woven, AllWoven}
+use Rattle.law_local.proofs.EventLemmas.{replaced, act_joint, arrive_joint, IsFront, Joints-alike}
+use Rattle.law_local.proofs.TransferLemmas.{wants_local}
+use Rattle.law_local.proofs.AnswerLemmas.{IsFit, answer_local}
+use Rattle.history_facts.proofs.AnswerLemmas.{answered_at}
+use Rattle.law_slots.proofs.Laws.{claim_starts, wants-at, Quiet-empty, run_no_bridge}
 
--- what a board is asked for here
-pub record Woven-fit (board : Board) : Type 0 where
-  pub tree : IsTree board
-  pub distinct : DifferentNumbers board
-  pub one : WritesHaveOneClaimant board
-  pub single : DelayedAreSingle board
+-- the two ends of a bridge's lane are on different buses
+pub lane_apart : (board : Board) (lane : BridgeLane) (bridge : Bridge) → IsTree board → bridge_to board lane.bus ≡ Some bridge → end_of board lane ≢ start_of board lane
+lane_apart board lane bridge tree is =
+    let number : bridge.bus ≡ lane.bus = eqb-true bridge.bus lane.bus (find_passes (λ (b : Bridge). b.bus == lane.bus) board.bridges bridge is) in
+    let below : bridge.parent < bridge.bus = Each-find (λ (b : Bridge). b.parent < b.bus) (λ (b : Bridge). b.bus == lane.bus) board.bridges bridge tree.falls is in
+    let primary : primary_of board lane.bus ≡ bridge.parent = ap primary_in is in
+    let differ : primary_of board lane.bus ≢ lane.bus = λ same. absurd (omega (arith, number, below, primary, same)) in
+    let P : Bool → Type 0 = λ up. end_of board (record { bus = lane.bus; up = up }) ≢ start_of board (record { bus = lane.bus; up = up }) in
+    elim lane.up as P [ true ↦ differ | false ↦ λ same. differ (sym same) ]
 
--- the master of an operation that is there
-record HasMaster (board : Board) (o : OpId) : Type 0 where
-  master : MasterAgent
-  is_master : slice_get board.masters o.master ≡ Some master
+-- something is on the lane only if it is one of a bridge
+something_apart : (board : Board) (h : List Event) (lane : BridgeLane) → IsTree board → Run board h → (world_of board h lane ≡ empty_lane → ⊥) → end_of board lane ≢ start_of board lane
+something_apart board h lane tree run some =
+    let P : Option Bridge → Type 0 = λ found. bridge_to board lane.bus ≡ found → end_of board lane ≢ start_of board lane in
+    (elim (bridge_to board lane.bus) as P [
+      | None ↦ λ none. absurd (some (Quiet-empty board h lane (run_no_bridge board lane.bus h none run)))
+      | Some bridge ↦ λ is. lane_apart board lane bridge tree is
+    ]) refl
 
-op_master : (board : Board) (o : OpId) (op : Op) → op_of board o ≡ Some op → HasMaster board o
-op_master board o op is =
-    let P : Option MasterAgent → Type 0 = λ found. slice_get board.masters o.master ≡ found
-    → option_and_then (λ (p : Op). cond (nat_lt o.attempt (tries_of p)) (Some p) None) (option_and_then (λ (m : MasterAgent). slice_get m.ops o.index) found) ≡ Some op → HasMaster board o in
-    (elim (slice_get board.masters o.master) as P [ None ↦ λ _ e. cc | Some master ↦ λ there _. record { master = master; is_master = there } ]) refl is
+-- nothing is presented of nothing
+nothing_presented : (board : Board) (bus : ℕ) (o : OpId) (standing : List Carried) → standing ≡ [] → presents board bus o standing ≡ true → ⊥
+nothing_presented board bus o standing none presented =
+    let F : List Carried → Type 0 = λ xs. presents board bus o xs ≡ true in
+    let none_presented : false ≡ true = subst F none presented in cc
 
-is_target : (place : Place) (t : ℕ) → place ≡ Target t → IsTarget place
-is_target place t is = subst IsTarget (sym is) tt
+module _ (board : Board) (sent : BridgeLane → List Carried) where
+  -- a bus knows its own event, and no other bus does
+  known_here : (e : Event) (h : List Event) (bus : ℕ) (l : BridgeLane) → bus_of board e ≡ bus → known board sent bus (e ∷ h) l ≡ after board (known board sent bus h) e l
+  known_here e h bus l is =
+      let test : eqb (bus_of board e) bus ≡ true = eq-eqb (bus_of board e) bus is in
+      let K : List Event → LaneState = λ p. local_world board (coming_to board bus sent) p l in
+      let P : Bool → Type 0 = λ b. eqb (bus_of board e) bus ≡ b → K (cond b (e ∷ events_on board bus h) (events_on board bus h)) ≡ after board (known board sent bus h) e l in
+      (elim (eqb (bus_of board e) bus) as P [ true ↦ λ _. refl | false ↦ λ no_test. let wrong : true ≡ false = sym test ∙ no_test in cc ]) refl
 
-module _ (board : Board) (fit : Woven-fit board) where
-  -- how far an operation went through is known on a bus where a target claims it
-  gone_local : (h : List Event) (bus : ℕ) (by : By) (o : OpId) (request : Request) → Run board h → wants board h bus by o ≡ true → request_of board o bus ≡ Some request
-      → IsTarget (claim board bus (without (through h o) request)) → through h o ≡ through (on board bus h) o
-  gone_local h bus by o request run wanted is claims =
-      let of_op = request_is_of board o bus request is in
-      let Goal : Type 0 = through h o ≡ through (on board bus h) o in
-      let P : Bool → Type 0 = λ b. is_posted request ≡ b → Goal in
-      (elim (is_posted request) as P [
-        | true ↦ λ write.
-            let posted : is_posted_op board o ≡ true = op_is_posted board bus o request true is write in
-            let master = op_master board o of_op.op of_op.is_op in
-            let rest : IsTarget (claim board bus (without (through h o) (request_on of_op.op bus))) = subst (λ r. IsTarget (claim board bus (without (through h o) r))) of_op.is_request claims in
-            let whole : IsTarget (claim board bus (request_on of_op.op bus)) = subst IsTarget (rest_claimed board h o of_op.op bus fit.one of_op.is_op posted run) rest in
-            through_local board fit.tree fit.one o of_op.op master.master of_op.is_op master.is_master posted h bus by run wanted whole
-        | false ↦ λ delayed.
-            let none = delayed-not_parted board h o bus request fit.single run is delayed in
-            let fewer = through_on board bus o h in
-            omega (arith, none, fewer)
+  known_elsewhere : (e : Event) (h : List Event) (bus : ℕ) (l : BridgeLane) → bus_of board e ≢ bus → known board sent bus (e ∷ h) l ≡ known board sent bus h l
+  known_elsewhere e h bus l differ =
+      let K : List Event → LaneState = λ p. local_world board (coming_to board bus sent) p l in
+      let P : Bool → Type 0 = λ b. eqb (bus_of board e) bus ≡ b → K (cond b (e ∷ events_on board bus h) (events_on board bus h)) ≡ known board sent bus h l in
+      (elim (eqb (bus_of board e) bus) as P [ true ↦ λ same. absurd (differ (eqb-true (bus_of board e) bus same)) | false ↦ λ _. refl ]) refl
+
+  -- the worlds of the buses after an event
+  known_after : (e : Event) (h : List Event) (bus n : ℕ) (l : BridgeLane) → bus_of board e ≡ bus
+      → replaced (λ m. known board sent m h) bus (after board (known board sent bus h) e) n l ≡ known board sent n (e ∷ h) l
+  known_after e h bus n l is =
+      let P : Bool → Type 0 = λ b. eqb n bus ≡ b → (cond b (after board (known board sent bus h) e) (known board sent n h)) l ≡ known board sent n (e ∷ h) l in
+      (elim (eqb n bus) as P [
+        | true ↦ λ test.
+            let same : n ≡ bus = eqb-true n bus test in
+            subst (λ m. after board (known board sent bus h) e l ≡ known board sent m (e ∷ h) l) (sym same) (sym (known_here e h bus l is))
+        | false ↦ λ test. sym (known_elsewhere e h n l (λ same. eqb-false n bus test (sym same ∙ is)))
       ]) refl
 
-  -- what lands in a word of a target is known on its bus
-  brought_here : (h : List Event) (bus t : ℕ) (by : By) (o : OpId) (step : Step) (word : Dword) (place : Place) → Run board h → Allowed board h (Act bus by o step place)
-      → landings_by board h bus o step word place ≡ landings_by board (on board bus h) bus o step word place
-  brought_here h bus t by o step word (Target n) run allowed =
-      let at = answered_target board h bus by o step n allowed.1 in
-      let same : through h o ≡ through (on board bus h) o = gone_local h bus by o at.request run allowed.0 at.is_request (is_target (claim board bus (without (through h o) at.request)) n at.claims) in
-      ap (λ gone. cond (n == word.target) (landings_of o step gone word (request_of board o bus)) []) same
-  brought_here h bus t by o step word (Header n) run allowed = refl
-  brought_here h bus t by o step word (Lane lane) run allowed = refl
-  brought_here h bus t by o step word Nobody run allowed = refl
+  fronts : (e : Event) (h : List Event) (bus : ℕ) → bus_of board e ≡ bus → IsSent board sent bus (e ∷ h) → (l : BridgeLane) → start_of board l ≡ bus → IsFront (sent l) (after board (known board sent bus h) e l)
+  fronts e h bus is sends l starts = subst (IsFront (sent l)) (known_here e h bus l is) (sends l starts)
 
-  brought_apart : (h : List Event) (bus : ℕ) (target : TargetAgent) (by : By) (o : OpId) (step : Step) (word : Dword) (place : Place) → slice_get board.targets word.target ≡ Some target
-      → Allowed board h (Act bus by o step place) → bus ≢ target.bus → landings_by board h bus o step word place ≡ []
-  brought_apart h bus target by o step word (Target n) there allowed apart =
-      let some : List Landing = landings_of o step (through h o) word (request_of board o bus) in
-      let P : Bool → Type 0 = λ b. eqb n word.target ≡ b → cond b some [] ≡ [] in
-      (elim (eqb n word.target) as P [
-        | true ↦ λ same.
-            let F : ℕ → Type 0 = λ m. Allowed board h (Act bus by o step (Target m)) in
-            absurd (apart (sym (event_on_bus board h bus by o step word.target target there (subst F (eqb-true n word.target same) allowed))))
-        | false ↦ λ _. refl
-      ]) refl
-  brought_apart h bus target by o step word (Header n) there allowed apart = refl
-  brought_apart h bus target by o step word (Lane lane) there allowed apart = refl
-  brought_apart h bus target by o step word Nobody there allowed apart = refl
+  module _ (fit : IsFit board) where
+    begins_there : (h : List Event) (bus : ℕ) (by : By) (o : OpId) (step : Step) (place : Place) → Allowed board h (Act bus by o step place)
+        → (lane : BridgeLane) → place ≡ Lane lane → (start_of board lane ≡ bus) × (end_of board lane ≢ bus)
+    begins_there h bus by o step place allowed lane is =
+        let gives : answer board h bus by o ≡ Gives step (Lane lane) = allowed.1 ∙ ap (Gives step) is in
+        let at = answered_at board h bus by o step lane gives in
+        let starts : start_of board lane ≡ bus = claim_starts board bus (without (through h o) at.request) lane fit.distinct at.claims in
+        (starts, λ same. lane_apart board lane at.bridge fit.tree at.is_bridge (same ∙ sym starts))
 
-  event_brought : (h : List Event) (e : Event) (word : Dword) → Run board h → Allowed board h e → brought board h word e ≡ brought board (on board (bus_of board e) h) word e
-  event_brought h (Act bus by o step place) word run allowed = brought_here h bus word.target by o step word place run allowed
-  event_brought h (Arrive lane mark) word run allowed = refl
+    ends_there : (h : List Event) (bus : ℕ) (by : By) (o : OpId) → Run board h → wants board h bus by o ≡ true → (lane : BridgeLane) → by ≡ ByLane lane → (end_of board lane ≡ bus) × (start_of board lane ≢ bus)
+    ends_there h bus by o run wanted lane is =
+        let wants_lane : wants board h bus (ByLane lane) o ≡ true = subst (λ b. wants board h bus b o ≡ true) is wanted in
+        let ends : end_of board lane ≡ bus = wants-at board h bus (ByLane lane) o wants_lane in
+        let st : List Carried = (world_of board h lane).standing in
+        let presented : presents board bus o st ≡ true = (and_parts (end_of board lane == bus) (presents board bus o st) wants_lane).1 in
+        let apart = something_apart board h lane fit.tree run (λ none. nothing_presented board bus o st (ap (λ (s : LaneState). s.standing) none) presented) in
+        (ends, λ same. apart (ends ∙ sym same))
 
-  event_apart : (h : List Event) (e : Event) (word : Dword) (target : TargetAgent) → slice_get board.targets word.target ≡ Some target → Allowed board h e → bus_of board e ≢ target.bus → brought board h word e ≡ []
-  event_apart h (Act bus by o step place) word target there allowed apart = brought_apart h bus target by o step word place there allowed apart
-  event_apart h (Arrive lane mark) word target there allowed apart = refl
+    -- an item that comes in time is in flight
+    in_flight : (h : List Event) (lane : BridgeLane) (mark : Mark) → AllJoint board sent h → IsTimely board sent h (Arrive lane mark) → (world_of board h lane).flight ≢ []
+    in_flight h lane mark joint timely none =
+        let j = joint lane in
+        let near : LaneState = known board sent (start_of board lane) h lane in
+        let far : LaneState = known board sent (end_of board lane) h lane in
+        let later_is : j.later ≡ far.flight = ap (λ l. l ++ j.later) (sym none) ∙ j.flight in
+        let all : length near.flight + length j.later ≡ length (sent lane) = sym (length-append near.flight j.later) ∙ ap length j.sent in
+        let same : length j.later ≡ length far.flight = ap length later_is in
+        absurd (omega (arith, all, same, timely))
 
-  landed_local : (word : Dword) (target : TargetAgent) → slice_get board.targets word.target ≡ Some target → (h : List Event) → Run board h → landed board h word ≡ landed board (on board target.bus h) word
-  landed_local word target there [] run = refl
-  landed_local word target there (e ∷ h) run =
-      let old = landed_local word target there h run.1 in
-      let bus : ℕ = target.bus in
-      let P : Bool → Type 0 = λ b. eqb (bus_of board e) bus ≡ b → landed board h word ++ brought board h word e ≡ landed board (cond b (e ∷ on board bus h) (on board bus h)) word in
-      (elim (eqb (bus_of board e) bus) as P [
-        | true ↦ λ same.
-            let here : brought board h word e ≡ brought board (on board bus h) word e =
-            event_brought h e word run.1 run.0 ∙ ap (λ n. brought board (on board n h) word e) (eqb-true (bus_of board e) bus same) in
-            ap (λ l. l ++ brought board h word e) old ∙ ap (λ l. landed board (on board bus h) word ++ l) here
-        | false ↦ λ apart.
-            let none = event_apart h e word target there run.0 (eqb-false (bus_of board e) bus apart) in
-            ap (λ l. landed board h word ++ l) none ∙ (append-nil (landed board h word) ∙ old)
-      ]) refl
+    arrive_mark : (lane : BridgeLane) (w x : LaneState) (later flight : List Carried) (mark : Mark) → flight ≢ [] → w.asks ≡ x.asks → w.dones ≡ x.dones → mark_of_first board lane x (flight ++ later) ≡ Some mark → mark_of_first board lane w flight ≡ Some mark
+    arrive_mark lane w x later [] mark some asks dones is = absurd (some refl)
+    arrive_mark lane w x later (item ∷ rest) mark some asks dones is = ap Some (marks lane w x item asks dones) ∙ is
+      where
+        marks : (lane : BridgeLane) (w x : LaneState) (item : Carried) → w.asks ≡ x.asks → w.dones ≡ x.dones → mark_of board lane w item ≡ mark_of board lane x item
+        marks lane w x (Post op) asks dones = refl
+        marks lane w x (Ask op slot) asks dones = ap (λ n. mark_of board lane (record empty_lane { asks = n }) (Ask op slot)) asks
+        marks lane w x (Done op slot outcome) asks dones = ap (λ n. mark_of board lane (record empty_lane { dones = n }) (Done op slot outcome)) dones
+        marks lane w x Room asks dones = refl
+        marks lane w x (Gone slot) asks dones = refl
 
-  pub value_local : (word : Dword) (target : TargetAgent) → slice_get board.targets word.target ≡ Some target → (h : List Event) → Run board h → value_of board h word ≡ value_of board (on board target.bus h) word
-  value_local word target there h run = ap (merged word (opens_as board word)) (landed_local word target there h run)
+    event_allowed : (h : List Event) (e : Event) → Run board h → AllJoint board sent h → Woven board sent e h → Allowed board h e
+    event_allowed h (Act bus by o step place) run joint woven =
+        let wanted : wants board h bus by o ≡ true = wants_local board sent h bus joint run by o ∙ woven.allowed.0 in
+        (wanted, answer_local board fit sent h bus joint run by o wanted ∙ woven.allowed.1)
+    event_allowed h (Arrive lane mark) run joint woven =
+        let j = joint lane in
+        let w : LaneState = world_of board h lane in
+        let x : LaneState = known board sent (end_of board lane) h lane in
+        let some = in_flight h lane mark joint woven.timely in
+        let marked : mark_of_first board lane x (w.flight ++ j.later) ≡ Some mark = ap (mark_of_first board lane x) j.flight ∙ woven.allowed in
+        arrive_mark lane w x j.later w.flight mark some j.asks j.dones marked
 
-  -- the step of a target, by the events of its bus
-  step_local : (h : List Event) (t : ℕ) (request : Request) (target : TargetAgent) → slice_get board.targets t ≡ Some target → Run board h
-      → target_step board h t request target ≡ target_step board (on board target.bus h) t request target
-  step_local h t request target there run =
-      let word : Dword = record { target = t; space = space_of request.command; address = address_in (space_of request.command) request.address } in
-      let S : ℕ → ℕ → Step = λ used value.
-      cond (nat_lt used target.stalls) Stall (cond (aborts_at target request) TargetAbort (cond (is_read request.command) (Read value) (cond (nat_lt target.burst (length request.phases)) (Part target.burst) Land))) in
-      ap (λ used. S used (value_of board h word)) (stalls_local board t target there h run) ∙ ap (S (stalls_used (on board target.bus h) t)) (value_local word target there h run)
+    event_joint : (h : List Event) (e : Event) → Run board h → AllJoint board sent h → Woven board sent e h → AllJoint board sent (e ∷ h)
+    event_joint h (Act bus by o step place) run joint woven =
+        let e : Event = Act bus by o step place in
+        let allowed = event_allowed h e run joint woven in
+        let knows : ℕ → World = λ n. known board sent n h in
+        let done = act_joint board sent (world_of board h) knows bus by o step place (begins_there h bus by o step place allowed) (ends_there h bus by o run allowed.0) (fronts e h bus refl woven.sends) joint in
+        Joints-alike board sent (after board (world_of board h) e) (world_of board (e ∷ h)) (replaced knows bus (after board (knows bus) e)) (λ n. known board sent n (e ∷ h)) (λ l. refl) (λ n l. known_after e h bus n l refl) done
+    event_joint h (Arrive lane mark) run joint woven =
+        let e : Event = Arrive lane mark in
+        let bus : ℕ = end_of board lane in
+        let knows : ℕ → World = λ n. known board sent n h in
+        let some = in_flight h lane mark joint woven.timely in
+        let apart = something_apart board h lane fit.tree run (λ none. some (ap (λ (s : LaneState). s.flight) none)) in
+        let done = arrive_joint board sent (world_of board h) knows lane mark (λ same. apart (sym same)) some (fronts e h bus refl woven.sends) joint in
+        Joints-alike board sent (after board (world_of board h) e) (world_of board (e ∷ h)) (replaced knows bus (after board (knows bus) e)) (λ n. known board sent n (e ∷ h)) (λ l. refl) (λ n l. known_after e h bus n l refl) done
 
-  target_answer_local : (h : List Event) (bus t : ℕ) (request : Request) (found : Option TargetAgent) → slice_get board.targets t ≡ found → Run board h → claim board bus request ≡ Target t
-      → target_answer board h t request found ≡ target_answer board (on board bus h) t request found
-  target_answer_local h bus t request None there run claims = refl
-  target_answer_local h bus t request (Some target) there run claims =
-      let is_bus : target.bus ≡ bus = target_on_bus board bus request t target there claims in
-      ap (λ step. Gives step (Target t)) (step_local h t request target there run ∙ ap (λ n. target_step board (on board n h) t request target) is_bus)
+    -- nothing is ever sent on a lane that begins where it ends
+    first_joint : BetweenBuses board sent → AllJoint board sent []
+    first_joint between lane =
+        let far : List Carried = coming_to board (end_of board lane) sent lane in
+        let near : List Carried = coming_to board (start_of board lane) sent lane in
+        let self : eqb (end_of board lane) (end_of board lane) ≡ true = eq-eqb (end_of board lane) (end_of board lane) refl in
+        let far_is : far ≡ sent lane = rw self refl in
+        let P : Bool → Type 0 = λ b. eqb (end_of board lane) (start_of board lane) ≡ b → cond b (sent lane) [] ≡ [] in
+        let near_is : near ≡ [] = (elim (eqb (end_of board lane) (start_of board lane)) as P [ true ↦ λ same. between lane (eqb-true (end_of board lane) (start_of board lane) same) | false ↦ λ _. refl ]) refl in
+        record {
+          asks = refl;
+          dones = refl;
+          standing = refl;
+          held = refl;
+          owed = refl;
+          later = sent lane;
+          flight = sym far_is;
+          sent = ap (λ l. l ++ sent lane) near_is;
+        }
 
-  module _ (sent : BridgeLane → List Carried) (h : List Event) (bus : ℕ) (joint : JointRun board sent h) (run : Run board h) where
-    abbrev Own : World
-    Own = known board sent bus h
-
-    -- what is left is answered alike
-    by_local : (by : By) (o : OpId) (rest : Request) (place : Place) → claim board bus rest ≡ place
-        → answer_by board (world_of board h) h bus by o rest place ≡ answer_by board Own (on board bus h) bus by o rest place
-    by_local by o rest (Target t) claims = target_answer_local h bus t rest (slice_get board.targets t) refl run claims
-    by_local by o rest (Header n) claims = refl
-    by_local by o rest (Lane lane) claims = lane_answer_local board sent h bus joint run by o rest lane (bridge_to board lane.bus) (claim_starts board bus rest lane fit.distinct claims)
-    by_local by o rest Nobody claims = refl
-
-    -- a bridge that claims a write, or nobody, answers alike whatever of it went through before
-    rest_alike : (by : By) (o : OpId) (request : Request) (a b : ℕ) (place : Place) → is_posted request ≡ true → claim board bus (without a request) ≡ place → (IsTarget place → ⊥)
-        → answer_by board Own (on board bus h) bus by o (without a request) place ≡ answer_by board Own (on board bus h) bus by o (without b request) place
-    rest_alike by o request a b (Target t) write claims none = absurd (none tt)
-    rest_alike by o request a b (Header n) write claims none = absurd (memory_no_header board bus (without a request) n (write_not_read request.command write).1 claims)
-    rest_alike by o request a b (Lane lane) write claims none = refl
-    rest_alike by o request a b Nobody write claims none = refl
-
-    decide : (place : Place) → IsTarget place ⊎ (IsTarget place → ⊥)
-    decide (Target t) = inl tt
-    decide (Header n) = inr (λ e. e)
-    decide (Lane lane) = inr (λ e. e)
-    decide Nobody = inr (λ e. e)
-
-    to_local : (by : By) (o : OpId) (found : Option Request) → request_of board o bus ≡ found → wants board h bus by o ≡ true
-        → answer_to board (world_of board h) h bus by o found ≡ answer_to board Own (on board bus h) bus by o found
-    to_local by o None is wanted = refl
-    to_local by o (Some request) is wanted =
-        let gone : ℕ = through h o in
-        let known_gone : ℕ = through (on board bus h) o in
-        let rest : Request = without gone request in
-        let A : ℕ → Answer = λ n. answer_by board Own (on board bus h) bus by o (without n request) (claim board bus (without n request)) in
-        let first : answer_by board (world_of board h) h bus by o rest (claim board bus rest) ≡ A gone = by_local by o rest (claim board bus rest) refl in
-        let of_op = request_is_of board o bus request is in
-        let Goal : Type 0 = A gone ≡ A known_gone in
-        let P : Bool → Type 0 = λ b. is_posted request ≡ b → Goal in
-        let second : Goal = elim (decide (claim board bus rest)) [
-          | inl target ↦ ap A (gone_local h bus by o request run wanted is target)
-          | inr none ↦ (elim (is_posted request) as P [
-            | true ↦ λ write.
-                let posted : is_posted_op board o ≡ true = op_is_posted board bus o request true is write in
-                let lengths : length (phases_of of_op.op) ≡ length request.phases = ap (λ r. length r.phases) (sym of_op.is_request) in
-                let short : Short gone (length request.phases) = subst (Short gone) lengths (Short-run board h o of_op.op of_op.is_op posted run) in
-                let fewer = through_on board bus o h in
-                let short_known : Short known_gone (length request.phases) = λ some. omega (arith, short (omega (arith, some, fewer)), fewer) in
-                let claims : claim board bus rest ≡ claim board bus request = claims_from board o bus request gone fit.one is write short in
-                let claims_known : claim board bus (without known_gone request) ≡ claim board bus request = claims_from board o bus request known_gone fit.one is write short_known in
-                rest_alike by o request gone known_gone (claim board bus rest) write refl none
-                ∙ ap (λ place. answer_by board Own (on board bus h) bus by o (without known_gone request) place) (claims ∙ sym claims_known)
-            | false ↦ λ delayed.
-                let nothing = delayed-not_parted board h o bus request fit.single run is delayed in
-                let fewer = through_on board bus o h in
-                let same : gone ≡ known_gone = omega (arith, nothing, fewer) in
-                ap A same
-          ]) refl
-        ] in
-        first ∙ second
-
-    -- what is presented on a bus is answered by what the bus knows
-    pub answer_local : (by : By) (o : OpId) → wants board h bus by o ≡ true → answer board h bus by o ≡ answer_in board Own (on board bus h) bus by o
-    answer_local by o wanted = to_local by o (request_of board o bus) refl wanted
+    -- so the whole is a run, and every bus knows its part, by induction on the events
+    pub woven_run : BetweenBuses board sent → (h : List Event) → AllWoven board sent h → JointRun board sent h
+    woven_run between [] woven = record { run = tt; joint = first_joint between }
+    woven_run between (e ∷ h) woven =
+        let old = woven_run between h woven.1 in
+        record { run = (event_allowed h e old.run old.joint woven.0, old.run); joint = event_joint h e old.run old.joint woven.0 }

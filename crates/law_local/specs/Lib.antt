@@ -1,4 +1,5 @@
-pub mod Halves
-pub mod Joint
+pub mod Known
+pub mod Woven
 pub mod Stamps
+pub mod Answered
 pub mod Quiet

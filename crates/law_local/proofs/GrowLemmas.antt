@@ -24,7 +24,7 @@ use Rattle.history_model.specs.Local.{bus_of, local_world, AllowedLocally, Local
 use Rattle.law_order.specs.Sent.{arrives_by, arrivals}
 use Rattle.law_local.proofs.JointLemmas.{start_back, moved_here, moved_back, moved_other, by_lanes}
 use Rattle.law_local.proofs.EventLemmas.{Grows, initiator_grows}
-use Rattle.law_local.proofs.WovenLemmas.{Woven-fit}
+use Rattle.law_local.proofs.AnswerLemmas.{IsFit}
 use Rattle.law_local.proofs.FlightLemmas.{place_apart, enters_flight, none_grow, effect_flight, arrives_back}
 use Rattle.history_facts.proofs.BridgeLemmas.{same_lane_true, same_lane_self, same_lane_symm}
 
@@ -34,7 +34,7 @@ grows_then a b c first second = record {
   grown = second.grown ∙ (ap (λ flight. flight ++ second.items) first.grown ∙ append_assoc a.flight first.items second.items);
 }
 
-module _ (board : Board) (fit : Woven-fit board) where
+module _ (board : Board) (fit : IsFit board) where
   -- a lane that begins on the bus only grows
   place_grows : (w : World) (bus : ℕ) (by : By) (o : OpId) (step : Step) (place : Place) (l : BridgeLane) → ((k : BridgeLane) → place ≡ Lane k → start_of board k ≡ bus) → Grows (w l) (at_place board bus by o step place w l)
   place_grows w bus by o step (Target t) l begins = none_grow (w l)
