@@ -1,22 +1,18 @@
--- Events of all buses, each allowed by what its bus knows, are a run.
+-- What is presented on a bus is answered by what the bus knows.
 use Rattle.std.proofs.Common.{◌≡◌, ◌≢◌, ℕ, Bool, true, false, cond, ◌==◌, eqb, nat_lt, List, [], ◌∷◌, ◌++◌, length, Option, Some, None, ◌⊎◌, inl, inr, refl, sym, ap, subst, ◌∙◌, arith, slice_get}
-use Rattle.std.specs.Option.{option_and_then}
 use Rattle.std.proofs.lemmas.List.{append-nil}
 use Rattle.std.proofs.lemmas.Bool.{eqb-true, eqb-false}
 use Rattle.pci_command.specs.declared.request.Request.{Request}
 use Rattle.pci_command.specs.declared.op_id.OpId.{OpId}
 use Rattle.pci_command.specs.Command.{is_read, space_of}
-use Rattle.board_model.specs.declared.agents.Master.{Master as MasterAgent}
 use Rattle.board_model.specs.declared.agents.Target.{Target as TargetAgent}
 use Rattle.board_model.specs.declared.bridge.Lane.{Lane as BridgeLane}
 use Rattle.board_model.specs.declared.bridge.Place.{Place}
 use Rattle.board_model.specs.declared.bridge.Place.TheVariants.{Target, Header, Lane, Nobody}
-use Rattle.board_model.specs.declared.op.Op.{Op}
 use Rattle.board_model.specs.declared.board.Board.{Board}
-use Rattle.board_model.specs.Requests.{op_of, tries_of, phases_of, request_on, request_of, is_posted}
+use Rattle.board_model.specs.Requests.{phases_of, request_on, request_of, is_posted}
 use Rattle.board_model.specs.Claims.{claim}
 use Rattle.board_model.specs.Ways.{Dword, aborts_at, address_in}
-use Rattle.board_laws.specs.Trees.{IsTree}
 use Rattle.history_model.specs.declared.event.By.{By}
 use Rattle.history_model.specs.declared.event.Step.{Step}
 use Rattle.history_model.specs.declared.event.Step.TheVariants.{Land, Part, Read, Stall, TargetAbort}
@@ -30,37 +26,19 @@ use Rattle.history_model.specs.Words.{through, without, Landing, landings_of, la
 use Rattle.history_model.specs.Answers.{stalls_used, target_step, target_answer, bridge_to, answer_by, answer_to, answer_in, answer, wants}
 use Rattle.history_model.specs.Runs.{Allowed, Run}
 use Rattle.history_model.specs.Local.{bus_of}
-use Rattle.law_slots.specs.Depths.{DifferentNumbers}
-use Rattle.law_slots.specs.Phases.{DelayedAreSingle}
 use Rattle.law_order.specs.Order.{is_posted_op}
-use Rattle.law_order.specs.OnWay.{WritesHaveOneClaimant}
 use Rattle.law_local.specs.Known.{events_on, known, AllJoint}
 use Rattle.law_local.proofs.ThroughLemmas.{through_local, through_on}
 use Rattle.law_local.proofs.PlaceLemmas.{target_on_bus, answered_target, event_on_bus, stalls_local}
 use Rattle.law_local.proofs.TransferLemmas.{lane_answer_local}
+use Rattle.board_model.proofs.Laws.{op_there}
+use Rattle.law_local.proofs.ApartLemmas.{IsFit}
 use Rattle.history_facts.proofs.RequestLemmas.{request_is_of}
 use Rattle.law_slots.proofs.Laws.{delayed-not_parted, claim_starts}
 use Rattle.law_order.proofs.Laws.{op_is_posted, Short, Short-run, rest_claimed, claims_from}
 use Rattle.history_facts.proofs.PostedLemmas.{IsTarget, write_not_read, memory_no_header}
 
--- what a board is asked for here
-pub record IsFit (board : Board) : Type 0 where
-  pub tree : IsTree board
-  pub distinct : DifferentNumbers board
-  pub one : WritesHaveOneClaimant board
-  pub single : DelayedAreSingle board
-
--- the master of an operation that is there
-record HasMaster (board : Board) (o : OpId) : Type 0 where
-  master : MasterAgent
-  is_master : slice_get board.masters o.master ≡ Some master
-
-op_master : (board : Board) (o : OpId) (op : Op) → op_of board o ≡ Some op → HasMaster board o
-op_master board o op is =
-    let P : Option MasterAgent → Type 0 = λ found. slice_get board.masters o.master ≡ found
-    → option_and_then (λ (p : Op). cond (nat_lt o.attempt (tries_of p)) (Some p) None) (option_and_then (λ (m : MasterAgent). slice_get m.ops o.index) found) ≡ Some op → HasMaster board o in
-    (elim (slice_get board.masters o.master) as P [ None ↦ λ _ e. cc | Some master ↦ λ there _. record { master = master; is_master = there } ]) refl is
-
+-- where a target claims
 is_target : (place : Place) (t : ℕ) → place ≡ Target t → IsTarget place
 is_target place t is = subst IsTarget (sym is) tt
 
@@ -75,7 +53,7 @@ module _ (board : Board) (fit : IsFit board) where
       (elim (is_posted request) as P [
         | true ↦ λ write.
             let posted : is_posted_op board o ≡ true = op_is_posted board bus o request true is write in
-            let master = op_master board o of_op.op of_op.is_op in
+            let master = op_there board o of_op.op of_op.is_op in
             let rest : IsTarget (claim board bus (without (through h o) (request_on of_op.op bus))) = subst (λ r. IsTarget (claim board bus (without (through h o) r))) of_op.is_request claims in
             let whole : IsTarget (claim board bus (request_on of_op.op bus)) = subst IsTarget (rest_claimed board h o of_op.op bus fit.one of_op.is_op posted run) rest in
             through_local board fit.tree fit.one o of_op.op master.master of_op.is_op master.is_master posted h bus by run wanted whole
@@ -96,6 +74,7 @@ module _ (board : Board) (fit : IsFit board) where
   brought_here h bus t by o step word (Lane lane) run allowed = refl
   brought_here h bus t by o step word Nobody run allowed = refl
 
+  -- what an event on another bus brings to a word of a target is nothing
   brought_apart : (h : List Event) (bus : ℕ) (target : TargetAgent) (by : By) (o : OpId) (step : Step) (word : Dword) (place : Place) → slice_get board.targets word.target ≡ Some target
       → Allowed board h (Act bus by o step place) → bus ≢ target.bus → landings_by board h bus o step word place ≡ []
   brought_apart h bus target by o step word (Target n) there allowed apart =
@@ -111,14 +90,17 @@ module _ (board : Board) (fit : IsFit board) where
   brought_apart h bus target by o step word (Lane lane) there allowed apart = refl
   brought_apart h bus target by o step word Nobody there allowed apart = refl
 
+  -- what an event brings to a word, by the events of its bus
   event_brought : (h : List Event) (e : Event) (word : Dword) → Run board h → Allowed board h e → brought board h word e ≡ brought board (events_on board (bus_of board e) h) word e
   event_brought h (Act bus by o step place) word run allowed = brought_here h bus word.target by o step word place run allowed
   event_brought h (Arrive lane mark) word run allowed = refl
 
+  -- an event on another bus brings nothing to a word of a target
   event_apart : (h : List Event) (e : Event) (word : Dword) (target : TargetAgent) → slice_get board.targets word.target ≡ Some target → Allowed board h e → bus_of board e ≢ target.bus → brought board h word e ≡ []
   event_apart h (Act bus by o step place) word target there allowed apart = brought_apart h bus target by o step word place there allowed apart
   event_apart h (Arrive lane mark) word target there allowed apart = refl
 
+  -- so all that landed in the word is known on the bus of its target
   landed_local : (word : Dword) (target : TargetAgent) → slice_get board.targets word.target ≡ Some target → (h : List Event) → Run board h → landed board h word ≡ landed board (events_on board target.bus h) word
   landed_local word target there [] run = refl
   landed_local word target there (e ∷ h) run =
@@ -135,6 +117,7 @@ module _ (board : Board) (fit : IsFit board) where
             ap (λ l. landed board h word ++ l) none ∙ (append-nil (landed board h word) ∙ old)
       ]) refl
 
+  -- and its value
   pub value_local : (word : Dword) (target : TargetAgent) → slice_get board.targets word.target ≡ Some target → (h : List Event) → Run board h → value_of board h word ≡ value_of board (events_on board target.bus h) word
   value_local word target there h run = ap (merged word (opens_as board word)) (landed_local word target there h run)
 
@@ -147,6 +130,7 @@ module _ (board : Board) (fit : IsFit board) where
       cond (nat_lt used target.stalls) Stall (cond (aborts_at target request) TargetAbort (cond (is_read request.command) (Read value) (cond (nat_lt target.burst (length request.phases)) (Part target.burst) Land))) in
       ap (λ used. S used (value_of board h word)) (stalls_local board t target there h run) ∙ ap (S (stalls_used (events_on board target.bus h) t)) (value_local word target there h run)
 
+  -- a target that claims answers by the events of its bus
   target_answer_local : (h : List Event) (bus t : ℕ) (request : Request) (found : Option TargetAgent) → slice_get board.targets t ≡ found → Run board h → claim board bus request ≡ Target t
       → target_answer board h t request found ≡ target_answer board (events_on board bus h) t request found
   target_answer_local h bus t request None there run claims = refl
@@ -155,6 +139,7 @@ module _ (board : Board) (fit : IsFit board) where
       ap (λ step. Gives step (Target t)) (step_local h t request target there run ∙ ap (λ n. target_step board (events_on board n h) t request target) is_bus)
 
   module _ (sent : BridgeLane → List Carried) (h : List Event) (bus : ℕ) (joint : AllJoint board sent h) (run : Run board h) where
+    -- the lanes as the bus knows them
     abbrev Own : World
     Own = known board sent bus h
 
@@ -174,12 +159,14 @@ module _ (board : Board) (fit : IsFit board) where
     rest_alike by o request a b (Lane lane) write claims none = refl
     rest_alike by o request a b Nobody write claims none = refl
 
+    -- a target claims or not
     decide : (place : Place) → IsTarget place ⊎ (IsTarget place → ⊥)
     decide (Target t) = inl tt
     decide (Header n) = inr (λ e. e)
     decide (Lane lane) = inr (λ e. e)
     decide Nobody = inr (λ e. e)
 
+    -- whatever is left of the request, it is answered alike: where a target claims, the bus knows how much went through, and elsewhere it makes no difference
     to_local : (by : By) (o : OpId) (found : Option Request) → request_of board o bus ≡ found → wants board h bus by o ≡ true
         → answer_to board (world_of board h) h bus by o found ≡ answer_to board Own (events_on board bus h) bus by o found
     to_local by o None is wanted = refl

@@ -18,26 +18,17 @@ use Rattle.history_model.specs.Local.{is_lawful, is_lawful_at, is_lawful_on}
 use Rattle.law_local.specs.Known.{events_on, known, AllJoint}
 use Rattle.law_local.specs.Quiet.{IsRetry, AllQuiet}
 use Rattle.law_local.proofs.JointLemmas.{start_back}
-use Rattle.law_local.proofs.AnswerLemmas.{IsFit, answer_local}
+use Rattle.law_local.proofs.ApartLemmas.{IsFit}
+use Rattle.law_local.proofs.AnswerLemmas.{answer_local}
 use Rattle.law_local.proofs.TransferLemmas.{wants_local}
-use Rattle.board_laws.proofs.Laws.{IsTree-valid}
-use Rattle.law_slots.proofs.Laws.{WellFormed-numbers, WellFormed-single}
-use Rattle.law_order.proofs.Laws.{OneClaimant-formed}
 use Rattle.law_progress.proofs.Laws.{Sound-valid, goes_on}
 
--- a valid board is fit
-pub IsFit-valid : (board : Board) → IsValid board → IsFit board
-IsFit-valid board valid = record {
-  tree = IsTree-valid board valid;
-  distinct = WellFormed-numbers board valid.well_formed;
-  one = OneClaimant-formed board valid.well_formed;
-  single = WellFormed-single board valid.well_formed;
-}
-
+-- what is the front of nothing is nothing
 front_empty : (xs ys : List Carried) → xs ++ ys ≡ [] → xs ≡ []
 front_empty [] ys is = refl
 front_empty (x ∷ xs) ys is = cc
 
+-- nothing arrives where nothing is in flight
 some_marked : (board : Board) (lane : BridgeLane) (s : LaneState) (flight : List Carried) → flight ≡ [] → (mark : Mark) → mark_of_first board lane s flight ≡ Some mark → ⊥
 some_marked board lane s [] none mark is = let wrong : None ≡ Some mark = is in cc
 some_marked board lane s (item ∷ rest) none mark is = cc
@@ -50,6 +41,7 @@ lawful_shape item (Some bridge) w v x y standing held owed =
     ∙ (ap (λ s. is_lawful bridge.posted bridge.delayed x.standing s v.owed item) held ∙ ap (λ n. is_lawful bridge.posted bridge.delayed x.standing y.held n item) owed)
 
 module _ (board : Board) (fit : IsFit board) (sent : BridgeLane → List Carried) (h : List Event) (joint : AllJoint board sent h) (run : Run board h) where
+  -- on a quiet board no event is allowed
   not_allowed : (e : Event) → AllQuiet board sent h → Allowed board h e → ⊥
   not_allowed (Act bus by o step place) quiet allowed =
       let own : World = known board sent bus h in

@@ -28,9 +28,11 @@ use Rattle.history_facts.proofs.BridgeLemmas.{flip, lane_back_back, both_back}
 abbrev pub replaced : (ℕ → World) → ℕ → World → ℕ → World
 replaced knows bus world other = cond (eqb other bus) world (knows other)
 
+-- on that bus it is the new one
 pub replaced_there : (knows : ℕ → World) (bus : ℕ) (world : World) → replaced knows bus world bus ≡ world
 replaced_there knows bus world = let same : eqb bus bus ≡ true = grind (arith, nat_tests) in rw same refl
 
+-- on any other bus the old one
 pub replaced_elsewhere : (knows : ℕ → World) (bus : ℕ) (world : World) (other : ℕ) → other ≢ bus → replaced knows bus world other ≡ knows other
 replaced_elsewhere knows bus world other differ =
     let P : Bool → Type 0 = λ b. eqb other bus ≡ b → cond b world (knows other) ≡ knows other in
@@ -48,6 +50,7 @@ Joints-alike board sent world other knows next worlds alike old l =
 abbrev pub turned : (Both → Both) → Both → Both
 turned move x = flip (move (flip x))
 
+-- the same move, seen from either lane of the bridge
 moved_turned : (move : Both → Both) (lane : BridgeLane) (world : World) (l : BridgeLane) → moved (turned move) (lane_back lane) world l ≡ moved move lane world l
 moved_turned move lane world =
     let back : BridgeLane = lane_back lane in
@@ -65,6 +68,7 @@ pub record Grows (before after : LaneState) : Type 0 where
   pub items : List Carried
   pub grown : after.flight ≡ before.flight ++ items
 
+-- what a lane sends for the item that left it
 leaves_grow : (lane : BridgeLane) (o : OpId) (outcome : Option Outcome) (world : World) (l : BridgeLane) → Grows (world l) (leaves lane o outcome world l)
 leaves_grow lane o None world l = record { items = []; grown = sym (append-nil (world l).flight) }
 leaves_grow lane o (Some outcome) world l =
@@ -74,6 +78,7 @@ leaves_grow lane o (Some outcome) world l =
     let at_back : Goal (lane_back lane) = subst (Grows (world (lane_back lane))) (sym (moved_back move lane world)) record { items = reply_to outcome (find (is_of o) (world lane).standing); grown = refl } in
     by_lanes Goal lane at_lane at_back (λ k apart apart_back. subst (Grows (world k)) (sym (moved_other move lane world k apart apart_back)) record { items = []; grown = sym (append-nil (world k).flight) }) l
 
+-- on every lane only more is in flight after what an event does at its initiator
 pub initiator_grows : (board : Board) (by : By) (o : OpId) (step : Step) (world : World) (l : BridgeLane) → Grows (world l) (at_initiator board by o step world l)
 initiator_grows board Master o step world l = record { items = []; grown = sym (append-nil (world l).flight) }
 initiator_grows board (ByLane lane) o step world l = leaves_grow lane o (lane_outcome board lane o step) world l
@@ -82,6 +87,7 @@ initiator_grows board (ByLane lane) o step world l = leaves_grow lane o (lane_ou
 abbrev pub IsFront : List Carried → LaneState → Type 0
 IsFront all state = (more : List Carried) × (state.flight ++ more ≡ all)
 
+-- what was in flight before is a front too
 pub front_before : (all : List Carried) (before after : LaneState) → Grows before after → IsFront all after → IsFront all before
 front_before all before after grows front =
     (grows.items ++ front.0, sym (append_assoc before.flight grows.items front.0) ∙ (ap (λ flight. flight ++ front.0) (sym grows.grown) ∙ front.1))
@@ -113,6 +119,7 @@ module _ (board : Board) (sent : BridgeLane → List Carried) where
       }) old in
       (subst Goal starts at_start) apart keeps front
 
+  -- a bus that does nothing knows what it knew
   same_worlds : (world : World) (knows : ℕ → World) (bus : ℕ) → Joints board sent world knows → Joints board sent world (replaced knows bus (knows bus))
   same_worlds world knows bus old =
       let alike : (n : ℕ) (l : BridgeLane) → knows n l ≡ replaced knows bus (knows bus) n l =
@@ -151,6 +158,7 @@ module _ (board : Board) (sent : BridgeLane → List Carried) where
       Joints-alike board sent (moved (turned move) back world) (moved move lane world) (replaced knows bus (moved (turned move) back (knows bus))) (replaced knows bus (moved move lane (knows bus)))
       (moved_turned move lane world) alike done
 
+  -- an item that leaves the lane that presented it, which ends on the bus
   leaves_joint : (world : World) (knows : ℕ → World) (on : ℕ) (lane : BridgeLane) (o : OpId) (outcome : Option Outcome)
       → end_of board lane ≡ on → start_of board lane ≢ on
       → ((l : BridgeLane) → start_of board l ≡ on → IsFront (sent l) (leaves lane o outcome (knows on) l))
@@ -160,6 +168,7 @@ module _ (board : Board) (sent : BridgeLane → List Carried) where
       back_move world knows lane (item_ends o outcome) on ends apart (λ later w x _ half. ends_half o outcome later w x half)
       (front (lane_back lane) (start_back board lane ∙ ends)) old
 
+  -- what an event does at its initiator
   initiator_joint : (world : World) (knows : ℕ → World) (on : ℕ) (by : By) (o : OpId) (step : Step)
       → ((lane : BridgeLane) → by ≡ ByLane lane → (end_of board lane ≡ on) × (start_of board lane ≢ on))
       → ((l : BridgeLane) → start_of board l ≡ on → IsFront (sent l) (at_initiator board by o step (knows on) l))

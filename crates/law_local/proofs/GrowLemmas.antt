@@ -1,4 +1,5 @@
--- Local runs in the order of their stamps are woven.
+-- After an event of a bus only more is in flight on the lanes that begin there, and on those that end there what arrived
+-- and what is in flight are all that comes.
 use Rattle.std.proofs.Common.{◌≡◌, ◌≢◌, ℕ, suc, ◌+◌, Bool, true, false, cond, ◌==◌, List, [], ◌∷◌, ◌++◌, length, Option, Some, None, refl, sym, ap, subst, ◌∙◌, arith}
 use Rattle.std.proofs.lemmas.Bool.{eqb-true, and_parts}
 use Rattle.std.proofs.lemmas.List.{append-nil, append_assoc}
@@ -24,10 +25,11 @@ use Rattle.history_model.specs.Local.{bus_of, local_world, AllowedLocally, Local
 use Rattle.law_order.specs.Sent.{arrives_by, arrivals}
 use Rattle.law_local.proofs.JointLemmas.{start_back, moved_here, moved_back, moved_other, by_lanes}
 use Rattle.law_local.proofs.EventLemmas.{Grows, initiator_grows}
-use Rattle.law_local.proofs.AnswerLemmas.{IsFit}
-use Rattle.law_local.proofs.FlightLemmas.{place_apart, enters_flight, none_grow, effect_flight, arrives_back}
+use Rattle.law_local.proofs.ApartLemmas.{IsFit, place_apart}
+use Rattle.law_local.proofs.FlightLemmas.{enters_flight, none_grow, effect_flight, arrives_back}
 use Rattle.history_facts.proofs.BridgeLemmas.{same_lane_true, same_lane_self, same_lane_symm}
 
+-- one after the other
 grows_then : (a b c : LaneState) → Grows a b → Grows b c → Grows a c
 grows_then a b c first second = record {
   items = first.items ++ second.items;
@@ -70,6 +72,7 @@ module _ (board : Board) (fit : IsFit board) where
   IsApart (Act bus by o step place) = Unit {0}
   IsApart (Arrive lane mark) = end_of board lane ≢ start_of board lane
 
+  -- after an event of the bus only more is in flight on a lane that begins there
   pub event_grows : (came : BridgeLane → List Carried) (p : List Event) (e : Event) (bus : ℕ) (l : BridgeLane) → bus_of board e ≡ bus → AllowedLocally board came p e → IsApart e → start_of board l ≡ bus
       → Grows (local_world board came p l) (local_world board came (e ∷ p) l)
   event_grows came p (Act at by o step place) bus l is allowed apart starts =
@@ -93,6 +96,7 @@ module _ (board : Board) (fit : IsFit board) where
       (λ m differ differ_back _ _. ap (λ (s : LaneState). s.flight) (moved_other move k w m differ differ_back)) l ends apart
   place_keeps w bus by o step Nobody l ends apart begins = refl
 
+  -- an item that left a lane that ends on the bus leaves alone what is in flight to the bus
   leaves_keeps : (w : World) (bus : ℕ) (j : BridgeLane) (o : OpId) (outcome : Option Outcome) (l : BridgeLane) → end_of board l ≡ bus → end_of board l ≢ start_of board l → end_of board j ≡ bus
       → (leaves j o outcome w l).flight ≡ (w l).flight
   leaves_keeps w bus j o None l ends apart at = refl
@@ -103,15 +107,18 @@ module _ (board : Board) (fit : IsFit board) where
       (λ here differ. absurd (differ (here ∙ (sym at ∙ sym (start_back board j)))))
       (λ m differ differ_back _ _. ap (λ (s : LaneState). s.flight) (moved_other move j w m differ differ_back)) l ends apart
 
+  -- so does all that an event does at its initiator
   initiator_keeps : (w : World) (bus : ℕ) (by : By) (o : OpId) (step : Step) (l : BridgeLane) → end_of board l ≡ bus → end_of board l ≢ start_of board l → ((j : BridgeLane) → by ≡ ByLane j → end_of board j ≡ bus)
       → (at_initiator board by o step w l).flight ≡ (w l).flight
   initiator_keeps w bus Master o step l ends apart at = refl
   initiator_keeps w bus (ByLane j) o step l ends apart at = leaves_keeps w bus j o (lane_outcome board j o step) l ends apart (at j refl)
 
+  -- an arrival takes one item off what is in flight
   first_flight : (mark : Mark) (flight : List Carried) (x : Both) → flight ≢ [] → x.here.flight ≡ flight → suc (length (arrives_first mark flight x).here.flight) ≡ length flight
   first_flight mark [] x some is = absurd (some refl)
   first_flight mark (item ∷ rest) x some is = ap (λ (l : List Carried). suc (length l)) (effect_flight (effect_of mark item) item (record x { here = came_off item rest x.here })).0
 
+  -- something arrives only where something is in flight
   some_in_flight : (lane : BridgeLane) (s : LaneState) (flight : List Carried) (mark : Mark) → mark_of_first board lane s flight ≡ Some mark → flight ≢ []
   some_in_flight lane s [] mark is = λ _. let wrong : None ≡ Some mark = is in cc
   some_in_flight lane s (item ∷ rest) mark is = λ none. cc
@@ -135,6 +142,7 @@ module _ (board : Board) (fit : IsFit board) where
       let kept : length (moved (arrives mark) lane w m).flight ≡ length (w m).flight = ap (λ (s : LaneState). length s.flight) (moved_other (arrives mark) lane w m differ differ_back) in
       omega (arith, none, kept)) l ends apart
 
+  -- an event of the bus: an arrival takes one item off what is in flight to the bus, and an act none
   event_counts : (came : BridgeLane → List Carried) (p : List Event) (e : Event) (bus : ℕ) (l : BridgeLane) → bus_of board e ≡ bus → AllowedLocally board came p e → end_of board l ≡ bus → end_of board l ≢ start_of board l
       → arrives_by l e + length (local_world board came (e ∷ p) l).flight ≡ length (local_world board came p l).flight
   event_counts came p (Act at by o step place) bus l is allowed ends apart =
@@ -150,6 +158,7 @@ module _ (board : Board) (fit : IsFit board) where
       omega (arith, kept)
   event_counts came p (Arrive lane mark) bus l is allowed ends apart = arrive_counts (local_world board came p) lane l mark bus ends is apart allowed
 
+  -- so in a local run what arrived on a lane that ends on the bus and what is in flight there are all that comes
   pub all_counted : (came : BridgeLane → List Carried) (bus : ℕ) (l : BridgeLane) → end_of board l ≡ bus → end_of board l ≢ start_of board l → (p : List Event) → LocalRun board bus came p
       → arrivals l p + length (local_world board came p l).flight ≡ length (came l)
   all_counted came bus l ends apart [] run = omega arith

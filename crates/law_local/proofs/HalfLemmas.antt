@@ -58,12 +58,14 @@ half_stays later w x half = (
   },
 )
 
+-- a posted write enters the lane that begins on the bus
 pub post_half : (o : OpId) (later : List Carried) (w x : Both) → Half later w x → MovesHalf later w (post_enters o w) x (post_enters o x)
 post_half o later w x half = (
   record { held = half.held; owed = ap (λ n. n + 1) half.owed; asks = half.asks; dones = half.dones; standing = half.standing; flight = half.flight },
   record { items = Post o ∷ []; sent = refl; sent_locally = refl; asks = refl; dones = refl; standing = refl; held = refl; owed = refl },
 )
 
+-- a delayed request does
 pub ask_half : (by : By) (o : OpId) (later : List Carried) (w x : Both) → Half later w x → MovesHalf later w (ask_enters by o w) x (ask_enters by o x)
 ask_half by o later w x half =
     let holds : List Slot → List Slot = λ held. held ++ record { number = lowest_free held; by = by; op = o } ∷ [] in (
@@ -80,6 +82,7 @@ ask_half by o later w x half =
       },
     )
 
+-- a completion is taken, and its slot freed
 pub taken_half : (number : ℕ) (later : List Carried) (w x : Both) → Half later w x → MovesHalf later w (slot_taken number w) x (slot_taken number x)
 taken_half number later w x half = (
   record {
@@ -139,6 +142,7 @@ off_half item rest later w x half =
       flight = refl;
     }
 
+-- what the item does where it arrives
 effect_half : (effect : Effect) (item : Carried) (later : List Carried) (w x : Both) → Half later w x
     → MovesHalf later w (flip (takes_effect effect item (flip w))) x (flip (takes_effect effect item (flip x)))
 effect_half Stands item later w x half = (
@@ -206,6 +210,7 @@ off_sends item rest more w v x z sends =
       owed = sends.owed;
     }
 
+-- the oldest item in flight arrives
 first_half : (mark : Mark) (flight : List Carried) (later : List Carried) (w x : Both) → flight ≢ [] → w.back.flight ≡ flight → Half later w x
     → MovesHalf later w (flip (arrives_first mark flight (flip w))) x (flip (arrives mark (flip x)))
 first_half mark [] later w x some is half = absurd (some refl)
@@ -215,6 +220,7 @@ first_half mark (item ∷ rest) later w x some is half =
     let Goal : List Carried → Type 0 = λ flight. MovesHalf later w (flip (arrives_first mark (item ∷ rest) (flip w))) x (flip (arrives_first mark flight (flip x))) in
     subst Goal (sym known) (moved.0, off_sends item rest (rest ++ later) w (flip (arrives_first mark (item ∷ rest) (flip w))) x (flip (arrives_first mark (item ∷ (rest ++ later)) (flip x))) moved.1)
 
+-- an item arrives, where one is in flight
 pub arrives_half : (mark : Mark) (later : List Carried) (w x : Both) → w.back.flight ≢ [] → Half later w x
     → MovesHalf later w (flip (arrives mark (flip w))) x (flip (arrives mark (flip x)))
 arrives_half mark later w x some half = first_half mark w.back.flight later w x some refl half

@@ -12,11 +12,13 @@ use Rattle.law_local.proofs.HalfLemmas.{Half, Sends, MovesHalf}
 use Rattle.law_local.specs.Known.{Joint}
 use Rattle.history_facts.proofs.BridgeLemmas.{same_lane_true, same_lane_self, same_lane_back}
 
+-- a lane back ends where the lane begins
 pub end_back : (board : Board) (lane : BridgeLane) → end_of board (lane_back lane) ≡ start_of board lane
 end_back board lane =
     let P : Bool → Type 0 = λ up. end_of board (lane_back (record { bus = lane.bus; up = up })) ≡ start_of board (record { bus = lane.bus; up = up }) in
     elim lane.up as P [ true ↦ refl | false ↦ refl ]
 
+-- and begins where it ends
 pub start_back : (board : Board) (lane : BridgeLane) → start_of board (lane_back lane) ≡ end_of board lane
 start_back board lane =
     let P : Bool → Type 0 = λ up. start_of board (lane_back (record { bus = lane.bus; up = up })) ≡ end_of board (record { bus = lane.bus; up = up }) in
@@ -35,6 +37,7 @@ moved_back move lane world =
 pub moved_other : (move : Both → Both) (lane : BridgeLane) (world : World) (l : BridgeLane) → same_lane l lane ≡ false → same_lane l (lane_back lane) ≡ false → moved move lane world l ≡ world l
 moved_other move lane world l apart apart_back = rw (apart, apart_back) refl
 
+-- what holds of a lane, of its lane back and of each other holds of all
 pub by_lanes : (Goal : BridgeLane → Type 0) (lane : BridgeLane) → Goal lane → Goal (lane_back lane)
     → ((l : BridgeLane) → same_lane l lane ≡ false → same_lane l (lane_back lane) ≡ false → Goal l) → (l : BridgeLane) → Goal l
 by_lanes Goal lane here back other l =
@@ -94,6 +97,7 @@ pub record Moves (board : Board) (sent : BridgeLane → List Carried) (world : W
   pub more : List Carried
   pub is_sent : (next (start_of board lane) lane).flight ++ more ≡ sent lane
 
+-- so every bus knows its part after the move: the two lanes of the bridge by what the move keeps, and no other lane changes
 pub Joints-moved : (board : Board) (sent : BridgeLane → List Carried) (world : World) (knows next : ℕ → World) (lane : BridgeLane) (move : Both → Both)
     → Moves board sent world knows next lane move → Joints board sent world knows → Joints board sent (moved move lane world) next
 Joints-moved board sent world knows next lane move moves old =

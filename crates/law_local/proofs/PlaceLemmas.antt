@@ -71,14 +71,17 @@ upwards_no_target bus space address t (Some own) is =
     let P : Bool → Type 0 = λ b. cond b Nobody (Lane (record { bus = bus; up = true })) ≡ Target t → ⊥ in
     (elim (bridge_holds space address own) as P [ true ↦ λ e. cc | false ↦ λ e. cc ]) is
 
+-- nor a bridge below
 bridge_no_target : (board : Board) (bus : ℕ) (space : Space) (address t : ℕ) (found : Option Bridge) → claim_by_bridge board bus space address found ≡ Target t → ⊥
 bridge_no_target board bus space address t (Some child) is = cc
 bridge_no_target board bus space address t None is = upwards_no_target bus space address t (bridge_to board bus) is
 
+-- nor a header
 header_no_target : (t : ℕ) (found : Option Bridge) → claim_by_header found ≡ Target t → ⊥
 header_no_target t (Some bridge) is = cc
 header_no_target t None is = cc
 
+-- nor the bridge on the way to a bus
 bus_no_target : (t : ℕ) (found : Option Bridge) → claim_by_bus found ≡ Target t → ⊥
 bus_no_target t (Some bridge) is = cc
 bus_no_target t None is = cc
@@ -91,6 +94,7 @@ found_on_bus board bus t more target there is =
     let zeroed : position_from test 0 board.targets ≡ Some (0 + t) = is ∙ ap Some (omega arith) in
     eqb-true target.bus bus (and_parts (target.bus == bus) (more target) (at_position test 0 t board.targets target there zeroed)).0
 
+-- a target that decodes the address
 by_address_bus : (board : Board) (bus : ℕ) (space : Space) (address t : ℕ) (target : TargetAgent) (found : Option ℕ) → slice_get board.targets t ≡ Some target
     → position_from (λ (one : TargetAgent). one.bus == bus && list_any (range_holds space address) one.ranges) 0 board.targets ≡ found
     → claim_by_address board bus space address found ≡ Target t → target.bus ≡ bus
@@ -98,6 +102,7 @@ by_address_bus board bus space address t target (Some n) there is claims =
     let same : n ≡ t = cc in found_on_bus board bus t (λ one. list_any (range_holds space address) one.ranges) target there (is ∙ ap Some same)
 by_address_bus board bus space address t target None there is claims = absurd (bridge_no_target board bus space address t (find (decodes_down bus space address) board.bridges) claims)
 
+-- a target by its device number
 by_device_bus : (board : Board) (bus device t : ℕ) (target : TargetAgent) (found : Option ℕ) → slice_get board.targets t ≡ Some target
     → position_from (λ (one : TargetAgent). one.bus == bus && one.device == device) 0 board.targets ≡ found
     → claim_by_device board bus device found ≡ Target t → target.bus ≡ bus
@@ -106,6 +111,7 @@ by_device_bus board bus device t target (Some n) there is claims =
 by_device_bus board bus device t target None there is claims =
     absurd (header_no_target t (find (λ (bridge : Bridge). bridge.parent == bus && bridge.device == device) board.bridges) claims)
 
+-- in configuration space
 configuration_bus : (board : Board) (bus address t : ℕ) (target : TargetAgent) → slice_get board.targets t ≡ Some target → claim_in_configuration board bus address ≡ Target t → target.bus ≡ bus
 configuration_bus board bus address t target there claims =
     let device : Place = claim_by_device board bus (device_in address) (position_from (λ (one : TargetAgent). one.bus == bus && one.device == device_in address) 0 board.targets) in
@@ -116,6 +122,7 @@ configuration_bus board bus address t target there claims =
       | false ↦ λ e. absurd (bus_no_target t behind e)
     ]) claims
 
+-- in any space
 space_bus : (board : Board) (bus : ℕ) (space : Space) (address t : ℕ) (target : TargetAgent) → slice_get board.targets t ≡ Some target → claim_in_space board bus space address ≡ Target t → target.bus ≡ bus
 space_bus board bus Mem address t target there claims =
     by_address_bus board bus Mem address t target (position_from (λ (one : TargetAgent). one.bus == bus && list_any (range_holds Mem address) one.ranges) 0 board.targets) there refl claims
@@ -138,6 +145,7 @@ completion_no_target board read at older (Some (Done op slot outcome)) step t gi
 completion_no_target board read at older (Some Room) step t gives = cc
 completion_no_target board read at older (Some (Gone slot)) step t gives = cc
 
+-- nor does it for a delayed request
 delayed_no_target : (board : Board) (read : Bool) (depth : ℕ) (at : BridgeLane) (held : List Slot) (coming : List Carried) (own : Option Slot) (step : Step) (t : ℕ) → delayed_answer board read depth at held coming own ≡ Gives step (Target t) → ⊥
 delayed_no_target board read depth at held coming None step t gives =
     let P : Bool → Type 0 = λ b. cond b (Gives Latch (Lane at)) (Retry NoSlot) ≡ Gives step (Target t) → ⊥ in
@@ -145,11 +153,13 @@ delayed_no_target board read depth at held coming None step t gives =
 delayed_no_target board read depth at held coming (Some slot) step t gives =
     completion_no_target board read at (before (is_done_for slot.number) coming) (find (is_done_for slot.number) coming) step t gives
 
+-- nor for a posted write
 posted_no_target : (owed depth : ℕ) (at : BridgeLane) (step : Step) (t : ℕ) → posted_answer owed depth at ≡ Gives step (Target t) → ⊥
 posted_no_target owed depth at step t gives =
     let P : Bool → Type 0 = λ b. cond b (Gives Accept (Lane at)) (Retry Full) ≡ Gives step (Target t) → ⊥ in
     (elim (nat_lt owed depth) as P [ true ↦ λ e. cc | false ↦ λ e. cc ]) gives
 
+-- nor for any request
 lane_no_target : (board : Board) (world : World) (bus : ℕ) (by : By) (o : OpId) (request : Request) (at : BridgeLane) (found : Option Bridge) (step : Step) (t : ℕ)
     → lane_answer board world bus by o request at found ≡ Gives step (Target t) → ⊥
 lane_no_target board world bus by o request at None step t gives = cc
@@ -169,6 +179,7 @@ pub record AtTarget (board : Board) (h : List Event) (bus : ℕ) (o : OpId) (t :
   pub is_request : request_of board o bus ≡ Some request
   pub claims : claim board bus (without (through h o) request) ≡ Target t
 
+-- whoever answers as a target is one
 place_target : (board : Board) (h : List Event) (bus : ℕ) (by : By) (o : OpId) (request : Request) (place : Place) (step : Step) (t : ℕ) → answer_by board (world_of board h) h bus by o request place ≡ Gives step (Target t) → place ≡ Target t
 place_target board h bus by o request (Target n) step t gives =
     let P : Option TargetAgent → Type 0 = λ found. target_answer board h n request found ≡ Gives step (Target t) → Target n ≡ Target t in
@@ -179,6 +190,7 @@ place_target board h bus by o request (Header n) step t gives =
 place_target board h bus by o request (Lane lane) step t gives = absurd (lane_no_target board (world_of board h) bus by o request lane (bridge_to board lane.bus) step t gives)
 place_target board h bus by o request Nobody step t gives = cc
 
+-- so it claims what is left of the request
 pub answered_target : (board : Board) (h : List Event) (bus : ℕ) (by : By) (o : OpId) (step : Step) (t : ℕ) → answer board h bus by o ≡ Gives step (Target t) → AtTarget board h bus o t
 answered_target board h bus by o step t gives =
     let P : Option Request → Type 0 = λ found. request_of board o bus ≡ found → answer_to board (world_of board h) h bus by o found ≡ Gives step (Target t) → AtTarget board h bus o t in
@@ -197,6 +209,7 @@ event_on_bus board h bus by o step t target there allowed =
     target_on_bus board bus (without (through h o) at.request) t target there at.claims
 
 module _ (board : Board) (t : ℕ) (target : TargetAgent) (there : slice_get board.targets t ≡ Some target) where
+  -- a stall on another bus uses none of the tokens of the target
   stall_apart : (h : List Event) (bus : ℕ) (by : By) (o : OpId) (step : Step) (place : Place) → Allowed board h (Act bus by o step place) → bus ≢ target.bus → stalls_at t place ≡ 0
   stall_apart h bus by o step (Target n) allowed apart =
       let S : Bool → ℕ = λ b. cond b 1 0 in
@@ -211,6 +224,7 @@ module _ (board : Board) (t : ℕ) (target : TargetAgent) (there : slice_get boa
   stall_apart h bus by o step (Lane lane) allowed apart = refl
   stall_apart h bus by o step Nobody allowed apart = refl
 
+  -- no event on another bus uses one
   stalls_apart : (h : List Event) (e : Event) → Allowed board h e → bus_of board e ≢ target.bus → stalls_by t e ≡ 0
   stalls_apart h (Act bus by o Land place) allowed apart = refl
   stalls_apart h (Act bus by o (Part phases) place) allowed apart = refl

@@ -1,8 +1,8 @@
--- Local runs in the order of their stamps are woven, if each arrival has a stamp above that of its item.
+-- Local runs of all buses in the order of their stamps are woven.
 use Rattle.std.proofs.Common.{◌≡◌, ℕ, zero, suc, ◌+◌, ◌-◌, ◌<◌, ◌≤◌, Bool, true, false, cond, ◌==◌, List, [], ◌∷◌, ◌++◌, length, replicate, Some, refl, sym, ap, subst, ◌∙◌, arith, slice_get}
 use Rattle.std.specs.List.{AllByRecursion}
 use Rattle.std.proofs.lemmas.Bool.{eqb-true, eqb-false, eq-eqb}
-use Rattle.std.proofs.lemmas.List.{append-nil, append_assoc, length-append}
+use Rattle.std.proofs.lemmas.List.{append-nil, append_assoc, length-append, length-replicate}
 use Rattle.list_facts.proofs.EachLemmas.{Each-append, Each-weaker}
 use Rattle.board_model.specs.declared.bridge.Lane.{Lane as BridgeLane}
 use Rattle.board_model.specs.declared.board.Board.{Board}
@@ -19,24 +19,22 @@ use Rattle.law_local.specs.Known.{events_on, coming_to, known}
 use Rattle.law_local.specs.Woven.{IsTimely, Woven, AllWoven}
 use Rattle.law_local.specs.Stamps.{events_of, stamped_on, put_stamps, stamps_put, Falls, IsInTime, AllInTime, SortedParts}
 use Rattle.law_local.proofs.EventLemmas.{IsFront, front_before}
-use Rattle.law_local.proofs.AnswerLemmas.{IsFit}
+use Rattle.law_local.proofs.ApartLemmas.{IsFit}
 use Rattle.law_local.proofs.GrowLemmas.{IsApart, event_grows, all_counted}
 use Rattle.history_facts.proofs.BridgeLemmas.{same_lane_true}
 
-stamped_events : (board : Board) (bus : ℕ) (all : List Stamped) → events_on board bus (events_of all) ≡ events_of (stamped_on board bus all)
+-- the events of a bus are the same with and without stamps
+pub stamped_events : (board : Board) (bus : ℕ) (all : List Stamped) → events_on board bus (events_of all) ≡ events_of (stamped_on board bus all)
 stamped_events board bus [] = refl
 stamped_events board bus (s ∷ past) =
     let P : Bool → Type 0 = λ b. cond b (s.event ∷ events_on board bus (events_of past)) (events_on board bus (events_of past)) ≡ events_of (cond b (s ∷ stamped_on board bus past) (stamped_on board bus past)) in
     let rest = stamped_events board bus past in
     elim (bus_of board s.event == bus) as P [ true ↦ ap (λ (l : List Event). s.event ∷ l) rest | false ↦ rest ]
 
-length-same : (k stamp : ℕ) → length (replicate k stamp) ≡ k
-length-same zero stamp = refl
-length-same (suc k) stamp = ap suc (length-same k stamp)
-
-each-same : (P : ℕ → Type 0) (k stamp : ℕ) → P stamp → AllByRecursion P (replicate k stamp)
-each-same P zero stamp holds = tt
-each-same P (suc k) stamp holds = (holds, each-same P k stamp holds)
+-- what holds of a number holds of each of its copies
+each-replicate : (P : ℕ → Type 0) (k stamp : ℕ) → P stamp → AllByRecursion P (replicate k stamp)
+each-replicate P zero stamp holds = tt
+each-replicate P (suc k) stamp holds = (holds, each-replicate P k stamp holds)
 
 -- a low stamp stands in the first part
 in_front : (xs ys : List ℕ) (k stamp least : ℕ) → slice_get (xs ++ ys) k ≡ Some stamp → stamp < least → AllByRecursion (λ m. least ≤ m) ys → k < length xs
@@ -47,6 +45,7 @@ in_front (x ∷ xs) ys zero stamp least there low above = omega arith
 in_front (x ∷ xs) ys (suc k) stamp least there low above = let rest = in_front xs ys k stamp least there low above in omega (arith, rest)
 
 module _ (board : Board) (fit : IsFit board) (sent : BridgeLane → List Carried) where
+  -- what comes to the bus where a lane begins
   abbrev Came : BridgeLane → BridgeLane → List Carried
   Came lane = coming_to board (start_of board lane) sent
 
@@ -82,7 +81,7 @@ module _ (board : Board) (fit : IsFit board) (sent : BridgeLane → List Carried
       let now : LaneState = local_world board (Came lane) (s.event ∷ events_of q) lane in
       let grown = event_grows board fit (Came lane) (events_of q) s.event (start_of board lane) lane run.0 run.1 apart.0 refl in
       let more : length now.flight ≡ length before.flight + length grown.items = ap length grown.grown ∙ length-append before.flight grown.items in
-      let same = length-same (length now.flight - length before.flight) s.stamp in
+      let same = length-replicate (length now.flight - length before.flight) s.stamp in
       let joined = length-append (put_stamps board (Came lane) lane q) (replicate (length now.flight - length before.flight) s.stamp) in
       omega (arith, old, more, same, joined)
 
@@ -91,10 +90,12 @@ module _ (board : Board) (fit : IsFit board) (sent : BridgeLane → List Carried
   in_time_apart stamps past stamp (Act bus by o step place) is = tt
   in_time_apart stamps past stamp (Arrive lane mark) is = is.0
 
+  -- each arrival is on a lane between two buses
   all_apart : (stamps : BridgeLane → List ℕ) (all : List Stamped) → AllInTime board stamps all → AllByRecursion (λ (s : Stamped). IsApart board fit s.event) all
   all_apart stamps [] is = tt
   all_apart stamps (s ∷ past) is = (in_time_apart stamps past s.stamp s.event is.0, all_apart stamps past is.1)
 
+  -- what holds of each stamped event holds of each of one bus
   each_on : (P : Stamped → Type 0) (bus : ℕ) (all : List Stamped) → AllByRecursion P all → AllByRecursion P (stamped_on board bus all)
   each_on P bus [] each = tt
   each_on P bus (s ∷ past) each =
@@ -111,11 +112,13 @@ module _ (board : Board) (fit : IsFit board) (sent : BridgeLane → List Carried
     parts : (lane : BridgeLane) → (more : List ℕ) × (stamps lane ≡ put_stamps board (Came lane) lane (stamped_on board (start_of board lane) past) ++ more)
         × AllByRecursion (λ m. AllByRecursion (λ (s : Stamped). s.stamp ≤ m) past) more
 
+  -- what stands before in a local run is one
   local_before : (bus : ℕ) (e : Event) (h : List Event) → LocalRun board bus (coming_to board bus sent) (events_on board bus (e ∷ h)) → LocalRun board bus (coming_to board bus sent) (events_on board bus h)
   local_before bus e h run =
       let P : Bool → Type 0 = λ b. LocalRun board bus (coming_to board bus sent) (cond b (e ∷ events_on board bus h) (events_on board bus h)) → LocalRun board bus (coming_to board bus sent) (events_on board bus h) in
       (elim (bus_of board e == bus) as P [ true ↦ λ r. r.2 | false ↦ λ r. r ]) run
 
+  -- the last event of a local run is allowed by what its bus knew before
   allowed_last : (e : Event) (h : List Event) → LocalRun board (bus_of board e) (coming_to board (bus_of board e) sent) (events_on board (bus_of board e) (e ∷ h)) → AllowedLocally board (coming_to board (bus_of board e) sent) (events_on board (bus_of board e) h) e
   allowed_last e h run =
       let bus : ℕ = bus_of board e in
@@ -123,6 +126,7 @@ module _ (board : Board) (fit : IsFit board) (sent : BridgeLane → List Carried
       let P : Bool → Type 0 = λ b. b ≡ true → LocalRun board bus (coming_to board bus sent) (cond b (e ∷ events_on board bus h) (events_on board bus h)) → AllowedLocally board (coming_to board bus sent) (events_on board bus h) e in
       (elim (bus_of board e == bus) as P [ true ↦ λ _ r. r.1 | false ↦ λ wrong r. cc ]) self run
 
+  -- before an event what was sent is a front too
   front_back : (s : Stamped) (past : List Stamped) (lane : BridgeLane) → IsApart board fit s.event → LocalRun board (start_of board lane) (Came lane) (events_on board (start_of board lane) (s.event ∷ events_of past))
       → IsFront (sent lane) (known board sent (start_of board lane) (s.event ∷ events_of past) lane) → IsFront (sent lane) (known board sent (start_of board lane) (events_of past) lane)
   front_back s past lane apart run front =
@@ -135,6 +139,7 @@ module _ (board : Board) (fit : IsFit board) (sent : BridgeLane → List Carried
         | false ↦ λ _ r f. f
       ]) refl run front
 
+  -- the past before its last event: the stamps put by that event go over to those still to come, which are none below
   good_before : (stamps : BridgeLane → List ℕ) (s : Stamped) (past : List Stamped) → Good stamps (s ∷ past) → Good stamps past
   good_before stamps s past good =
       let apart = in_time_apart stamps past s.stamp s.event good.in_time.0 in
@@ -154,12 +159,13 @@ module _ (board : Board) (fit : IsFit board) (sent : BridgeLane → List Carried
             (elim (bus_of board s.event == bus) as P [
               | true ↦ λ is.
                   let new : List ℕ = replicate (length (local_world board (Came lane) (s.event ∷ events_of q) lane).flight - length (local_world board (Came lane) (events_of q) lane).flight) s.stamp in
-                  let same : A new = each-same (λ m. AllByRecursion (λ (r : Stamped). r.stamp ≤ m) past) (length (local_world board (Came lane) (s.event ∷ events_of q) lane).flight - length (local_world board (Came lane) (events_of q) lane).flight) s.stamp good.falls.0 in
+                  let same : A new = each-replicate (λ m. AllByRecursion (λ (r : Stamped). r.stamp ≤ m) past) (length (local_world board (Came lane) (s.event ∷ events_of q) lane).flight - length (local_world board (Came lane) (events_of q) lane).flight) s.stamp good.falls.0 in
                   (new ++ old.0, is ∙ append_assoc (put_stamps board (Came lane) lane q) new old.0, Each-append (λ m. AllByRecursion (λ (r : Stamped). r.stamp ≤ m) past) new old.0 same weak)
               | false ↦ λ is. (old.0, is, weak)
             ]) old.1;
       }
 
+  -- a stamp above that of its item makes an arrival come in time: the item is one of those put before
   timely : (stamps : BridgeLane → List ℕ) (s : Stamped) (past : List Stamped) (e : Event) → s.event ≡ e → Good stamps (s ∷ past) → IsInTime board stamps past s.stamp e → IsTimely board sent (events_of past) e
   timely stamps s past (Act bus by o step place) is good in_time = tt
   timely stamps s past (Arrive lane mark) is good in_time =
@@ -194,6 +200,7 @@ module _ (board : Board) (fit : IsFit board) (sent : BridgeLane → List Carried
       let arrived = arrivals_on lane h in
       omega (arith, front, count, near, far, all, arrived)
 
+  -- so the last event is woven with those before it
   woven_part : (stamps : BridgeLane → List ℕ) (s : Stamped) (past : List Stamped) → Good stamps (s ∷ past) → Woven board sent s.event (events_of past)
   woven_part stamps s past good =
       record {
@@ -202,10 +209,12 @@ module _ (board : Board) (fit : IsFit board) (sent : BridgeLane → List Carried
         sends = λ lane starts. subst (λ n. IsFront (sent lane) (known board sent n (s.event ∷ events_of past) lane)) starts (good.fronts lane);
       }
 
+  -- and every event
   all_woven : (stamps : BridgeLane → List ℕ) (past : List Stamped) → Good stamps past → AllWoven board sent (events_of past)
   all_woven stamps [] good = tt
   all_woven stamps (s ∷ past) good = (woven_part stamps s past good, all_woven stamps past (good_before stamps s past good))
 
+  -- local runs in the order of their stamps are woven: nothing is left to be put after them
   pub sorted_woven : (all : List Stamped) → SortedParts board sent all → AllWoven board sent (events_of all)
   sorted_woven all sorted =
       let stamps : BridgeLane → List ℕ = stamps_put board sent all in

@@ -46,6 +46,7 @@ stops_by onwards bus (Header number) is = absurd is
 stops_by onwards bus (Lane lane) is = absurd is
 stops_by onwards bus Nobody is = absurd is
 
+-- a way that begins on a bus where a target claims ends there
 stops : (board : Board) (op : Op) (n bus : ℕ) → IsTarget (claim board bus (request_on op bus)) → (route_within n board op bus).bus ≡ bus
 stops board op zero bus is = refl
 stops board op (suc n) bus is = stops_by (λ lane. route_within n board op (end_of board lane)) bus (claim board bus (request_on op bus)) is
@@ -64,6 +65,7 @@ ends_by onwards bus last (Lane lane) k old here is =
     ]) refl is
 ends_by onwards bus last Nobody k old here is = cc
 
+-- so of a whole way
 ends_way : (board : Board) (op : Op) (n bus : ℕ) (k : BridgeLane) → IsTarget (claim board (end_of board k) (request_on op (end_of board k)))
     → list_any (same_lane k) (route_within n board op bus).lanes ≡ true → (route_within n board op bus).bus ≡ end_of board k
 ends_way board op zero bus k claims is = cc
@@ -116,12 +118,14 @@ module _ (board : Board) (tree : IsTree board) (one : WritesHaveOneClaimant boar
   part_at_end h bus by p MasterAbort place run allowed same = inl refl
   part_at_end h bus by p TargetAbort place run allowed same = inl refl
 
+  -- an event takes a part of the write only where its way ends
   event_at_end : (h : List Event) (e : Event) → Run board h → Allowed board h e → (parted_by o e ≡ 0) ⊎ (bus_of board e ≡ End)
   event_at_end h (Act bus by p step place) run allowed =
       let P : Bool → Type 0 = λ b. same_op p o ≡ b → (cond b (phases_parted step) 0 ≡ 0) ⊎ (bus ≡ End) in
       (elim (same_op p o) as P [ true ↦ λ same. part_at_end h bus by p step place run allowed same | false ↦ λ _. inl refl ]) refl
   event_at_end h (Arrive lane mark) run allowed = inl refl
 
+  -- so how far it went through is known where its way ends
   through_end : (h : List Event) → Run board h → through h o ≡ through (events_on board End h) o
   through_end [] run = refl
   through_end (e ∷ h) run =

@@ -38,6 +38,7 @@ not_ended : (board : Board) (m bus : ℕ) (turn : Option OpId) (o : OpId) (outco
 not_ended board m bus turn o None apart = refl
 not_ended board m bus turn o (Some outcome) apart = rw apart refl
 
+-- an event on another bus leaves the turn of the master alone
 elsewhere : (board : Board) (m bus : ℕ) (turn : Option OpId) (h : List Event) (e : Event) → is_on bus (slice_get board.masters m) ≡ true → Allowed board h e → eqb (bus_of board e) bus ≡ false
     → turn_after board m turn (ended e) ≡ turn
 elsewhere board m bus turn h (Act at Master o step place) there allowed apart =
@@ -64,6 +65,7 @@ turn_local board m bus there (e ∷ h) run =
     ]) refl
 
 module _ (board : Board) (sent : BridgeLane → List Carried) (h : List Event) (bus : ℕ) (joint : AllJoint board sent h) (run : Run board h) where
+  -- the lanes as the bus knows them
   abbrev Knows : World
   Knows = known board sent bus h
 

@@ -1,58 +1,30 @@
 -- Events of all buses, each allowed by what its bus knows and each arrival after its sending, are a run.
-use Rattle.std.proofs.Common.{◌≡◌, ◌≢◌, ℕ, ◌+◌, ◌<◌, Bool, true, false, cond, ◌==◌, eqb, List, [], ◌∷◌, ◌++◌, length, Option, Some, None, refl, sym, ap, subst, ◌∙◌, arith}
+use Rattle.std.proofs.Common.{◌≡◌, ◌≢◌, ℕ, ◌+◌, Bool, true, false, cond, ◌==◌, eqb, List, [], ◌∷◌, ◌++◌, length, Some, refl, sym, ap, subst, ◌∙◌, arith}
 use Rattle.std.proofs.lemmas.Bool.{eqb-true, eqb-false, eq-eqb, and_parts}
 use Rattle.std.proofs.lemmas.List.{length-append}
-use Rattle.list_facts.proofs.EachLemmas.{Each-find}
-use Rattle.list_facts.proofs.FindLemmas.{find_passes}
 use Rattle.pci_command.specs.declared.op_id.OpId.{OpId}
-use Rattle.board_model.specs.declared.bridge.Bridge.{Bridge}
 use Rattle.board_model.specs.declared.bridge.Lane.{Lane as BridgeLane}
-use Rattle.board_model.specs.declared.bridge.Place.{Place}
-use Rattle.board_model.specs.declared.bridge.Place.TheVariants.{Lane}
 use Rattle.board_model.specs.declared.board.Board.{Board}
-use Rattle.board_model.specs.Ways.{primary_in, primary_of, start_of, end_of}
-use Rattle.board_laws.specs.Trees.{IsTree}
+use Rattle.board_model.specs.Ways.{start_of, end_of}
 use Rattle.history_model.specs.declared.event.By.{By}
 use Rattle.history_model.specs.declared.event.By.TheVariants.{Lane as ByLane}
 use Rattle.history_model.specs.declared.event.Mark.{Mark}
-use Rattle.history_model.specs.declared.event.Step.{Step}
 use Rattle.history_model.specs.declared.event.Event.{Event}
 use Rattle.history_model.specs.declared.event.Event.TheVariants.{Act, Arrive}
 use Rattle.history_model.specs.declared.item.Carried.{Carried}
 use Rattle.history_model.specs.declared.item.Carried.TheVariants.{Post, Ask, Done, Room, Gone}
-use Rattle.history_model.specs.declared.item.Answer.TheVariants.{Gives}
 use Rattle.history_model.specs.Lanes.{LaneState, empty_lane}
 use Rattle.history_model.specs.World.{World, after, world_of}
-use Rattle.history_model.specs.Words.{through, without}
-use Rattle.history_model.specs.Answers.{presents, wants, answer, bridge_to}
+use Rattle.history_model.specs.Answers.{presents, wants}
 use Rattle.history_model.specs.Runs.{mark_of, mark_of_first, Allowed, Run}
 use Rattle.history_model.specs.Local.{bus_of, local_world}
 use Rattle.law_local.specs.Known.{events_on, coming_to, BetweenBuses, known, AllJoint, JointRun}
 use Rattle.law_local.specs.Woven.{IsTimely, IsSent, Woven, AllWoven}
 use Rattle.law_local.proofs.EventLemmas.{replaced, act_joint, arrive_joint, IsFront, Joints-alike}
 use Rattle.law_local.proofs.TransferLemmas.{wants_local}
-use Rattle.law_local.proofs.AnswerLemmas.{IsFit, answer_local}
-use Rattle.history_facts.proofs.AnswerLemmas.{answered_at}
-use Rattle.law_slots.proofs.Laws.{claim_starts, wants-at, Quiet-empty, run_no_bridge}
-
--- the two ends of a bridge's lane are on different buses
-pub lane_apart : (board : Board) (lane : BridgeLane) (bridge : Bridge) → IsTree board → bridge_to board lane.bus ≡ Some bridge → end_of board lane ≢ start_of board lane
-lane_apart board lane bridge tree is =
-    let number : bridge.bus ≡ lane.bus = eqb-true bridge.bus lane.bus (find_passes (λ (b : Bridge). b.bus == lane.bus) board.bridges bridge is) in
-    let below : bridge.parent < bridge.bus = Each-find (λ (b : Bridge). b.parent < b.bus) (λ (b : Bridge). b.bus == lane.bus) board.bridges bridge tree.falls is in
-    let primary : primary_of board lane.bus ≡ bridge.parent = ap primary_in is in
-    let differ : primary_of board lane.bus ≢ lane.bus = λ same. absurd (omega (arith, number, below, primary, same)) in
-    let P : Bool → Type 0 = λ up. end_of board (record { bus = lane.bus; up = up }) ≢ start_of board (record { bus = lane.bus; up = up }) in
-    elim lane.up as P [ true ↦ differ | false ↦ λ same. differ (sym same) ]
-
--- something is on the lane only if it is one of a bridge
-something_apart : (board : Board) (h : List Event) (lane : BridgeLane) → IsTree board → Run board h → (world_of board h lane ≡ empty_lane → ⊥) → end_of board lane ≢ start_of board lane
-something_apart board h lane tree run some =
-    let P : Option Bridge → Type 0 = λ found. bridge_to board lane.bus ≡ found → end_of board lane ≢ start_of board lane in
-    (elim (bridge_to board lane.bus) as P [
-      | None ↦ λ none. absurd (some (Quiet-empty board h lane (run_no_bridge board lane.bus h none run)))
-      | Some bridge ↦ λ is. lane_apart board lane bridge tree is
-    ]) refl
+use Rattle.law_local.proofs.ApartLemmas.{IsFit, something_apart, place_apart}
+use Rattle.law_local.proofs.AnswerLemmas.{answer_local}
+use Rattle.law_slots.proofs.Laws.{wants-at}
 
 -- nothing is presented of nothing
 nothing_presented : (board : Board) (bus : ℕ) (o : OpId) (standing : List Carried) → standing ≡ [] → presents board bus o standing ≡ true → ⊥
@@ -87,18 +59,12 @@ module _ (board : Board) (sent : BridgeLane → List Carried) where
         | false ↦ λ test. sym (known_elsewhere e h n l (λ same. eqb-false n bus test (sym same ∙ is)))
       ]) refl
 
+  -- what the bus sent by its event and before is a front of what is ever sent
   fronts : (e : Event) (h : List Event) (bus : ℕ) → bus_of board e ≡ bus → IsSent board sent bus (e ∷ h) → (l : BridgeLane) → start_of board l ≡ bus → IsFront (sent l) (after board (known board sent bus h) e l)
   fronts e h bus is sends l starts = subst (IsFront (sent l)) (known_here e h bus l is) (sends l starts)
 
   module _ (fit : IsFit board) where
-    begins_there : (h : List Event) (bus : ℕ) (by : By) (o : OpId) (step : Step) (place : Place) → Allowed board h (Act bus by o step place)
-        → (lane : BridgeLane) → place ≡ Lane lane → (start_of board lane ≡ bus) × (end_of board lane ≢ bus)
-    begins_there h bus by o step place allowed lane is =
-        let gives : answer board h bus by o ≡ Gives step (Lane lane) = allowed.1 ∙ ap (Gives step) is in
-        let at = answered_at board h bus by o step lane gives in
-        let starts : start_of board lane ≡ bus = claim_starts board bus (without (through h o) at.request) lane fit.distinct at.claims in
-        (starts, λ same. lane_apart board lane at.bridge fit.tree at.is_bridge (same ∙ sym starts))
-
+    -- a lane that presents ends on the bus and does not begin there
     ends_there : (h : List Event) (bus : ℕ) (by : By) (o : OpId) → Run board h → wants board h bus by o ≡ true → (lane : BridgeLane) → by ≡ ByLane lane → (end_of board lane ≡ bus) × (start_of board lane ≢ bus)
     ends_there h bus by o run wanted lane is =
         let wants_lane : wants board h bus (ByLane lane) o ≡ true = subst (λ b. wants board h bus b o ≡ true) is wanted in
@@ -119,6 +85,7 @@ module _ (board : Board) (sent : BridgeLane → List Carried) where
         let same : length j.later ≡ length far.flight = ap length later_is in
         absurd (omega (arith, all, same, timely))
 
+    -- an arrival is marked alike, whatever is still to be sent behind it
     arrive_mark : (lane : BridgeLane) (w x : LaneState) (later flight : List Carried) (mark : Mark) → flight ≢ [] → w.asks ≡ x.asks → w.dones ≡ x.dones → mark_of_first board lane x (flight ++ later) ≡ Some mark → mark_of_first board lane w flight ≡ Some mark
     arrive_mark lane w x later [] mark some asks dones is = absurd (some refl)
     arrive_mark lane w x later (item ∷ rest) mark some asks dones is = ap Some (marks lane w x item asks dones) ∙ is
@@ -130,6 +97,7 @@ module _ (board : Board) (sent : BridgeLane → List Carried) where
         marks lane w x Room asks dones = refl
         marks lane w x (Gone slot) asks dones = refl
 
+    -- an event that its bus allows by what it knows is allowed
     event_allowed : (h : List Event) (e : Event) → Run board h → AllJoint board sent h → Woven board sent e h → Allowed board h e
     event_allowed h (Act bus by o step place) run joint woven =
         let wanted : wants board h bus by o ≡ true = wants_local board sent h bus joint run by o ∙ woven.allowed.0 in
@@ -142,12 +110,13 @@ module _ (board : Board) (sent : BridgeLane → List Carried) where
         let marked : mark_of_first board lane x (w.flight ++ j.later) ≡ Some mark = ap (mark_of_first board lane x) j.flight ∙ woven.allowed in
         arrive_mark lane w x j.later w.flight mark some j.asks j.dones marked
 
+    -- after it the lanes are what the buses know
     event_joint : (h : List Event) (e : Event) → Run board h → AllJoint board sent h → Woven board sent e h → AllJoint board sent (e ∷ h)
     event_joint h (Act bus by o step place) run joint woven =
         let e : Event = Act bus by o step place in
         let allowed = event_allowed h e run joint woven in
         let knows : ℕ → World = λ n. known board sent n h in
-        let done = act_joint board sent (world_of board h) knows bus by o step place (begins_there h bus by o step place allowed) (ends_there h bus by o run allowed.0) (fronts e h bus refl woven.sends) joint in
+        let done = act_joint board sent (world_of board h) knows bus by o step place (place_apart board fit (world_of board h) h bus by o step place allowed.1) (ends_there h bus by o run allowed.0) (fronts e h bus refl woven.sends) joint in
         Joints-alike board sent (after board (world_of board h) e) (world_of board (e ∷ h)) (replaced knows bus (after board (knows bus) e)) (λ n. known board sent n (e ∷ h)) (λ l. refl) (λ n l. known_after e h bus n l refl) done
     event_joint h (Arrive lane mark) run joint woven =
         let e : Event = Arrive lane mark in

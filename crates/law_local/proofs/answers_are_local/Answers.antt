@@ -1,4 +1,5 @@
-use Rattle.law_local.proofs.EndLemmas.{IsFit-valid, lawful_known}
+use Rattle.law_local.proofs.ApartLemmas.{IsFit-valid}
+use Rattle.law_local.proofs.EndLemmas.{lawful_known}
 use Rattle.law_local.proofs.TransferLemmas.{wants_local}
 use Rattle.law_local.proofs.AnswerLemmas.{answer_local}
 use Rattle.law_local.proofs.answers_are_local.Goals as goal

@@ -1,4 +1,5 @@
-use Rattle.law_local.proofs.EndLemmas.{IsFit-valid, quiet_complete}
+use Rattle.law_local.proofs.ApartLemmas.{IsFit-valid}
+use Rattle.law_local.proofs.EndLemmas.{quiet_complete}
 use Rattle.law_local.proofs.quiet_boards_are_complete.Goals as goal
 
 pub returns : goal.returns

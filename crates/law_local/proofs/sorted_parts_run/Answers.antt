@@ -1,5 +1,5 @@
 use Rattle.law_local.specs.Stamps.{events_of}
-use Rattle.law_local.proofs.EndLemmas.{IsFit-valid}
+use Rattle.law_local.proofs.ApartLemmas.{IsFit-valid}
 use Rattle.law_local.proofs.WovenLemmas.{woven_run}
 use Rattle.law_local.proofs.SortLemmas.{sorted_woven}
 use Rattle.law_local.proofs.sorted_parts_run.Goals as goal

@@ -1,4 +1,4 @@
-use Rattle.law_local.proofs.EndLemmas.{IsFit-valid}
+use Rattle.law_local.proofs.ApartLemmas.{IsFit-valid}
 use Rattle.law_local.proofs.WovenLemmas.{woven_run}
 use Rattle.law_local.proofs.woven_runs.Goals as goal
 
