@@ -20,6 +20,7 @@ use Rattle.history_model.specs.Words.{through, without}
 use Rattle.history_model.specs.World.{World, world_of}
 use Rattle.history_model.specs.declared.event.By.{By}
 use Rattle.history_model.specs.declared.event.Event.{Event}
+use Rattle.history_model.specs.declared.event.Event.TheVariants.{Act, Arrive}
 use Rattle.history_model.specs.declared.event.Step.{Step}
 use Rattle.history_model.specs.declared.item.Answer.TheVariants.{Gives}
 use Rattle.history_facts.proofs.AnswerLemmas.{answered_in}
@@ -44,6 +45,11 @@ IsFit-valid board valid = record {
   one = OneClaimant-formed board valid.well_formed;
   single = WellFormed-single board valid.well_formed;
 }
+
+-- an arrival is on a lane between two buses
+abbrev pub IsApart : Board → Event → Type 0
+IsApart board (Act bus by o step place) = Unit {0}
+IsApart board (Arrive lane mark) = end_of board lane ≢ start_of board lane
 
 -- the two ends of a bridge's lane are on different buses
 pub lane_apart : (board : Board) (lane : BridgeLane) (bridge : Bridge) → IsTree board → bridge_to board lane.bus ≡ Some bridge → end_of board lane ≢ start_of board lane

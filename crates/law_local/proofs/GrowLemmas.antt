@@ -25,7 +25,7 @@ use Rattle.history_model.specs.Local.{bus_of, local_world, AllowedLocally, Local
 use Rattle.law_order.specs.Sent.{arrives_by, arrivals}
 use Rattle.law_local.proofs.JointLemmas.{start_back, moved_here, moved_back, moved_other, by_lanes}
 use Rattle.law_local.proofs.EventLemmas.{Grows, initiator_grows}
-use Rattle.law_local.proofs.ApartLemmas.{IsFit, place_apart}
+use Rattle.law_local.proofs.ApartLemmas.{IsFit, IsApart, place_apart}
 use Rattle.law_local.proofs.FlightLemmas.{enters_flight, none_grow, effect_flight, arrives_back}
 use Rattle.history_facts.proofs.BridgeLemmas.{same_lane_true, same_lane_self, same_lane_symm}
 
@@ -67,13 +67,8 @@ module _ (board : Board) (fit : IsFit board) where
         | false ↦ λ _. refl
       ]) refl
 
-  -- an arrival is on a lane of a bridge
-  abbrev pub IsApart : Event → Type 0
-  IsApart (Act bus by o step place) = Unit {0}
-  IsApart (Arrive lane mark) = end_of board lane ≢ start_of board lane
-
   -- after an event of the bus only more is in flight on a lane that begins there
-  pub event_grows : (came : BridgeLane → List Carried) (p : List Event) (e : Event) (bus : ℕ) (l : BridgeLane) → bus_of board e ≡ bus → AllowedLocally board came p e → IsApart e → start_of board l ≡ bus
+  pub event_grows : (came : BridgeLane → List Carried) (p : List Event) (e : Event) (bus : ℕ) (l : BridgeLane) → bus_of board e ≡ bus → AllowedLocally board came p e → IsApart board e → start_of board l ≡ bus
       → Grows (local_world board came p l) (local_world board came (e ∷ p) l)
   event_grows came p (Act at by o step place) bus l is allowed apart starts =
       let w : World = local_world board came p in

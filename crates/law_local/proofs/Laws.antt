@@ -18,11 +18,11 @@ pub use Rattle.law_local.proofs.EndLemmas.{quiet_complete}
 pub use Rattle.law_local.proofs.JointLemmas.{moved_here, moved_back, moved_other, by_lanes}
 -- a lane back begins where the lane ends, and ends where it begins
 pub use Rattle.law_local.proofs.JointLemmas.{start_back, end_back}
--- a lane that answers begins on the bus and ends on another
-pub use Rattle.law_local.proofs.ApartLemmas.{lane_apart, place_apart}
+-- a lane of a bridge, one that answers, and one on which something arrives, ends on another bus than it begins on
+pub use Rattle.law_local.proofs.ApartLemmas.{IsApart, lane_apart, place_apart}
 -- after an event of a bus only more is in flight on the lanes that begin there
 pub use Rattle.law_local.proofs.EventLemmas.{Grows}
-pub use Rattle.law_local.proofs.GrowLemmas.{IsApart, event_grows}
+pub use Rattle.law_local.proofs.GrowLemmas.{event_grows}
 -- on a lane that ends on the bus, what arrived and what is in flight are all that comes
 pub use Rattle.law_local.proofs.GrowLemmas.{all_counted}
 -- the events of a bus without their stamps are the bus's part of all events

@@ -19,8 +19,8 @@ use Rattle.law_local.specs.Known.{events_on, coming_to, known}
 use Rattle.law_local.specs.Woven.{IsTimely, Woven, AllWoven}
 use Rattle.law_local.specs.Stamps.{events_of, stamped_on, put_stamps, stamps_put, Falls, IsInTime, AllInTime, SortedParts}
 use Rattle.law_local.proofs.EventLemmas.{IsFront, front_before}
-use Rattle.law_local.proofs.ApartLemmas.{IsFit}
-use Rattle.law_local.proofs.GrowLemmas.{IsApart, event_grows, all_counted}
+use Rattle.law_local.proofs.ApartLemmas.{IsFit, IsApart}
+use Rattle.law_local.proofs.GrowLemmas.{event_grows, all_counted}
 use Rattle.history_facts.proofs.BridgeLemmas.{same_lane_true}
 
 -- the events of a bus are the same with and without stamps
@@ -72,7 +72,7 @@ module _ (board : Board) (fit : IsFit board) (sent : BridgeLane → List Carried
           ]) refl
 
   -- as many stamps as items were put
-  put_count : (lane : BridgeLane) → Came lane lane ≡ [] → (q : List Stamped) → LocalRun board (start_of board lane) (Came lane) (events_of q) → AllByRecursion (λ (s : Stamped). IsApart board fit s.event) q
+  put_count : (lane : BridgeLane) → Came lane lane ≡ [] → (q : List Stamped) → LocalRun board (start_of board lane) (Came lane) (events_of q) → AllByRecursion (λ (s : Stamped). IsApart board s.event) q
       → length (put_stamps board (Came lane) lane q) ≡ length (local_world board (Came lane) (events_of q) lane).flight
   put_count lane none [] run apart = ap length (sym none)
   put_count lane none (s ∷ q) run apart =
@@ -86,12 +86,12 @@ module _ (board : Board) (fit : IsFit board) (sent : BridgeLane → List Carried
       omega (arith, old, more, same, joined)
 
   -- the arrivals of what comes in time are on lanes of bridges
-  in_time_apart : (stamps : BridgeLane → List ℕ) (past : List Stamped) (stamp : ℕ) (e : Event) → IsInTime board stamps past stamp e → IsApart board fit e
+  in_time_apart : (stamps : BridgeLane → List ℕ) (past : List Stamped) (stamp : ℕ) (e : Event) → IsInTime board stamps past stamp e → IsApart board e
   in_time_apart stamps past stamp (Act bus by o step place) is = tt
   in_time_apart stamps past stamp (Arrive lane mark) is = is.0
 
   -- each arrival is on a lane between two buses
-  all_apart : (stamps : BridgeLane → List ℕ) (all : List Stamped) → AllInTime board stamps all → AllByRecursion (λ (s : Stamped). IsApart board fit s.event) all
+  all_apart : (stamps : BridgeLane → List ℕ) (all : List Stamped) → AllInTime board stamps all → AllByRecursion (λ (s : Stamped). IsApart board s.event) all
   all_apart stamps [] is = tt
   all_apart stamps (s ∷ past) is = (in_time_apart stamps past s.stamp s.event is.0, all_apart stamps past is.1)
 
@@ -127,7 +127,7 @@ module _ (board : Board) (fit : IsFit board) (sent : BridgeLane → List Carried
       (elim (bus_of board e == bus) as P [ true ↦ λ _ r. r.1 | false ↦ λ wrong r. cc ]) self run
 
   -- before an event what was sent is a front too
-  front_back : (s : Stamped) (past : List Stamped) (lane : BridgeLane) → IsApart board fit s.event → LocalRun board (start_of board lane) (Came lane) (events_on board (start_of board lane) (s.event ∷ events_of past))
+  front_back : (s : Stamped) (past : List Stamped) (lane : BridgeLane) → IsApart board s.event → LocalRun board (start_of board lane) (Came lane) (events_on board (start_of board lane) (s.event ∷ events_of past))
       → IsFront (sent lane) (known board sent (start_of board lane) (s.event ∷ events_of past) lane) → IsFront (sent lane) (known board sent (start_of board lane) (events_of past) lane)
   front_back s past lane apart run front =
       let bus : ℕ = start_of board lane in
@@ -191,7 +191,7 @@ module _ (board : Board) (fit : IsFit board) (sent : BridgeLane → List Carried
       let none : Came lane lane ≡ [] = ap (λ b. cond b (sent lane) []) differ in
       let same_events = stamped_events board y past in
       let run_y : LocalRun board y (Came lane) (events_of q) = subst (LocalRun board y (Came lane)) same_events (before_it.local y) in
-      let count = put_count lane none q run_y (each_on (λ (r : Stamped). IsApart board fit r.event) y past (all_apart stamps past before_it.in_time)) in
+      let count = put_count lane none q run_y (each_on (λ (r : Stamped). IsApart board r.event) y past (all_apart stamps past before_it.in_time)) in
       let near : length (known board sent y h lane).flight ≡ length (local_world board (Came lane) (events_of q) lane).flight = ap (λ p. length (local_world board (Came lane) p lane).flight) same_events in
       let self : (end_of board lane == x) ≡ true = eq-eqb x x refl in
       let comes : coming_to board x sent lane ≡ sent lane = ap (λ b. cond b (sent lane) []) self in
