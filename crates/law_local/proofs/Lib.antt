@@ -1,0 +1,14 @@
+pub mod HalfLemmas
+pub mod JointLemmas
+pub mod EventLemmas
+pub mod TransferLemmas
+pub mod ThroughLemmas
+pub mod PlaceLemmas
+pub mod ApartLemmas
+pub mod AnswerLemmas
+pub mod WovenLemmas
+pub mod FlightLemmas
+pub mod GrowLemmas
+pub mod SortLemmas
+pub mod EndLemmas
+pub mod Laws

@@ -1,0 +1,5 @@
+pub mod Known
+pub mod Woven
+pub mod Stamps
+pub mod Answered
+pub mod Quiet

@@ -1,0 +1,46 @@
+//! What a bus knows is what it did and what came to it, whenever that was sent. These laws weave the
+//! buses together: what each did by what it knows makes up a run of the board, if no item arrives
+//! before it was sent, and in every such run what the buses know is what the lanes carry. So a
+//! program may let each bus go on by itself, in any order, and put its events in order afterwards.
+//! Each law is the contract of a function that does nothing. What is ever sent on each lane is
+//! `sent`.
+#![tactic(auto)]
+
+ghost use Rattle.std.specs.Prelude.{List};
+ghost use Rattle.board_model.specs.declared.board.Board.{Board};
+ghost use Rattle.board_model.specs.declared.bridge.Lane.{Lane as BridgeLane};
+ghost use Rattle.board_model.specs.Valid.{IsValid};
+ghost use Rattle.history_model.specs.declared.event.Event.{Event};
+ghost use Rattle.history_model.specs.declared.event.Stamped.{Stamped};
+ghost use Rattle.history_model.specs.declared.item.Carried.{Carried};
+ghost use Rattle.history_model.specs.Runs.{Complete};
+ghost use Rattle.law_local.specs.Known.{BetweenBuses, JointRun};
+ghost use Rattle.law_local.specs.Woven.{AllWoven};
+ghost use Rattle.law_local.specs.Stamps.{events_of, SortedParts};
+ghost use Rattle.law_local.specs.Answered.{WantsAreLocal, AnswersAreLocal, TestsAreLocal};
+ghost use Rattle.law_local.specs.Quiet.{AllQuiet};
+
+/// Events of all buses, each allowed by what its bus knows, are a run where no item arrives before it
+/// was sent; and on each lane there is what the buses at its ends know.
+pub fn woven_runs()
+    ensures { (board : Board) (sent : BridgeLane → List Carried) (h : List Event) → IsValid board → BetweenBuses board sent → AllWoven board sent h → JointRun board sent h }
+{}
+
+/// Local runs of all buses in the order of their stamps are a run, where each item arrives at a stamp
+/// above that of its sending; and on each lane there is what the buses at its ends know.
+pub fn sorted_parts_run()
+    ensures { (board : Board) (sent : BridgeLane → List Carried) (all : List Stamped) → IsValid board → BetweenBuses board sent → SortedParts board sent all → JointRun board sent (events_of all) }
+{}
+
+/// What is presented on a bus, what it is answered, and which items may come on a lane that ends
+/// there, is decided by what the bus knows.
+pub fn answers_are_local()
+    ensures wanted { (board : Board) (sent : BridgeLane → List Carried) (h : List Event) → JointRun board sent h → WantsAreLocal board sent h }
+    ensures answered { (board : Board) (sent : BridgeLane → List Carried) (h : List Event) → IsValid board → JointRun board sent h → AnswersAreLocal board sent h }
+    ensures tested { (board : Board) (sent : BridgeLane → List Carried) (h : List Event) → JointRun board sent h → TestsAreLocal board sent h }
+{}
+
+/// Where nothing comes to any bus, and whatever is presented gets a Retry, the run is complete.
+pub fn quiet_boards_are_complete()
+    ensures { (board : Board) (sent : BridgeLane → List Carried) (h : List Event) → IsValid board → JointRun board sent h → AllQuiet board sent h → Complete board h }
+{}
