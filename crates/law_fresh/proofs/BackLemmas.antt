@@ -23,10 +23,10 @@ use Rattle.history_model.specs.Words.{Landing, through, landings_of, landings_by
 use Rattle.history_model.specs.Knowledge.{value_in, Reading, value_of_ending, outcome_in, ends_as, ends_with, has_ended, up_to_end, reading_in, reading_or, last_reading, got, has_landed, is_landing_of, saw_in, saw, stands_after, later, tells, Chain, one, more, is_write, Told}
 use Rattle.history_model.specs.Runs.{Run}
 use Rattle.law_order.specs.One.{times, ends_at_master}
-use Rattle.std.proofs.lemmas.Bool.{and_parts}
+use Rattle.std.proofs.lemmas.Bool.{and_parts, or_left, or_right}
 use Rattle.law_fresh.specs.Aware.{Aware, is_behind, knows, shows, shown, first_known, taught_by, taught_after, aware_of}
 use Rattle.law_fresh.specs.Told.{was_told}
-use Rattle.law_fresh.proofs.SafeLemmas.{or_left, or_right, or_either}
+use Rattle.law_fresh.proofs.ListLemmas.{or_either}
 use Rattle.law_fresh.proofs.BegunLemmas.{IsOf, of_of}
 use Rattle.law_fresh.proofs.AwareLemmas.{first_brought, ends_turn}
 use Rattle.law_fresh.proofs.SinceLemmas.{ends_as_ended}

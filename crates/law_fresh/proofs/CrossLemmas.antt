@@ -2,6 +2,7 @@
 use Rattle.std.proofs.Common.{◌≡◌, ℕ, suc, ◌+◌, ◌≤◌, Bool, true, false, ◌||◌, ◌==◌, cond, eqb, eqb-true, filter, map, List, [], ◌∷◌, ◌++◌, append_assoc, length, length-append, Some, refl, sym, ap, subst, ◌∙◌, arith, ◌⊎◌, inl, inr, ⊎_elim}
 use Rattle.std.specs.List.{find, list_any}
 use Rattle.std.proofs.lemmas.Bool.Decides.{nat_tests}
+use Rattle.std.proofs.lemmas.Bool.{or_left, or_right}
 use Rattle.list_facts.proofs.FindLemmas.{find_passes}
 use Rattle.pci_command.specs.declared.command.Command.TheVariants.{MemWrite}
 use Rattle.pci_command.specs.declared.command.Space.{Space}
@@ -27,7 +28,7 @@ use Rattle.history_model.specs.World.{world_of}
 use Rattle.history_model.specs.Answers.{bridge_to}
 use Rattle.history_model.specs.Knowledge.{has_landed}
 use Rattle.law_fresh.specs.Cover.{is_on_lane, covered}
-use Rattle.law_fresh.proofs.SafeLemmas.{or_left, or_right, or_either}
+use Rattle.law_fresh.proofs.ListLemmas.{or_either}
 use Rattle.board_laws.proofs.Laws.{OneClaimant-valid, IsTree-valid}
 use Rattle.history_facts.proofs.PostedLemmas.{write_not_read}
 use Rattle.history_facts.proofs.PathLemmas.{way_goes}

@@ -1,6 +1,7 @@
 -- How a delayed write with a word is covered: it has landed before anybody is told that it ended.
 use Rattle.std.proofs.Common.{◌≡◌, ℕ, ◌+◌, ◌*◌, Bool, true, false, not, cond, nat_lt, List, [], ◌∷◌, length, Option, Some, None, is_some, refl, sym, ap, subst, ◌∙◌, arith, slice_get}
 use Rattle.std.specs.List.{list_any, AllByRecursion}
+use Rattle.std.proofs.lemmas.Bool.{or_left, or_right}
 use Rattle.list_facts.proofs.EachLemmas.{Each-find, Each-weaker, Each-append}
 use Rattle.pci_command.specs.declared.command.Command.TheVariants.{MemWrite}
 use Rattle.pci_command.specs.declared.request.Request.{Request}
@@ -38,11 +39,10 @@ use Rattle.history_model.specs.Knowledge.{is_land_of, has_landed}
 use Rattle.history_model.specs.Runs.{Run}
 use Rattle.law_slots.specs.Kinds.{NamesOp, RightKind}
 use Rattle.law_fresh.specs.Cover.{is_post_of, items, is_on_lane, covered}
-use Rattle.law_fresh.proofs.SafeLemmas.{or_left, or_right, or_either}
+use Rattle.law_fresh.proofs.ListLemmas.{or_either}
 use Rattle.law_fresh.proofs.MoveLemmas.{WorldHas, Enters, Replies, RepliesBy, act_has, arrival_has}
 use Rattle.law_fresh.proofs.InformedLemmas.{step_ends}
 use Rattle.law_fresh.proofs.SourceLemmas.{Covers}
-use Rattle.law_fresh.proofs.TaughtLemmas.{ends_moves}
 use Rattle.law_fresh.proofs.KeptLemmas.{EndsCovered, kept_covered}
 use Rattle.board_laws.proofs.Laws.{IsTree-valid}
 use Rattle.history_facts.proofs.AnswerLemmas.{AtLane, answered_at}

@@ -1,5 +1,5 @@
 -- A read that was told of a write reads a word of it after it has landed.
-use Rattle.std.proofs.Common.{◌≡◌, ℕ, zero, suc, ◌+◌, ◌<◌, Bool, true, false, ◌&&◌, ◌||◌, not, cond, List, [], ◌∷◌, length, Option, Some, None, is_some, Contains, slice_index_or, refl, sym, ap, subst, ◌∙◌, arith, slice_get}
+use Rattle.std.proofs.Common.{◌≡◌, ℕ, zero, suc, ◌+◌, Bool, true, false, ◌&&◌, ◌||◌, not, cond, List, [], ◌∷◌, length, Option, Some, None, is_some, Contains, refl, sym, ap, subst, ◌∙◌, slice_get}
 use Rattle.std.specs.List.{list_any, AllByRecursion}
 use Rattle.list_facts.proofs.FindLemmas.{find_passes}
 use Rattle.pci_command.specs.declared.command.Command.TheVariants.{MemWrite}
@@ -32,9 +32,10 @@ use Rattle.history_model.specs.Answers.{wants}
 use Rattle.history_model.specs.Runs.{Run}
 use Rattle.law_order.specs.Order.{is_posted_in, is_posted_op}
 use Rattle.std.proofs.lemmas.Bool.{and_parts}
+use Rattle.std.proofs.Math.Bool.{or-false}
 use Rattle.law_fresh.specs.Aware.{Aware, knows, shows, shown, aware_of}
 use Rattle.law_fresh.specs.Cover.{is_on_lane, covered}
-use Rattle.law_fresh.proofs.SafeLemmas.{or_none, or_either}
+use Rattle.law_fresh.proofs.ListLemmas.{or_either, each_contains}
 use Rattle.law_fresh.proofs.BegunLemmas.{Begun-wanted}
 use Rattle.law_fresh.proofs.SourceLemmas.{Covers, source}
 use Rattle.law_fresh.proofs.TargetLemmas.{target_on, answers_on}
@@ -48,12 +49,6 @@ use Rattle.law_order.proofs.Laws.{empty_way}
 use Rattle.history_facts.proofs.PostedLemmas.{IsTarget}
 use Rattle.list_facts.proofs.AnyLemmas.{any_some, found_any}
 use Rattle.law_reads.proofs.Laws.{no_reading, master_there, returned_got, always_got, word_of, no_words}
-
--- what holds of each holds of what is among them
-pub each_contains : {X : Type 0} (P : X → Type 0) (xs : List X) (x : X) → AllByRecursion P xs → (k : ℕ) → k < length xs → slice_index_or xs k x ≡ x → P x
-each_contains P [] x each k below is = absurd (omega (arith, below))
-each_contains P (y ∷ xs) x each zero below is = subst P is each.0
-each_contains P (y ∷ xs) x each (suc k) below is = each_contains P xs x each.1 k (omega (arith, below)) is
 
 -- The words of a write are at one target, on the bus where its way ends.
 
@@ -141,7 +136,7 @@ module _ (board : Board) (valid : IsValid board) (w : OpId) (op : Op) (covers : 
       let empty = empty_way board op on (IsTree-valid board valid) ends in
       let F : List BridgeLane → Type 0 = λ lanes. (has_landed h w || list_any (is_on_lane w (world_of board h)) lanes) ≡ true in
       let there : F [] = subst F empty is in
-      sym (or_none (has_landed h w)) ∙ there
+      sym (or-false (has_landed h w)) ∙ there
 
   -- the read read the word after the write had landed
   read_landed : (h : List Event) (r : OpId) (reading : Reading) → Run board h → claim board on (request_on op on) ≡ Target reading.word.target → got board h r ≡ Some reading → Chain board h w r → has_landed reading.before w ≡ true

@@ -33,10 +33,12 @@ use Rattle.history_model.specs.Words.{through, without, landings_of, landings_by
 use Rattle.history_model.specs.Knowledge.{value_in, Reading, is_landing_of}
 use Rattle.history_model.specs.Answers.{wants, answer, bridge_to}
 use Rattle.history_model.specs.Runs.{Run}
-use Rattle.std.proofs.lemmas.Bool.{and_parts}
+use Rattle.std.proofs.lemmas.Bool.{and_parts, or_left, or_right}
+use Rattle.std.proofs.lemmas.List.Folds.{list_any-append}
 use Rattle.law_fresh.specs.Aware.{Aware, knows, bears, first_known, taught_by, taught_after, aware_of}
 use Rattle.law_fresh.specs.Cover.{items, is_on_lane, covered, Informed}
-use Rattle.law_fresh.proofs.SafeLemmas.{or_left, or_right, or_either, any-append, Safe-weaker}
+use Rattle.law_fresh.proofs.ListLemmas.{or_either}
+use Rattle.law_fresh.proofs.SafeLemmas.{Safe-weaker}
 use Rattle.law_fresh.proofs.BehindLemmas.{Begun}
 use Rattle.law_fresh.proofs.BegunLemmas.{ItemBegun, ItemsBegun-run, Begun-wanted, IsOf, LandingBegun, LandingsBegun-run, brought_of, presented_at}
 use Rattle.law_fresh.proofs.AwareLemmas.{first_brought, knew}
@@ -306,7 +308,7 @@ module _ (board : Board) (valid : IsValid board) (w : OpId) (op : Op) (covers : 
             or_either (covered board w op (e ∷ h) target.bus ≡ true) (list_any (is_landing_of v) (landed board h word)) (list_any (is_landing_of v) (landings_by board h on o step word place))
             (λ here. old_landing e h run old word v target is_target other here known)
             (λ there. brought_known on o step place h by run old word v target is_target other there known)
-            (sym (any-append (is_landing_of v) (landed board h word) (landings_by board h on o step word place)) ∙ lands);
+            (sym (list_any-append (is_landing_of v) (landed board h word) (landings_by board h on o step word place)) ∙ lands);
       }
   event_informed (Arrive lane mark) h run old =
       let e : Event = Arrive lane mark in

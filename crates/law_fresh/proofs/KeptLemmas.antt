@@ -1,6 +1,7 @@
 -- A bus that is covered stays so, where it is covered where the write ends.
 use Rattle.std.proofs.Common.{◌≡◌, ℕ, Bool, true, ◌||◌, List, [], ◌∷◌, Option, Some, None, is_some, refl, sym, ap, subst}
 use Rattle.std.specs.List.{list_any}
+use Rattle.std.proofs.lemmas.Bool.{or_left, or_right}
 use Rattle.pci_command.specs.declared.op_id.OpId.{OpId}
 use Rattle.pci_command.specs.declared.op_id.Outcome.{Outcome}
 use Rattle.pci_command.specs.Same.{same_op}
@@ -20,7 +21,7 @@ use Rattle.history_model.specs.Program.{master_outcome}
 use Rattle.history_model.specs.Knowledge.{is_land_of, has_landed}
 use Rattle.history_model.specs.Runs.{Run}
 use Rattle.law_fresh.specs.Cover.{is_on_lane, covered_by, covered}
-use Rattle.law_fresh.proofs.SafeLemmas.{or_left, or_right, or_either}
+use Rattle.law_fresh.proofs.ListLemmas.{or_either}
 use Rattle.law_fresh.proofs.BegunLemmas.{presented_at}
 use Rattle.law_fresh.proofs.OnLaneLemmas.{place_on, leaves_on, arrives_on}
 use Rattle.law_fresh.proofs.InformedLemmas.{step_ends}

@@ -1,6 +1,8 @@
 -- Where a posted write is, it stays, or it leaves as its lane presents it.
 use Rattle.std.proofs.Common.{◌≡◌, ℕ, Bool, true, false, ◌||◌, List, [], ◌∷◌, ◌++◌, Option, Some, None, append_assoc, refl, sym, subst, ◌∙◌}
 use Rattle.std.specs.List.{find, list_any}
+use Rattle.std.proofs.lemmas.Bool.{or_left, or_right}
+use Rattle.std.proofs.lemmas.List.Folds.{list_any-append}
 use Rattle.list_facts.specs.Lists.{less}
 use Rattle.pci_command.specs.declared.op_id.OpId.{OpId}
 use Rattle.pci_command.specs.declared.op_id.Outcome.{Outcome}
@@ -19,7 +21,7 @@ use Rattle.history_model.specs.declared.item.Slot.{Slot}
 use Rattle.history_model.specs.Lanes.{LaneState, Both, lowest_free, is_of, is_done_for, reply_to, item_ends, Effect, Stands, Credits, Frees, Drops, effect_of, takes_effect, came_off, arrives_first, arrives}
 use Rattle.history_model.specs.World.{World, both, moved, is_own, slot_found, enters, at_place, leaves}
 use Rattle.law_fresh.specs.Cover.{is_post_of, items, is_on_lane}
-use Rattle.law_fresh.proofs.SafeLemmas.{or_right, or_left, or_either, any-append}
+use Rattle.law_fresh.proofs.ListLemmas.{or_either}
 use Rattle.law_fresh.proofs.LaneLemmas.{done_other, of_other, room_other, last_other, ask_other}
 use Rattle.board_model.specs.Ways.{lane_back}
 use Rattle.history_facts.proofs.BridgeLemmas.{same_lane_self}
@@ -38,14 +40,14 @@ module _ (w : OpId) where
   On state = Has (items state)
 
   has_left : (xs ys : List Carried) → Has xs → Has (xs ++ ys)
-  has_left xs ys is = any-append (is_post_of w) xs ys ∙ or_left (list_any (is_post_of w) xs) (list_any (is_post_of w) ys) is
+  has_left xs ys is = list_any-append (is_post_of w) xs ys ∙ or_left (list_any (is_post_of w) xs) (list_any (is_post_of w) ys) is
 
   has_right : (xs ys : List Carried) → Has ys → Has (xs ++ ys)
-  has_right xs ys is = any-append (is_post_of w) xs ys ∙ or_right (list_any (is_post_of w) xs) (list_any (is_post_of w) ys) is
+  has_right xs ys is = list_any-append (is_post_of w) xs ys ∙ or_right (list_any (is_post_of w) xs) (list_any (is_post_of w) ys) is
 
   has_either : (X : Type 0) (xs ys : List Carried) → (Has xs → X) → (Has ys → X) → Has (xs ++ ys) → X
   has_either X xs ys first second is =
-      or_either X (list_any (is_post_of w) xs) (list_any (is_post_of w) ys) first second (sym (any-append (is_post_of w) xs ys) ∙ is)
+      or_either X (list_any (is_post_of w) xs) (list_any (is_post_of w) ys) first second (sym (list_any-append (is_post_of w) xs ys) ∙ is)
 
   -- it stays with more in flight
   on_more : (state : LaneState) (more : List Carried) → On state → Has (state.standing ++ (state.flight ++ more))

@@ -41,9 +41,9 @@ use Rattle.history_model.specs.Runs.{Run}
 use Rattle.law_order.specs.Order.{posts, is_posted_in, is_posted_op}
 use Rattle.law_order.specs.OnWay.{OnWay}
 use Rattle.law_order.specs.Parts.{HasWord}
-use Rattle.std.proofs.lemmas.Bool.{and_parts}
+use Rattle.std.proofs.lemmas.Bool.{and_parts, or_left, or_right}
+use Rattle.std.proofs.lemmas.List.Folds.{list_any-append}
 use Rattle.law_fresh.specs.Cover.{is_post_of, is_on_lane, covered}
-use Rattle.law_fresh.proofs.SafeLemmas.{or_left, or_right, any-append}
 use Rattle.law_fresh.proofs.BegunLemmas.{presented_at}
 use Rattle.law_fresh.proofs.OnLaneLemmas.{leaves_flies, accept_flies}
 use Rattle.law_fresh.proofs.SourceLemmas.{Covers, agent_of}
@@ -165,7 +165,7 @@ module _ (board : Board) (valid : IsValid board) (w : OpId) (op : Op) (is_op : o
       let e : Event = Act on by w Accept (Lane lane) in
       let state = world_of board (e ∷ h) lane in
       let there : is_on_lane w (world_of board (e ∷ h)) lane ≡ true =
-      any-append (is_post_of w) state.standing state.flight ∙ or_right (list_any (is_post_of w) state.standing) (list_any (is_post_of w) state.flight) (accepted_flies h on by lane) in
+      list_any-append (is_post_of w) state.standing state.flight ∙ or_right (list_any (is_post_of w) state.standing) (list_any (is_post_of w) state.flight) (accepted_flies h on by lane) in
       let goes = way_goes board op on lane tree claims in
       let on_lane : BridgeLane → Bool = is_on_lane w (world_of board (e ∷ h)) in
       or_right (has_landed (e ∷ h) w) (list_any on_lane (way board op on))

@@ -1,46 +1,15 @@
 -- Lists of items in which nothing that carries knowledge of a write stands before that write as it was posted.
 use Rattle.std.proofs.Common.{◌≡◌, Bool, true, false, ◌||◌, cond, List, [], ◌∷◌, ◌++◌, Some, refl, sym, subst, ◌∙◌}
 use Rattle.std.specs.List.{find, list_any, AllByRecursion}
+use Rattle.std.proofs.lemmas.Bool.{or_parts}
+use Rattle.std.proofs.Math.Bool.{or_assoc, or-false}
 use Rattle.list_facts.specs.Lists.{less, before}
 use Rattle.pci_command.specs.declared.op_id.OpId.{OpId}
 use Rattle.history_model.specs.declared.item.Carried.{Carried}
 use Rattle.history_model.specs.declared.item.Carried.TheVariants.{Post, Ask, Done, Room, Gone}
 use Rattle.history_model.specs.Lanes.{is_post}
 use Rattle.law_fresh.specs.Cover.{is_post_of, Safe}
-
--- Two truth values.
-
-pub or_right : (a b : Bool) → b ≡ true → (a || b) ≡ true
-or_right true b is = refl
-or_right false b is = is
-
-pub or_left : (a b : Bool) → a ≡ true → (a || b) ≡ true
-or_left true b is = refl
-or_left false b is = cc
-
-pub or_either : (X : Type 0) (a b : Bool) → (a ≡ true → X) → (b ≡ true → X) → (a || b) ≡ true → X
-or_either X true b first second is = first refl
-or_either X false b first second is = second is
-
-pub or_assoc : (a b c : Bool) → ((a || b) || c) ≡ (a || (b || c))
-or_assoc true b c = refl
-or_assoc false b c = refl
-
-pub or_none : (a : Bool) → (a || false) ≡ a
-or_none true = refl
-or_none false = refl
-
-pub or_weaker : (a b c : Bool) → (a ≡ true → b ≡ true) → (a || c) ≡ true → (b || c) ≡ true
-or_weaker a b c surer is = or_either ((b || c) ≡ true) a c (λ e. or_left b c (surer e)) (λ e. or_right b c e) is
-
--- A test over two lists.
-
-pub any-append : {X : Type 0} (test : X → Bool) (xs ys : List X) → list_any test (xs ++ ys) ≡ (list_any test xs || list_any test ys)
-any-append test [] ys = refl
-any-append test (x ∷ xs) ys =
-    let later = any-append test xs ys in
-    let P : Bool → Type 0 = λ b. (b || list_any test (xs ++ ys)) ≡ ((b || list_any test xs) || list_any test ys) in
-    elim (test x) as P [ true ↦ refl | false ↦ later ]
+use Rattle.law_fresh.proofs.ListLemmas.{or_weaker}
 
 module _ (w : OpId) where
   -- where the bus is covered nothing is asked
@@ -57,14 +26,14 @@ module _ (w : OpId) where
   module _ (test : Carried → Bool) where
     -- an item behind the others
     pub Safe-push : (sure : Bool) (xs : List Carried) (x : Carried) → Safe test w sure xs → (test x ≡ true → (sure || list_any (is_post_of w) xs) ≡ true) → Safe test w sure (xs ++ x ∷ [])
-    Safe-push sure [] x old new = (λ is. sym (or_none sure) ∙ new is, tt)
+    Safe-push sure [] x old new = (λ is. sym (or-false sure) ∙ new is, tt)
     Safe-push sure (y ∷ xs) x old new =
         (old.0, Safe-push (sure || is_post_of w y) xs x old.1 (λ is. or_assoc sure (is_post_of w y) (list_any (is_post_of w) xs) ∙ new is))
 
     -- it is asked as before where an item that is not the write is gone
     without_it : (sure : Bool) (x : Carried) (xs : List Carried) → is_post_of w x ≡ false → Safe test w (sure || is_post_of w x) xs → Safe test w sure xs
     without_it sure x xs other old =
-        let same : (sure || is_post_of w x) ≡ sure = rw other (or_none sure) in
+        let same : (sure || is_post_of w x) ≡ sure = rw other (or-false sure) in
         subst (λ b. Safe test w b xs) same old
 
     pub Safe-drop : (sure : Bool) (xs : List Carried) (x : Carried) (ys : List Carried) → is_post_of w x ≡ false → Safe test w sure (xs ++ x ∷ ys) → Safe test w sure (xs ++ ys)
@@ -88,10 +57,6 @@ module _ (w : OpId) where
     no_post Room none = refl
     no_post (Gone slot) none = refl
 
-    neither : (a b : Bool) → (a || b) ≡ false → (a ≡ false) × (b ≡ false)
-    neither true b none = cc
-    neither false b none = (refl, none)
-
     pub Safe-find : (sure : Bool) (found : Carried → Bool) (xs ys : List Carried) (x : Carried) → Safe test w sure (xs ++ ys) → find found xs ≡ Some x → test x ≡ true → list_any is_post (before found xs) ≡ false → sure ≡ true
     Safe-find sure found [] ys x old some carries none = cc
     Safe-find sure found (y ∷ xs) ys x old some carries none =
@@ -99,9 +64,9 @@ module _ (w : OpId) where
         (elim (found y) as P [
           | true ↦ λ e _. let same : y ≡ x = cc in old.0 (subst (λ z. test z ≡ true) (sym same) carries)
           | false ↦ λ e n.
-              let parts = neither (is_post y) (list_any is_post (before found xs)) n in
+              let parts = or_parts (is_post y) (list_any is_post (before found xs)) n in
               let later : (sure || is_post_of w y) ≡ true = Safe-find (sure || is_post_of w y) found xs ys x old.1 e carries parts.1 in
               let other : is_post_of w y ≡ false = no_post y parts.0 in
-              let same : (sure || is_post_of w y) ≡ sure = rw other (or_none sure) in
+              let same : (sure || is_post_of w y) ≡ sure = rw other (or-false sure) in
               sym same ∙ later
         ]) some none

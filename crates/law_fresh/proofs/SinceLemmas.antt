@@ -1,6 +1,7 @@
 -- From when on a master knows of a write, and what later operations know.
 use Rattle.std.proofs.Common.{◌≡◌, ℕ, Bool, true, false, ◌&&◌, ◌||◌, cond, eqb, eqb-true, List, [], ◌∷◌, Option, Some, None, is_some, refl, sym, ap, subst, ◌∙◌, arith}
 use Rattle.std.proofs.lemmas.Bool.Decides.{nat_tests}
+use Rattle.std.proofs.lemmas.Bool.{or_left, or_right}
 use Rattle.pci_command.specs.declared.op_id.OpId.{OpId}
 use Rattle.pci_command.specs.declared.op_id.Outcome.{Outcome}
 use Rattle.pci_command.specs.Same.{same_op}
@@ -12,7 +13,6 @@ use Rattle.history_model.specs.Program.{Ending, ending_of, ended, master_outcome
 use Rattle.history_model.specs.Knowledge.{value_in, value_of_ending, outcome_in, ends_as, ends_with, has_ended, up_to_end, stands_after}
 use Rattle.history_model.specs.Runs.{Run}
 use Rattle.law_fresh.specs.Aware.{Aware, is_behind, knows, brings, first_known, taught_after, aware_of}
-use Rattle.law_fresh.proofs.SafeLemmas.{or_left, or_right}
 use Rattle.law_fresh.proofs.BehindLemmas.{behind_next, IsBehind, follows_behind}
 use Rattle.law_fresh.proofs.AwareLemmas.{first_brought, ends_turn, since_kept}
 use Rattle.history_facts.proofs.WantsLemmas.{wants-turn}

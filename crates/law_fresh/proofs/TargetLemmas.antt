@@ -1,5 +1,5 @@
 -- A target that answers is on the bus, and claims there.
-use Rattle.std.proofs.Common.{◌≡◌, ℕ, suc, ◌+◌, Bool, true, false, ◌&&◌, ◌==◌, ◌/◌, ◌%◌, ◌^◌, cond, nat_lt, nat_le, eqb-true, List, [], ◌∷◌, length, Option, Some, None, refl, ap, subst, ◌∙◌, arith, slice_get}
+use Rattle.std.proofs.Common.{◌≡◌, ℕ, Bool, true, false, ◌&&◌, ◌==◌, ◌/◌, ◌%◌, ◌^◌, cond, nat_lt, nat_le, eqb-true, List, length, Option, Some, None, refl, ap, subst, ◌∙◌, arith, slice_get}
 use Rattle.std.specs.List.{find, list_any, list_all, position_from}
 use Rattle.list_facts.specs.Lists.{before}
 use Rattle.pci_command.specs.declared.command.Space.{Space}
@@ -30,28 +30,9 @@ use Rattle.history_model.specs.Lanes.{is_done_for}
 use Rattle.history_model.specs.World.{World, is_own, world_of}
 use Rattle.history_model.specs.Words.{through, without}
 use Rattle.history_model.specs.Answers.{target_step, target_answer, header_answer, completion_passes, completion_answer, delayed_answer, posted_answer, lane_answer, bridge_to, answer_by, answer_to, answer}
+use Rattle.law_fresh.proofs.ListLemmas.{found_at}
 use Rattle.std.proofs.lemmas.Bool.{and_parts}
 use Rattle.board_model.specs.Ways.{lane_back}
-
--- what is found by its place passes
-record At {X : Type 0} (test : X → Bool) (xs : List X) (place at : ℕ) : Type 0 where
-  one : X
-  index : ℕ
-  is_at : at ≡ place + index
-  is : slice_get xs index ≡ Some one
-  passes : test one ≡ true
-
-found_at : {X : Type 0} (test : X → Bool) (place : ℕ) (xs : List X) (at : ℕ) → position_from test place xs ≡ Some at → At test xs place at
-found_at test place [] at some = cc
-found_at {X} test place (x ∷ xs) at some =
-    let P : Bool → Type 0 = λ b. test x ≡ b → cond b (Some place) (position_from test (place + 1) xs) ≡ Some at → At test (x ∷ xs) place at in
-    (elim (test x) as P [
-      | true ↦ λ passes e. let same : place ≡ at = cc in record { one = x; index = 0; is_at = omega arith; is = refl; passes = passes }
-      | false ↦ λ fails e.
-          let later = found_at test (place + 1) xs at e in
-          let where_it_is : at ≡ place + 1 + later.index = later.is_at in
-          record { one = later.one; index = suc later.index; is_at = omega arith; is = later.is; passes = later.passes }
-    ]) refl some
 
 -- a target that claims is on the bus
 module _ (board : Board) (on : ℕ) where

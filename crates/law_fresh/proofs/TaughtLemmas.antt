@@ -1,5 +1,5 @@
 -- Where an operation ends that was taught of a write, its bus is covered.
-use Rattle.std.proofs.Common.{◌≡◌, ℕ, Bool, true, false, ◌&&◌, ◌||◌, cond, List, [], ◌∷◌, Option, Some, None, is_some, refl, sym, ap, subst, ◌∙◌, slice_get}
+use Rattle.std.proofs.Common.{◌≡◌, ℕ, Bool, true, false, ◌||◌, cond, List, [], ◌∷◌, Option, Some, None, is_some, refl, sym, ap, subst, ◌∙◌, slice_get}
 use Rattle.std.specs.List.{list_any, list_all}
 use Rattle.list_facts.specs.Lists.{before}
 use Rattle.list_facts.proofs.FindLemmas.{find_passes}
@@ -36,10 +36,10 @@ use Rattle.history_model.specs.Words.{Landing, through, without, landed}
 use Rattle.history_model.specs.Knowledge.{Reading, reading_of, reading_by, reading_in, reading_or, last_reading, has_landed, is_landing_of}
 use Rattle.history_model.specs.Answers.{completion_passes, answer_to}
 use Rattle.history_model.specs.Runs.{Run}
-use Rattle.std.proofs.lemmas.Bool.{and_parts}
+use Rattle.std.proofs.lemmas.Bool.{and_parts, or_left}
 use Rattle.law_fresh.specs.Aware.{Aware, knows, shows, shown, taught_by, taught_after, aware_of, bears}
 use Rattle.law_fresh.specs.Cover.{covered, Informed}
-use Rattle.law_fresh.proofs.SafeLemmas.{or_left, Safe-find}
+use Rattle.law_fresh.proofs.SafeLemmas.{Safe-find}
 use Rattle.law_fresh.proofs.TargetLemmas.{answers_on}
 use Rattle.history_facts.proofs.AnswerLemmas.{AtLane, answered_at}
 use Rattle.law_slots.proofs.Laws.{claim_starts, TakesItsOwn-run, WellFormed-numbers, WellFormed-single}

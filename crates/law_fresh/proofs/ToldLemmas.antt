@@ -21,9 +21,9 @@ use Rattle.history_model.specs.declared.event.Event.TheVariants.{Act, Arrive}
 use Rattle.history_model.specs.Words.{landed}
 use Rattle.history_model.specs.Knowledge.{Reading, ends_with, has_ended, reading_of, reading_at, reading_by, reading_in, reading_or, last_reading, up_to_end, is_land_step, is_land_of, has_landed, is_landing_of, saw_in, saw, stands_after, later, tells, Chain, one, more}
 use Rattle.history_model.specs.Runs.{Run}
-use Rattle.std.proofs.lemmas.Bool.{and_parts}
+use Rattle.std.proofs.lemmas.Bool.{and_parts, or_left, or_right}
 use Rattle.law_fresh.specs.Aware.{Aware, knows, shows, shown, taught_by, aware_of}
-use Rattle.law_fresh.proofs.SafeLemmas.{or_left, or_right, or_either}
+use Rattle.law_fresh.proofs.ListLemmas.{or_either}
 use Rattle.law_fresh.proofs.BehindLemmas.{Begun, Begun-kept}
 use Rattle.law_fresh.proofs.BegunLemmas.{LandingBegun, LandingsBegun-run}
 use Rattle.law_fresh.proofs.AwareLemmas.{knew}

@@ -31,6 +31,7 @@ is_post_of w (Gone slot) = false
 abbrev pub items : LaneState → List Carried
 items state = state.standing ++ state.flight
 
+-- the posted write is on the lane
 abbrev pub is_on_lane : OpId → World → BridgeLane → Bool
 is_on_lane w world lane = list_any (is_post_of w) (items (world lane))
 
@@ -38,6 +39,7 @@ is_on_lane w world lane = list_any (is_post_of w) (items (world lane))
 abbrev pub covered_by : OpId → Bool → World → List BridgeLane → Bool
 covered_by w gone world lanes = gone || list_any (is_on_lane w world) lanes
 
+-- so it is, seen from a bus after a history: nothing that goes the same way from there comes before the write
 abbrev pub covered : Board → OpId → Op → List Event → ℕ → Bool
 covered board w op h on = covered_by w (has_landed h w) (world_of board h) (way board op on)
 
