@@ -11,6 +11,6 @@ finished_is_complete input text answers =
       board = answers.board;
       events = answers.whole;
       reads = record { read = answers.read_back; tree = faultless_tree answers.board answers.valid };
-      run = answers.finishes.run;
-      complete = answers.finishes.complete;
+      run = answers.finishes.runs.run;
+      complete = answers.finishes.runs.complete;
     }

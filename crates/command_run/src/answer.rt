@@ -4,7 +4,7 @@ ghost use Rattle.plain_board.specs.Plain.{is_plain};
 ghost use Rattle.command_run.specs.Answers.{AnswersRun, RefusesRun, RunsTo};
 
 use board_model::Board;
-use law_reads::reads_return;
+use law_fresh::runs_are_fresh;
 use law_slots::{matched, well_formed_boards};
 use pci_command::{List, NoMemory};
 use plain_board::is_plain;
@@ -42,7 +42,7 @@ fn trace_of(alloc: Global, board: &Board) -> Result<List<u8>, NoMemory>
 {
     matched();
     well_formed_boards();
-    reads_return();
+    runs_are_fresh();
     let events = run_plain(alloc, board)?;
     printed_trace_is_read(board, events.as_slice());
     print_trace(alloc, board, events.as_slice())

@@ -6,9 +6,9 @@ use Rattle.history_model.specs.declared.event.Event.{Event}
 use Rattle.history_model.specs.declared.why.Why.{Why}
 use Rattle.history_model.specs.Runs.{Run, Complete, history_of}
 use Rattle.history_model.specs.Local.{Matched}
+use Rattle.history_model.specs.Knowledge.{Fresh}
 use Rattle.history_model.specs.Left.{left_of}
 use Rattle.history_core.specs.Verdicts.{Holds}
-use Rattle.law_reads.specs.Returns.{ReadsReturn}
 use Rattle.trace_check.specs.declared.verdict.Verdict.{Verdict as Judgement}
 use Rattle.trace_check.specs.declared.verdict.Verdict.TheVariants.{Complete as IsComplete, Incomplete, NotRun}
 
@@ -26,13 +26,13 @@ pub record FirstRefused (board : Board) (events : List Event) (number : ℕ) (wh
 abbrev pub RefusesFirst : Board → List Event → ℕ × Why → Type 0
 RefusesFirst board events refused = FirstRefused board events refused.0 refused.1
 
--- a run, in which each completion is taken by the operation that it was made for, to the end of all programs; it
--- has at most as many events as the board's bound
+-- a run to the end of all programs, in which each completion is taken by the operation that it was made for, and each
+-- read that was told of a write reads after it has landed; it has at most as many events as the board's bound
 pub record CompleteRun (board : Board) (events : List Event) : Type 0 where
   pub run : Run board (history_of events)
   pub complete : Complete board (history_of events)
   pub matched : Matched board (history_of events)
-  pub returns : ReadsReturn board (history_of events)
+  pub fresh : Fresh board (history_of events)
   pub bound : length events ≤ bound_of board
 
 -- such a run that is not complete, and how many events can follow it at most: at least one is left, and no run that
@@ -41,7 +41,7 @@ pub record IncompleteRun (board : Board) (events : List Event) (left : ℕ) : Ty
   pub run : Run board (history_of events)
   pub incomplete : ¬ Complete board (history_of events)
   pub matched : Matched board (history_of events)
-  pub returns : ReadsReturn board (history_of events)
+  pub fresh : Fresh board (history_of events)
   pub bound : length events ≤ bound_of board
   pub left_is : left ≡ left_of board (history_of events)
   pub goes_on : 0 < left

@@ -9,8 +9,8 @@ use bus_tree::Tree;
 use history_core::{allowed, complete};
 use history_model::{Event, Why};
 use law_bound::{left_falls, runs_end};
+use law_fresh::runs_are_fresh;
 use law_progress::runs_go_on;
-use law_reads::reads_return;
 use law_slots::{matched, well_formed_boards};
 use progress_core::left;
 
@@ -50,7 +50,7 @@ fn verdict_of_run(tree: &Tree, events: &[Event]) -> Verdict
     left_falls();
     runs_end();
     runs_go_on();
-    reads_return();
+    runs_are_fresh();
     if complete(tree.board(), events) {
         Verdict::Complete
     } else {

@@ -8,7 +8,7 @@ ghost use Rattle.trace_finish.specs.Finishing.{Finishes};
 use bus_tree::Tree;
 use history_model::Event;
 use law_bound::{left_falls, runs_end};
-use law_reads::reads_return;
+use law_fresh::runs_are_fresh;
 use law_slots::{matched, well_formed_boards};
 use next_event::next_event;
 use pci_command::{List, NoMemory};
@@ -23,7 +23,7 @@ pub fn finish(tree: &Tree, events: List<Event>) -> Result<List<Event>, NoMemory>
     well_formed_boards();
     left_falls();
     runs_end();
-    reads_return();
+    runs_are_fresh();
     // The board of a tree is valid, so that each event lowers what is left.
     let _valid = tree.board();
     let mut whole = events.into_vec();
