@@ -27,7 +27,7 @@ abbrev pub RefusesFirst : Board → List Event → ℕ × Why → Type 0
 RefusesFirst board events refused = FirstRefused board events refused.0 refused.1
 
 -- a run to the end of all programs, in which each completion is taken by the operation that it was made for, and each
--- read that was told of a write reads after it has landed; it has at most as many events as the board's bound
+-- read that was told of a write reads its words after it has landed; it has at most as many events as the board's bound
 pub record CompleteRun (board : Board) (events : List Event) : Type 0 where
   pub run : Run board (history_of events)
   pub complete : Complete board (history_of events)
