@@ -5,7 +5,7 @@ pub use Rattle.law_local.proofs.ApartLemmas.{IsFit, IsFit-valid}
 -- events of all buses, each allowed by what its bus knows, are a run where no item arrives before it was sent
 pub use Rattle.law_local.proofs.WovenLemmas.{woven_run}
 -- local runs of all buses in the order of their stamps are such events
-pub use Rattle.law_local.proofs.SortLemmas.{sorted_woven}
+pub use Rattle.law_local.proofs.SortLemmas.{merged_woven}
 -- what is presented, how it is answered, and which items may come, is decided by what the bus knows
 pub use Rattle.law_local.proofs.TransferLemmas.{wants_local}
 pub use Rattle.law_local.proofs.AnswerLemmas.{answer_local}

@@ -17,7 +17,7 @@ use Rattle.history_model.specs.Local.{bus_of, local_world, AllowedLocally, Local
 use Rattle.law_order.specs.Sent.{arrives_by, arrivals}
 use Rattle.law_local.specs.Known.{events_on, coming_to, known}
 use Rattle.law_local.specs.Woven.{IsTimely, Woven, AllWoven}
-use Rattle.law_local.specs.Stamps.{events_of, stamped_on, put_stamps, stamps_put, Falls, IsInTime, AllInTime, SortedParts}
+use Rattle.law_local.specs.Stamps.{events_of, items_put, put_stamps, IsInTime, AllInTime, stamps_of, LocalParts, NeverFall, stamped_on, IsMerged}
 use Rattle.law_local.proofs.EventLemmas.{IsFront, front_before}
 use Rattle.law_local.proofs.ApartLemmas.{IsFit, IsApart}
 use Rattle.law_local.proofs.GrowLemmas.{event_grows, all_counted}
@@ -35,6 +35,10 @@ stamped_events board bus (s ∷ past) =
 each-replicate : (P : ℕ → Type 0) (k stamp : ℕ) → P stamp → AllByRecursion P (replicate k stamp)
 each-replicate P zero stamp holds = tt
 each-replicate P (suc k) stamp holds = (holds, each-replicate P k stamp holds)
+
+-- a stamp that is not below any of these events
+abbrev AboveAll : List Stamped → ℕ → Type 0
+AboveAll past m = AllByRecursion (λ (s : Stamped). s.stamp ≤ m) past
 
 -- a low stamp stands in the first part
 in_front : (xs ys : List ℕ) (k stamp least : ℕ) → slice_get (xs ++ ys) k ≡ Some stamp → stamp < least → AllByRecursion (λ m. least ≤ m) ys → k < length xs
@@ -86,12 +90,12 @@ module _ (board : Board) (fit : IsFit board) (sent : BridgeLane → List Carried
       omega (arith, old, more, same, joined)
 
   -- the arrivals of what comes in time are on lanes of bridges
-  in_time_apart : (stamps : BridgeLane → List ℕ) (past : List Stamped) (stamp : ℕ) (e : Event) → IsInTime board stamps past stamp e → IsApart board e
+  in_time_apart : (stamps : BridgeLane → List ℕ) (past : List Stamped) (stamp : ℕ) (e : Event) → IsInTime stamps board past stamp e → IsApart board e
   in_time_apart stamps past stamp (Act bus by o step place) is = tt
   in_time_apart stamps past stamp (Arrive lane mark) is = is.0
 
   -- each arrival is on a lane between two buses
-  all_apart : (stamps : BridgeLane → List ℕ) (all : List Stamped) → AllInTime board stamps all → AllByRecursion (λ (s : Stamped). IsApart board s.event) all
+  all_apart : (stamps : BridgeLane → List ℕ) (all : List Stamped) → AllInTime stamps board all → AllByRecursion (λ (s : Stamped). IsApart board s.event) all
   all_apart stamps [] is = tt
   all_apart stamps (s ∷ past) is = (in_time_apart stamps past s.stamp s.event is.0, all_apart stamps past is.1)
 
@@ -103,14 +107,15 @@ module _ (board : Board) (fit : IsFit board) (sent : BridgeLane → List Carried
       let rest = each_on P bus past each.1 in
       elim (bus_of board s.event == bus) as Q [ true ↦ (each.0, rest) | false ↦ rest ]
 
-  -- the past of all buses up to an event
-  record Good (stamps : BridgeLane → List ℕ) (past : List Stamped) : Type 0 where
+  -- the past of all buses up to an event: of the stamps of what is ever put on a lane, those put by then come first, and
+  -- none of the others is below a stamp of the past
+  record SortedPast (stamps : BridgeLane → List ℕ) (past : List Stamped) : Type 0 where
     local : (bus : ℕ) → LocalRun board bus (coming_to board bus sent) (events_on board bus (events_of past))
-    in_time : AllInTime board stamps past
-    falls : Falls past
+    in_time : AllInTime stamps board past
+    never_fall : NeverFall past
     fronts : (lane : BridgeLane) → IsFront (sent lane) (known board sent (start_of board lane) (events_of past) lane)
     parts : (lane : BridgeLane) → (more : List ℕ) × (stamps lane ≡ put_stamps board (Came lane) lane (stamped_on board (start_of board lane) past) ++ more)
-        × AllByRecursion (λ m. AllByRecursion (λ (s : Stamped). s.stamp ≤ m) past) more
+        × AllByRecursion (AboveAll past) more
 
   -- what stands before in a local run is one
   local_before : (bus : ℕ) (e : Event) (h : List Event) → LocalRun board bus (coming_to board bus sent) (events_on board bus (e ∷ h)) → LocalRun board bus (coming_to board bus sent) (events_on board bus h)
@@ -140,41 +145,41 @@ module _ (board : Board) (fit : IsFit board) (sent : BridgeLane → List Carried
       ]) refl run front
 
   -- the past before its last event: the stamps put by that event go over to those still to come, which are none below
-  good_before : (stamps : BridgeLane → List ℕ) (s : Stamped) (past : List Stamped) → Good stamps (s ∷ past) → Good stamps past
-  good_before stamps s past good =
-      let apart = in_time_apart stamps past s.stamp s.event good.in_time.0 in
+  past_before : (stamps : BridgeLane → List ℕ) (s : Stamped) (past : List Stamped) → SortedPast stamps (s ∷ past) → SortedPast stamps past
+  past_before stamps s past given =
+      let apart = in_time_apart stamps past s.stamp s.event given.in_time.0 in
       record {
-        local = λ bus. local_before bus s.event (events_of past) (good.local bus);
-        in_time = good.in_time.1;
-        falls = good.falls.1;
-        fronts = λ lane. front_back s past lane apart (good.local (start_of board lane)) (good.fronts lane);
+        local = λ bus. local_before bus s.event (events_of past) (given.local bus);
+        in_time = given.in_time.1;
+        never_fall = given.never_fall.1;
+        fronts = λ lane. front_back s past lane apart (given.local (start_of board lane)) (given.fronts lane);
         parts = λ lane.
             let bus : ℕ = start_of board lane in
             let q : List Stamped = stamped_on board bus past in
-            let old = good.parts lane in
-            let A : List ℕ → Type 0 = AllByRecursion (λ m. AllByRecursion (λ (r : Stamped). r.stamp ≤ m) past) in
-            let weak : A old.0 = Each-weaker (λ m. AllByRecursion (λ (r : Stamped). r.stamp ≤ m) (s ∷ past)) (λ m. AllByRecursion (λ (r : Stamped). r.stamp ≤ m) past) (λ m all. all.1) old.0 old.2 in
+            let old = given.parts lane in
+            let A : List ℕ → Type 0 = AllByRecursion (AboveAll past) in
+            let weak : A old.0 = Each-weaker (AboveAll (s ∷ past)) (AboveAll past) (λ m all. all.1) old.0 old.2 in
             let Goal : Type 0 = (more : List ℕ) × (stamps lane ≡ put_stamps board (Came lane) lane q ++ more) × A more in
             let P : Bool → Type 0 = λ b. stamps lane ≡ put_stamps board (Came lane) lane (cond b (s ∷ q) q) ++ old.0 → Goal in
             (elim (bus_of board s.event == bus) as P [
               | true ↦ λ is.
-                  let new : List ℕ = replicate (length (local_world board (Came lane) (s.event ∷ events_of q) lane).flight - length (local_world board (Came lane) (events_of q) lane).flight) s.stamp in
-                  let same : A new = each-replicate (λ m. AllByRecursion (λ (r : Stamped). r.stamp ≤ m) past) (length (local_world board (Came lane) (s.event ∷ events_of q) lane).flight - length (local_world board (Came lane) (events_of q) lane).flight) s.stamp good.falls.0 in
-                  (new ++ old.0, is ∙ append_assoc (put_stamps board (Came lane) lane q) new old.0, Each-append (λ m. AllByRecursion (λ (r : Stamped). r.stamp ≤ m) past) new old.0 same weak)
+                  let new : List ℕ = replicate (items_put board (Came lane) lane (events_of q) s.event) s.stamp in
+                  let same : A new = each-replicate (AboveAll past) (items_put board (Came lane) lane (events_of q) s.event) s.stamp given.never_fall.0 in
+                  (new ++ old.0, is ∙ append_assoc (put_stamps board (Came lane) lane q) new old.0, Each-append (AboveAll past) new old.0 same weak)
               | false ↦ λ is. (old.0, is, weak)
             ]) old.1;
       }
 
   -- a stamp above that of its item makes an arrival come in time: the item is one of those put before
-  timely : (stamps : BridgeLane → List ℕ) (s : Stamped) (past : List Stamped) (e : Event) → s.event ≡ e → Good stamps (s ∷ past) → IsInTime board stamps past s.stamp e → IsTimely board sent (events_of past) e
-  timely stamps s past (Act bus by o step place) is good in_time = tt
-  timely stamps s past (Arrive lane mark) is good in_time =
+  timely : (stamps : BridgeLane → List ℕ) (s : Stamped) (past : List Stamped) (e : Event) → s.event ≡ e → SortedPast stamps (s ∷ past) → IsInTime stamps board past s.stamp e → IsTimely board sent (events_of past) e
+  timely stamps s past (Act bus by o step place) is given in_time = tt
+  timely stamps s past (Arrive lane mark) is given in_time =
       let x : ℕ = end_of board lane in
       let y : ℕ = start_of board lane in
       let h : List Event = events_of past in
       let q : List Stamped = stamped_on board y past in
-      let old = good.parts lane in
-      let before_it = good_before stamps s past good in
+      let old = given.parts lane in
+      let before_it = past_before stamps s past given in
       let bus_is : bus_of board s.event ≡ x = ap (bus_of board) is in
       let elsewhere : (bus_of board s.event == y) ≡ false =
       let P : Bool → Type 0 = λ b. (bus_of board s.event == y) ≡ b → b ≡ false in
@@ -183,7 +188,7 @@ module _ (board : Board) (fit : IsFit board) (sent : BridgeLane → List Carried
       let split : stamps lane ≡ put_stamps board (Came lane) lane q ++ old.0 = subst F elsewhere old.1 in
       let k : ℕ = arrivals lane h in
       let there = subst (λ l. slice_get l k ≡ Some in_time.1.0) split in_time.1.1 in
-      let above : AllByRecursion (λ m. s.stamp ≤ m) old.0 = Each-weaker (λ m. AllByRecursion (λ (r : Stamped). r.stamp ≤ m) (s ∷ past)) (λ m. s.stamp ≤ m) (λ m all. all.0) old.0 old.2 in
+      let above : AllByRecursion (λ m. s.stamp ≤ m) old.0 = Each-weaker (AboveAll (s ∷ past)) (λ m. s.stamp ≤ m) (λ m all. all.0) old.0 old.2 in
       let front = in_front (put_stamps board (Came lane) lane q) old.0 k in_time.1.0 s.stamp there in_time.1.2 above in
       let differ : (end_of board lane == y) ≡ false =
       let P : Bool → Type 0 = λ b. (end_of board lane == y) ≡ b → b ≡ false in
@@ -201,27 +206,54 @@ module _ (board : Board) (fit : IsFit board) (sent : BridgeLane → List Carried
       omega (arith, front, count, near, far, all, arrived)
 
   -- so the last event is woven with those before it
-  woven_part : (stamps : BridgeLane → List ℕ) (s : Stamped) (past : List Stamped) → Good stamps (s ∷ past) → Woven board sent s.event (events_of past)
-  woven_part stamps s past good =
+  woven_part : (stamps : BridgeLane → List ℕ) (s : Stamped) (past : List Stamped) → SortedPast stamps (s ∷ past) → Woven board sent s.event (events_of past)
+  woven_part stamps s past given =
       record {
-        allowed = allowed_last s.event (events_of past) (good.local (bus_of board s.event));
-        timely = timely stamps s past s.event refl good good.in_time.0;
-        sends = λ lane starts. subst (λ n. IsFront (sent lane) (known board sent n (s.event ∷ events_of past) lane)) starts (good.fronts lane);
+        allowed = allowed_last s.event (events_of past) (given.local (bus_of board s.event));
+        timely = timely stamps s past s.event refl given given.in_time.0;
+        sends = λ lane starts. subst (λ n. IsFront (sent lane) (known board sent n (s.event ∷ events_of past) lane)) starts (given.fronts lane);
       }
 
   -- and every event
-  all_woven : (stamps : BridgeLane → List ℕ) (past : List Stamped) → Good stamps past → AllWoven board sent (events_of past)
-  all_woven stamps [] good = tt
-  all_woven stamps (s ∷ past) good = (woven_part stamps s past good, all_woven stamps past (good_before stamps s past good))
+  all_woven : (stamps : BridgeLane → List ℕ) (past : List Stamped) → SortedPast stamps past → AllWoven board sent (events_of past)
+  all_woven stamps [] given = tt
+  all_woven stamps (s ∷ past) given = (woven_part stamps s past given, all_woven stamps past (past_before stamps s past given))
+
+  -- what comes in time among the events of its bus does among all: an arrival is on the bus where its lane ends
+  arrives_in_time : (stamps : BridgeLane → List ℕ) (past : List Stamped) (stamp : ℕ) (e : Event) → IsInTime stamps board (stamped_on board (bus_of board e) past) stamp e → IsInTime stamps board past stamp e
+  arrives_in_time stamps past stamp (Act bus by o step place) is = tt
+  arrives_in_time stamps past stamp (Arrive lane mark) is =
+      let bus : ℕ = end_of board lane in
+      let same : arrivals lane (events_of (stamped_on board bus past)) ≡ arrivals lane (events_of past) = ap (arrivals lane) (sym (stamped_events board bus past)) ∙ sym (arrivals_on lane (events_of past)) in
+      (is.0, (is.1.0, subst (λ n. slice_get (stamps lane) n ≡ Some is.1.0) same is.1.1, is.1.2))
+
+  -- so of all arrivals
+  all_in_time : (stamps : BridgeLane → List ℕ) (all : List Stamped) → ((bus : ℕ) → AllInTime stamps board (stamped_on board bus all)) → AllInTime stamps board all
+  all_in_time stamps [] each = tt
+  all_in_time stamps (s ∷ past) each =
+      let bus : ℕ = bus_of board s.event in
+      let self : (bus_of board s.event == bus) ≡ true = eq-eqb bus bus refl in
+      let F : Bool → Type 0 = λ b. AllInTime stamps board (cond b (s ∷ stamped_on board bus past) (stamped_on board bus past)) in
+      let last : AllInTime stamps board (s ∷ stamped_on board bus past) = subst F self (each bus) in
+      let older : (n : ℕ) → AllInTime stamps board (stamped_on board n past) = λ n.
+      let P : Bool → Type 0 = λ b. AllInTime stamps board (cond b (s ∷ stamped_on board n past) (stamped_on board n past)) → AllInTime stamps board (stamped_on board n past) in
+      (elim (bus_of board s.event == n) as P [ true ↦ λ all. all.1 | false ↦ λ all. all ]) (each n) in
+      (arrives_in_time stamps past s.stamp s.event last.0, all_in_time stamps past older)
 
   -- local runs in the order of their stamps are woven: nothing is left to be put after them
-  pub sorted_woven : (all : List Stamped) → SortedParts board sent all → AllWoven board sent (events_of all)
-  sorted_woven all sorted =
-      let stamps : BridgeLane → List ℕ = stamps_put board sent all in
+  pub merged_woven : (part : ℕ → List Stamped) (all : List Stamped) → LocalParts board sent part → IsMerged board part all → AllWoven board sent (events_of all)
+  merged_woven part all parts merged =
+      let stamps : BridgeLane → List ℕ = stamps_of board sent part in
+      let events : (bus : ℕ) → events_of (part bus) ≡ events_on board bus (events_of all) = λ bus. ap events_of (sym (merged.has_part bus)) ∙ sym (stamped_events board bus all) in
       all_woven stamps all (record {
-        local = sorted.local;
-        in_time = sorted.in_time;
-        falls = sorted.falls;
-        fronts = λ lane. ([], append-nil (known board sent (start_of board lane) (events_of all) lane).flight ∙ sorted.sent_is lane);
-        parts = λ lane. ([], sym (append-nil (stamps lane)), tt);
+        local = λ bus. subst (LocalRun board bus (coming_to board bus sent)) (events bus) (parts.local bus);
+        in_time = all_in_time stamps all (λ bus. subst (AllInTime stamps board) (sym (merged.has_part bus)) (parts.in_time bus));
+        never_fall = merged.never_fall;
+        fronts = λ lane.
+            let from : ℕ = start_of board lane in
+            let flight : (known board sent from (events_of all) lane).flight ≡ sent lane = ap (λ p. (local_world board (Came lane) p lane).flight) (sym (events from)) ∙ parts.is_sent lane in
+            ([], append-nil (known board sent from (events_of all) lane).flight ∙ flight);
+        parts = λ lane.
+            let put : stamps lane ≡ put_stamps board (Came lane) lane (stamped_on board (start_of board lane) all) = ap (put_stamps board (Came lane) lane) (sym (merged.has_part (start_of board lane))) in
+            ([], put ∙ sym (append-nil (put_stamps board (Came lane) lane (stamped_on board (start_of board lane) all))), tt);
       })

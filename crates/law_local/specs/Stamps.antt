@@ -1,4 +1,4 @@
--- Events of all buses in the order of their stamps, each stamp given by the bus of the event.
+-- What the buses did, each event with the stamp that its bus gave it, and the events of all in the order of the stamps.
 use Rattle.std.specs.Prelude.{◌≡◌, ◌≢◌, ℕ, ◌-◌, ◌<◌, ◌≤◌, List, [], ◌∷◌, ◌++◌, length, replicate, Some, slice_get, ◌==◌, if◌then◌else◌}
 use Rattle.std.specs.List.{AllByRecursion}
 use Rattle.board_model.specs.declared.bridge.Lane.{Lane as BridgeLane}
@@ -10,52 +10,64 @@ use Rattle.history_model.specs.declared.event.Stamped.{Stamped}
 use Rattle.history_model.specs.declared.item.Carried.{Carried}
 use Rattle.history_model.specs.Local.{bus_of, local_world, LocalRun}
 use Rattle.law_order.specs.Sent.{arrivals}
-use Rattle.law_local.specs.Known.{events_on, coming_to, known}
+use Rattle.law_local.specs.Known.{coming_to}
+
+-- Events of one bus. All lists of events stand newest first.
 
 -- the events without their stamps
 abbrev pub events_of : List Stamped → List Event
 events_of [] = []
 events_of (s ∷ past) = s.event ∷ events_of past
 
+-- how many items an event of a bus put on a lane that begins there: by so many more are in flight. `came` is what
+-- comes to the bus, and before the event its own events are these
+abbrev pub items_put : Board → (BridgeLane → List Carried) → BridgeLane → List Event → Event → ℕ
+items_put board came lane p e = length (local_world board came (e ∷ p) lane).flight - length (local_world board came p lane).flight
+
+-- the stamps of the items that the bus put on the lane, in the order of the items
+abbrev pub put_stamps : Board → (BridgeLane → List Carried) → BridgeLane → List Stamped → List ℕ
+put_stamps board came lane [] = []
+put_stamps board came lane (s ∷ past) = put_stamps board came lane past ++ replicate (items_put board came lane (events_of past) s.event) s.stamp
+
+-- an arrival is on a lane between two buses, and its stamp is above that of its item. `stamps` are those of the items
+-- put on each lane, and the item is the one behind as many as arrived before
+abbrev pub IsInTime : (BridgeLane → List ℕ) → Board → List Stamped → ℕ → Event → Type 0
+IsInTime stamps board past stamp (Act bus by o step place) = Unit {0}
+IsInTime stamps board past stamp (Arrive lane mark) =
+    (end_of board lane ≢ start_of board lane) × ((put : ℕ) × (slice_get (stamps lane) (arrivals lane (events_of past)) ≡ Some put) × (put < stamp))
+
+-- so is each arrival, after the events before it
+abbrev pub AllInTime : (BridgeLane → List ℕ) → Board → List Stamped → Type 0
+AllInTime stamps board [] = Unit {0}
+AllInTime stamps board (s ∷ past) = IsInTime stamps board past s.stamp s.event × AllInTime stamps board past
+
+-- Parts: for each bus what it did.
+
+-- the stamps of the items put on each lane, by the part of the bus where the lane begins
+abbrev pub stamps_of : Board → (BridgeLane → List Carried) → (ℕ → List Stamped) → BridgeLane → List ℕ
+stamps_of board sent part lane = put_stamps board (coming_to board (start_of board lane) sent) lane (part (start_of board lane))
+
+-- the parts are local runs, with `sent` what is ever sent: each bus did what it may by what it knows, what it put on a
+-- lane that begins there is all that is ever sent on it, and each item arrives at a stamp above that of its sending
+pub record LocalParts (board : Board) (sent : BridgeLane → List Carried) (part : ℕ → List Stamped) : Type 0 where
+  pub local : (bus : ℕ) → LocalRun board bus (coming_to board bus sent) (events_of (part bus))
+  pub is_sent : (lane : BridgeLane) → (local_world board (coming_to board (start_of board lane) sent) (events_of (part (start_of board lane))) lane).flight ≡ sent lane
+  pub in_time : (bus : ℕ) → AllInTime (stamps_of board sent part) board (part bus)
+
+-- The whole.
+
+-- no stamp is below that of an older event
+abbrev pub NeverFall : List Stamped → Type 0
+NeverFall [] = Unit {0}
+NeverFall (s ∷ past) = AllByRecursion (λ (older : Stamped). older.stamp ≤ s.stamp) past × NeverFall past
+
 -- the stamped events of one bus
 abbrev pub stamped_on : Board → ℕ → List Stamped → List Stamped
 stamped_on board bus [] = []
 stamped_on board bus (s ∷ past) = if bus_of board s.event == bus then s ∷ stamped_on board bus past else stamped_on board bus past
 
--- the stamps of the items that a bus put on a lane that begins there, in their order: each event's as often as the
--- event put items, which is by how much more is in flight. `came` is what comes to the bus
-abbrev pub put_stamps : Board → (BridgeLane → List Carried) → BridgeLane → List Stamped → List ℕ
-put_stamps board came lane [] = []
-put_stamps board came lane (s ∷ past) =
-    put_stamps board came lane past
-    ++ replicate (length (local_world board came (s.event ∷ events_of past) lane).flight - length (local_world board came (events_of past) lane).flight) s.stamp
-
--- the stamps of the items put on each lane, in the events of all buses
-abbrev pub stamps_put : Board → (BridgeLane → List Carried) → List Stamped → BridgeLane → List ℕ
-stamps_put board sent all lane = put_stamps board (coming_to board (start_of board lane) sent) lane (stamped_on board (start_of board lane) all)
-
--- newest first, no stamp is below an older one
-abbrev pub Falls : List Stamped → Type 0
-Falls [] = Unit {0}
-Falls (s ∷ past) = AllByRecursion (λ (older : Stamped). older.stamp ≤ s.stamp) past × Falls past
-
--- an arrival is on a lane between two buses, and its stamp is above that of its item: of the items put there, the
--- one behind as many as arrived before
-abbrev pub IsInTime : Board → (BridgeLane → List ℕ) → List Stamped → ℕ → Event → Type 0
-IsInTime board stamps past stamp (Act bus by o step place) = Unit {0}
-IsInTime board stamps past stamp (Arrive lane mark) =
-    (end_of board lane ≢ start_of board lane) × ((put : ℕ) × (slice_get (stamps lane) (arrivals lane (events_of past)) ≡ Some put) × (put < stamp))
-
--- so is each arrival, after the events before it
-abbrev pub AllInTime : Board → (BridgeLane → List ℕ) → List Stamped → Type 0
-AllInTime board stamps [] = Unit {0}
-AllInTime board stamps (s ∷ past) = IsInTime board stamps past s.stamp s.event × AllInTime board stamps past
-
--- local runs of all buses in the order of their stamps, newest first: each bus did what it may by what it knows, what
--- it sent on its lanes is all that is ever sent there, and each item arrives at a stamp above that of its sending.
--- The order of events with equal stamps is free
-pub record SortedParts (board : Board) (sent : BridgeLane → List Carried) (all : List Stamped) : Type 0 where
-  pub falls : Falls all
-  pub local : (bus : ℕ) → LocalRun board bus (coming_to board bus sent) (events_on board bus (events_of all))
-  pub sent_is : (lane : BridgeLane) → (known board sent (start_of board lane) (events_of all) lane).flight ≡ sent lane
-  pub in_time : AllInTime board (stamps_put board sent all) all
+-- all parts in one list, in the order of the stamps, and the events of each bus in their own order; the order of
+-- events of different buses with equal stamps is free
+pub record IsMerged (board : Board) (part : ℕ → List Stamped) (all : List Stamped) : Type 0 where
+  pub never_fall : NeverFall all
+  pub has_part : (bus : ℕ) → stamped_on board bus all ≡ part bus

@@ -6,7 +6,7 @@
 //! `sent`.
 #![tactic(auto)]
 
-ghost use Rattle.std.specs.Prelude.{List};
+ghost use Rattle.std.specs.Prelude.{ℕ, List};
 ghost use Rattle.board_model.specs.declared.board.Board.{Board};
 ghost use Rattle.board_model.specs.declared.bridge.Lane.{Lane as BridgeLane};
 ghost use Rattle.board_model.specs.Valid.{IsValid};
@@ -16,7 +16,7 @@ ghost use Rattle.history_model.specs.declared.item.Carried.{Carried};
 ghost use Rattle.history_model.specs.Runs.{Complete};
 ghost use Rattle.law_local.specs.Known.{BetweenBuses, JointRun};
 ghost use Rattle.law_local.specs.Woven.{AllWoven};
-ghost use Rattle.law_local.specs.Stamps.{events_of, SortedParts};
+ghost use Rattle.law_local.specs.Stamps.{events_of, LocalParts, IsMerged};
 ghost use Rattle.law_local.specs.Answered.{WantsAreLocal, AnswersAreLocal, TestsAreLocal};
 ghost use Rattle.law_local.specs.Quiet.{AllQuiet};
 
@@ -29,7 +29,8 @@ pub fn woven_runs()
 /// Local runs of all buses in the order of their stamps are a run, where each item arrives at a stamp
 /// above that of its sending; and on each lane there is what the buses at its ends know.
 pub fn sorted_parts_run()
-    ensures { (board : Board) (sent : BridgeLane → List Carried) (all : List Stamped) → IsValid board → BetweenBuses board sent → SortedParts board sent all → JointRun board sent (events_of all) }
+    ensures { (board : Board) (sent : BridgeLane → List Carried) (part : ℕ → List Stamped) (all : List Stamped) → IsValid board → BetweenBuses board sent →
+        LocalParts board sent part → IsMerged board part all → JointRun board sent (events_of all) }
 {}
 
 /// What is presented on a bus, what it is answered, and which items may come on a lane that ends
