@@ -4,6 +4,7 @@
 
 mod buses;
 mod devices;
+mod fault;
 mod ranges;
 mod reach;
 mod spans;
@@ -13,37 +14,28 @@ ghost use Rattle.std.specs.Prelude.{◌≡◌};
 ghost use Rattle.board_faults.specs.Faults.{first_fault_of};
 
 use board_model::Board;
+pub use fault::TreeFault;
 
-/// The first of the faults V1 to V8 that the board has, by its number.
-///
-/// - V1: the primary bus of a bridge, the bus of an agent, or the bridge of a discard or a drop is
-///   not there.
-/// - V2: bus numbers are not those of a tree.
-/// - V3: windows of two bridges on one bus share an address.
-/// - V4: a range or a window behind a bridge lies in no one window of that bridge.
-/// - V5: a range shares an address with a window of a bridge below its bus.
-/// - V6: two ranges on one bus share an address.
-/// - V7: two devices on one bus have one number.
-/// - V8: a configuration write names a bridge.
-pub fn first_fault(board: &Board) -> Option<u8>
+/// The first of the faults that the board has, in the order in which `TreeFault` names them.
+pub fn first_fault(board: &Board) -> Option<TreeFault>
     ensures { result ≡ first_fault_of board.now }
 {
     if buses::lacks_a_bus(board) {
-        Some(1)
+        Some(TreeFault::LacksABus)
     } else if buses::is_no_tree(board) {
-        Some(2)
+        Some(TreeFault::NoTree)
     } else if windows::some_meet(board.bridges.as_slice()) {
-        Some(3)
+        Some(TreeFault::WindowsMeet)
     } else if reach::is_out_of_reach(board) {
-        Some(4)
+        Some(TreeFault::OutOfReach)
     } else if ranges::has_range_in_window(board) {
-        Some(5)
+        Some(TreeFault::RangeInWindow)
     } else if ranges::has_ranges_that_meet(board) {
-        Some(6)
+        Some(TreeFault::RangesMeet)
     } else if devices::has_devices_that_meet(board) {
-        Some(7)
+        Some(TreeFault::DevicesMeet)
     } else if devices::writes_a_header(board) {
-        Some(8)
+        Some(TreeFault::WritesAHeader)
     } else {
         None
     }

@@ -4,7 +4,6 @@ use Rattle.board_model.specs.declared.board.Board.{Board}
 use Rattle.board_text.specs.Lines.{lines_of}
 use Rattle.board_statements.specs.declared.fault.LineFault.{LineFault}
 use Rattle.board_statements.specs.declared.fault.LineFault.TheVariants.{NoFirstLine}
-use Rattle.board_statements.specs.Faults.{family_of, code_of}
 use Rattle.board_draft.specs.declared.draft.Draft.{Draft}
 use Rattle.board_draft.specs.Drafts.{board_of}
 use Rattle.board_parser.specs.declared.fault.ParseFault.{ParseFault}
@@ -32,21 +31,13 @@ ended (Err fault) = Err fault
 abbrev pub board_read : List ℕ → Result Board (ℕ × LineFault)
 board_read text = ended (read_lines None 1 (lines_of text))
 
--- the same, with the fault by its letter and number
-abbrev pub told : ℕ → LineFault → ParseFault
-told line fault = Fault line (family_of fault) (code_of fault)
-
-abbrev pub told_of : Result Board (ℕ × LineFault) → Result Board ParseFault
-told_of (Ok board) = Ok board
-told_of (Err fault) = Err (told fault.0 fault.1)
-
 -- a board or a fault is told exactly where the text reads so, unless there was no memory
 abbrev pub Tells : Result Board ParseFault → Result Board (ℕ × LineFault) → Type 0
 Tells (Ok board) reading = reading ≡ Ok board
-Tells (Err (Fault line family code)) reading = told_of reading ≡ Err (Fault line family code)
+Tells (Err (Fault line fault)) reading = reading ≡ Err (line, fault)
 Tells (Err NoMemory) reading = Unit {0}
 
 -- a fault is told of one of so many lines
 abbrev pub IsWithin : ℕ → ParseFault → Type 0
-IsWithin lines (Fault line family code) = line ≤ lines
+IsWithin lines (Fault line fault) = line ≤ lines
 IsWithin lines NoMemory = Unit {0}

@@ -1,14 +1,13 @@
-use board_statements::Family;
+use board_statements::LineFault;
 use pci_command::NoMemory;
 use thiserror::Error;
 
 /// Why a text was not read as a board.
 #[derive(Clone, Copy, Debug, PartialEq, Eq, Error)]
 pub enum ParseFault {
-    /// The first fault of the text, by its letter and number, and the line where it is. Lines are
-    /// numbered from 1.
-    #[error("line {line}: {family:?}{code}")]
-    Fault { line: u32, family: Family, code: u8 },
+    /// The first fault of the text, and the line where it is. Lines are numbered from 1.
+    #[error("line {line}: {fault}")]
+    Fault { line: u32, fault: LineFault },
     #[error("no memory")]
     NoMemory,
 }

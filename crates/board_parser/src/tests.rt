@@ -1,4 +1,4 @@
-use crate::parse;
+use crate::{ParseFault, parse};
 use std::alloc::{AllocError, Global};
 use std::test::Fail;
 
@@ -9,7 +9,12 @@ fn said(alloc: Global, text: &str) -> Result<String, AllocError> {
     }
     match parse(alloc, text.as_bytes()) {
         Ok(_) => String::from_str(alloc, "board"),
-        Err(fault) => format!(in alloc; "{fault}"),
+        Err(ParseFault::Fault { line, fault }) => {
+            let family = fault.family();
+            let code = fault.code();
+            format!(in alloc; "line {line}: {family:?}{code}")
+        }
+        Err(ParseFault::NoMemory) => String::from_str(alloc, "no memory"),
     }
 }
 

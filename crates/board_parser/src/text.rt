@@ -1,5 +1,5 @@
 ghost use Rattle.std.specs.Prelude.{◌≡◌, ◌+◌, ◌<◌, ◌^◌, length, IfErr};
-ghost use Rattle.board_parser.specs.Boards.{board_read, told, Tells, IsWithin};
+ghost use Rattle.board_parser.specs.Boards.{board_read, Tells, IsWithin};
 
 use crate::ParseFault;
 use crate::line::read_line;
@@ -24,24 +24,22 @@ pub fn parse(alloc: Global, bytes: &[u8]) -> Result<Board, ParseFault>
     while let Some((line, next)) = next_line(bytes, at) {
         match read_line(alloc, sheet, line) {
             Ok(read) => sheet = read,
-            Err(AddFault::Fault(fault)) => return Err(fault_at(number, fault)),
+            Err(AddFault::Fault(fault)) => {
+                return Err(ParseFault::Fault {
+                    line: number,
+                    fault,
+                });
+            }
             Err(AddFault::NoMemory) => return Err(ParseFault::NoMemory),
         }
         number += 1;
         at = next;
     }
     match sheet {
-        None => Err(fault_at(1, LineFault::NoFirstLine)),
+        None => Err(ParseFault::Fault {
+            line: 1,
+            fault: LineFault::NoFirstLine,
+        }),
         Some(sheet) => Ok(sheet.into_board(alloc)?),
-    }
-}
-
-fn fault_at(line: u32, fault: LineFault) -> ParseFault
-    ensures { result ≡ told line fault }
-{
-    ParseFault::Fault {
-        line,
-        family: fault.family(),
-        code: fault.code(),
     }
 }

@@ -1,18 +1,19 @@
--- A board in form that has none of V1 to V8, and whose bound is small, is valid.
+-- A board in form that has none of the faults of a tree, and whose bound is small, is valid.
 use Rattle.std.proofs.Common.{◌≡◌, ℕ, ◌≤◌, Bool, true, false, nat_lt, Option, Some, None, refl, arith, if◌then◌else◌}
 use Rattle.std.proofs.lemmas.Bool.Decides.{nat_tests}
 use Rattle.board_model.specs.declared.board.Board.{Board}
 use Rattle.board_model.specs.WellFormed.{is_well_formed}
 use Rattle.board_model.specs.Ways.{bound_of}
 use Rattle.board_model.specs.Valid.{IsValid}
+use Rattle.board_faults.specs.declared.fault.TreeFault.{TreeFault}
 use Rattle.board_faults.specs.Faults.{first_fault_of}
 use Rattle.bus_tree.specs.Decodable.{IsDecodable}
 use Rattle.bus_tree.proofs.DecodableLemmas.{IsDecodable-tree}
 
 -- where no fault is named, the first is not there, and none of the others is named
-passed : (fault : Bool) (code : ℕ) (later : Option ℕ) → (if fault then Some code else later) ≡ None → (fault ≡ false) × (later ≡ None)
-passed true code later none = cc
-passed false code later none = (refl, none)
+passed : (has : Bool) (fault : TreeFault) (later : Option TreeFault) → (if has then Some fault else later) ≡ None → (has ≡ false) × (later ≡ None)
+passed true fault later none = cc
+passed false fault later none = (refl, none)
 
 pub IsDecodable-passed : (board : Board) → is_well_formed board ≡ true → first_fault_of board ≡ None → IsDecodable board
 IsDecodable-passed board formed none =

@@ -5,6 +5,7 @@ ghost use Rattle.board_laws.specs.Claimants.{OneClaimant, claimants, one_of};
 ghost use Rattle.bus_tree.specs.Hops.{hop_of};
 
 use super::*;
+use board_faults::TreeFault;
 use board_forms::well_formed;
 use board_laws::{one_claimant, ways_end};
 use board_model::{Board, Bridge, Master, Name, Op, Range, Target, Window, op_of};
@@ -130,34 +131,53 @@ fn write_of(numbers: [u64; 5]) -> Op {
     }
 }
 
-/// The fault of a board and its bound, or 0 and the bound of its tree.
-fn judged(alloc: Global, text: &str) -> Result<(u8, u64), Fail> {
+/// The bound of a valid board, or else its first fault, if it has one of those that are named.
+fn judged(alloc: Global, text: &str) -> Result<Result<u64, Option<TreeFault>>, Fail> {
     let board = board_of(alloc, text)?;
     if !well_formed(&board) {
         return Err("not well formed".into());
     }
     match validate(board) {
-        Ok(tree) => Ok((0, tree.bound())),
-        Err(TreeRefusal::Fault { code, bound, .. }) => Ok((code, bound)),
+        Ok(tree) => Ok(Ok(tree.bound())),
+        Err(TreeRefusal::Fault { fault, .. }) => Ok(Err(Some(fault))),
+        Err(TreeRefusal::AboveBound { .. }) => Ok(Err(None)),
     }
 }
 
 #[test]
 fn boards_are_judged(rt: HostRuntime) -> Result<(), Fail> {
     let rows = [
-        ("target 7 0", 1, 0),
-        ("bridge 1 0 1 1; bridge 2 1 0 2", 2, 0),
-        ("bridge 1 0 1 1 80000000; bridge 2 0 2 2 80000000", 3, 0),
-        ("bridge 1 0 1 1; target 1 0 10000000", 4, 0),
-        ("bridge 1 0 1 1 80000000; target 0 2 80000000", 5, 0),
-        ("target 0 1 10000000; target 0 2 10000000", 6, 0),
-        ("target 0 1; target 0 1", 7, 0),
-        ("bridge 1 0 1 1; cfw 0 1 1", 8, 0),
-        ("target 0 1 10000000 7a120; mr 10000000", 9, 500_001),
-        ("target 0 1 10000000 7a11f; mr 10000000", 0, 500_000),
+        ("target 7 0", Err(Some(TreeFault::LacksABus))),
+        (
+            "bridge 1 0 1 1; bridge 2 1 0 2",
+            Err(Some(TreeFault::NoTree)),
+        ),
+        (
+            "bridge 1 0 1 1 80000000; bridge 2 0 2 2 80000000",
+            Err(Some(TreeFault::WindowsMeet)),
+        ),
+        (
+            "bridge 1 0 1 1; target 1 0 10000000",
+            Err(Some(TreeFault::OutOfReach)),
+        ),
+        (
+            "bridge 1 0 1 1 80000000; target 0 2 80000000",
+            Err(Some(TreeFault::RangeInWindow)),
+        ),
+        (
+            "target 0 1 10000000; target 0 2 10000000",
+            Err(Some(TreeFault::RangesMeet)),
+        ),
+        ("target 0 1; target 0 1", Err(Some(TreeFault::DevicesMeet))),
+        (
+            "bridge 1 0 1 1; cfw 0 1 1",
+            Err(Some(TreeFault::WritesAHeader)),
+        ),
+        ("target 0 1 10000000 7a120; mr 10000000", Err(None)),
+        ("target 0 1 10000000 7a11f; mr 10000000", Ok(500_000)),
     ];
-    for (text, code, bound) in rows {
-        assert_eq!(rt; judged(rt.alloc(), text)?, (code, bound), "{text}");
+    for (text, expected) in rows {
+        assert_eq!(rt; judged(rt.alloc(), text)?, expected, "{text}");
     }
     Ok(())
 }

@@ -58,20 +58,12 @@ pub fn validate(board: Board) -> Result<Tree, TreeRefusal>
     ensures tree { IfOk result (λ tree. tree ≡ board) }
     ensures refusal { IfErr result (λ refusal. refusal ≡ refusal_of board) }
 {
-    if let Some(code) = first_fault(&board) {
-        return Err(TreeRefusal::Fault {
-            code,
-            bound: 0,
-            board,
-        });
+    if let Some(fault) = first_fault(&board) {
+        return Err(TreeRefusal::Fault { fault, board });
     }
     let bound = bound_of(&board);
     if bound > MOST_EVENTS {
-        return Err(TreeRefusal::Fault {
-            code: 9,
-            bound,
-            board,
-        });
+        return Err(TreeRefusal::AboveBound { bound, board });
     }
     Ok(Tree { board, bound })
 }

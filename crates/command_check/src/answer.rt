@@ -23,10 +23,11 @@ fn answer_events(alloc: Global, tree: &Tree, events: &[Event]) -> Result<Vec<u8>
     ensures ok { IfOk result (λ text. Confirms tree.now events.now text.items) }
     ensures err { IfErr result (Objects tree.now events.now) }
 {
-    match check(tree, events) {
-        Verdict::Complete => verdict_text(alloc, events.len(), tree.bound()),
-        Verdict::Incomplete { left } => Err(Status::Incomplete { left }),
-        Verdict::NotRun { event, why } => Err(Status::NotRun { event, why }),
+    match check(alloc, tree, events) {
+        Ok(Verdict::Complete) => verdict_text(alloc, events.len(), tree.bound()),
+        Ok(Verdict::Incomplete { left }) => Err(Status::Incomplete { left }),
+        Ok(Verdict::NotRun { event, why }) => Err(Status::NotRun { event, why }),
+        Err(_) => Err(Status::NoMemory),
     }
 }
 

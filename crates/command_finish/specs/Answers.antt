@@ -27,9 +27,7 @@ abbrev pub RefusesFinish : List ℕ → Status → Type 0
 RefusesFinish input (NotRun event why) = IsNoRun input event why
 RefusesFinish input status = RefusesTrace input status
 
--- a trace of a run that goes on to its end, which is read as this run
-pub record FinishesTo (board : Board) (events : List Event) (text : List ℕ) : Type 0 where
-  pub whole : List Event
-  pub finishes : Finishes board events whole
-  pub written : text ≡ trace_of board whole
-  pub read_back : trace_read text ≡ Ok (board, whole)
+-- the trace text of these events, which is read as them
+pub record IsTraceOf (board : Board) (events : List Event) (text : List ℕ) : Type 0 where
+  pub written : text ≡ trace_of board events
+  pub read_back : trace_read text ≡ Ok (board, events)

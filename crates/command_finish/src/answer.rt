@@ -1,8 +1,9 @@
 ghost use Rattle.std.specs.Prelude.{◌<◌, ◌^◌, length, IfOk, IfErr};
-ghost use Rattle.history_model.specs.Runs.{Run, history_of};
-ghost use Rattle.command_finish.specs.Answers.{AnswersFinish, RefusesFinish, FinishesTo};
+ghost use Rattle.trace_check.specs.Verdicts.{CompleteRun};
+ghost use Rattle.board_model.specs.Valid.{IsValid};
+ghost use Rattle.command_finish.specs.Answers.{AnswersFinish, RefusesFinish, IsTraceOf};
 
-use bus_tree::Tree;
+use board_model::Board;
 use history_model::Event;
 use pci_command::{List, NoMemory};
 use program_input::{TreeTrace, read_tree_trace};
@@ -10,8 +11,7 @@ use program_status::Status;
 use roundtrip_runs::run_has_lines;
 use roundtrip_trace::printed_trace_is_read;
 use std::alloc::Global;
-use trace_check::first_refused;
-use trace_finish::finish;
+use trace_finish::{Unfinished, finish};
 use trace_text::print_trace;
 
 /// The trace of a run that goes on to its end, for a trace text of a run.
@@ -21,23 +21,23 @@ pub fn answer_finish(alloc: Global, input: &[u8]) -> Result<Vec<u8>, Status>
     ensures err { IfErr result (RefusesFinish input.now) }
 {
     let TreeTrace { tree, events } = read_tree_trace(alloc, input)?;
-    match first_refused(tree.board(), events.as_slice()) {
-        Some((event, why)) => Err(Status::NotRun { event, why }),
-        None => match finished_text(alloc, &tree, events) {
+    match finish(alloc, &tree, events) {
+        Ok(whole) => match trace_of(alloc, tree.board(), whole.as_slice()) {
             Ok(text) => Ok(text.into_vec()),
             Err(_) => Err(Status::NoMemory),
         },
+        Err(Unfinished::NotRun { event, why }) => Err(Status::NotRun { event, why }),
+        Err(Unfinished::NoMemory) => Err(Status::NoMemory),
     }
 }
 
-/// The trace text of a run that goes on to its end.
-fn finished_text(alloc: Global, tree: &Tree, events: List<Event>) -> Result<List<u8>, NoMemory>
-    requires { Run tree.now (history_of events) }
-    ensures { IfOk result (FinishesTo tree.now events) }
+/// The trace text of a complete run, which is read as this run.
+fn trace_of(alloc: Global, board: &Board, events: &[Event]) -> Result<List<u8>, NoMemory>
+    requires valid { IsValid board.now }
+    requires run { CompleteRun board.now events.now }
+    ensures { IfOk result (IsTraceOf board.now events.now) }
 {
-    let board = tree.board();
-    let whole = finish(tree, events)?;
-    run_has_lines(board, whole.as_slice());
-    printed_trace_is_read(board, whole.as_slice());
-    print_trace(alloc, board, whole.as_slice())
+    run_has_lines(board, events);
+    printed_trace_is_read(board, events);
+    print_trace(alloc, board, events)
 }

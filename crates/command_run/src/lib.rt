@@ -1,4 +1,4 @@
-//! `run`: what the program writes for the text of a plain board, or why it refuses it.
+//! `run`: what the program writes for a board text, or why it refuses it.
 #![tactic(auto)]
 
 ghost use Rattle.std.specs.Prelude.{ℕ, List};

@@ -1,6 +1,6 @@
-ghost use Rattle.std.specs.Prelude.{◌≡◌, ◌+◌, ◌<◌, ◌≤◌, ◌↔◌, Some, [], ◌∷◌, ◌++◌, length, slice_get, remove, IsTrue};
+ghost use Rattle.std.specs.Prelude.{◌≡◌, ◌+◌, ◌<◌, ◌≤◌, ◌==◌, ◌↔◌, Some, [], ◌∷◌, ◌++◌, length, slice_get, remove, IsTrue};
 ghost use Rattle.std.specs.Option.{option_map};
-ghost use Rattle.std.specs.List.{Any};
+ghost use Rattle.std.specs.List.{Any, list_any};
 
 use arrayvec::ArrayVec;
 use pci_command::{OpId, Request, same_request};
@@ -82,6 +82,13 @@ impl AskTable {
         let asks = self.standing.as_slice();
         let (older, others) = asks.split_at(place as usize);
         any_same(older, &others[0].request)
+    }
+
+    /// Whether a request stands that holds this slot.
+    pub fn has_slot(&self, slot: u8) -> bool
+        ensures { result ≡ list_any (λ ask. ask.slot == slot) self.now.asks }
+    {
+        self.standing.as_slice().iter().any(|ask| ask.slot == slot)
     }
 
     /// How many requests stand.

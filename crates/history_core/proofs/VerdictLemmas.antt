@@ -13,38 +13,38 @@ use Rattle.history_model.specs.declared.item.Answer.{Answer}
 use Rattle.history_model.specs.declared.item.Cause.{Cause}
 use Rattle.history_model.specs.declared.item.Answer.TheVariants.{Gives, Retry}
 use Rattle.history_model.specs.declared.why.Why.{Why}
-use Rattle.history_model.specs.declared.why.Why.TheVariants.{N1, N2, N3, N4, N5}
+use Rattle.history_model.specs.declared.why.Why.TheVariants.{NotPresented, AnsweredOtherwise, GetsRetry, NothingInFlight, MarkedOtherwise}
 use Rattle.history_model.specs.Answers.{wants, answer}
 use Rattle.history_model.specs.Runs.{Allowed, next_mark}
 use Rattle.history_core.specs.Verdicts.{cause_in, Holds, HoldsOfAct, HoldsOfArrival}
 
 -- what is not presented has that cause alone
-unwanted : (answer : Answer) (step : Step) (place : Place) (w : Option Why) → HoldsOfAct false answer step place w → w ≡ Some N1
+unwanted : (answer : Answer) (step : Step) (place : Place) (w : Option Why) → HoldsOfAct false answer step place w → w ≡ Some NotPresented
 unwanted answer step place None holds = let no : false ≡ true = holds.0 in cc
-unwanted answer step place (Some N1) holds = refl
-unwanted answer step place (Some N2) holds = let no : false ≡ true = holds.0 in cc
-unwanted answer step place (Some N3) holds = let no : false ≡ true = holds.0 in cc
-unwanted answer step place (Some N4) holds = absurd holds
-unwanted answer step place (Some N5) holds = absurd holds
+unwanted answer step place (Some NotPresented) holds = refl
+unwanted answer step place (Some AnsweredOtherwise) holds = let no : false ≡ true = holds.0 in cc
+unwanted answer step place (Some GetsRetry) holds = let no : false ≡ true = holds.0 in cc
+unwanted answer step place (Some NothingInFlight) holds = absurd holds
+unwanted answer step place (Some MarkedOtherwise) holds = absurd holds
 
-retried : (cause : Cause) (step : Step) (place : Place) (w : Option Why) → HoldsOfAct true (Retry cause) step place w → w ≡ Some N3
+retried : (cause : Cause) (step : Step) (place : Place) (w : Option Why) → HoldsOfAct true (Retry cause) step place w → w ≡ Some GetsRetry
 retried cause step place None holds = let no = holds.1 in cc
-retried cause step place (Some N1) holds = cc
-retried cause step place (Some N2) holds = absurd holds.1
-retried cause step place (Some N3) holds = refl
-retried cause step place (Some N4) holds = absurd holds
-retried cause step place (Some N5) holds = absurd holds
+retried cause step place (Some NotPresented) holds = cc
+retried cause step place (Some AnsweredOtherwise) holds = absurd holds.1
+retried cause step place (Some GetsRetry) holds = refl
+retried cause step place (Some NothingInFlight) holds = absurd holds
+retried cause step place (Some MarkedOtherwise) holds = absurd holds
 
 -- what is answered by an event has that event, or another one
 given : (step : Step) (place : Place) (other : Step) (from : Place) (w : Option Why) → HoldsOfAct true (Gives other from) step place w →
-    ((w ≡ None) × ((other ≡ step) × (from ≡ place))) ⊎ ((w ≡ Some N2) × (¬ ((other ≡ step) × (from ≡ place))))
+    ((w ≡ None) × ((other ≡ step) × (from ≡ place))) ⊎ ((w ≡ Some AnsweredOtherwise) × (¬ ((other ≡ step) × (from ≡ place))))
 given step place other from None holds =
     let same = holds.1 in let steps : other ≡ step = cc in let places : from ≡ place = cc in inl (refl, (steps, places))
-given step place other from (Some N1) holds = cc
-given step place other from (Some N2) holds = inr (refl, holds.1)
-given step place other from (Some N3) holds = absurd holds.1
-given step place other from (Some N4) holds = absurd holds
-given step place other from (Some N5) holds = absurd holds
+given step place other from (Some NotPresented) holds = cc
+given step place other from (Some AnsweredOtherwise) holds = inr (refl, holds.1)
+given step place other from (Some GetsRetry) holds = absurd holds.1
+given step place other from (Some NothingInFlight) holds = absurd holds
+given step place other from (Some MarkedOtherwise) holds = absurd holds
 
 act_one : (wanted : Bool) (answer : Answer) (step : Step) (place : Place) (v w : Option Why) →
     HoldsOfAct wanted answer step place v → HoldsOfAct wanted answer step place w → v ≡ w
@@ -63,22 +63,22 @@ act_one true (Gives other from) step place v w first second =
     ]
 
 -- the same of arrivals
-none_flies : (mark : Mark) (w : Option Why) → HoldsOfArrival None mark w → w ≡ Some N4
+none_flies : (mark : Mark) (w : Option Why) → HoldsOfArrival None mark w → w ≡ Some NothingInFlight
 none_flies mark None holds = cc
-none_flies mark (Some N1) holds = absurd holds
-none_flies mark (Some N2) holds = absurd holds
-none_flies mark (Some N3) holds = absurd holds
-none_flies mark (Some N4) holds = refl
-none_flies mark (Some N5) holds = absurd holds
+none_flies mark (Some NotPresented) holds = absurd holds
+none_flies mark (Some AnsweredOtherwise) holds = absurd holds
+none_flies mark (Some GetsRetry) holds = absurd holds
+none_flies mark (Some NothingInFlight) holds = refl
+none_flies mark (Some MarkedOtherwise) holds = absurd holds
 
 marked : (mark other : Mark) (w : Option Why) → HoldsOfArrival (Some other) mark w →
-    ((w ≡ None) × (other ≡ mark)) ⊎ ((w ≡ Some N5) × (¬ (other ≡ mark)))
+    ((w ≡ None) × (other ≡ mark)) ⊎ ((w ≡ Some MarkedOtherwise) × (¬ (other ≡ mark)))
 marked mark other None holds = let same : other ≡ mark = cc in inl (refl, same)
-marked mark other (Some N1) holds = absurd holds
-marked mark other (Some N2) holds = absurd holds
-marked mark other (Some N3) holds = absurd holds
-marked mark other (Some N4) holds = cc
-marked mark other (Some N5) holds = inr (refl, holds)
+marked mark other (Some NotPresented) holds = absurd holds
+marked mark other (Some AnsweredOtherwise) holds = absurd holds
+marked mark other (Some GetsRetry) holds = absurd holds
+marked mark other (Some NothingInFlight) holds = cc
+marked mark other (Some MarkedOtherwise) holds = inr (refl, holds)
 
 arrival_one : (next : Option Mark) (mark : Mark) (v w : Option Why) → HoldsOfArrival next mark v → HoldsOfArrival next mark w → v ≡ w
 arrival_one None mark v w first second = none_flies mark v first ∙ sym (none_flies mark w second)
@@ -98,38 +98,38 @@ arrival_one (Some other) mark v w first second =
 pub of_act : (board : Board) (h : List Event) (on : ℕ) (by : By) (o : OpId) (step : Step) (place : Place) (w : Option Why) →
     HoldsOfAct (wants board h on by o) (answer board h on by o) step place w → Holds board h (Act on by o step place) w
 of_act board h on by o step place None holds = holds
-of_act board h on by o step place (Some N1) holds = holds
-of_act board h on by o step place (Some N2) holds = holds
-of_act board h on by o step place (Some N3) holds = holds
-of_act board h on by o step place (Some N4) holds = holds
-of_act board h on by o step place (Some N5) holds = holds
+of_act board h on by o step place (Some NotPresented) holds = holds
+of_act board h on by o step place (Some AnsweredOtherwise) holds = holds
+of_act board h on by o step place (Some GetsRetry) holds = holds
+of_act board h on by o step place (Some NothingInFlight) holds = holds
+of_act board h on by o step place (Some MarkedOtherwise) holds = holds
 
 pub of_arrival : (board : Board) (h : List Event) (lane : BridgeLane) (mark : Mark) (w : Option Why) →
     HoldsOfArrival (next_mark board h lane) mark w → Holds board h (Arrive lane mark) w
 of_arrival board h lane mark None holds = holds
-of_arrival board h lane mark (Some N1) holds = holds
-of_arrival board h lane mark (Some N2) holds = holds
-of_arrival board h lane mark (Some N3) holds = holds
-of_arrival board h lane mark (Some N4) holds = holds
-of_arrival board h lane mark (Some N5) holds = holds
+of_arrival board h lane mark (Some NotPresented) holds = holds
+of_arrival board h lane mark (Some AnsweredOtherwise) holds = holds
+of_arrival board h lane mark (Some GetsRetry) holds = holds
+of_arrival board h lane mark (Some NothingInFlight) holds = holds
+of_arrival board h lane mark (Some MarkedOtherwise) holds = holds
 
 to_act : (board : Board) (h : List Event) (on : ℕ) (by : By) (o : OpId) (step : Step) (place : Place) (w : Option Why) →
     Holds board h (Act on by o step place) w → HoldsOfAct (wants board h on by o) (answer board h on by o) step place w
 to_act board h on by o step place None holds = holds
-to_act board h on by o step place (Some N1) holds = holds
-to_act board h on by o step place (Some N2) holds = holds
-to_act board h on by o step place (Some N3) holds = holds
-to_act board h on by o step place (Some N4) holds = holds
-to_act board h on by o step place (Some N5) holds = holds
+to_act board h on by o step place (Some NotPresented) holds = holds
+to_act board h on by o step place (Some AnsweredOtherwise) holds = holds
+to_act board h on by o step place (Some GetsRetry) holds = holds
+to_act board h on by o step place (Some NothingInFlight) holds = holds
+to_act board h on by o step place (Some MarkedOtherwise) holds = holds
 
 to_arrival : (board : Board) (h : List Event) (lane : BridgeLane) (mark : Mark) (w : Option Why) →
     Holds board h (Arrive lane mark) w → HoldsOfArrival (next_mark board h lane) mark w
 to_arrival board h lane mark None holds = holds
-to_arrival board h lane mark (Some N1) holds = holds
-to_arrival board h lane mark (Some N2) holds = holds
-to_arrival board h lane mark (Some N3) holds = holds
-to_arrival board h lane mark (Some N4) holds = holds
-to_arrival board h lane mark (Some N5) holds = holds
+to_arrival board h lane mark (Some NotPresented) holds = holds
+to_arrival board h lane mark (Some AnsweredOtherwise) holds = holds
+to_arrival board h lane mark (Some GetsRetry) holds = holds
+to_arrival board h lane mark (Some NothingInFlight) holds = holds
+to_arrival board h lane mark (Some MarkedOtherwise) holds = holds
 
 holds_one : (board : Board) (h : List Event) (e : Event) (v w : Option Why) → Holds board h e v → Holds board h e w → v ≡ w
 holds_one board h (Act on by o step place) v w first second =

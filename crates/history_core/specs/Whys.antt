@@ -11,7 +11,7 @@ use Rattle.history_model.specs.declared.item.Answer.TheVariants.{Gives, Retry}
 use Rattle.history_model.specs.Answers.{wants, answer}
 use Rattle.history_model.specs.Runs.{next_mark}
 
--- N1: the initiator does not present the operation on the bus
+-- NotPresented: the initiator does not present the operation on the bus
 abbrev pub IsNotPresented : Board → List Event → Event → Type 0
 IsNotPresented board h (Act on by o step place) = wants board h on by o ≡ false
 IsNotPresented board h (Arrive lane mark) = ⊥
@@ -21,7 +21,7 @@ abbrev pub GivesOther : Step → Place → Answer → Type 0
 GivesOther step place (Gives given from) = ¬ ((given ≡ step) × (from ≡ place))
 GivesOther step place (Retry cause) = ⊥
 
--- N2: it is presented, and answered by another event
+-- AnsweredOtherwise: it is presented, and answered by another event
 abbrev pub IsAnsweredOtherwise : Board → List Event → Event → Type 0
 IsAnsweredOtherwise board h (Act on by o step place) = (wants board h on by o ≡ true) × GivesOther step place (answer board h on by o)
 IsAnsweredOtherwise board h (Arrive lane mark) = ⊥
@@ -30,12 +30,12 @@ abbrev pub IsRetry : Answer → Type 0
 IsRetry (Gives step place) = ⊥
 IsRetry (Retry cause) = Unit {0}
 
--- N3: it is presented, and answered with Retry
+-- GetsRetry: it is presented, and answered with Retry
 abbrev pub IsRetried : Board → List Event → Event → Type 0
 IsRetried board h (Act on by o step place) = (wants board h on by o ≡ true) × IsRetry (answer board h on by o)
 IsRetried board h (Arrive lane mark) = ⊥
 
--- N4: nothing is in flight on the lane
+-- NothingInFlight: nothing is in flight on the lane
 abbrev pub HasNothingInFlight : Board → List Event → Event → Type 0
 HasNothingInFlight board h (Act on by o step place) = ⊥
 HasNothingInFlight board h (Arrive lane mark) = next_mark board h lane ≡ None
@@ -44,7 +44,7 @@ abbrev pub IsOtherMark : Mark → Option Mark → Type 0
 IsOtherMark mark None = ⊥
 IsOtherMark mark (Some given) = given ≢ mark
 
--- N5: the board marks what arrives next on the lane otherwise
+-- MarkedOtherwise: the board marks what arrives next on the lane otherwise
 abbrev pub IsMarkedOtherwise : Board → List Event → Event → Type 0
 IsMarkedOtherwise board h (Act on by o step place) = ⊥
 IsMarkedOtherwise board h (Arrive lane mark) = IsOtherMark mark (next_mark board h lane)

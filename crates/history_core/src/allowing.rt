@@ -17,11 +17,11 @@ pub fn allowed(board: &Board, before: &[Event], event: &Event) -> Result<(), Why
     requires formed { IsTrue (is_well_formed board.now) }
     requires run { Run board.now (history_of before.now) }
     ensures ok { IsOk result ↔ Allowed board.now (history_of before.now) event.now }
-    ensures not_presented { (result ≡ Err Why.N1) ↔ IsNotPresented board.now (history_of before.now) event.now }
-    ensures answered_otherwise { (result ≡ Err Why.N2) ↔ IsAnsweredOtherwise board.now (history_of before.now) event.now }
-    ensures retried { (result ≡ Err Why.N3) ↔ IsRetried board.now (history_of before.now) event.now }
-    ensures nothing_in_flight { (result ≡ Err Why.N4) ↔ HasNothingInFlight board.now (history_of before.now) event.now }
-    ensures marked_otherwise { (result ≡ Err Why.N5) ↔ IsMarkedOtherwise board.now (history_of before.now) event.now }
+    ensures not_presented { (result ≡ Err Why.NotPresented) ↔ IsNotPresented board.now (history_of before.now) event.now }
+    ensures answered_otherwise { (result ≡ Err Why.AnsweredOtherwise) ↔ IsAnsweredOtherwise board.now (history_of before.now) event.now }
+    ensures retried { (result ≡ Err Why.GetsRetry) ↔ IsRetried board.now (history_of before.now) event.now }
+    ensures nothing_in_flight { (result ≡ Err Why.NothingInFlight) ↔ HasNothingInFlight board.now (history_of before.now) event.now }
+    ensures marked_otherwise { (result ≡ Err Why.MarkedOtherwise) ↔ IsMarkedOtherwise board.now (history_of before.now) event.now }
 {
     match *event {
         Event::Act {
@@ -50,12 +50,12 @@ fn act_allowed(
     if wants(board, before, presented) {
         answer_allows(answer(board, before, presented), step, place)
     } else {
-        Err(Why::N1)
+        Err(Why::NotPresented)
     }
 }
 
 /// Whether the answer is this event.
-fn answer_allows(answer: Answer, step: Step, place: Place) -> Result<(), Why>
+pub fn answer_allows(answer: Answer, step: Step, place: Place) -> Result<(), Why>
     ensures { HoldsOfAct true answer step place (cause_in result) }
 {
     match answer {
@@ -63,18 +63,18 @@ fn answer_allows(answer: Answer, step: Step, place: Place) -> Result<(), Why>
             step: given,
             place: from,
         } if given == step && from == place => Ok(()),
-        Answer::Gives { .. } => Err(Why::N2),
-        Answer::Retry { .. } => Err(Why::N3),
+        Answer::Gives { .. } => Err(Why::AnsweredOtherwise),
+        Answer::Retry { .. } => Err(Why::GetsRetry),
     }
 }
 
 /// Whether an arrival with this mark is the next one.
-fn arrival_allowed(next: Option<Mark>, mark: Mark) -> Result<(), Why>
+pub fn arrival_allowed(next: Option<Mark>, mark: Mark) -> Result<(), Why>
     ensures { HoldsOfArrival next mark (cause_in result) }
 {
     match next {
         Some(given) if given == mark => Ok(()),
-        Some(_) => Err(Why::N5),
-        None => Err(Why::N4),
+        Some(_) => Err(Why::MarkedOtherwise),
+        None => Err(Why::NothingInFlight),
     }
 }

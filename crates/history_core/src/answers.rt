@@ -45,7 +45,7 @@ pub fn answer(board: &Board, before: &[Event], presented: Presented) -> Answer
 }
 
 /// What the initiator of a transaction that nobody claims is answered.
-fn nobody() -> Answer
+pub fn nobody() -> Answer
     ensures { result ≡ Answer.Gives Step.MasterAbort Place.Nobody }
 {
     Answer::Gives {
@@ -78,7 +78,7 @@ fn answer_to(
 }
 
 /// The address of the first data phase that is left.
-fn address_left(request: &Request, gone: u128) -> u128
+pub fn address_left(request: &Request, gone: u128) -> u128
     requires { gone ≤ 2 ^ 100 }
     ensures { result ≡ (without gone request.now).address }
 {
@@ -132,7 +132,7 @@ fn target_step(
 }
 
 /// A target takes what is left of a write where that is not more than it takes at a time.
-fn write_step(burst: u8, phases: usize) -> Step
+pub fn write_step(burst: u8, phases: usize) -> Step
     ensures { result ≡ (if nat_lt burst phases then Step.Part burst else Step.Land) }
 {
     if (burst as usize) < phases {
@@ -143,7 +143,7 @@ fn write_step(burst: u8, phases: usize) -> Step
 }
 
 /// A bridge whose header is read answers with the register.
-fn header_answer(board: &Board, bus: u8, address: u128) -> Answer
+pub fn header_answer(board: &Board, bus: u8, address: u128) -> Answer
     ensures { (request : Request) → request.address ≡ address → result ≡ header_answer bus request (bridge_to board.now bus) }
 {
     match bridge_to(board, bus) {
@@ -206,7 +206,7 @@ fn lane_answer(
     }
 }
 
-fn face_answer(
+pub fn face_answer(
     board: &Board,
     presented: Presented,
     request: &Request,

@@ -19,7 +19,7 @@ pub fn next_mark(board: &Board, before: &[Event], lane: Lane) -> Option<Mark>
     mark_of_first(board, lane, lanes.lane(lane.up))
 }
 
-fn mark_of_first(board: &Board, lane: Lane, state: &LaneTables) -> Option<Mark>
+pub fn mark_of_first(board: &Board, lane: Lane, state: &LaneTables) -> Option<Mark>
     ensures { result ≡ mark_of_first board.now lane state.now state.now.flight }
 {
     match state.flight().first() {

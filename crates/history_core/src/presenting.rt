@@ -32,7 +32,7 @@ pub fn wants(board: &Board, before: &[Event], presented: Presented) -> bool
 }
 
 /// Whether the master is on the bus.
-fn is_on(board: &Board, bus: u8, master: u16) -> bool
+pub fn is_on(board: &Board, bus: u8, master: u16) -> bool
     ensures { result ≡ is_on bus (slice_get board.now.masters master) }
 {
     match board.masters.as_slice().get(master as usize) {
@@ -63,7 +63,7 @@ fn presents(board: &Board, before: &[Event], lane: Lane, bus: u8, op: OpId) -> b
 }
 
 /// Whether what stands of the operation may go before every older item.
-fn may_go(board: &Board, bus: u8, op: OpId, standing: &[Carried]) -> bool
+pub fn may_go(board: &Board, bus: u8, op: OpId, standing: &[Carried]) -> bool
     ensures { result ≡ presents board.now bus op standing.now }
 {
     match standing_request(standing, op) {

@@ -221,8 +221,11 @@ fn a_write_and_a_read_on_one_bus(rt: HostRuntime) -> Result<(), Fail> {
     let too_soon = event!(0 m 0 0, Step::Read(0), Place::Target(0));
     assert_eq!(rt; judged(&rt, &board, &[written, seen]), Ok(true));
     assert_eq!(rt; judged(&rt, &board, &[written]), Ok(false));
-    assert_eq!(rt; judged(&rt, &board, &[seen]), Err((0, Why::N1)));
-    assert_eq!(rt; judged(&rt, &board, &[too_soon]), Err((0, Why::N2)));
+    assert_eq!(rt; judged(&rt, &board, &[seen]), Err((0, Why::NotPresented)));
+    assert_eq!(rt;
+        judged(&rt, &board, &[too_soon]),
+        Err((0, Why::AnsweredOtherwise))
+    );
     Ok(())
 }
 
@@ -248,14 +251,20 @@ fn a_completion_that_is_discarded(rt: HostRuntime) -> Result<(), Fail> {
     };
     let mut events = Vec::from_slice(alloc, &READ)?;
     events.push(plain)?;
-    assert_eq!(rt; judged(&rt, &board, &events), Err((7, Why::N5)));
+    assert_eq!(rt;
+        judged(&rt, &board, &events),
+        Err((7, Why::MarkedOtherwise))
+    );
     events.truncate(7);
     events.push(discarded)?;
     events.extend_from_slice(&READ)?;
     events.push(plain)?;
     events.push(event!(0 m 0 0, Step::Take(Outcome::Value(0)), Place::Lane(lane!(1 d))))?;
     assert_eq!(rt; judged(&rt, &board, &events), Ok(true));
-    assert_eq!(rt; judged(&rt, &board, &[plain]), Err((0, Why::N4)));
+    assert_eq!(rt;
+        judged(&rt, &board, &[plain]),
+        Err((0, Why::NothingInFlight))
+    );
     Ok(())
 }
 
@@ -278,7 +287,10 @@ fn a_completion_is_not_stolen(rt: HostRuntime) -> Result<(), Fail> {
             master("late", 2, late)?,
         ]?,
     );
-    assert_eq!(rt; judged(&rt, &board, &STEALING), Err((15, Why::N1)));
+    assert_eq!(rt;
+        judged(&rt, &board, &STEALING),
+        Err((15, Why::NotPresented))
+    );
     Ok(())
 }
 
@@ -293,6 +305,6 @@ fn a_posted_write_waits_for_a_credit(rt: HostRuntime) -> Result<(), Fail> {
         vec![in alloc; target(alloc, "ram", 1, 0x8000_0000)?]?,
         vec![in alloc; master("a", 0, a)?, master("b", 0, b)?]?,
     );
-    assert_eq!(rt; judged(&rt, &board, &CREDITS), Err((1, Why::N3)));
+    assert_eq!(rt; judged(&rt, &board, &CREDITS), Err((1, Why::GetsRetry)));
     Ok(())
 }

@@ -52,7 +52,7 @@ pub fn turn_of(board: &Board, before: &[Event], master: u16) -> Option<OpId>
     turn
 }
 
-fn turn_after(board: &Board, master: u16, turn: Option<OpId>, event: &Event) -> Option<OpId>
+pub fn turn_after(board: &Board, master: u16, turn: Option<OpId>, event: &Event) -> Option<OpId>
     requires { IsTrue (is_well_formed board.now) }
     ensures { result ≡ turn_after board.now master turn (ended event.now) }
 {
@@ -123,7 +123,7 @@ fn next_try(board: &Board, op: OpId) -> Option<OpId>
 }
 
 /// The operation, where it is there.
-fn present(board: &Board, op: OpId) -> Option<OpId>
+pub fn present(board: &Board, op: OpId) -> Option<OpId>
     ensures { result ≡ present board.now op }
 {
     op_of(board, op)?;

@@ -100,7 +100,7 @@ pub(crate) fn value_of(
 }
 
 /// What it opens as.
-fn opens_as(board: &Board, target: u16, space: Space, address: u128) -> u32
+pub fn opens_as(board: &Board, target: u16, space: Space, address: u128) -> u32
     ensures { result ≡ opens_as board.now (record { target = target; space = space; address = address }) }
 {
     match board.targets.as_slice().get(target as usize) {
@@ -197,7 +197,7 @@ fn brings_phases(step: Step) -> bool
 
 /// What a step of a write, of which so many data phases went through before, makes of it.
 #[tactic(auto, using(crate::proofs::ValueLemmas::merged_landings))]
-fn value_landed(
+pub fn value_landed(
     request: &Request,
     gone: u128,
     step: Step,
@@ -218,7 +218,7 @@ fn value_landed(
 }
 
 /// Where in its space the first of the data phases goes.
-pub(crate) fn dword_address(space: Space, address: u128) -> u128
+pub fn dword_address(space: Space, address: u128) -> u128
     ensures { result ≡ address_in space address }
 {
     match space {
@@ -228,7 +228,7 @@ pub(crate) fn dword_address(space: Space, address: u128) -> u128
 }
 
 /// The data phases behind the first so many.
-pub(crate) fn left_of(phases: &[Phase], gone: u128) -> &[Phase]
+pub fn left_of(phases: &[Phase], gone: u128) -> &[Phase]
     ensures { result.now ≡ drop gone phases.now }
 {
     if gone < phases.len() as u128 {
@@ -240,7 +240,7 @@ pub(crate) fn left_of(phases: &[Phase], gone: u128) -> &[Phase]
 }
 
 /// Those of the data phases that are left that a step brings into the target.
-fn brought_by(step: Step, phases: &[Phase]) -> &[Phase]
+pub fn brought_by(step: Step, phases: &[Phase]) -> &[Phase]
     ensures { result.now ≡ brings step phases.now }
 {
     match step {
@@ -262,7 +262,7 @@ fn first_of(phases: &[Phase], number: u8) -> &[Phase]
 }
 
 /// What data phases from `at` on make of the dword at the address.
-fn value_merged(phases: &[Phase], space: Space, address: u128, at: u128, value: u32) -> u32
+pub fn value_merged(phases: &[Phase], space: Space, address: u128, at: u128, value: u32) -> u32
     requires { at ≤ 2 ^ 120 }
     ensures { result ≡ value_merged space address at value phases.now }
 {
@@ -276,7 +276,7 @@ fn value_merged(phases: &[Phase], space: Space, address: u128, at: u128, value: 
     merged
 }
 
-fn merged_at(phase: &Phase, address: u128, at: u128, value: u32, mask: u32) -> u32
+pub fn merged_at(phase: &Phase, address: u128, at: u128, value: u32, mask: u32) -> u32
     ensures { result ≡ (if at == address then merge_of value phase.now mask else value) }
 {
     if at == address {
@@ -287,7 +287,7 @@ fn merged_at(phase: &Phase, address: u128, at: u128, value: u32, mask: u32) -> u
 }
 
 /// Which of its bits a write changes.
-fn mask_of(space: Space, address: u128) -> u32
+pub fn mask_of(space: Space, address: u128) -> u32
     ensures { result ≡ mask_in space address }
 {
     match space {

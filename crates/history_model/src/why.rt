@@ -4,15 +4,15 @@ use std::fmt;
 #[derive(Clone, Copy, Debug, PartialEq, Eq, PartialOrd, Ord, Hash)]
 pub enum Why {
     /// The initiator does not present that operation on that bus now.
-    N1,
+    NotPresented,
     /// The operation is answered by another event.
-    N2,
+    AnsweredOtherwise,
     /// The operation is answered with Retry.
-    N3,
+    GetsRetry,
     /// Nothing is in flight on the lane.
-    N4,
+    NothingInFlight,
     /// The board marks this arrival otherwise.
-    N5,
+    MarkedOtherwise,
 }
 
 impl fmt::Display for Why {
@@ -23,11 +23,11 @@ impl fmt::Display for Why {
 
     fn fmt<W: fmt::Write>(&self, f: &mut fmt::Formatter<W>) -> fmt::Result {
         f.write_str(match self {
-            Why::N1 => "N1",
-            Why::N2 => "N2",
-            Why::N3 => "N3",
-            Why::N4 => "N4",
-            Why::N5 => "N5",
+            Why::NotPresented => "N1",
+            Why::AnsweredOtherwise => "N2",
+            Why::GetsRetry => "N3",
+            Why::NothingInFlight => "N4",
+            Why::MarkedOtherwise => "N5",
         })
     }
 }

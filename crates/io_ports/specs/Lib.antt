@@ -1,3 +1,4 @@
 pub mod Faults
 pub mod Port
 pub mod MemoryPort
+pub mod HeldPort

@@ -4,6 +4,7 @@
 
 mod counts;
 mod failed;
+mod held_source;
 mod memory_sink;
 mod memory_source;
 mod port;
@@ -11,6 +12,7 @@ mod read_port;
 mod write_port;
 
 pub use failed::Failed;
+pub use held_source::HeldSource;
 pub use memory_sink::MemorySink;
 pub use memory_source::MemorySource;
 pub use port::{Bytes, Sink, Source};

@@ -88,7 +88,7 @@ impl Source for MemorySource {
 }
 
 /// Copies bytes from the front to the front, as many as all three allow.
-fn give(from: &[u8], to: &mut [u8], most: usize) -> usize
+pub(crate) fn give(from: &[u8], to: &mut [u8], most: usize) -> usize
     requires { 0 < most }
     ensures count { result ≡ min most (min (length to.old) (length from.now)) }
     ensures bytes { take result to.new ≡ take result from.now }

@@ -1,4 +1,4 @@
-use crate::{Failed, MemorySink, MemorySource, ReadPort, Sink, Source, WritePort};
+use crate::{Failed, HeldSource, MemorySink, MemorySource, ReadPort, Sink, Source, WritePort};
 use pci_command::List;
 use std::alloc::Global;
 use std::fs::{File, OpenOptions};
@@ -80,5 +80,25 @@ fn taking_nothing_is_a_failure(rt: HostRuntime) -> Result<(), Fail> {
     assert_eq!(rt; port.write(b"text"), Ok(3));
     assert_eq!(rt; port.write(b"t"), Err(Failed));
     assert_eq!(rt; port.write(b""), Ok(0));
+    Ok(())
+}
+
+#[test]
+fn a_source_that_was_read_ahead_fails_where_the_reading_failed(
+    rt: HostRuntime,
+) -> Result<(), Fail> {
+    for (failing, most, given, end) in [
+        ([9].as_slice(), 9, "abcde", Ok(0)),
+        ([9].as_slice(), 3, "abc", Ok(0)),
+        ([2].as_slice(), 9, "ab", Err(Failed)),
+    ] {
+        let mut source = source(rt.alloc(), "abcde", failing)?;
+        let mut held = HeldSource::read_ahead(rt.alloc(), &mut source, most)?;
+        assert_eq!(rt; held.bytes(), given.as_bytes());
+        let mut buf = [0u8; 8];
+        assert_eq!(rt; held.read(&mut buf), Ok(given.len()));
+        assert_eq!(rt; held.read(&mut buf), end);
+        assert_eq!(rt; held.read(&mut buf), end);
+    }
     Ok(())
 }

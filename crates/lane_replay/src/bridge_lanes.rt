@@ -35,7 +35,7 @@ impl BridgeLanes {
     ghost use Rattle.lane_replay.specs.Room.{HaveRoom};
 
     /// Lanes with nothing on them.
-    fn new() -> BridgeLanes
+    pub fn new() -> BridgeLanes
         ensures { result ≡ record { here = empty_lane; back = empty_lane } }
     {
         BridgeLanes {
@@ -66,7 +66,7 @@ impl BridgeLanes {
     }
 
     /// One more event happens, to the lanes of the bridge to this bus.
-    fn happen(&mut self, board: &Board, event: &Event, bus: u8)
+    pub fn happen(&mut self, board: &Board, event: &Event, bus: u8)
         requires { HaveRoom 2 self.old }
         ensures { self.new ≡ lanes_after board.now event.now bus self.old }
     {

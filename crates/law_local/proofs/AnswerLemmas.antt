@@ -44,7 +44,7 @@ is_target place t is = subst IsTarget (sym is) tt
 
 module _ (board : Board) (fit : IsFit board) where
   -- how far an operation went through is known on a bus where a target claims it
-  gone_local : (h : List Event) (bus : ℕ) (by : By) (o : OpId) (request : Request) → Run board h → wants board h bus by o ≡ true → request_of board o bus ≡ Some request
+  pub gone_local : (h : List Event) (bus : ℕ) (by : By) (o : OpId) (request : Request) → Run board h → wants board h bus by o ≡ true → request_of board o bus ≡ Some request
       → IsTarget (claim board bus (without (through h o) request)) → through h o ≡ through (events_on board bus h) o
   gone_local h bus by o request run wanted is claims =
       let of_op = request_is_of board o bus request is in
@@ -131,7 +131,7 @@ module _ (board : Board) (fit : IsFit board) where
       ap (λ used. S used (value_of board h word)) (stalls_local board t target there h run) ∙ ap (S (stalls_used (events_on board target.bus h) t)) (value_local word target there h run)
 
   -- a target that claims answers by the events of its bus
-  target_answer_local : (h : List Event) (bus t : ℕ) (request : Request) (found : Option TargetAgent) → slice_get board.targets t ≡ found → Run board h → claim board bus request ≡ Target t
+  pub target_answer_local : (h : List Event) (bus t : ℕ) (request : Request) (found : Option TargetAgent) → slice_get board.targets t ≡ found → Run board h → claim board bus request ≡ Target t
       → target_answer board h t request found ≡ target_answer board (events_on board bus h) t request found
   target_answer_local h bus t request None there run claims = refl
   target_answer_local h bus t request (Some target) there run claims =

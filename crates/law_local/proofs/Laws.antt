@@ -12,6 +12,8 @@ pub use Rattle.law_local.proofs.AnswerLemmas.{answer_local}
 pub use Rattle.law_local.proofs.EndLemmas.{lawful_known}
 -- where no bus has anything to do, the run is complete
 pub use Rattle.law_local.proofs.EndLemmas.{quiet_complete}
+-- an event on one bus leaves every other bus as it was
+pub use Rattle.law_local.proofs.StayLemmas.{other_stays}
 -- facts on the definitions of this crate
 
 -- a move of a bridge, on a lane, on the lane back and on any other; and all lanes by these three

@@ -11,4 +11,6 @@ pub mod FlightLemmas
 pub mod GrowLemmas
 pub mod SortLemmas
 pub mod EndLemmas
+pub mod FrameLemmas
+pub mod StayLemmas
 pub mod Laws

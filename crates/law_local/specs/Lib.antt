@@ -3,3 +3,4 @@ pub mod Woven
 pub mod Stamps
 pub mod Answered
 pub mod Quiet
+pub mod Stays

@@ -6,19 +6,21 @@
 //! `sent`.
 #![tactic(auto)]
 
-ghost use Rattle.std.specs.Prelude.{ℕ, List};
+ghost use Rattle.std.specs.Prelude.{ℕ, ◌≢◌, List, ◌∷◌};
 ghost use Rattle.board_model.specs.declared.board.Board.{Board};
 ghost use Rattle.board_model.specs.declared.bridge.Lane.{Lane as BridgeLane};
 ghost use Rattle.board_model.specs.Valid.{IsValid};
 ghost use Rattle.history_model.specs.declared.event.Event.{Event};
 ghost use Rattle.history_model.specs.declared.event.Stamped.{Stamped};
 ghost use Rattle.history_model.specs.declared.item.Carried.{Carried};
-ghost use Rattle.history_model.specs.Runs.{Complete};
+ghost use Rattle.history_model.specs.Runs.{Run, Complete};
 ghost use Rattle.law_local.specs.Known.{BetweenBuses, JointRun};
 ghost use Rattle.law_local.specs.Woven.{AllWoven};
 ghost use Rattle.law_local.specs.Stamps.{events_of, LocalParts, IsMerged};
 ghost use Rattle.law_local.specs.Answered.{WantsAreLocal, AnswersAreLocal, TestsAreLocal};
 ghost use Rattle.law_local.specs.Quiet.{AllQuiet};
+ghost use Rattle.law_local.specs.Stays.{Stays};
+ghost use Rattle.history_model.specs.Local.{bus_of};
 
 /// Events of all buses, each allowed by what its bus knows, are a run where no item arrives before it
 /// was sent; and on each lane there is what the buses at its ends know.
@@ -44,4 +46,10 @@ pub fn answers_are_local()
 /// Where nothing comes to any bus, and whatever is presented gets a Retry, the run is complete.
 pub fn quiet_boards_are_complete()
     ensures { (board : Board) (sent : BridgeLane → List Carried) (h : List Event) → IsValid board → JointRun board sent h → AllQuiet board sent h → Complete board h }
+{}
+
+/// An event on one bus leaves every other bus as it was: what stands on the lanes that end there,
+/// whose turn it is, what is presented, and how each is answered.
+pub fn other_buses_stay()
+    ensures { (board : Board) (h : List Event) (e : Event) (bus : ℕ) → IsValid board → Run board (e ∷ h) → bus_of board e ≢ bus → Stays board bus h (e ∷ h) }
 {}

@@ -4,7 +4,7 @@ ghost use Rattle.next_event.specs.Fits.{BridgeFits, MasterFits, BusesFit};
 use board_model::{Board, Bridge, Master};
 
 /// Each board of the program has bus numbers as wide as their fields.
-pub(crate) fn buses_fit(board: &Board)
+pub fn buses_fit(board: &Board)
     ensures { BusesFit board.now }
 {
     bridges_fit(board.bridges.as_slice());

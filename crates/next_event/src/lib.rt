@@ -14,9 +14,9 @@ ghost use Rattle.next_event.specs.Next.{next_of};
 
 use crate::acts::first_act;
 use crate::arrivals::first_arrival;
-use crate::fits::buses_fit;
 use board_model::Board;
 use bus_tree::Tree;
+pub use fits::buses_fit;
 use history_model::Event;
 
 /// The next event of a run in a fixed order: the first arrival that is allowed, by increasing bus

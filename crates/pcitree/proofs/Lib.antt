@@ -1,3 +1,4 @@
+pub mod FileLemmas
 pub mod AppendLemmas
 pub mod StopLemmas
 pub mod WrittenLemmas

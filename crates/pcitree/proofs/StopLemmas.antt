@@ -1,15 +1,22 @@
 -- What a status says where a call stopped with it: that nothing was written, and its cause in the input.
-use Rattle.std.proofs.Common.{◌≡◌, ℕ, ◌<◌, ◌≤◌, List, ◌++◌, append-nil, length, Option, Some, None, IfSome, refl, sym, subst, ap, ◌∙◌, arith}
+use Rattle.std.proofs.Common.{◌≡◌, ◌≢◌, ◌↔◌, ℕ, ◌<◌, ◌≤◌, List, ◌++◌, append-nil, length, Option, Some, None, IfSome, inl, inr, refl, sym, subst, ap, ◌∙◌, arith}
 use Rattle.std.specs.Io.KnownBytes.{Consumes, IsAtEnd}
+use Rattle.io_ports.specs.Faults.{Rose}
 use Rattle.program_status.specs.declared.status.Status.{Status}
-use Rattle.program_status.specs.declared.status.Status.TheVariants.{Done, NoMemory, Usage, ReadFault, WriteFault, TooLong, BadBoard, BadTrace, NotRun, Incomplete}
+use Rattle.program_status.specs.declared.status.Status.TheVariants.{Done, ReadFault, WriteFault}
+use Rattle.program_status.specs.Subjects.{Subject, subject_of, IsUsage, IsRefusal, IsBeforeWriting, Serves}
+use Rattle.program_status.specs.Subjects.Subject.{Success, Memory, Words, Reading, Writing, Length, Input}
+use Rattle.program_input.specs.Refusals.{IsRefusing}
+use Rattle.program_input.proofs.RefusalLemmas.{board_refusing}
+use Rattle.command_check.proofs.ServedLemmas.{check_refusing}
+use Rattle.command_finish.proofs.ServedLemmas.{finish_refusing}
+use Rattle.command_audit.proofs.ServedLemmas.{audit_refusing}
 use Rattle.pcitree.specs.declared.words.Form.{Form}
-use Rattle.pcitree.specs.declared.words.Form.TheVariants.{RunSteady, Headers, Check, Finish}
-use Rattle.command_check.proofs.ServedLemmas.{complete_is_answered}
-use Rattle.command_finish.proofs.ServedLemmas.{run_is_answered}
-use Rattle.pcitree.specs.Answers.{limit_of, AnswersTo, Refuses, IsFaultless, IsServed, IsAnswered, Causes, Serves}
-use Rattle.pcitree.specs.Ends.{HoldsTooMuch, AnswersInput, RefusesInput, Finishes, IsBeforeWriting, IsRefusal}
-use Rattle.pcitree.specs.Stops.{StopsServing, StopsRunning}
+use Rattle.pcitree.specs.declared.words.Form.TheVariants as forms
+use Rattle.pcitree.specs.Words.{command_of}
+use Rattle.pcitree.specs.Answers.{limit_of, AnswersTo, Refuses, IsFaultless, IsServed, IsAnswered, CausesBy, Causes}
+use Rattle.pcitree.specs.Ends.{HoldsTooMuch, ReadsInput, AnswersInput, RefusesInput, Finishes, StopsInText}
+use Rattle.pcitree.specs.Stops.{StopsBy, StopsAnswering, StopsRunning}
 
 -- what was read to the end of a source is all that it held
 all_of : (held left : Option (List ℕ)) (input taken : List ℕ) → held ≡ Some input → Consumes held left taken → IsAtEnd left → input ≡ taken
@@ -48,109 +55,111 @@ too_much : (form : Form) (held : Option (List ℕ)) (input : List ℕ) → held 
 too_much form None input is holds = cc
 too_much form (Some bytes) input is holds = let same : bytes ≡ input = cc in subst (λ (l : List ℕ). limit_of form < length l) same holds
 
--- a faultless input is not refused
-faultless : (form : Form) (input : List ℕ) (status : Status) → IsFaultless form input → Refuses form input status → status ≡ NoMemory
-faultless RunSteady input NoMemory none refuses = refl
-faultless RunSteady input (BadBoard line fault) none refuses = absurd cc
-faultless RunSteady input Done none refuses = absurd refuses
-faultless RunSteady input (Usage word) none refuses = absurd refuses
-faultless RunSteady input ReadFault none refuses = absurd refuses
-faultless RunSteady input WriteFault none refuses = absurd refuses
-faultless RunSteady input TooLong none refuses = absurd refuses
-faultless RunSteady input (BadTrace line code) none refuses = absurd refuses
-faultless RunSteady input (NotRun event why) none refuses = absurd refuses
-faultless RunSteady input (Incomplete left) none refuses = absurd refuses
-faultless Headers input NoMemory none refuses = refl
-faultless Headers input (BadBoard line fault) none refuses = absurd cc
-faultless Headers input Done none refuses = absurd refuses
-faultless Headers input (Usage word) none refuses = absurd refuses
-faultless Headers input ReadFault none refuses = absurd refuses
-faultless Headers input WriteFault none refuses = absurd refuses
-faultless Headers input TooLong none refuses = absurd refuses
-faultless Headers input (BadTrace line code) none refuses = absurd refuses
-faultless Headers input (NotRun event why) none refuses = absurd refuses
-faultless Headers input (Incomplete left) none refuses = absurd refuses
-faultless Check input status trace refuses = complete_is_answered input status trace refuses
-faultless Finish input status trace refuses = run_is_answered input status trace refuses
+-- what each form owes of its refusals
+refusing : (form : Form) → IsRefusing (command_of form).Refuses (command_of form).IsFaultless
+refusing forms.Run = board_refusing
+refusing forms.RunSteady = board_refusing
+refusing forms.Headers = board_refusing
+refusing forms.Check = check_refusing
+refusing forms.Finish = finish_refusing
+refusing forms.Audit = audit_refusing
+refusing forms.Combine = board_refusing
+
+-- an input that was read, and is refused
+pub refused_answer : (form : Form) (held left : Option (List ℕ)) (before now : ℕ) (input : List ℕ) (status : Status) → ReadsInput form held left input → Refuses form input status → StopsAnswering form held left before now status
+refused_answer form held left before now input status reads refuses =
+    let P : Subject → Type 0 = λ subject. StopsBy subject form held left before now status in
+    elim ((refusing form).subject input status refuses) [
+      | inl memory ↦ subst P (sym memory) tt
+      | inr of_input ↦ subst P (sym of_input) (record { input = input; reads = reads; refuses = refuses })
+    ]
 
 -- an input that is served is answered, but for want of memory and the faults of ports
+served_as : (subject : Subject) (form : Form) (input : List ℕ) (status : Status) → subject_of status ≡ subject → IsServed form input → CausesBy subject form input status → (subject ≢ Words) × (subject ≢ Length) × (subject ≢ Input)
+served_as Success form input status is served cause = (λ e. cc, λ e. cc, λ e. cc)
+served_as Memory form input status is served cause = (λ e. cc, λ e. cc, λ e. cc)
+served_as Words form input status is served cause = absurd cause
+served_as Reading form input status is served cause = (λ e. cc, λ e. cc, λ e. cc)
+served_as Writing form input status is served cause = (λ e. cc, λ e. cc, λ e. cc)
+served_as Length form input status is served cause = absurd (omega (arith, served.0, cause))
+served_as Input form input status is served cause =
+    let memory : subject_of status ≡ Memory = ap subject_of ((refusing form).served input status served.1 cause.1) in
+    absurd cc
+
 pub served_by : (form : Form) (input : List ℕ) (status : Status) → IsServed form input → Causes form input status → Serves status
-served_by form input Done served cause = tt
-served_by form input NoMemory served cause = tt
-served_by form input (Usage word) served cause = cause
-served_by form input ReadFault served cause = tt
-served_by form input WriteFault served cause = tt
-served_by form input TooLong served cause = absurd (omega (arith, served.0, cause))
-served_by form input (BadBoard line fault) served cause = let none = faultless form input (BadBoard line fault) served.1 cause.1 in absurd cc
-served_by form input (BadTrace line code) served cause = let none = faultless form input (BadTrace line code) served.1 cause.1 in absurd cc
-served_by form input (NotRun event why) served cause = let none = faultless form input (NotRun event why) served.1 cause.1 in absurd cc
-served_by form input (Incomplete left) served cause = let none = faultless form input (Incomplete left) served.1 cause.1 in absurd cc
+served_by form input status served cause = served_as (subject_of status) form input status refl served cause
+
+pub done_serves : Serves Done
+done_serves = (λ e. cc, λ e. cc, λ e. cc)
+
+-- the cause of an answer, where an input was not read or not answered
+caused_as : (subject : Subject) (form : Form) (held left : Option (List ℕ)) (before now : ℕ) (status : Status) (input : List ℕ) → held ≡ Some input → StopsBy subject form held left before now status → CausesBy subject form input status
+caused_as Success form held left before now status input is stops = absurd stops
+caused_as Memory form held left before now status input is stops = tt
+caused_as Words form held left before now status input is stops = stops
+caused_as Reading form held left before now status input is stops = tt
+caused_as Writing form held left before now status input is stops = absurd stops
+caused_as Length form held left before now status input is stops = too_much form held input is stops
+caused_as Input form held left before now status input is stops = refused form held left input status is stops
 
 module _ (S K : Type 0) (held : S → Option (List ℕ)) (read_faults : S → ℕ) (taken : K → Option (List ℕ)) (write_faults : K → ℕ) where
-  serving_unwritten : (form : Form) (s t : S) (k l : K) (status : Status) → StopsServing S K held read_faults taken write_faults form s t k l status → IsBeforeWriting status → l ≡ k
-  serving_unwritten form s t k l Done stops before = absurd before
-  serving_unwritten form s t k l NoMemory stops before = stops.1
-  serving_unwritten form s t k l (Usage word) stops before = stops.1
-  serving_unwritten form s t k l ReadFault stops before = stops.1
-  serving_unwritten form s t k l WriteFault stops before = absurd before
-  serving_unwritten form s t k l TooLong stops before = stops.1
-  serving_unwritten form s t k l (BadBoard line fault) stops before = stops.1
-  serving_unwritten form s t k l (BadTrace line code) stops before = stops.1
-  serving_unwritten form s t k l (NotRun event why) stops before = stops.1
-  serving_unwritten form s t k l (Incomplete left) stops before = stops.1
+  -- a call with words of this form, or of none, stopped with this status
+  abbrev Stopped : Option Form → S → S → K → K → Status → Type 0
+  Stopped known s t k l status = StopsRunning S K held read_faults taken write_faults known s t k l status
 
-  pub unwritten : (form : Option Form) (s t : S) (k l : K) (status : Status) → StopsRunning S K held read_faults taken write_faults form s t k l status → IsBeforeWriting status → l ≡ k
-  unwritten None s t k l Done stops before = absurd stops
-  unwritten None s t k l NoMemory stops before = absurd stops
-  unwritten None s t k l (Usage word) stops before = stops.1
-  unwritten None s t k l ReadFault stops before = absurd stops
-  unwritten None s t k l WriteFault stops before = absurd stops
-  unwritten None s t k l TooLong stops before = absurd stops
-  unwritten None s t k l (BadBoard line fault) stops before = absurd stops
-  unwritten None s t k l (BadTrace line code) stops before = absurd stops
-  unwritten None s t k l (NotRun event why) stops before = absurd stops
-  unwritten None s t k l (Incomplete left) stops before = absurd stops
-  unwritten (Some form) s t k l status stops before = serving_unwritten form s t k l status stops before
+  -- what holds of the part that stopped, by what the status speaks of
+  stopped_as : (form : Form) (subject : Subject) (s t : S) (k l : K) (status : Status) → subject_of status ≡ subject → subject ≢ Writing → Stopped (Some form) s t k l status → StopsBy subject form (held s) (held t) (read_faults s) (read_faults t) status
+  stopped_as form subject s t k l status is other stops =
+      elim stops [
+        | inl early ↦ subst (λ v. StopsBy v form (held s) (held t) (read_faults s) (read_faults t) status) is early.0
+        | inr late ↦ absurd (other (sym is ∙ late.subject))
+      ]
 
-  pub caused : (form : Form) (s t : S) (k l : K) (status : Status) (input : List ℕ) → held s ≡ Some input → StopsServing S K held read_faults taken write_faults form s t k l status → Causes form input status
-  caused form s t k l Done input is stops = absurd stops.0
-  caused form s t k l NoMemory input is stops = tt
-  caused form s t k l (Usage word) input is stops = stops.0
-  caused form s t k l ReadFault input is stops = tt
-  caused form s t k l WriteFault input is stops = answered form (held s) (held t) input stops.1.text is stops.1.answers
-  caused form s t k l TooLong input is stops = too_much form (held s) input is stops.0
-  caused form s t k l (BadBoard line fault) input is stops = refused form (held s) (held t) input (BadBoard line fault) is stops.0
-  caused form s t k l (BadTrace line code) input is stops = refused form (held s) (held t) input (BadTrace line code) is stops.0
-  caused form s t k l (NotRun event why) input is stops = refused form (held s) (held t) input (NotRun event why) is stops.0
-  caused form s t k l (Incomplete left) input is stops = refused form (held s) (held t) input (Incomplete left) is stops.0
+  pub unwritten : (known : Option Form) (s t : S) (k l : K) (status : Status) → Stopped known s t k l status → IsBeforeWriting status → l ≡ k
+  unwritten None s t k l status stops before = stops.2
+  unwritten (Some form) s t k l status stops before = elim stops [ inl early ↦ early.1 | inr late ↦ absurd (before.1 late.subject) ]
 
-  pub caused_by : (known : Option Form) (form : Form) (s t : S) (k l : K) (status : Status) (input : List ℕ) → known ≡ Some form → held s ≡ Some input → StopsRunning S K held read_faults taken write_faults known s t k l status → Causes form input status
+  pub not_done : (known : Option Form) (s t : S) (k l : K) (status : Status) → Stopped known s t k l status → status ≡ Done → ⊥
+  not_done None s t k l status stops is = let words = stops.0 in let success : subject_of status ≡ Success = ap subject_of is in cc
+  not_done (Some form) s t k l status stops is = stopped_as form Success s t k l status (ap subject_of is) (λ e. cc) stops
+
+  no_usage : (form : Form) (s t : S) (k l : K) (status : Status) → Stopped (Some form) s t k l status → IsUsage status → ⊥
+  no_usage form s t k l status stops usage = stopped_as form Words s t k l status usage (λ e. cc) stops
+
+  pub usage_exactly : (known : Option Form) (s t : S) (k l : K) (status : Status) → Stopped known s t k l status → IsUsage status ↔ (known ≡ None)
+  usage_exactly None s t k l status stops = (λ _. refl, λ _. stops.0)
+  usage_exactly (Some form) s t k l status stops = (λ usage. absurd (no_usage form s t k l status stops usage), λ none. cc)
+
+  pub usage_unread : (known : Option Form) (s t : S) (k l : K) (status : Status) → Stopped known s t k l status → IsUsage status → t ≡ s
+  usage_unread None s t k l status stops usage = stops.1
+  usage_unread (Some form) s t k l status stops usage = absurd (no_usage form s t k l status stops usage)
+
+  pub read_failed : (known : Option Form) (s t : S) (k l : K) (status : Status) → Stopped known s t k l status → status ≡ ReadFault → Rose (read_faults s) (read_faults t)
+  read_failed None s t k l status stops is = let words = stops.0 in let reading : subject_of status ≡ Reading = ap subject_of is in absurd cc
+  read_failed (Some form) s t k l status stops is = stopped_as form Reading s t k l status (ap subject_of is) (λ e. cc) stops
+
+  pub write_failed : (known : Option Form) (s t : S) (k l : K) (status : Status) → Stopped known s t k l status → status ≡ WriteFault
+      → Rose (write_faults k) (write_faults l) × IfSome known (λ form. StopsInText form (held s) (held t) (taken k) (taken l))
+  write_failed None s t k l status stops is = let words = stops.0 in let writing : subject_of status ≡ Writing = ap subject_of is in absurd cc
+  write_failed (Some form) s t k l status stops is =
+      elim stops [
+        | inl early ↦ absurd (subst (λ v. StopsBy v form (held s) (held t) (read_faults s) (read_faults t) status) (ap subject_of is) early.0)
+        | inr late ↦ (late.rose, late.text)
+      ]
+
+  caused : (form : Form) (s t : S) (k l : K) (status : Status) (input : List ℕ) → held s ≡ Some input → Stopped (Some form) s t k l status → Causes form input status
+  caused form s t k l status input is stops =
+      elim stops [
+        | inl early ↦ caused_as (subject_of status) form (held s) (held t) (read_faults s) (read_faults t) status input is early.0
+        | inr late ↦ subst (λ v. CausesBy v form input status) (sym late.subject) (answered form (held s) (held t) input late.text.text is late.text.answers)
+      ]
+
+  pub caused_by : (known : Option Form) (form : Form) (s t : S) (k l : K) (status : Status) (input : List ℕ) → known ≡ Some form → held s ≡ Some input → Stopped known s t k l status → Causes form input status
   caused_by None form s t k l status input there is stops = cc
   caused_by (Some other) form s t k l status input there is stops =
       let same : other ≡ form = cc in
       subst (λ (f : Form). Causes f input status) same (caused other s t k l status input is stops)
 
-  serving_refused : (form : Form) (s t : S) (k l : K) (status : Status) → StopsServing S K held read_faults taken write_faults form s t k l status → IsRefusal status → RefusesInput form (held s) (held t) status
-  serving_refused form s t k l Done stops refusal = absurd refusal
-  serving_refused form s t k l NoMemory stops refusal = absurd refusal
-  serving_refused form s t k l (Usage word) stops refusal = absurd refusal
-  serving_refused form s t k l ReadFault stops refusal = absurd refusal
-  serving_refused form s t k l WriteFault stops refusal = absurd refusal
-  serving_refused form s t k l TooLong stops refusal = absurd refusal
-  serving_refused form s t k l (BadBoard line fault) stops refusal = stops.0
-  serving_refused form s t k l (BadTrace line code) stops refusal = stops.0
-  serving_refused form s t k l (NotRun event why) stops refusal = stops.0
-  serving_refused form s t k l (Incomplete left) stops refusal = stops.0
-
-  pub refused_in : (known : Option Form) (s t : S) (k l : K) (status : Status) → StopsRunning S K held read_faults taken write_faults known s t k l status → IsRefusal status → IfSome known (λ form. RefusesInput form (held s) (held t) status)
-  refused_in None s t k l Done stops refusal = absurd refusal
-  refused_in None s t k l NoMemory stops refusal = absurd refusal
-  refused_in None s t k l (Usage word) stops refusal = absurd refusal
-  refused_in None s t k l ReadFault stops refusal = absurd refusal
-  refused_in None s t k l WriteFault stops refusal = absurd refusal
-  refused_in None s t k l TooLong stops refusal = absurd refusal
-  refused_in None s t k l (BadBoard line fault) stops refusal = absurd stops
-  refused_in None s t k l (BadTrace line code) stops refusal = absurd stops
-  refused_in None s t k l (NotRun event why) stops refusal = absurd stops
-  refused_in None s t k l (Incomplete left) stops refusal = absurd stops
-  refused_in (Some form) s t k l status stops refusal = serving_refused form s t k l status stops refusal
+  pub refused_in : (known : Option Form) (s t : S) (k l : K) (status : Status) → Stopped known s t k l status → IsRefusal status → IfSome known (λ form. RefusesInput form (held s) (held t) status)
+  refused_in None s t k l status stops refusal = let words = stops.0 in absurd cc
+  refused_in (Some form) s t k l status stops refusal = stopped_as form Input s t k l status refusal (λ e. cc) stops

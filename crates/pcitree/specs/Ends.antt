@@ -1,11 +1,11 @@
 -- How a call of the program ends, seen at its words, its source and its sink.
-use Rattle.std.specs.Prelude.{ℕ, Bool, true, false, ◌≤◌, ◌<◌, List, length, Option, IfSome}
+use Rattle.std.specs.Prelude.{ℕ, Bool, ◌≤◌, ◌<◌, List, length, Option, IfSome}
 use Rattle.std.specs.Io.KnownBytes.{Consumes, IsAtEnd, Appends}
 use Rattle.program_status.specs.declared.status.Status.{Status}
-use Rattle.program_status.specs.declared.status.Status.TheVariants.{Done, Usage, WriteFault, BadBoard, BadTrace, NotRun, Incomplete}
+use Rattle.program_input.specs.Traces.{IsCompleteTrace}
 use Rattle.pcitree.specs.declared.words.Form.{Form}
-use Rattle.pcitree.specs.declared.words.Form.TheVariants.{RunSteady, Headers, Check, Finish}
-use Rattle.pcitree.specs.Answers.{limit_of, AnswersTo, Refuses, IsFaultless}
+use Rattle.pcitree.specs.Words.{command_of}
+use Rattle.pcitree.specs.Answers.{limit_of, AnswersTo, Refuses}
 use Rattle.pcitree.specs.Writing.{WritesFront}
 
 -- the source gave this input to its end: all that it held, where it tells it
@@ -42,33 +42,12 @@ pub record StopsInText (form : Form) (held left before after : Option (List ℕ)
   pub answers : AnswersInput form held left text
   pub front : WritesFront before after text
 
--- the forms that write the trace of a run
-abbrev pub writes_trace : Form → Bool
-writes_trace RunSteady = true
-writes_trace Headers = false
-writes_trace Check = false
-writes_trace Finish = true
+-- the forms that write the trace of a complete run
+abbrev pub writes_run : Form → Bool
+writes_run form = (command_of form).writes_run
 
 -- the sink took the text of a valid board and of a complete run of it, as `check` wants it
 pub record WritesRun (before after : Option (List ℕ)) : Type 0 where
   pub text : List ℕ
-  pub complete : IsFaultless Check text
+  pub complete : IsCompleteTrace text
   pub written : Appends before after text
-
-abbrev pub IsUsage : Status → Type 0
-IsUsage (Usage _) = Unit {0}
-IsUsage _ = ⊥
-
--- the statuses that tell of the input
-abbrev pub IsRefusal : Status → Type 0
-IsRefusal (BadBoard _ _) = Unit {0}
-IsRefusal (BadTrace _ _) = Unit {0}
-IsRefusal (NotRun _ _) = Unit {0}
-IsRefusal (Incomplete _) = Unit {0}
-IsRefusal _ = ⊥
-
--- the statuses with which nothing was written
-abbrev pub IsBeforeWriting : Status → Type 0
-IsBeforeWriting Done = ⊥
-IsBeforeWriting WriteFault = ⊥
-IsBeforeWriting _ = Unit {0}

@@ -1,24 +1,9 @@
-ghost use Rattle.std.specs.Prelude.{◌≡◌, ◌<◌, ◌≤◌, ◌^◌, IfOk, IfErr, length};
-ghost use Rattle.pcitree.specs.Answers.{limit_of, AnswersTo, Refuses};
+ghost use Rattle.std.specs.Prelude.{◌<◌, ◌^◌, IfOk, IfErr, length};
+ghost use Rattle.pcitree.specs.Answers.{AnswersTo, Refuses};
 
 use crate::words::Form;
-use command_check::answer_check;
-use command_finish::answer_finish;
-use command_headers::answer_headers;
-use command_run::answer_run;
 use program_status::Status;
 use std::alloc::Global;
-
-/// How many bytes an input may have.
-pub(crate) fn limit_of(form: Form) -> usize
-    ensures value { result ≡ limit_of form }
-    ensures small { result < 2 ^ 31 }
-{
-    match form {
-        Form::RunSteady | Form::Headers => 0x10_0000,
-        Form::Check | Form::Finish => 0x400_0000,
-    }
-}
 
 /// The text that answers an input.
 pub(crate) fn answer(alloc: Global, form: Form, input: &[u8]) -> Result<Vec<u8>, Status>
@@ -27,9 +12,12 @@ pub(crate) fn answer(alloc: Global, form: Form, input: &[u8]) -> Result<Vec<u8>,
     ensures err { IfErr result (Refuses form input.now) }
 {
     match form {
-        Form::RunSteady => answer_run(alloc, input),
-        Form::Headers => answer_headers(alloc, input),
-        Form::Check => answer_check(alloc, input),
-        Form::Finish => answer_finish(alloc, input),
+        Form::Run => command_run::answer_run(alloc, input),
+        Form::RunSteady => command_run::answer_run(alloc, input),
+        Form::Headers => command_headers::answer_headers(alloc, input),
+        Form::Check => command_check::answer_check(alloc, input),
+        Form::Finish => command_finish::answer_finish(alloc, input),
+        Form::Audit => command_audit::answer_audit(alloc, input),
+        Form::Combine => command_combine::answer_combine(alloc, input),
     }
 }

@@ -9,7 +9,7 @@ mod writing;
 
 pub use program::pcitree;
 pub use program_status::{BoardFault, Status};
-pub use words::file_word;
+pub use words::{FORMS, Form, Part, Row, file_word, input_limit};
 
 #[cfg(test)]
 mod tests;

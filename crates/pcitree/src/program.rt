@@ -2,11 +2,12 @@ ghost use Rattle.std.specs.Prelude.{◌≡◌, ◌↔◌, ℕ, true, List, Some,
 ghost use Rattle.io_ports.specs.Faults.{Rose};
 ghost use Rattle.pcitree.specs.declared.words.Form.{Form as WordForm};
 ghost use Rattle.pcitree.specs.Words.{form_of, misfit};
-ghost use Rattle.pcitree.specs.Answers.{IsServed, Causes, Serves};
-ghost use Rattle.pcitree.specs.Ends.{IsUsage, IsRefusal, IsBeforeWriting, ReadsInput, HoldsTooMuch, AnswersInput, RefusesInput, Finishes, StopsInText, WritesRun, writes_trace};
-ghost use Rattle.pcitree.specs.Stops.{StopsReading, StopsAnswering, StopsServing, StopsRunning};
+ghost use Rattle.program_status.specs.Subjects.{IsUsage, IsRefusal, IsBeforeWriting, Serves};
+ghost use Rattle.pcitree.specs.Answers.{IsServed, Causes};
+ghost use Rattle.pcitree.specs.Ends.{ReadsInput, AnswersInput, RefusesInput, Finishes, StopsInText, WritesRun, writes_run};
+ghost use Rattle.pcitree.specs.Stops.{StopsAnswering, StopsServing, StopsRunning};
 
-use crate::answering::{answer, limit_of};
+use crate::answering::answer;
 use crate::reading::{ReadError, read_all};
 use crate::words::{Form, form_of, misfit};
 use crate::writing::write_all;
@@ -47,7 +48,7 @@ pub fn pcitree<S: Source, K: Sink>(
 
     // What `run` or `finish` wrote is the text of a complete run, as `check` wants it.
     ensures checked { (form : WordForm) → result ≡ Status.Done → form_of (map string_bytes words.now) ≡ Some form
-        → writes_trace form ≡ true → WritesRun (K.taken sink.old) (K.taken sink.new) }
+        → writes_run form ≡ true → WritesRun (K.taken sink.old) (K.taken sink.new) }
 
     // What was read.
     ensures refused { IsRefusal result → IfSome (form_of (map string_bytes words.now)) (λ form.
@@ -121,10 +122,10 @@ fn read_and_answer<S: Source>(alloc: Global, form: Form, source: &mut S) -> Resu
 /// Reads an input to its end.
 fn read_input<S: Source>(alloc: Global, form: Form, source: &mut S) -> Result<Vec<u8>, Status>
     ensures ok { IfOk result (λ input. ReadsInput form (S.held source.old) (S.held source.new) input.items) }
-    ensures stopped { IfErr result (StopsReading form
-        (S.held source.old) (S.faults source.old) (S.faults source.new)) }
+    ensures stopped { IfErr result (StopsAnswering form
+        (S.held source.old) (S.held source.new) (S.faults source.old) (S.faults source.new)) }
 {
-    match read_all(alloc, source, limit_of(form)) {
+    match read_all(alloc, source, form.row().limit) {
         Ok(input) => Ok(input),
         Err(ReadError::NoMemory) => Err(Status::NoMemory),
         Err(ReadError::Failed) => Err(Status::ReadFault),

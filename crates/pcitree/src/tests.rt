@@ -1,9 +1,12 @@
 use crate::{BoardFault, Status, file_word, pcitree};
+use board_faults::TreeFault;
+use board_statements::LineFault;
 use history_model::Why;
 use io_ports::{MemorySink, MemorySource};
 use pci_command::List;
 use std::alloc::Global;
 use std::test::Fail;
+use trace_reader::TraceLineFault;
 
 const BOARD: &str = "pciboard 1\n";
 
@@ -78,14 +81,25 @@ fn a_board_is_answered_and_faults_are_told(rt: HostRuntime) -> Result<(), Fail> 
         (BOARD, 1, 0, Status::ReadFault, ""),
         (BOARD, 3, 1, Status::ReadFault, ""),
         ("pciboard 1 # a board", 0, 0, Status::Done, TRACE),
-        ("", 0, 1, at_line(1, BoardFault::P(1)), ""),
-        ("pciboard 1\nfrob", 0, 1, at_line(2, BoardFault::P(2)), ""),
-        (TWO_AT_ONE_PLACE, 0, 1, at_line(0, BoardFault::V(7)), ""),
         (
-            "pciboard 1\nmaster a on 0\nior 0",
+            "",
             0,
             1,
-            at_line(0, BoardFault::P(15)),
+            at_line(1, BoardFault::Line(LineFault::NoFirstLine)),
+            "",
+        ),
+        (
+            "pciboard 1\nfrob",
+            0,
+            1,
+            at_line(2, BoardFault::Line(LineFault::WrongWord)),
+            "",
+        ),
+        (
+            TWO_AT_ONE_PLACE,
+            0,
+            1,
+            at_line(0, BoardFault::Tree(TreeFault::DevicesMeet)),
             "",
         ),
     ] {
@@ -123,7 +137,15 @@ fn traces_are_checked(rt: HostRuntime) -> Result<(), Fail> {
             "complete run of 2 events, bound 2\n",
         ),
         (cut, "end 0", Status::Incomplete { left: 1 }, ""),
-        (cut, "end 1", Status::BadTrace { line: 7, code: 7 }, ""),
+        (
+            cut,
+            "end 1",
+            Status::BadTrace {
+                line: 7,
+                fault: TraceLineFault::WrongCount,
+            },
+            "",
+        ),
         (
             cut,
             "0 nobody m m.0\nend 1",
@@ -135,7 +157,7 @@ fn traces_are_checked(rt: HostRuntime) -> Result<(), Fail> {
             "0 stall m m.0 t\nend 1",
             Status::NotRun {
                 event: 1,
-                why: Why::N2,
+                why: Why::AnsweredOtherwise,
             },
             "",
         ),

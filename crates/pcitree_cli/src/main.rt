@@ -1,9 +1,15 @@
 //! `pcitree WORDS..`: reads the file that the words name, and writes to standard output. A line on
-//! standard error and the number that it ends with say what went wrong.
+//! standard error and the number that it ends with say what went wrong; the lines behind it say
+//! where and why.
 #![tactic(auto)]
 
-use io_ports::{ReadPort, WritePort};
-use pcitree::{Status, file_word, pcitree};
+mod asked;
+mod report;
+
+use asked::{Asked, asked_for, tell};
+use io_ports::{HeldSource, ReadPort, WritePort};
+use pcitree::{Status, file_word, input_limit, pcitree};
+use report::report;
 use std::env;
 use std::fs::File;
 use std::io::ErrorKind;
@@ -11,12 +17,9 @@ use std::process::ExitCode;
 
 fn main(rt: HostRuntime) -> ExitCode {
     let status = match words(&rt) {
-        Ok(words) => run(&rt, words.as_slice()),
-        Err(status) => status,
+        Ok(words) => serve(&rt, words.as_slice()),
+        Err(status) => status_only(&rt, status),
     };
-    if status != Status::Done {
-        let _ = eprintln!(rt; "{status}");
-    }
     ExitCode::from(status.number())
 }
 
@@ -29,10 +32,62 @@ fn words(rt: &HostRuntime) -> Result<Vec<String>, Status> {
     }
 }
 
+fn status_only(rt: &HostRuntime, status: Status) -> Status {
+    let _ = eprintln!(rt; "{status}");
+    status
+}
+
+/// Says what the program says of itself, or does what the words ask for.
+fn serve(rt: &HostRuntime, words: &[String]) -> Status {
+    match asked_for(words) {
+        Asked::Work => run(rt, words),
+        Asked::Misfit(word) => misfit(rt, word),
+        asked => match tell(rt, asked) {
+            Ok(()) => Status::Done,
+            Err(_) => status_only(rt, Status::WriteFault),
+        },
+    }
+}
+
+fn misfit(rt: &HostRuntime, word: u32) -> Status {
+    let status = status_only(rt, Status::Usage { word });
+    report(rt, "", b"", status, None);
+    status
+}
+
+/// Reads the file whole, so far as an input may go, and hands it to the call that answers it.
 fn run(rt: &HostRuntime, words: &[String]) -> Status {
-    let name = file_word(words).and_then(|place| words.get(place as usize));
-    let file = name.and_then(|name| File::open(rt, name.as_str()).ok());
-    let mut source = ReadPort::new(file);
+    let name = file_name(words);
+    let (file, reason) = open(rt, name);
+    let mut port = ReadPort::new(file);
+    let Ok(mut source) = HeldSource::read_ahead(rt.alloc(), &mut port, input_limit(words) + 1)
+    else {
+        return status_only(rt, Status::NoMemory);
+    };
     let mut sink = WritePort::new(rt.stdout());
-    pcitree(rt.alloc(), words, &mut source, &mut sink)
+    let status = pcitree(rt.alloc(), words, &mut source, &mut sink);
+    if status != Status::Done {
+        let _ = eprintln!(rt; "{status}");
+        report(rt, name, source.bytes(), status, reason);
+    }
+    status
+}
+
+/// The name of the file to be read, if the words are of a form.
+fn file_name(words: &[String]) -> &str {
+    match file_word(words).and_then(|place| words.get(place as usize)) {
+        Some(name) => name.as_str(),
+        None => "",
+    }
+}
+
+/// The file, or why it was not opened.
+fn open(rt: &HostRuntime, name: &str) -> (Option<File>, Option<ErrorKind>) {
+    if name.is_empty() {
+        return (None, None);
+    }
+    match File::open(rt, name) {
+        Ok(file) => (Some(file), None),
+        Err(error) => (None, Some(error.kind())),
+    }
 }

@@ -1,2 +1,3 @@
+pub mod RefusalLemmas
 pub mod TraceLemmas
 pub mod TreeLemmas

@@ -1,12 +1,14 @@
 -- What is known of a trace text that is read.
-use Rattle.std.proofs.Common.{◌≡◌, ℕ, List, Some, None, Result, Ok, Err, sym, ap, refl, ◌∙◌}
+use Rattle.std.proofs.Common.{◌≡◌, ℕ, List, None, Result, Ok, Err, sym, ap, refl, ◌∙◌}
 use Rattle.board_model.specs.declared.board.Board.{Board}
 use Rattle.history_model.specs.declared.event.Event.{Event}
 use Rattle.trace_reader.specs.declared.fault.TraceFault.{TraceFault}
 use Rattle.trace_reader.specs.Traces.{trace_read}
 use Rattle.program_status.specs.declared.status.Status.{Status}
+use Rattle.program_status.specs.declared.status.Status.TheVariants.{NoMemory}
 use Rattle.program_input.specs.Refusals.{trace_reading_refusal, trace_refusal}
-use Rattle.program_input.specs.Traces.{ReadsTrace}
+use Rattle.program_input.specs.Traces.{ReadsTrace, RefusesTrace}
+use Rattle.program_input.proofs.RefusalLemmas.{refused_by_memory}
 
 board_in : Board → Result (Board × List Event) TraceFault → Board
 board_in board (Ok read) = read.0
@@ -22,10 +24,10 @@ unfolding board_in events_in
 same_trace input board other events others one two =
     (sym (ap (board_in board) one) ∙ ap (board_in board) two, sym (ap (events_in events) one) ∙ ap (events_in events) two)
 
--- a text that is read is not refused for a fault of its own
-pub not_refused : (input : List ℕ) (board : Board) (events : List Event) (status : Status) → ReadsTrace input board events → trace_refusal input ≡ Some status → ⊥
-not_refused input board events status reads refusal =
+-- a text that is read is refused only for want of memory
+pub read_refused_by_memory : (input : List ℕ) (board : Board) (events : List Event) (status : Status) → ReadsTrace input board events → RefusesTrace input status → status ≡ NoMemory
+read_refused_by_memory input board events status reads refuses =
     let read = reads.read in
     let tree = reads.tree in
     let none : trace_refusal input ≡ None = ap trace_reading_refusal read ∙ rw tree refl in
-    absurd cc
+    refused_by_memory (trace_refusal input) status none refuses

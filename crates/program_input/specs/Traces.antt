@@ -1,5 +1,5 @@
 -- A trace text that is read as a valid board and events of it, or refused.
-use Rattle.std.specs.Prelude.{◌≡◌, ◌<◌, ◌^◌, ℕ, List, length, Some, None, Ok}
+use Rattle.std.specs.Prelude.{◌≡◌, ◌<◌, ◌^◌, ℕ, List, length, None, Ok}
 use Rattle.board_model.specs.declared.board.Board.{Board}
 use Rattle.board_model.specs.Valid.{IsValid}
 use Rattle.history_model.specs.declared.event.Event.{Event}
@@ -8,8 +8,7 @@ use Rattle.history_model.specs.Runs.{Run, Complete, history_of}
 use Rattle.trace_reader.specs.Traces.{trace_read}
 use Rattle.trace_check.specs.Verdicts.{FirstRefused}
 use Rattle.program_status.specs.declared.status.Status.{Status}
-use Rattle.program_status.specs.declared.status.Status.TheVariants.{NoMemory, BadBoard, BadTrace}
-use Rattle.program_input.specs.Refusals.{tree_fault, trace_refusal}
+use Rattle.program_input.specs.Refusals.{tree_fault, trace_refusal, RefusesBy}
 use Rattle.program_input.specs.declared.trace.TreeTrace.{TreeTrace}
 
 -- the input is the text of this board, which has no fault, and of these events
@@ -19,10 +18,7 @@ pub record ReadsTrace (input : List ℕ) (board : Board) (events : List Event) :
 
 -- it is no text of a valid board and of events: refused by its first fault, or for want of memory
 abbrev pub RefusesTrace : List ℕ → Status → Type 0
-RefusesTrace input NoMemory = Unit {0}
-RefusesTrace input (BadBoard line fault) = trace_refusal input ≡ Some (BadBoard line fault)
-RefusesTrace input (BadTrace line code) = trace_refusal input ≡ Some (BadTrace line code)
-RefusesTrace input _ = ⊥
+RefusesTrace input status = RefusesBy (trace_refusal input) status
 
 -- the input is the text of a valid board and of events that are no run of it, for this first event and this cause
 pub record IsNoRun (input : List ℕ) (event : ℕ) (why : Why) : Type 0 where

@@ -1,11 +1,10 @@
 ghost use Rattle.std.specs.Prelude.{◌≡◌, ◌<◌, ◌^◌, length, IsTrue, IfOk, IfErr, None};
 ghost use Rattle.board_model.specs.WellFormed.{is_well_formed};
-ghost use Rattle.program_input.specs.Refusals.{line_fault, board_refusal};
-ghost use Rattle.program_input.specs.Boards.{ReadsBoard, RefusesBoard, RefusesTree, IsTreeOf, tree_fault_told, refusal_told};
+ghost use Rattle.program_input.specs.Refusals.{board_refusal};
+ghost use Rattle.program_input.specs.Boards.{ReadsBoard, RefusesBoard, RefusesTree, IsTreeOf, refusal_told};
 
 use board_model::Board;
 use board_parser::{ParseFault, parse, read_is_well_formed};
-use board_statements::Family;
 use bus_tree::{Tree, TreeRefusal, validate};
 use program_status::{BoardFault, Status};
 use std::alloc::Global;
@@ -20,22 +19,11 @@ pub fn read_tree(alloc: Global, input: &[u8]) -> Result<Tree, Status>
     read_is_well_formed();
     match parse(alloc, input) {
         Ok(board) => tree_of(board),
-        Err(ParseFault::Fault { line, family, code }) => Err(Status::BadBoard {
+        Err(ParseFault::Fault { line, fault }) => Err(Status::BadBoard {
             line,
-            fault: line_fault(family, code),
+            fault: BoardFault::Line(fault),
         }),
         Err(ParseFault::NoMemory) => Err(Status::NoMemory),
-    }
-}
-
-/// The fault of a line, by its letter.
-pub(crate) fn line_fault(family: Family, code: u8) -> BoardFault
-    ensures { result ≡ line_fault family code }
-{
-    match family {
-        Family::L => BoardFault::L(code),
-        Family::P => BoardFault::P(code),
-        Family::H => BoardFault::H(code),
     }
 }
 
@@ -55,23 +43,9 @@ pub(crate) fn tree_of(board: Board) -> Result<Tree, Status>
 fn told(refusal: TreeRefusal) -> Status
     ensures { result ≡ refusal_told refusal }
 {
-    let TreeRefusal::Fault {
-        code,
-        bound,
-        board: _,
-    } = refusal;
-    Status::BadBoard {
-        line: 0,
-        fault: tree_fault(code, bound),
-    }
-}
-
-fn tree_fault(code: u8, bound: u64) -> BoardFault
-    ensures { result ≡ tree_fault_told code bound }
-{
-    if code == 9 {
-        BoardFault::Bound(bound)
-    } else {
-        BoardFault::V(code)
-    }
+    let fault = match refusal {
+        TreeRefusal::Fault { fault, .. } => BoardFault::Tree(fault),
+        TreeRefusal::AboveBound { bound, .. } => BoardFault::Bound(bound),
+    };
+    Status::BadBoard { line: 0, fault }
 }

@@ -1,11 +1,11 @@
 ghost use Rattle.std.specs.Prelude.{◌<◌, ◌^◌, length, IfOk, IfErr};
 ghost use Rattle.program_input.specs.Traces.{ReadsTree, RefusesTrace};
 
-use crate::board::{line_fault, tree_of};
+use crate::board::tree_of;
 use bus_tree::Tree;
 use history_model::Event;
 use pci_command::List;
-use program_status::Status;
+use program_status::{BoardFault, Status};
 use std::alloc::Global;
 use trace_reader::{TraceFault, read_trace};
 
@@ -27,10 +27,10 @@ pub fn read_tree_trace(alloc: Global, input: &[u8]) -> Result<TreeTrace, Status>
             Ok(tree) => Ok(TreeTrace { tree, events }),
             Err(status) => Err(status),
         },
-        Err(TraceFault::Trace { line, code }) => Err(Status::BadTrace { line, code }),
-        Err(TraceFault::Board { line, family, code }) => Err(Status::BadBoard {
+        Err(TraceFault::Trace { line, fault }) => Err(Status::BadTrace { line, fault }),
+        Err(TraceFault::Board { line, fault }) => Err(Status::BadBoard {
             line,
-            fault: line_fault(family, code),
+            fault: BoardFault::Line(fault),
         }),
         Err(TraceFault::NoMemory) => Err(Status::NoMemory),
     }

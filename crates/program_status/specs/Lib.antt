@@ -1,1 +1,2 @@
 pub mod StatusText
+pub mod Subjects

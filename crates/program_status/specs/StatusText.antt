@@ -1,11 +1,16 @@
 -- How the program ends: a number, and a line on standard error.
 use Rattle.std.specs.Prelude.{ℕ, List, [], ◌++◌, codes}
 use Rattle.std.specs.Fmt.{decimal}
+use Rattle.board_faults.specs.Faults.{code_of as tree_code_of}
+use Rattle.board_statements.specs.declared.fault.Family.{Family}
+use Rattle.board_statements.specs.declared.fault.Family.TheVariants.{L, P, H}
+use Rattle.board_statements.specs.Faults.{family_of, code_of}
 use Rattle.history_model.specs.WhyText.{why_text}
+use Rattle.trace_reader.specs.Faults.{code_of as trace_code_of}
 use Rattle.program_status.specs.declared.status.Status.{Status}
 use Rattle.program_status.specs.declared.status.Status.TheVariants.{Done, NoMemory, Usage, ReadFault, WriteFault, TooLong, BadBoard, BadTrace, NotRun, Incomplete}
 use Rattle.program_status.specs.declared.status.BoardFault.{BoardFault}
-use Rattle.program_status.specs.declared.status.BoardFault.TheVariants.{L, P, H, V, Bound}
+use Rattle.program_status.specs.declared.status.BoardFault.TheVariants.{Line, Tree, Bound}
 
 -- what the process ends with
 abbrev pub number_of : Status → ℕ
@@ -20,13 +25,16 @@ number_of (BadTrace _ _) = 7
 number_of (NotRun _ _) = 8
 number_of (Incomplete _) = 9
 
--- a fault of a board: of its lines (L), its grammar (P), its headers (H) or its tree (V); a bound
--- that is too high comes with its number
+abbrev pub letter_of : Family → List ℕ
+letter_of L = codes "L"
+letter_of P = codes "P"
+letter_of H = codes "H"
+
+-- a fault of a board: of a line (L, P or H) or of its tree (V), by its number; a bound that is too high is V9, and
+-- comes with it
 abbrev pub fault_text : BoardFault → List ℕ
-fault_text (L code) = codes "L" ++ decimal code
-fault_text (P code) = codes "P" ++ decimal code
-fault_text (H code) = codes "H" ++ decimal code
-fault_text (V code) = codes "V" ++ decimal code
+fault_text (Line fault) = letter_of (family_of fault) ++ decimal (code_of fault)
+fault_text (Tree fault) = codes "V" ++ decimal (tree_code_of fault)
 fault_text (Bound bound) = codes "V9 bound " ++ decimal bound
 
 -- the line, without its newline
@@ -38,6 +46,6 @@ status_text ReadFault = codes "pcitree: read failed"
 status_text WriteFault = codes "pcitree: write failed"
 status_text TooLong = codes "pcitree: input too long"
 status_text (BadBoard line fault) = codes "pcitree: board line " ++ (decimal line ++ (codes " fault " ++ fault_text fault))
-status_text (BadTrace line code) = codes "pcitree: trace line " ++ (decimal line ++ (codes " fault X" ++ decimal code))
+status_text (BadTrace line fault) = codes "pcitree: trace line " ++ (decimal line ++ (codes " fault X" ++ decimal (trace_code_of fault)))
 status_text (NotRun event why) = codes "pcitree: event " ++ (decimal event ++ (codes " is not allowed: " ++ why_text why))
 status_text (Incomplete left) = codes "pcitree: incomplete, at most " ++ (decimal left ++ codes " events left")

@@ -1,18 +1,21 @@
 ghost use Rattle.std.specs.Prelude.{◌≡◌};
+ghost use Rattle.program_status.specs.StatusText.{letter_of};
 
+use board_faults::TreeFault;
+use board_statements::{Family, LineFault};
 use history_model::Why;
 use std::alloc::AllocError;
 use std::fmt;
+use trace_reader::TraceLineFault;
 
-/// A fault of a board, with its number in its family: of the lines (L), of the grammar (P), of the
-/// headers (H) and of the tree (V).
+/// A fault of a board.
 #[derive(Clone, Copy, Debug, PartialEq, Eq)]
 pub enum BoardFault {
-    L(u8),
-    P(u8),
-    H(u8),
-    V(u8),
-    /// V9: this bound on the number of events is too high.
+    /// A fault of a line, or of what it adds to the board.
+    Line(LineFault),
+    /// A fault of the tree of buses.
+    Tree(TreeFault),
+    /// This bound on the number of events is too high.
     Bound(u64),
 }
 
@@ -34,8 +37,8 @@ pub enum Status {
     TooLong,
     /// The board has a fault, at this line from 1 on, or 0 for the whole of it.
     BadBoard { line: u32, fault: BoardFault },
-    /// The text of the trace has a fault (X and the code), at this line from 1 on.
-    BadTrace { line: u32, code: u8 },
+    /// The text of the trace has a fault outside its board, at this line from 1 on.
+    BadTrace { line: u32, fault: TraceLineFault },
     /// This event, from 1 on, is not allowed after those before it.
     NotRun { event: u32, why: Why },
     /// The run has not ended: at most so many events are left.
@@ -65,6 +68,16 @@ impl Status {
     }
 }
 
+fn letter_of(family: Family) -> &'static str
+    ensures { result.now ≡ letter_of family }
+{
+    match family {
+        Family::L => "L",
+        Family::P => "P",
+        Family::H => "H",
+    }
+}
+
 impl fmt::Display for BoardFault {
     ghost use Rattle.std.specs.Prelude.{Some};
     ghost use Rattle.program_status.specs.StatusText.{fault_text};
@@ -73,10 +86,15 @@ impl fmt::Display for BoardFault {
 
     fn fmt<W: fmt::Write>(&self, f: &mut fmt::Formatter<W>) -> fmt::Result {
         match self {
-            BoardFault::L(code) => write!(f, "L{code}"),
-            BoardFault::P(code) => write!(f, "P{code}"),
-            BoardFault::H(code) => write!(f, "H{code}"),
-            BoardFault::V(code) => write!(f, "V{code}"),
+            BoardFault::Line(fault) => {
+                let letter = letter_of(fault.family());
+                let code = fault.code();
+                write!(f, "{letter}{code}")
+            }
+            BoardFault::Tree(fault) => {
+                let code = fault.code();
+                write!(f, "V{code}")
+            }
             BoardFault::Bound(bound) => write!(f, "V9 bound {bound}"),
         }
     }
@@ -100,10 +118,10 @@ impl fmt::Display for Status {
                 f,
                 "pcitree: board line {line} fault {fault}"
             ),
-            Status::BadTrace { line, code } => write!(
-                f,
-                "pcitree: trace line {line} fault X{code}"
-            ),
+            Status::BadTrace { line, fault } => {
+                let code = fault.code();
+                write!(f, "pcitree: trace line {line} fault X{code}")
+            }
             Status::NotRun { event, why } => {
                 write!(f, "pcitree: event {event} is not allowed: {why}")
             }

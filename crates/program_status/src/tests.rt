@@ -1,10 +1,16 @@
 use crate::{BoardFault, Status};
+use board_faults::TreeFault;
+use board_statements::LineFault;
 use history_model::Why;
 use std::test::Fail;
+use trace_reader::TraceLineFault;
+
+fn at_line(line: u32, fault: BoardFault) -> Status {
+    Status::BadBoard { line, fault }
+}
 
 #[test]
 fn statuses_are_printed(rt: HostRuntime) -> Result<(), Fail> {
-    let bound = BoardFault::Bound(500_001);
     for (status, number, line) in [
         (Status::Done, 0, ""),
         (Status::NoMemory, 1, "pcitree: no memory"),
@@ -13,30 +19,37 @@ fn statuses_are_printed(rt: HostRuntime) -> Result<(), Fail> {
         (Status::WriteFault, 4, "pcitree: write failed"),
         (Status::TooLong, 5, "pcitree: input too long"),
         (
-            Status::BadBoard {
-                line: 3,
-                fault: BoardFault::P(6),
-            },
+            at_line(3, BoardFault::Line(LineFault::Unaligned)),
             6,
             "pcitree: board line 3 fault P6",
         ),
         (
-            Status::BadBoard {
-                line: 0,
-                fault: bound,
-            },
+            at_line(3, BoardFault::Line(LineFault::TooWide)),
+            6,
+            "pcitree: board line 3 fault L2",
+        ),
+        (
+            at_line(0, BoardFault::Tree(TreeFault::OutOfReach)),
+            6,
+            "pcitree: board line 0 fault V4",
+        ),
+        (
+            at_line(0, BoardFault::Bound(500_001)),
             6,
             "pcitree: board line 0 fault V9 bound 500001",
         ),
         (
-            Status::BadTrace { line: 11, code: 7 },
+            Status::BadTrace {
+                line: 11,
+                fault: TraceLineFault::WrongCount,
+            },
             7,
             "pcitree: trace line 11 fault X7",
         ),
         (
             Status::NotRun {
                 event: 16,
-                why: Why::N1,
+                why: Why::NotPresented,
             },
             8,
             "pcitree: event 16 is not allowed: N1",

@@ -16,6 +16,7 @@ use Rattle.trace_lines.specs.declared.line.TraceLine.{TraceLine}
 use Rattle.trace_lines.specs.declared.line.LineFault.{LineFault}
 use Rattle.trace_reader.specs.declared.fault.TraceFault.{TraceFault}
 use Rattle.trace_reader.specs.declared.fault.TraceFault.TheVariants.{Trace}
+use Rattle.trace_reader.specs.declared.fault.TraceLineFault.TheVariants.{WrongCount}
 use Rattle.trace_reader.specs.Traces.{nothing_behind, events_by, events_read}
 use Rattle.roundtrip_events.specs.Fits.{EventFits}
 use Rattle.roundtrip_events.proofs.EventLemmas.{event_read, event_plain}
@@ -49,7 +50,7 @@ events_so events = Ok events
 ends : (board : Board) (number : ℕ) (before : List Event) → length before < 2 ^ 32 → events_read board number before (joined (end_of (length before)) ∷ []) ≡ events_so before
 ends board number before small =
     ap (λ (r : Result TraceLine LineFault). events_by (λ more. events_read board (number + 1) more []) number before [] r) (end_read board (length before) small)
-    ∙ ap (λ (b : Bool). cond b (nothing_behind (number + 1) before []) (Err (Trace number 7))) (eq-eqb (length before) (length before) refl)
+    ∙ ap (λ (b : Bool). cond b (nothing_behind (number + 1) before []) (Err (Trace number WrongCount))) (eq-eqb (length before) (length before) refl)
 
 -- the lines of events are read as these events, behind those before
 pub events_from : (board : Board) (number : ℕ) (before events all : List Event) → Bears board → AllByRecursion EventFits events → AllByRecursion (HasLine board) events → before ++ events ≡ all → length all < 2 ^ 32

@@ -1,5 +1,5 @@
--- A line behind `events`: an event, the end, or its first fault, by the number of the fault.
-use Rattle.std.specs.Prelude.{◌≡◌, ℕ, Bool, false, List, [], ◌∷◌, length, Option, Some, None, Result, Ok, Err, not, nat_lt, nat_le, ◌==◌, ◌&&◌, ◌||◌, codes, if◌then◌else◌}
+-- A line behind `events`: an event, the end, or its first fault.
+use Rattle.std.specs.Prelude.{ℕ, Bool, false, List, [], ◌∷◌, length, Option, Some, None, Result, Ok, Err, not, nat_lt, nat_le, ◌==◌, ◌&&◌, ◌||◌, codes, if◌then◌else◌}
 use Rattle.std.specs.List.{list_all, slice_split}
 use Rattle.std.specs.Str.{bytes_eq}
 use Rattle.board_model.specs.declared.board.Board.{Board}
@@ -9,8 +9,6 @@ use Rattle.trace_lines.specs.declared.line.TraceLine.{TraceLine}
 use Rattle.trace_lines.specs.declared.line.TraceLine.TheVariants.{Happens, Ends}
 use Rattle.trace_lines.specs.declared.line.LineFault.{LineFault}
 use Rattle.trace_lines.specs.declared.line.LineFault.TheVariants.{Unreadable, NoKind, Misshapen, Unknown}
-use Rattle.trace_lines.specs.declared.line.Unread.{Unread}
-use Rattle.trace_lines.specs.declared.line.Unread.TheVariants.{Fault, NoMemory}
 use Rattle.trace_lines.specs.Words.{number_of}
 use Rattle.trace_lines.specs.Events.{kind_of, has_words_for, word_as, event_in}
 
@@ -50,6 +48,10 @@ begins_end (piece ∷ next ∷ pieces) = bytes_eq piece (codes "end")
 abbrev pub is_regular : List (List ℕ) → Bool
 is_regular pieces = list_all has_bytes pieces
 
+-- and no more words than the longest line of an event has
+abbrev pub has_shape : List (List ℕ) → Bool
+has_shape pieces = is_regular pieces && nat_le (length pieces) 6
+
 abbrev pub ends_with : Option ℕ → Result TraceLine LineFault
 ends_with None = Err Unknown
 ends_with (Some count) = Ok (Ends count)
@@ -79,15 +81,3 @@ pieces_line board pieces =
 -- a line, without its newline
 abbrev pub line_of : Board → List ℕ → Result TraceLine LineFault
 line_of board line = if is_unreadable line then Err Unreadable else pieces_line board (pieces_of line)
-
--- the number by which the fault is told
-abbrev pub code_of : LineFault → ℕ
-code_of Unreadable = 3
-code_of NoKind = 4
-code_of Misshapen = 5
-code_of Unknown = 6
-
--- a line is not read for its fault, or for want of memory
-abbrev pub IsFaultOf : Result TraceLine LineFault → Unread → Type 0
-IsFaultOf answer (Fault fault) = answer ≡ Err fault
-IsFaultOf answer NoMemory = Unit {0}

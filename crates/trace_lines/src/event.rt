@@ -5,11 +5,12 @@ ghost use Rattle.trace_lines.specs.Events.{mark_of, mark_at_end, has_words_for, 
 
 use crate::kind::Kind;
 use crate::line::piece;
+use crate::names::Names;
 use crate::operation::op_in;
 use crate::words::{
     begins_header, bus_in, by_in, header_in, lane_in, outcome_in, phases_in, target_in, value_of,
 };
-use board_model::{Board, Place, end_of};
+use board_model::Place;
 use history_model::{Event, Mark, Step};
 
 /// Whether the line has as many words as its kind, and an arrival no fourth one but a mark.
@@ -38,22 +39,22 @@ fn mark_at_end(line: &[&[u8]]) -> Option<Mark>
 }
 
 /// The event of a line of this kind.
-pub(crate) fn event_in(board: &Board, kind: Kind, line: &[&[u8]]) -> Option<Event>
-    ensures { result ≡ event_in board.now kind (map (λ piece. piece.now) line.now) }
+pub(crate) fn event_in(names: &Names, kind: Kind, line: &[&[u8]]) -> Option<Event>
+    ensures { result ≡ event_in names.now kind (map (λ piece. piece.now) line.now) }
 {
     match kind {
-        Kind::Arrive => arrival_in(board, line),
-        _ => act_in(board, kind, line),
+        Kind::Arrive => arrival_in(names, line),
+        _ => act_in(names, kind, line),
     }
 }
 
-fn act_in(board: &Board, kind: Kind, line: &[&[u8]]) -> Option<Event>
-    ensures { result ≡ act_in board.now kind (map (λ piece. piece.now) line.now) }
+fn act_in(names: &Names, kind: Kind, line: &[&[u8]]) -> Option<Event>
+    ensures { result ≡ act_in names.now kind (map (λ piece. piece.now) line.now) }
 {
-    let bus = bus_in(board, piece(line, 0)?)?;
-    let by = by_in(board, piece(line, 2)?)?;
-    let op = op_in(board, piece(line, 3)?)?;
-    let (step, place) = done_by(board, kind, line)?;
+    let bus = bus_in(names, piece(line, 0)?)?;
+    let by = by_in(names, piece(line, 2)?)?;
+    let op = op_in(names, piece(line, 3)?)?;
+    let (step, place) = done_by(names, kind, line)?;
     Some(Event::Act {
         bus,
         by,
@@ -63,13 +64,13 @@ fn act_in(board: &Board, kind: Kind, line: &[&[u8]]) -> Option<Event>
     })
 }
 
-fn arrival_in(board: &Board, line: &[&[u8]]) -> Option<Event>
-    ensures { result ≡ arrival_in board.now (map (λ piece. piece.now) line.now) }
+fn arrival_in(names: &Names, line: &[&[u8]]) -> Option<Event>
+    ensures { result ≡ arrival_in names.now (map (λ piece. piece.now) line.now) }
 {
-    let bus = bus_in(board, piece(line, 0)?)?;
-    let lane = lane_in(board, piece(line, 2)?)?;
+    let bus = bus_in(names, piece(line, 0)?)?;
+    let lane = lane_in(names, piece(line, 2)?)?;
     let mark = mark_at_end(line)?;
-    if end_of(board, lane) == bus {
+    if names.end_of(lane) == bus {
         Some(Event::Arrive { lane, mark })
     } else {
         None
@@ -77,51 +78,51 @@ fn arrival_in(board: &Board, line: &[&[u8]]) -> Option<Event>
 }
 
 /// What an act did, and who claimed it.
-fn done_by(board: &Board, kind: Kind, line: &[&[u8]]) -> Option<(Step, Place)>
-    ensures { result ≡ done_by board.now kind (map (λ piece. piece.now) line.now) }
+fn done_by(names: &Names, kind: Kind, line: &[&[u8]]) -> Option<(Step, Place)>
+    ensures { result ≡ done_by names.now kind (map (λ piece. piece.now) line.now) }
 {
     match kind {
-        Kind::Land => at_target(board, line, Step::Land),
-        Kind::Part => at_target(board, line, Step::Part(phases_in(piece(line, 5)?)?)),
-        Kind::Read => at_reader(board, line, Step::Read(value_of(piece(line, 5)?)?)),
-        Kind::Accept => at_lane(board, line, Step::Accept),
-        Kind::Latch => at_lane(board, line, Step::Latch),
-        Kind::Take => at_lane(board, line, Step::Take(outcome_in(piece(line, 5)?)?)),
-        Kind::Stall => at_target(board, line, Step::Stall),
+        Kind::Land => at_target(names, line, Step::Land),
+        Kind::Part => at_target(names, line, Step::Part(phases_in(piece(line, 5)?)?)),
+        Kind::Read => at_reader(names, line, Step::Read(value_of(piece(line, 5)?)?)),
+        Kind::Accept => at_lane(names, line, Step::Accept),
+        Kind::Latch => at_lane(names, line, Step::Latch),
+        Kind::Take => at_lane(names, line, Step::Take(outcome_in(piece(line, 5)?)?)),
+        Kind::Stall => at_target(names, line, Step::Stall),
         Kind::Nobody => Some((Step::MasterAbort, Place::Nobody)),
-        Kind::Abort => at_target(board, line, Step::TargetAbort),
+        Kind::Abort => at_target(names, line, Step::TargetAbort),
         Kind::Arrive => None,
     }
 }
 
-fn at_target(board: &Board, line: &[&[u8]], step: Step) -> Option<(Step, Place)>
-    ensures { result ≡ at_target board.now (map (λ piece. piece.now) line.now) step }
+fn at_target(names: &Names, line: &[&[u8]], step: Step) -> Option<(Step, Place)>
+    ensures { result ≡ at_target names.now (map (λ piece. piece.now) line.now) step }
 {
-    let target = target_in(board, piece(line, 4)?)?;
+    let target = target_in(names, piece(line, 4)?)?;
     Some((step, Place::Target(target)))
 }
 
-fn at_reader(board: &Board, line: &[&[u8]], step: Step) -> Option<(Step, Place)>
-    ensures { result ≡ at_reader board.now (map (λ piece. piece.now) line.now) step }
+fn at_reader(names: &Names, line: &[&[u8]], step: Step) -> Option<(Step, Place)>
+    ensures { result ≡ at_reader names.now (map (λ piece. piece.now) line.now) step }
 {
-    let place = reader_in(board, piece(line, 4)?)?;
+    let place = reader_in(names, piece(line, 4)?)?;
     Some((step, place))
 }
 
 /// Who gave a dword: the header of a bridge, or a target.
-fn reader_in(board: &Board, word: &[u8]) -> Option<Place>
-    ensures { result ≡ reader_in board.now word.now }
+fn reader_in(names: &Names, word: &[u8]) -> Option<Place>
+    ensures { result ≡ reader_in names.now word.now }
 {
     if begins_header(word) {
-        header_in(board, word).map(Place::Header)
+        header_in(names, word).map(Place::Header)
     } else {
-        target_in(board, word).map(Place::Target)
+        target_in(names, word).map(Place::Target)
     }
 }
 
-fn at_lane(board: &Board, line: &[&[u8]], step: Step) -> Option<(Step, Place)>
-    ensures { result ≡ at_lane board.now (map (λ piece. piece.now) line.now) step }
+fn at_lane(names: &Names, line: &[&[u8]], step: Step) -> Option<(Step, Place)>
+    ensures { result ≡ at_lane names.now (map (λ piece. piece.now) line.now) step }
 {
-    let lane = lane_in(board, piece(line, 4)?)?;
+    let lane = lane_in(names, piece(line, 4)?)?;
     Some((step, Place::Lane(lane)))
 }

@@ -2,11 +2,14 @@
 //! or gives its first fault.
 #![tactic(auto)]
 
+mod cut;
 mod event;
 mod kind;
 mod line;
+mod names;
 mod operation;
 mod words;
 
 pub use kind::Kind;
-pub use line::{LineFault, TraceLine, Unread, read_line};
+pub use line::{LineFault, TraceLine, read_line};
+pub use names::Names;

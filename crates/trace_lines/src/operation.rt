@@ -1,27 +1,26 @@
 ghost use Rattle.std.specs.Prelude.{◌≡◌};
 ghost use Rattle.std.specs.Option.{option_map};
-ghost use Rattle.std.specs.List.{position};
-ghost use Rattle.board_model.specs.WellFormed.{is_master_named};
 ghost use Rattle.trace_lines.specs.Words.{at_most, number_of, master_in, at_dot, named, index_and_try, op_by, op_in};
 ghost use Rattle.trace_text.specs.Words.{names_poll};
 
+use crate::names::Names;
 use crate::words::number_of;
-use board_model::{Board, Op, op_of};
+use board_model::{Op, op_of};
 use board_statements::parts;
 use pci_command::OpId;
 
 /// An operation of the board: NAME.INDEX, for a poll NAME.INDEX.TRY.
-pub(crate) fn op_in(board: &Board, word: &[u8]) -> Option<OpId>
-    ensures { result ≡ op_in board.now word.now }
+pub(crate) fn op_in(names: &Names, word: &[u8]) -> Option<OpId>
+    ensures { result ≡ op_in names.now word.now }
 {
     let (name, rest) = at_dot(word)?;
-    let master = master_in(board, name)?;
+    let master = master_in(names, name)?;
     match at_dot(rest) {
-        None => named(board, false, master, index_of(rest)?, 0),
+        None => named(names, false, master, index_of(rest)?, 0),
         Some((index, attempt)) => {
             let index = index_of(index)?;
             let attempt = number_of(attempt)?;
-            named(board, true, master, index, attempt)
+            named(names, true, master, index, attempt)
         }
     }
 }
@@ -41,32 +40,23 @@ fn at_dot(word: &[u8]) -> Option<(&[u8], &[u8])>
 }
 
 /// The place of the master of this name.
-fn master_in(board: &Board, word: &[u8]) -> Option<u16>
-    ensures { result ≡ master_in board.now word.now }
+fn master_in(names: &Names, word: &[u8]) -> Option<u16>
+    ensures { result ≡ master_in names.now word.now }
 {
-    let place = master_place(board, word)?;
+    let place = names.master(word)?;
     u16::try_from(place).ok()
 }
 
-fn master_place(board: &Board, word: &[u8]) -> Option<usize>
-    ensures { result ≡ position (is_master_named word.now) board.now.masters }
-{
-    let masters = board.masters.as_slice();
-    masters
-        .iter()
-        .position(|master| master.name.bytes() == word)
-}
-
 /// The operation of that name, which is there, and a poll or none as it is named.
-fn named(board: &Board, polls: bool, master: u16, index: u16, attempt: u32) -> Option<OpId>
-    ensures { result ≡ named board.now polls master index attempt }
+fn named(names: &Names, polls: bool, master: u16, index: u16, attempt: u32) -> Option<OpId>
+    ensures { result ≡ named names.now polls master index attempt }
 {
     let op = OpId {
         master,
         index,
         attempt,
     };
-    let found = op_of(board, op)?;
+    let found = op_of(names.board(), op)?;
     if matches!(found, Op::Poll { .. }) == polls {
         Some(op)
     } else {

@@ -1,10 +1,10 @@
 ghost use Rattle.std.specs.Prelude.{◌≡◌, ◌<◌, ◌≤◌, length, take, slice_index, nat_le, Some, None};
 ghost use Rattle.std.specs.Option.{option_map, option_and_then};
-ghost use Rattle.std.specs.List.{list_all, position};
-ghost use Rattle.board_model.specs.WellFormed.{is_target_named};
+ghost use Rattle.std.specs.List.{list_all};
 ghost use Rattle.trace_lines.specs.Words.{only_where, answered, has_no_zero_before, number_of, at_most, is_lower_case, value_of, bus_in, bridge_in, towards, without_last, last_byte, lane_in, by_in, target_in, begins_header, header_in, outcome_in, phases_in};
 
-use board_model::{Board, Lane, has_bridge_to, is_bus};
+use crate::names::Names;
+use board_model::Lane;
 use board_text::{decimal, hex};
 use history_model::By;
 use pci_command::Outcome;
@@ -56,19 +56,23 @@ fn small_number_of(word: &[u8]) -> Option<u8>
 }
 
 /// A bus of the board.
-pub(crate) fn bus_in(board: &Board, word: &[u8]) -> Option<u8>
-    ensures { result ≡ bus_in board.now word.now }
+pub(crate) fn bus_in(names: &Names, word: &[u8]) -> Option<u8>
+    ensures { result ≡ bus_in names.now word.now }
 {
     let bus = small_number_of(word)?;
-    if is_bus(board, bus) { Some(bus) } else { None }
+    if bus == 0 || names.has_bridge_to(bus) {
+        Some(bus)
+    } else {
+        None
+    }
 }
 
 /// The secondary bus of a bridge of the board.
-pub(crate) fn bridge_in(board: &Board, word: &[u8]) -> Option<u8>
-    ensures { result ≡ bridge_in board.now word.now }
+pub(crate) fn bridge_in(names: &Names, word: &[u8]) -> Option<u8>
+    ensures { result ≡ bridge_in names.now word.now }
 {
     let bus = small_number_of(word)?;
-    if has_bridge_to(board, bus) {
+    if names.has_bridge_to(bus) {
         Some(bus)
     } else {
         None
@@ -76,59 +80,50 @@ pub(crate) fn bridge_in(board: &Board, word: &[u8]) -> Option<u8>
 }
 
 /// A lane of the board.
-pub(crate) fn lane_in(board: &Board, word: &[u8]) -> Option<Lane>
-    ensures { result ≡ lane_in board.now word.now }
+pub(crate) fn lane_in(names: &Names, word: &[u8]) -> Option<Lane>
+    ensures { result ≡ lane_in names.now word.now }
 {
     let (front, last) = word.split_at(word.len().saturating_sub(1));
     match last {
-        [b'u'] => lane_towards(board, front, true),
-        [b'd'] => lane_towards(board, front, false),
+        [b'u'] => lane_towards(names, front, true),
+        [b'd'] => lane_towards(names, front, false),
         _ => None,
     }
 }
 
-fn lane_towards(board: &Board, word: &[u8], up: bool) -> Option<Lane>
-    ensures { result ≡ option_map (towards up) (bridge_in board.now word.now) }
+fn lane_towards(names: &Names, word: &[u8], up: bool) -> Option<Lane>
+    ensures { result ≡ option_map (towards up) (bridge_in names.now word.now) }
 {
-    let bus = bridge_in(board, word)?;
+    let bus = bridge_in(names, word)?;
     Some(Lane { bus, up })
 }
 
 /// An initiator.
-pub(crate) fn by_in(board: &Board, word: &[u8]) -> Option<By>
-    ensures { result ≡ by_in board.now word.now }
+pub(crate) fn by_in(names: &Names, word: &[u8]) -> Option<By>
+    ensures { result ≡ by_in names.now word.now }
 {
     if word == b"m".as_slice() {
         return Some(By::Master);
     }
-    let lane = lane_in(board, word)?;
+    let lane = lane_in(names, word)?;
     Some(By::Lane(lane))
 }
 
 /// The place of the target of this name.
-pub(crate) fn target_in(board: &Board, word: &[u8]) -> Option<u16>
-    ensures { result ≡ target_in board.now word.now }
+pub(crate) fn target_in(names: &Names, word: &[u8]) -> Option<u16>
+    ensures { result ≡ target_in names.now word.now }
 {
-    let place = target_place(board, word)?;
+    let place = names.target(word)?;
     u16::try_from(place).ok()
 }
 
-fn target_place(board: &Board, word: &[u8]) -> Option<usize>
-    ensures { result ≡ position (is_target_named word.now) board.now.targets }
-{
-    let targets = board.targets.as_slice();
-    targets
-        .iter()
-        .position(|target| target.name.bytes() == word)
-}
-
 /// The header of a bridge of the board, named as `=B`.
-pub(crate) fn header_in(board: &Board, word: &[u8]) -> Option<u8>
-    ensures { result ≡ header_in board.now word.now }
+pub(crate) fn header_in(names: &Names, word: &[u8]) -> Option<u8>
+    ensures { result ≡ header_in names.now word.now }
 {
     match word {
         [] => None,
-        [_, rest @ ..] => bridge_in(board, rest),
+        [_, rest @ ..] => bridge_in(names, rest),
     }
 }
 

@@ -4,9 +4,9 @@ use Rattle.std.specs.List.{slice_range}
 use Rattle.board_model.specs.declared.board.Board.{Board}
 use Rattle.board_text.specs.Lines.{lines_of}
 use Rattle.board_statements.specs.declared.fault.LineFault.{LineFault}
-use Rattle.board_statements.specs.Faults.{family_of, code_of}
 use Rattle.trace_reader.specs.declared.fault.TraceFault.{TraceFault}
 use Rattle.trace_reader.specs.declared.fault.TraceFault.TheVariants.{Trace, Board as OfBoard, NoMemory}
+use Rattle.trace_reader.specs.declared.fault.TraceLineFault.TheVariants.{NoEventsLine}
 use Rattle.trace_reader.specs.declared.parts.EventsLine.{EventsLine}
 use Rattle.trace_reader.specs.Traces.{until_events}
 
@@ -26,14 +26,13 @@ pub record Finds (text : List ℕ) (from : ℕ) (found : EventsLine) : Type 0 wh
 -- there is none; the fault is told one line past the last
 abbrev pub IsWithout : List ℕ → ℕ → TraceFault → Type 0
 IsWithout text from fault =
-    (until_events (lines_of (drop from text)) ≡ None) × (fault ≡ Trace (length (lines_of (drop from text)) + 2) 2)
+    (until_events (lines_of (drop from text)) ≡ None) × (fault ≡ Trace (length (lines_of (drop from text)) + 2) NoEventsLine)
 
 -- the board of a part that begins at the second line of the text
 abbrev pub TellsBoard : Result Board TraceFault → Result Board (ℕ × LineFault) → Type 0
 TellsBoard (Ok board) reading = reading ≡ Ok board
-TellsBoard (Err (OfBoard line family code)) reading =
-    (fault : LineFault) × (at : ℕ) × (reading ≡ Err (at, fault)) × (line ≡ at + 1) × (family ≡ family_of fault) × (code ≡ code_of fault)
-TellsBoard (Err (Trace line code)) reading = ⊥
+TellsBoard (Err (OfBoard line fault)) reading = (at : ℕ) × (reading ≡ Err (at, fault)) × (line ≡ at + 1)
+TellsBoard (Err (Trace line fault)) reading = ⊥
 TellsBoard (Err NoMemory) reading = Unit {0}
 
 -- lines before the parts of those behind them

@@ -5,12 +5,13 @@ use Rattle.board_model.specs.declared.board.Board.{Board}
 use Rattle.history_model.specs.declared.event.Event.{Event}
 use Rattle.board_text.specs.Lines.{lines_of}
 use Rattle.board_statements.specs.declared.fault.LineFault.{LineFault as BoardFault}
-use Rattle.board_statements.specs.Faults.{family_of, code_of as board_code_of}
 use Rattle.board_parser.specs.Boards.{read_lines, ended}
 use Rattle.trace_lines.specs.declared.line.TraceLine.{TraceLine}
 use Rattle.trace_lines.specs.declared.line.TraceLine.TheVariants.{Happens, Ends}
 use Rattle.trace_lines.specs.declared.line.LineFault.{LineFault}
-use Rattle.trace_lines.specs.Lines.{line_of, code_of}
+use Rattle.trace_lines.specs.Lines.{line_of}
+use Rattle.trace_reader.specs.Faults.{fault_of_line}
+use Rattle.trace_reader.specs.declared.fault.TraceLineFault.TheVariants.{NoFirstLine, NoEventsLine, WrongCount, BehindEnd}
 use Rattle.trace_reader.specs.declared.fault.TraceFault.{TraceFault}
 use Rattle.trace_reader.specs.declared.fault.TraceFault.TheVariants.{Trace, Board as OfBoard, NoMemory}
 
@@ -19,21 +20,21 @@ use Rattle.trace_reader.specs.declared.fault.TraceFault.TheVariants.{Trace, Boar
 -- behind the `end` line nothing stands
 abbrev pub nothing_behind : ℕ → List Event → List (List ℕ) → Result (List Event) TraceFault
 nothing_behind number events [] = Ok events
-nothing_behind number events (line ∷ lines) = Err (Trace number 8)
+nothing_behind number events (line ∷ lines) = Err (Trace number BehindEnd)
 
 -- the number on the `end` line is that of the events
 abbrev pub at_end : ℕ → List Event → ℕ → List (List ℕ) → Result (List Event) TraceFault
 at_end number events count lines =
-    if count == length events then nothing_behind (number + 1) events lines else Err (Trace number 7)
+    if count == length events then nothing_behind (number + 1) events lines else Err (Trace number WrongCount)
 
 -- the events of these lines behind those before, where the first line has this number
 abbrev pub events_by : (List Event → Result (List Event) TraceFault) → ℕ → List Event → List (List ℕ) → Result TraceLine LineFault → Result (List Event) TraceFault
 events_by later number events lines (Ok (Happens event)) = later (events ++ event ∷ [])
 events_by later number events lines (Ok (Ends count)) = at_end number events count lines
-events_by later number events lines (Err fault) = Err (Trace number (code_of fault))
+events_by later number events lines (Err fault) = Err (Trace number (fault_of_line fault))
 
 abbrev pub events_read : Board → ℕ → List Event → List (List ℕ) → Result (List Event) TraceFault
-events_read board number events [] = Err (Trace number 7)
+events_read board number events [] = Err (Trace number WrongCount)
 events_read board number events (line ∷ lines) =
     events_by (λ more. events_read board (number + 1) more lines) number events lines (line_of board line)
 
@@ -56,17 +57,17 @@ with_events board (Err fault) = Err fault
 -- a fault of the board is told with its line in the whole file
 abbrev pub by_board : ℕ → List (List ℕ) → Result Board (ℕ × BoardFault) → Result (Board × List Event) TraceFault
 by_board number lines (Ok board) = with_events board (events_read board number [] lines)
-by_board number lines (Err fault) = Err (OfBoard (fault.0 + 1) (family_of fault.1) (board_code_of fault.1))
+by_board number lines (Err fault) = Err (OfBoard (fault.0 + 1) fault.1)
 
 abbrev pub by_parts : ℕ → Option (List (List ℕ) × List (List ℕ)) → Result (Board × List Event) TraceFault
-by_parts past None = Err (Trace past 2)
+by_parts past None = Err (Trace past NoEventsLine)
 by_parts past (Some parts) = by_board (length parts.0 + 3) parts.1 (ended (read_lines None 1 parts.0))
 
 -- the first line is `pcitrace 1`
 abbrev pub by_first : List (List ℕ) → Result (Board × List Event) TraceFault
-by_first [] = Err (Trace 1 1)
+by_first [] = Err (Trace 1 NoFirstLine)
 by_first (line ∷ lines) =
-    if bytes_eq line (codes "pcitrace 1") then by_parts (length lines + 2) (until_events lines) else Err (Trace 1 1)
+    if bytes_eq line (codes "pcitrace 1") then by_parts (length lines + 2) (until_events lines) else Err (Trace 1 NoFirstLine)
 
 -- the board and the events of a text, or its first fault
 abbrev pub trace_read : List ℕ → Result (Board × List Event) TraceFault
@@ -75,6 +76,6 @@ trace_read text = by_first (lines_of text)
 -- an answer is what the text reads as, unless there was no memory
 abbrev pub Tells : {A : Type 0} → Result A TraceFault → Result A TraceFault → Type 0
 Tells (Ok value) reading = reading ≡ Ok value
-Tells (Err (Trace line code)) reading = reading ≡ Err (Trace line code)
-Tells (Err (OfBoard line family code)) reading = reading ≡ Err (OfBoard line family code)
+Tells (Err (Trace line fault)) reading = reading ≡ Err (Trace line fault)
+Tells (Err (OfBoard line fault)) reading = reading ≡ Err (OfBoard line fault)
 Tells (Err NoMemory) reading = Unit {0}

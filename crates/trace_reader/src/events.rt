@@ -2,13 +2,13 @@ ghost use Rattle.std.specs.Prelude.{◌+◌, ◌-◌, ◌<◌, ◌≤◌, ◌^�
 ghost use Rattle.board_text.specs.Lines.{lines_of};
 ghost use Rattle.trace_reader.specs.Traces.{nothing_behind, at_end, events_read, Tells};
 
-use crate::TraceFault;
+use crate::{TraceFault, TraceLineFault};
 use board_model::Board;
 use board_text::next_line;
 use history_model::Event;
 use pci_command::List;
 use std::alloc::Global;
-use trace_lines::{TraceLine, Unread, read_line};
+use trace_lines::{Names, TraceLine, read_line};
 
 /// The events of the lines from `from` on, where the first line has this number, up to the `end`
 /// line, behind which nothing stands.
@@ -25,30 +25,32 @@ pub(crate) fn read_events(
     ensures read { Tells result (events_read board.now first [] (lines_of (drop from bytes.now))) }
     ensures few { IfOk result (λ events. length events < 2 ^ 32) }
 {
+    let Ok(names) = Names::new(alloc, board) else {
+        return Err(TraceFault::NoMemory);
+    };
     let mut events = Vec::new(alloc);
     let mut number = first;
     let mut at = from;
     while let Some((line, next)) = next_line(bytes, at) {
-        match read_line(alloc, board, line) {
+        match read_line(&names, line) {
             Ok(TraceLine::Happens(event)) => events.push(event)?,
             Ok(TraceLine::Ends(count)) => {
                 let read = List::from_vec(events);
                 return ended(bytes, next, number, count, read);
             }
-            Err(Unread::Fault(fault)) => {
+            Err(fault) => {
                 return Err(TraceFault::Trace {
                     line: number,
-                    code: fault.code(),
+                    fault: fault.into(),
                 });
             }
-            Err(Unread::NoMemory) => return Err(TraceFault::NoMemory),
         }
         number += 1;
         at = next;
     }
     Err(TraceFault::Trace {
         line: number,
-        code: 7,
+        fault: TraceLineFault::WrongCount,
     })
 }
 
@@ -68,13 +70,13 @@ fn ended(
     if count as usize != events.as_slice().len() {
         return Err(TraceFault::Trace {
             line: number,
-            code: 7,
+            fault: TraceLineFault::WrongCount,
         });
     }
     if next_line(bytes, behind).is_some() {
         return Err(TraceFault::Trace {
             line: number + 1,
-            code: 8,
+            fault: TraceLineFault::BehindEnd,
         });
     }
     Ok(events)

@@ -1,17 +1,73 @@
-use board_statements::Family;
+use board_statements::LineFault;
 use thiserror::Error;
+
+/// What is wrong with the lines of a trace outside its board.
+#[derive(Clone, Copy, Debug, PartialEq, Eq, PartialOrd, Ord, Hash, Error)]
+pub enum TraceLineFault {
+    #[error("the first line is not `pcitrace 1`")]
+    NoFirstLine,
+    #[error("no line `events`")]
+    NoEventsLine,
+    #[error("a line longer than 256 bytes, or with a byte outside 20 to 7e")]
+    Unreadable,
+    #[error("its second word is no kind of event")]
+    NoKind,
+    #[error("a word is missing or too many, or spaces stand otherwise")]
+    Misshapen,
+    #[error("a word names nothing of the board, or is no number of its kind as printed")]
+    Unknown,
+    #[error("no `end` line with the number of the events")]
+    WrongCount,
+    #[error("a line behind the `end` line")]
+    BehindEnd,
+}
+
+impl TraceLineFault {
+    ghost use Rattle.std.specs.Prelude.{◌≡◌};
+    ghost use Rattle.trace_reader.specs.Faults.{code_of};
+
+    /// Its number in what is printed, from X1 on.
+    pub fn code(self) -> u8
+        ensures { result ≡ code_of self }
+    {
+        match self {
+            TraceLineFault::NoFirstLine => 1,
+            TraceLineFault::NoEventsLine => 2,
+            TraceLineFault::Unreadable => 3,
+            TraceLineFault::NoKind => 4,
+            TraceLineFault::Misshapen => 5,
+            TraceLineFault::Unknown => 6,
+            TraceLineFault::WrongCount => 7,
+            TraceLineFault::BehindEnd => 8,
+        }
+    }
+}
+
+impl From<trace_lines::LineFault> for TraceLineFault {
+    ghost use Rattle.std.specs.Prelude.{◌≡◌};
+    ghost use Rattle.trace_reader.specs.Faults.{fault_of_line};
+
+    ghost from_gives = { λ fault given. given ≡ fault_of_line fault };
+
+    fn from(fault: trace_lines::LineFault) -> TraceLineFault {
+        match fault {
+            trace_lines::LineFault::Unreadable => TraceLineFault::Unreadable,
+            trace_lines::LineFault::NoKind => TraceLineFault::NoKind,
+            trace_lines::LineFault::Misshapen => TraceLineFault::Misshapen,
+            trace_lines::LineFault::Unknown => TraceLineFault::Unknown,
+        }
+    }
+}
 
 /// Why a text is not read as a trace. Lines are numbered from 1, in the whole text.
 #[derive(Clone, Copy, Debug, PartialEq, Eq, Error)]
 pub enum TraceFault {
-    /// A fault of the trace: the first line (1), no line `events` (2), and of the lines behind it
-    /// their bytes (3), kind (4), words (5), what they name (6), the `end` line (7) and what
-    /// stands behind it (8).
-    #[error("line {line}: X{code}")]
-    Trace { line: u32, code: u8 },
+    /// A fault outside the board.
+    #[error("line {line}: {fault}")]
+    Trace { line: u32, fault: TraceLineFault },
     /// A fault of the board.
-    #[error("line {line}: {family:?}{code}")]
-    Board { line: u32, family: Family, code: u8 },
+    #[error("line {line}: {fault}")]
+    Board { line: u32, fault: LineFault },
     #[error("no memory")]
     NoMemory,
 }

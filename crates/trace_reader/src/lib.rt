@@ -6,5 +6,5 @@ mod fault;
 mod parts;
 mod trace;
 
-pub use fault::TraceFault;
+pub use fault::{TraceFault, TraceLineFault};
 pub use trace::read_trace;

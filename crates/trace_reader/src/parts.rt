@@ -3,7 +3,7 @@ ghost use Rattle.board_text.specs.Lines.{lines_of};
 ghost use Rattle.trace_reader.specs.Traces.{until_events, trace_read};
 ghost use Rattle.trace_reader.specs.Parts.{StartsBehind, Finds, IsWithout};
 
-use crate::TraceFault;
+use crate::{TraceFault, TraceLineFault};
 use board_text::next_line;
 
 /// Where the line `events` stands.
@@ -24,7 +24,10 @@ pub(crate) fn behind_first_line(bytes: &[u8]) -> Result<usize, TraceFault>
 {
     match next_line(bytes, 0) {
         Some((b"pcitrace 1", next)) => Ok(next),
-        _ => Err(TraceFault::Trace { line: 1, code: 1 }),
+        _ => Err(TraceFault::Trace {
+            line: 1,
+            fault: TraceLineFault::NoFirstLine,
+        }),
     }
 }
 
@@ -50,6 +53,6 @@ pub(crate) fn find_events(bytes: &[u8], from: usize) -> Result<EventsLine, Trace
     }
     Err(TraceFault::Trace {
         line: number,
-        code: 2,
+        fault: TraceLineFault::NoEventsLine,
     })
 }

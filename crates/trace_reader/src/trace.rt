@@ -38,10 +38,9 @@ fn read_board(alloc: Global, part: &[u8]) -> Result<Board, TraceFault>
     read_is_well_formed();
     match parse(alloc, part) {
         Ok(board) => Ok(board),
-        Err(ParseFault::Fault { line, family, code }) => Err(TraceFault::Board {
+        Err(ParseFault::Fault { line, fault }) => Err(TraceFault::Board {
             line: line + 1,
-            family,
-            code,
+            fault,
         }),
         Err(ParseFault::NoMemory) => Err(TraceFault::NoMemory),
     }

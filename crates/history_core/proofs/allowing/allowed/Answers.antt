@@ -1,7 +1,7 @@
 use Rattle.std.proofs.Common.{sym, subst, Option}
 use Rattle.history_model.specs.declared.event.Event.{Event}
 use Rattle.history_model.specs.declared.event.Mark.{Mark}
-use Rattle.history_model.specs.declared.why.Why.TheVariants.{N1, N2, N3, N4, N5}
+use Rattle.history_model.specs.declared.why.Why.TheVariants.{NotPresented, AnsweredOtherwise, GetsRetry, NothingInFlight, MarkedOtherwise}
 use Rattle.history_model.specs.Runs.{history_of}
 use Rattle.history_core.specs.Verdicts.{cause_in, Holds, HoldsOfArrival}
 use Rattle.history_core.proofs.VerdictLemmas.{of_act, of_arrival, named_exactly, allowed_exactly}
@@ -18,11 +18,11 @@ returns-in-Act c =
     subst P (sym c.in-Act.is) (of_act board h c.in-Act.bus c.in-Act.by c.in-Act.op c.in-Act.step c.in-Act.place (cause_in r) c.act_allowed.ensures) in
     record {
       ok = allowed_exactly board h e r holds;
-      not_presented = named_exactly board h e r N1 holds;
-      answered_otherwise = named_exactly board h e r N2 holds;
-      retried = named_exactly board h e r N3 holds;
-      nothing_in_flight = named_exactly board h e r N4 holds;
-      marked_otherwise = named_exactly board h e r N5 holds;
+      not_presented = named_exactly board h e r NotPresented holds;
+      answered_otherwise = named_exactly board h e r AnsweredOtherwise holds;
+      retried = named_exactly board h e r GetsRetry holds;
+      nothing_in_flight = named_exactly board h e r NothingInFlight holds;
+      marked_otherwise = named_exactly board h e r MarkedOtherwise holds;
     }
 
 pub returns-in-Arrive : goal.returns-in-Arrive
@@ -37,9 +37,9 @@ returns-in-Arrive c =
     subst P (sym c.in-Arrive.is) (of_arrival board h c.in-Arrive.lane c.in-Arrive.mark (cause_in r) (subst Q c.next_mark.ensures c.arrival_allowed.ensures)) in
     record {
       ok = allowed_exactly board h e r holds;
-      not_presented = named_exactly board h e r N1 holds;
-      answered_otherwise = named_exactly board h e r N2 holds;
-      retried = named_exactly board h e r N3 holds;
-      nothing_in_flight = named_exactly board h e r N4 holds;
-      marked_otherwise = named_exactly board h e r N5 holds;
+      not_presented = named_exactly board h e r NotPresented holds;
+      answered_otherwise = named_exactly board h e r AnsweredOtherwise holds;
+      retried = named_exactly board h e r GetsRetry holds;
+      nothing_in_flight = named_exactly board h e r NothingInFlight holds;
+      marked_otherwise = named_exactly board h e r MarkedOtherwise holds;
     }

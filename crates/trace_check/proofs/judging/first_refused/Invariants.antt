@@ -1,7 +1,8 @@
 use Rattle.std.proofs.Common.{take}
-use Rattle.history_model.specs.Runs.{Run, history_of}
+use Rattle.history_model.specs.Runs.{history_of}
+use Rattle.kept_state.specs.Stands.{StandsFor}
 use Rattle.trace_check.proofs.judging.first_refused.Given as goal
 
--- the events so far are a run
+-- what is kept stands for the events so far
 abbrev pub invariant-loop-index : goal.invariant-loop-index
-invariant-loop-index l = Run l.board (history_of (take l.index l.events))
+invariant-loop-index l = StandsFor l.tree (history_of (take l.index l.events)) l.kept

@@ -1,0 +1,35 @@
+-- A chain, by how it ends.
+use Rattle.std.proofs.Common.{◌≡◌, ℕ, zero, suc, ◌-◌, ◌<◌, Bool, true, false, cond, eqb, List, [], ◌∷◌, ◌++◌, Option, Some, None, refl, sym, subst, ◌∙◌, append_assoc, arith}
+use Rattle.pci_command.specs.declared.op_id.OpId.{OpId}
+use Rattle.pci_command.specs.Same.{same_op}
+use Rattle.audit_model.specs.Chains.{joined, to_reader}
+use Rattle.audit_text.specs.Logs.{Logs, since_of, got_of}
+use Rattle.audit_text.specs.Found.{shown_to, chain_to}
+
+chain_step : (n : ℕ) (logs : Logs) (w q : OpId) → 0 < n
+    → chain_to n logs w q ≡ cond (same_op q w) (w ∷ []) (to_reader (λ p. chain_to (n - 1) logs w p) (λ master. since_of w master logs.since) q (shown_to logs w (got_of q None logs.gots)))
+chain_step zero logs w q above = absurd (omega (arith, above))
+chain_step (suc n) logs w q above = let e : suc n - 1 ≡ n = omega arith in rw e refl
+
+pub chain_end : (n : ℕ) (logs : Logs) (w q : OpId) → 0 < n → same_op q w ≡ true → chain_to n logs w q ≡ w ∷ []
+chain_end n logs w q above same = chain_step n logs w q above ∙ rw same refl
+
+pub chain_none : (n : ℕ) (logs : Logs) (w q : OpId) → 0 < n → same_op q w ≡ false → shown_to logs w (got_of q None logs.gots) ≡ None → chain_to n logs w q ≡ q ∷ []
+chain_none n logs w q above other none = chain_step n logs w q above ∙ rw (other, none) refl
+
+pub chain_seen : (n : ℕ) (logs : Logs) (w q v : OpId) → 0 < n → same_op q w ≡ false → shown_to logs w (got_of q None logs.gots) ≡ Some v → since_of w v.master logs.since ≡ None → chain_to n logs w q ≡ v ∷ q ∷ []
+chain_seen n logs w q v above other seen none = chain_step n logs w q above ∙ rw (other, seen, none) refl
+
+pub chain_told : (n : ℕ) (logs : Logs) (w q v p : OpId) → 0 < n → same_op q w ≡ false → shown_to logs w (got_of q None logs.gots) ≡ Some v → since_of w v.master logs.since ≡ Some p
+    → chain_to n logs w q ≡ joined (chain_to (n - 1) logs w p) p v ++ q ∷ []
+chain_told n logs w q v p above other seen some = chain_step n logs w q above ∙ rw (other, seen, some) refl
+
+pub joined-append : (xs ys : List OpId) (p v : OpId) → joined (xs ++ ys) p v ≡ xs ++ joined ys p v
+joined-append xs ys p v =
+    let P : Bool → Type 0 = λ b. cond b (xs ++ ys) ((xs ++ ys) ++ v ∷ []) ≡ xs ++ cond b ys (ys ++ v ∷ []) in
+    elim (same_op p v) as P [ true ↦ refl | false ↦ append_assoc xs ys (v ∷ []) ]
+
+-- a chain behind others, and what is joined to it
+pub chain_push : (old chain next all : List OpId) (p v q : OpId) (before : List OpId) → next ≡ old ++ before → chain ≡ joined next p v → all ≡ chain ++ q ∷ [] → all ≡ old ++ (joined before p v ++ q ∷ [])
+chain_push old chain next all p v q before first second third =
+    third ∙ rw (second, first, joined-append old before p v) (append_assoc old (joined before p v) (q ∷ []))

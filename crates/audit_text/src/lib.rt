@@ -1,0 +1,15 @@
+//! The text of the audit of a run: for each read that ended with a value of its target, and whose
+//! master knew of a write of that word before, a line that names the last such write to land and the
+//! chain of operations by which the master came to know of it; then how many lines there are.
+#![tactic(auto)]
+
+mod audit;
+mod chains;
+mod ends;
+mod landed;
+mod ledger;
+mod lines;
+mod readings;
+mod since;
+
+pub use audit::audit_text;

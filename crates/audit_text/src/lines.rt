@@ -1,0 +1,81 @@
+ghost use Rattle.std.specs.Prelude.{◌≡◌, ◌++◌, map, OnOk, string_bytes, [], ◌∷◌};
+ghost use Rattle.board_printer.specs.Lines.{spaced, line_text};
+ghost use Rattle.trace_text.specs.Words.{op_word, target_name};
+ghost use Rattle.audit_text.specs.Lines.{word_words, known_words, finding_line};
+
+use board_model::Board;
+use board_printer::{Address, HexWord, space_word};
+use pci_command::{OpId, Space};
+use std::alloc::AllocError;
+use trace_text::print_operation;
+
+/// The line of a read, behind a text.
+pub(crate) fn print_finding(
+    text: &mut String,
+    board: &Board,
+    read: OpId,
+    target: u16,
+    space: Space,
+    address: u64,
+    value: u32,
+    write: OpId,
+    chain: &[OpId],
+) -> Result<(), AllocError>
+    ensures { OnOk result
+        (string_bytes text.new ≡ string_bytes text.old ++ line_text (finding_line board.now (record { read = read; word = record { target = target; space = space; address = address }; value = value; write = write; chain = chain.now }))) }
+{
+    print_operation(text, board, &read)?;
+    print_word(text, board, target, space, address)?;
+    print_known(text, board, value, write)?;
+    text.push_str(" by")?;
+    print_chain(text, board, chain)?;
+    writeln!(text)
+}
+
+fn print_word(
+    text: &mut String,
+    board: &Board,
+    target: u16,
+    space: Space,
+    address: u64,
+) -> Result<(), AllocError>
+    ensures { OnOk result
+        (string_bytes text.new ≡ string_bytes text.old ++ spaced (word_words board.now target space address) []) }
+{
+    let name = target_name(board, target);
+    write!(
+        text,
+        " read {name} {} {}",
+        space_word(space),
+        Address(address)
+    )
+}
+
+fn print_known(text: &mut String, board: &Board, value: u32, write: OpId) -> Result<(), AllocError>
+    ensures { OnOk result
+        (string_bytes text.new ≡ string_bytes text.old ++ spaced (known_words board.now value write) []) }
+{
+    write!(text, " {} knowing ", HexWord(value))?;
+    print_operation(text, board, &write)
+}
+
+fn print_chain(text: &mut String, board: &Board, chain: &[OpId]) -> Result<(), AllocError>
+    ensures { OnOk result
+        (string_bytes text.new ≡ string_bytes text.old ++ spaced (map (op_word board.now) chain.now) []) }
+{
+    for op in chain {
+        text.push_str(" ")?;
+        print_operation(text, board, op)?;
+    }
+    Ok(())
+}
+
+fn target_name(board: &Board, index: u16) -> &str
+    ensures { result.now ≡ target_name board.now index }
+{
+    let targets = board.targets.as_slice();
+    match targets.get(usize::from(index)) {
+        Some(target) => target.name.as_str(),
+        None => "",
+    }
+}

@@ -1,0 +1,11 @@
+pub mod SameLemmas
+pub mod OwnLemmas
+pub mod DelayLemmas
+pub mod HeldLemmas
+pub mod StandsLemmas
+pub mod ReplyLemmas
+pub mod ArrivalLemmas
+pub mod OfferLemmas
+pub mod PlaceLemmas
+pub mod LawfulLemmas
+pub mod EndLemmas

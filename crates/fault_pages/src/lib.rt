@@ -1,0 +1,14 @@
+//! What each code that the program tells of a fault means: one page for each, by which `explain` and the
+//! messages on standard error are printed.
+#![tactic(auto)]
+
+mod fault;
+mod page;
+mod pages;
+
+pub use fault::Fault;
+pub use page::{Page, explain, find_page};
+pub use pages::PAGES;
+
+#[cfg(test)]
+mod tests;

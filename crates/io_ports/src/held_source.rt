@@ -1,0 +1,147 @@
+ghost use Rattle.std.specs.Prelude.{◌≡◌, ◌<◌, ◌≤◌, vec_len, IfOk};
+ghost use Rattle.io_ports.specs.HeldPort.{IsReadAhead, ReadsOn};
+
+use crate::counts::one_more;
+use crate::memory_source::give;
+use crate::{Bytes, Failed, Source};
+use pci_command::{List, NoMemory};
+use std::alloc::{AllocError, Global};
+use std::marker::Model;
+
+/// One read of another source takes at most so many bytes.
+const BUFFER: usize = 65_536;
+
+/// A source over bytes that were read before. It gives them all, and where the reading of them
+/// failed, it fails at their end, at each call.
+#[derive(Debug, Drop)]
+pub struct HeldSource {
+    bytes: Bytes,
+    given: usize,
+    fails: bool,
+    faults: u64,
+}
+
+impl Model for HeldSource {
+    ghost use Rattle.std.specs.Prelude.{◌≤◌, length, drop};
+    ghost use Rattle.io_ports.specs.HeldPort.{HeldState};
+
+    ghost Value = { HeldState };
+
+    ghost view = { λ source. record {
+      bytes = source.bytes;
+      rest = drop source.given source.bytes;
+      fails = source.fails;
+      faults = source.faults;
+    } };
+
+    ghost invariant = { λ source. source.given ≤ length source.bytes };
+}
+
+impl HeldSource {
+    /// A source of these bytes, which fails at their end or does not.
+    pub fn new(bytes: Bytes, fails: bool) -> HeldSource
+        ensures { result ≡ record { bytes = bytes; rest = bytes; fails = fails; faults = 0 } }
+    {
+        HeldSource {
+            bytes,
+            given: 0,
+            fails,
+            faults: 0,
+        }
+    }
+
+    /// What another source gives, read at once: to its end, to its first fault, or to so many
+    /// bytes.
+    pub fn read_ahead<S: Source>(
+        alloc: Global,
+        source: &mut S,
+        most: usize,
+    ) -> Result<HeldSource, NoMemory>
+        ensures { IfOk result (IsReadAhead (S.held source.old) (S.held source.new)
+            (S.faults source.old) (S.faults source.new) most) }
+    {
+        let mut buffer = zeros(alloc)?;
+        let mut bytes = Vec::new(alloc);
+        'turns: while bytes.len() < most {
+            match read_on(source, &mut buffer, &mut bytes, most)? {
+                None => return Ok(HeldSource::new(List::from_vec(bytes), true)),
+                Some(0) => return Ok(HeldSource::new(List::from_vec(bytes), false)),
+                Some(_) => {}
+            }
+        }
+        Ok(HeldSource::new(List::from_vec(bytes), false))
+    }
+
+    /// All its bytes, given or not.
+    pub fn bytes(&self) -> &[u8]
+        ensures { result.now ≡ self.now.bytes }
+    {
+        self.bytes.as_slice()
+    }
+}
+
+impl Source for HeldSource {
+    ghost use Rattle.std.specs.Prelude.{Some, true, [], ◌≡◌, ◌≤◌, ◌↔◌, min, length, take, IfOk, IsErr, OnErr};
+    ghost use Rattle.std.specs.Io.{ReadsAtMost};
+    ghost use Rattle.std.specs.Io.KnownBytes.{ReadConsumes};
+    ghost use Rattle.io_ports.specs.Faults.{Rose};
+    ghost use Rattle.io_ports.specs.HeldPort.{held_after};
+
+    ghost held = { λ source. Some source.rest };
+
+    ghost faults = { λ source. source.faults };
+
+    fn read(&mut self, buf: &mut [u8]) -> Result<usize, Failed>
+        ensures bound { ReadsAtMost result buf.new }
+        ensures bytes { ReadConsumes (Some self.old.rest) (Some self.new.rest) result buf.new }
+        ensures counted { self.old.faults ≤ self.new.faults }
+        ensures failed { OnErr result (Rose self.old.faults self.new.faults) }
+
+        // Where the reading failed each call at the end fails. Each other call gives as much as it
+        // can.
+        ensures fails { IsErr result ↔ ((self.old.fails ≡ true) × (self.old.rest ≡ [])) }
+        ensures full { IfOk result (λ n. n ≡ min (length buf.old) (length self.old.rest)) }
+        ensures next { IfOk result (λ n. take n buf.new ≡ take n self.old.rest) }
+        ensures after { self.new ≡ held_after self.old result }
+    {
+        let (_, rest) = self.bytes.as_slice().split_at(self.given);
+        if self.fails && rest.is_empty() {
+            self.faults = one_more(self.faults);
+            return Err(Failed);
+        }
+        let count = give(rest, buf, rest.len().max(1));
+        self.given += count;
+        Ok(count)
+    }
+}
+
+/// One read of the source, whose bytes are put behind the others, `most` in all, and their number;
+/// none where it failed.
+fn read_on<S: Source>(
+    source: &mut S,
+    buffer: &mut Vec<u8>,
+    bytes: &mut Vec<u8>,
+    most: usize,
+) -> Result<Option<usize>, NoMemory>
+    requires some { 0 < vec_len buffer.old }
+    requires room { vec_len bytes.old < most }
+    ensures kept { vec_len buffer.new ≡ vec_len buffer.old }
+    ensures within { IfOk result (λ _. vec_len bytes.new ≤ most) }
+    ensures piece { IfOk result (λ count. ReadsOn (S.held source.old) (S.held source.new)
+        (S.faults source.old) (S.faults source.new) bytes.old.items bytes.new.items count) }
+    ensures counted { S.faults source.old ≤ S.faults source.new }
+{
+    let size = buffer.len().min(most - bytes.len());
+    let room = &mut buffer[..size];
+    let Ok(count) = source.read(room) else {
+        return Ok(None);
+    };
+    bytes.extend_from_slice(&room[..count])?;
+    Ok(Some(count))
+}
+
+fn zeros(alloc: Global) -> Result<Vec<u8>, AllocError>
+    ensures { IfOk result (λ buffer. vec_len buffer ≡ BUFFER) }
+{
+    vec![in alloc; 0u8; BUFFER]
+}

@@ -1,0 +1,5 @@
+pub mod LineLemmas
+pub mod RowLemmas
+pub mod SameLemmas
+pub mod StillLemmas
+pub mod CourseLemmas

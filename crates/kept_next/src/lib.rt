@@ -1,0 +1,10 @@
+//! The next event of a run, looked for only where something may have changed: beside the state that
+//! is kept of the run stand the lines of each bus, and which buses are known to be quiet.
+#![tactic(auto)]
+
+mod acts;
+mod course;
+mod lines;
+
+pub use course::Course;
+pub use lines::Lines;

@@ -1,0 +1,14 @@
+pub mod LookLemmas
+pub mod RoomLemmas
+pub mod PlaceLemmas
+pub mod GoLemmas
+pub mod CountLemmas
+pub mod WordLemmas
+pub mod AnswerLemmas
+pub mod StepLemmas
+pub mod GoneLemmas
+pub mod TableLemmas
+pub mod KnownLemmas
+pub mod CoverLemmas
+pub mod SmallLemmas
+pub mod FirstLemmas

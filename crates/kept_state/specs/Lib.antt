@@ -1,0 +1,6 @@
+pub mod State
+pub mod Stands
+pub mod Rooms
+pub mod Words
+pub mod Answer
+pub mod First

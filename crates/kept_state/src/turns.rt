@@ -1,0 +1,106 @@
+ghost use Rattle.kept_state.specs.State.{turn_changed};
+ghost use Rattle.std.specs.Prelude.{◌≡◌, ◌<◌, ◌+◌, [], length, IsTrue};
+ghost use Rattle.board_model.specs.WellFormed.{is_well_formed};
+ghost use Rattle.history_model.specs.Answers.{is_turn};
+ghost use Rattle.history_model.specs.Program.{turn_of};
+
+use board_model::Board;
+use history_core::{is_same_op, present, turn_after};
+use history_model::{By, Event};
+use pci_command::{NoMemory, OpId};
+use std::alloc::Global;
+use std::marker::Model;
+
+/// The turn of each master, in the order of the board.
+#[derive(Debug, Drop)]
+pub struct KeptTurns {
+    turns: Vec<Option<OpId>>,
+}
+
+impl Model for KeptTurns {
+    ghost use Rattle.std.specs.Prelude.{List, Option};
+    ghost use Rattle.pci_command.specs.declared.op_id.OpId.{OpId};
+
+    ghost Value = { List (Option OpId) };
+
+    ghost view = { λ k. k.turns.items };
+}
+
+impl KeptTurns {
+    ghost use Rattle.std.specs.Prelude.{IfOk};
+    ghost use Rattle.kept_state.specs.First.{TurnsAtFirst};
+    ghost use Rattle.kept_state.specs.State.{turn_in, flat, turns_next};
+
+    /// The first operation of each program.
+    #[tactic(auto, using(board_claim::proofs::FewLemmas::few_masters_before, board_claim::proofs::FewLemmas::master_more))]
+    pub(crate) fn new(alloc: Global, board: &Board) -> Result<KeptTurns, NoMemory>
+        requires { IsTrue (is_well_formed board.now) }
+        ensures { IfOk result (TurnsAtFirst board.now) }
+    {
+        let mut turns = Vec::new(alloc);
+        for (index, master) in board.masters.as_slice().iter().enumerate() {
+            // It is one of 256 buses, with eight masters at most on each.
+            let _bus = master.bus;
+            turns.push(first_turn(board, index as u16))?;
+        }
+        Ok(KeptTurns { turns })
+    }
+
+    /// The turn of the master.
+    pub(crate) fn of(&self, master: u16) -> Option<OpId>
+        ensures { result ≡ turn_in self.now master }
+    {
+        match self.turns.as_slice().get(master as usize) {
+            Some(turn) => *turn,
+            None => None,
+        }
+    }
+
+    /// Whether the operation is its master's turn.
+    pub(crate) fn is_turn(&self, op: OpId) -> bool
+        ensures { result ≡ is_turn op (turn_in self.now op.master) }
+    {
+        match self.of(op.master) {
+            Some(turn) => is_same_op(turn, op),
+            None => false,
+        }
+    }
+
+    /// One more event happens to the turn of its master.
+    pub(crate) fn happen(&mut self, board: &Board, event: &Event)
+        requires { IsTrue (is_well_formed board.now) }
+        ensures { self.new ≡ turns_next board.now event.now self.old }
+    {
+        match *event {
+            Event::Act {
+                by: By::Master,
+                op,
+                ..
+            } => happen_to(self.turns.as_mut_slice(), board, event, op.master),
+            Event::Act { .. } | Event::Arrive { .. } => {}
+        }
+    }
+}
+
+fn first_turn(board: &Board, master: u16) -> Option<OpId>
+    ensures { result ≡ turn_of board.now [] master }
+{
+    present(
+        board,
+        OpId {
+            master,
+            index: 0,
+            attempt: 0,
+        },
+    )
+}
+
+fn happen_to(turns: &mut [Option<OpId>], board: &Board, event: &Event, master: u16)
+    requires { IsTrue (is_well_formed board.now) }
+    ensures { turns.new ≡ turn_changed board.now event.now master turns.old }
+{
+    let place = master as usize;
+    if place < turns.len() {
+        turns[place] = turn_after(board, master, turns[place], event);
+    }
+}

@@ -1,0 +1,26 @@
+use Rattle.std.proofs.Common.{◌≡◌, IfOk, sym, subst}
+use Rattle.pcitree.specs.declared.words.Form.{Form}
+use Rattle.pcitree.specs.Answers.{AnswersTo}
+use Rattle.pcitree.proofs.answering.answer.Goals as goal
+
+-- each word is answered by its crate
+pub returns-in-Run-clause-ok : goal.returns-in-Run-clause-ok
+returns-in-Run-clause-ok c = subst (λ (form : Form). IfOk c.answer_run.result (λ text. AnswersTo form c.args.input.now text.items)) (sym c.in-Run.is) c.answer_run.ensures.ok
+
+pub returns-in-RunSteady-clause-ok : goal.returns-in-RunSteady-clause-ok
+returns-in-RunSteady-clause-ok c = subst (λ (form : Form). IfOk c.answer_run-in-RunSteady.result (λ text. AnswersTo form c.args.input.now text.items)) (sym c.in-RunSteady.is) c.answer_run-in-RunSteady.ensures.ok
+
+pub returns-in-Headers-clause-ok : goal.returns-in-Headers-clause-ok
+returns-in-Headers-clause-ok c = subst (λ (form : Form). IfOk c.answer_headers.result (λ text. AnswersTo form c.args.input.now text.items)) (sym c.in-Headers.is) c.answer_headers.ensures.ok
+
+pub returns-in-Check-clause-ok : goal.returns-in-Check-clause-ok
+returns-in-Check-clause-ok c = subst (λ (form : Form). IfOk c.answer_check.result (λ text. AnswersTo form c.args.input.now text.items)) (sym c.in-Check.is) c.answer_check.ensures.ok
+
+pub returns-in-Finish-clause-ok : goal.returns-in-Finish-clause-ok
+returns-in-Finish-clause-ok c = subst (λ (form : Form). IfOk c.answer_finish.result (λ text. AnswersTo form c.args.input.now text.items)) (sym c.in-Finish.is) c.answer_finish.ensures.ok
+
+pub returns-in-Audit-clause-ok : goal.returns-in-Audit-clause-ok
+returns-in-Audit-clause-ok c = subst (λ (form : Form). IfOk c.answer_audit.result (λ text. AnswersTo form c.args.input.now text.items)) (sym c.in-Audit.is) c.answer_audit.ensures.ok
+
+pub returns-in-Combine-clause-ok : goal.returns-in-Combine-clause-ok
+returns-in-Combine-clause-ok c = subst (λ (form : Form). IfOk c.answer_combine.result (λ text. AnswersTo form c.args.input.now text.items)) (sym c.in-Combine.is) c.answer_combine.ensures.ok

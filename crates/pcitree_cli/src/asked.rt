@@ -1,0 +1,59 @@
+use fault_pages::{Page, explain};
+use program_help::{Help, VERSION, Word, word_help};
+use std::io;
+
+/// What the program is asked for.
+#[derive(Clone, Copy, Debug)]
+pub(crate) enum Asked {
+    /// To read a file, or what is of no form.
+    Work,
+    Help,
+    HelpOf(&'static Word),
+    Version,
+    Explain(&'static Page),
+    /// Of one of these forms, but for the word at this place.
+    Misfit(u32),
+}
+
+/// `--help`, `help`, `help WORD`, `--help WORD`, `--version` or `explain CODE`.
+pub(crate) fn asked_for(words: &[String]) -> Asked {
+    match words {
+        [word] => asked_by_one(word.as_str()),
+        [word, other] => asked_by_two(word.as_str(), other.as_str()),
+        [word, other, ..] => match asked_by_two(word.as_str(), other.as_str()) {
+            Asked::Work => Asked::Work,
+            Asked::Misfit(place) => Asked::Misfit(place),
+            _ => Asked::Misfit(2),
+        },
+        [] => Asked::Work,
+    }
+}
+
+fn asked_by_one(word: &str) -> Asked {
+    match word {
+        "--help" | "help" => Asked::Help,
+        "--version" => Asked::Version,
+        "explain" => Asked::Misfit(1),
+        _ => Asked::Work,
+    }
+}
+
+fn asked_by_two(word: &str, other: &str) -> Asked {
+    match word {
+        "--help" | "help" => word_help(other).map_or(Asked::Misfit(1), Asked::HelpOf),
+        "explain" => explain(other).map_or(Asked::Misfit(1), Asked::Explain),
+        "--version" => Asked::Misfit(1),
+        _ => Asked::Work,
+    }
+}
+
+/// Writes it to standard output.
+pub(crate) fn tell(rt: &HostRuntime, asked: Asked) -> io::Result<()> {
+    match asked {
+        Asked::Work | Asked::Misfit(_) => Ok(()),
+        Asked::Help => print!(rt; "{Help}"),
+        Asked::HelpOf(word) => print!(rt; "{word}"),
+        Asked::Version => println!(rt; "{VERSION}"),
+        Asked::Explain(page) => print!(rt; "{page}"),
+    }
+}

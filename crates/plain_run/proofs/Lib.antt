@@ -1,3 +1,0 @@
-pub mod PlainLemmas
-pub mod RunLemmas
-pub mod WholeLemmas

@@ -1,0 +1,15 @@
+-- Of which statuses nothing is said behind the first line.
+use Rattle.program_status.specs.declared.status.Status.{Status}
+use Rattle.program_status.specs.declared.status.Status.TheVariants.{Done, NoMemory, Usage, ReadFault, WriteFault, TooLong, BadBoard, BadTrace, NotRun, Incomplete}
+
+abbrev pub IsQuiet : Status → Type 0
+IsQuiet Done = Unit {0}
+IsQuiet NoMemory = Unit {0}
+IsQuiet (Usage _) = Unit {0}
+IsQuiet ReadFault = Unit {0}
+IsQuiet WriteFault = Unit {0}
+IsQuiet TooLong = Unit {0}
+IsQuiet (BadBoard _ _) = ⊥
+IsQuiet (BadTrace _ _) = ⊥
+IsQuiet (NotRun _ _) = ⊥
+IsQuiet (Incomplete _) = ⊥

@@ -1,0 +1,44 @@
+use crate::reading::find_line;
+use board_text::next_line;
+use pci_command::NoMemory;
+use std::alloc::Global;
+
+/// A text in which every byte from one place to another but its newlines is a space, so that its
+/// lines keep their numbers.
+pub fn without_lines(
+    alloc: Global,
+    text: &[u8],
+    from: usize,
+    to: usize,
+) -> Result<Vec<u8>, NoMemory> {
+    let mut other = text.to_vec(alloc)?;
+    for (place, byte) in other.iter_mut().enumerate() {
+        if from <= place && place < to && *byte != b'\n' {
+            *byte = b' ';
+        }
+    }
+    Ok(other)
+}
+
+/// The board text of an input, each line with the number that it has in the input: of a trace the
+/// part between its first line, which is blank here, and the line `events`.
+pub(crate) fn board_part(alloc: Global, input: &[u8]) -> Result<Vec<u8>, NoMemory> {
+    match next_line(input, 0) {
+        Some((b"pcitrace 1", next)) => {
+            let end = match find_line(input, b"events") {
+                Some((_, at)) => at,
+                None => input.len(),
+            };
+            without_lines(alloc, &input[..end.min(input.len())], 0, next)
+        }
+        _ => Ok(input.to_vec(alloc)?),
+    }
+}
+
+/// Whether nothing but spaces and newlines stands between two places.
+pub(crate) fn is_blank(text: &[u8], from: usize, to: usize) -> bool {
+    text.iter().enumerate().all(|(place, byte)| place < from
+        || to <= place
+        || *byte == b' '
+        || *byte == b'\n')
+}

@@ -1,0 +1,4 @@
+pub mod OrderLemmas
+pub mod TurnedLemmas
+pub mod TieLemmas
+pub mod OwnLemmas

@@ -1,0 +1,15 @@
+pub mod KeptLemmas
+pub mod ByteLemmas
+pub mod MergeLemmas
+pub mod JoinLemmas
+pub mod PairLemmas
+pub mod RunLemmas
+pub mod FormLemmas
+pub mod NeighbourLemmas
+pub mod RouteLemmas
+pub mod CostLemmas
+pub mod ProgramLemmas
+pub mod ValidLemmas
+pub mod BoardLemmas
+pub mod SplitLemmas
+pub mod TwiceLemmas

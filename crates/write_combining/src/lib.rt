@@ -1,0 +1,13 @@
+//! Combining and byte merging of the memory writes of each program, as a host bridge does it in front
+//! of a bus (PCI Local Bus 2.2, section 3.2.6, from memory).
+#![tactic(auto)]
+
+mod combining;
+mod copies;
+mod joining;
+mod laws;
+mod merge;
+
+pub use combining::combine;
+pub use joining::join;
+pub use laws::{combining_keeps, joined_brings_the_same};
