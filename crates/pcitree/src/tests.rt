@@ -194,7 +194,7 @@ fn words_of_no_form_are_told_by_place(rt: HostRuntime) -> Result<(), Fail> {
         ("run --steady", 2),
         ("run --steady -f", 2),
         ("run --steady f g", 3),
-        ("run a b", 1),
+        ("run a b", 2),
         ("headers", 1),
         ("headers f g", 2),
         ("check", 1),
