@@ -1,6 +1,8 @@
 -- How one line of a board text is read, behind the lines before it.
 use Rattle.std.specs.Prelude.{ℕ, Bool, List, length, Option, Some, None, Result, Ok, Err, nat_lt, ◌==◌, if◌then◌else◌}
 use Rattle.board_text.specs.Lines.{line_fault}
+use Rattle.board_text.specs.declared.reader.BadLine.{BadLine}
+use Rattle.board_text.specs.declared.reader.BadLine.TheVariants as bad_lines
 use Rattle.board_text.specs.Tokens.{words_of}
 use Rattle.board_statements.specs.declared.fault.LineFault.{LineFault}
 use Rattle.board_statements.specs.declared.fault.LineFault.TheVariants.{BadByte, TooLong, NoFirstLine}
@@ -29,12 +31,13 @@ abbrev pub read_more : Option Draft → List (List ℕ) → Result (Option Draft
 read_more draft words = if nat_lt 0 (length words) then read_words draft words else Ok draft
 
 -- the fault of a line that is too long, or of one with a byte that no line may have
-abbrev pub text_fault : ℕ → LineFault
-text_fault code = if code == 3 then TooLong else BadByte
+abbrev pub text_fault : BadLine → LineFault
+text_fault bad_lines.TooLong = TooLong
+text_fault bad_lines.BadByte = BadByte
 
-abbrev pub read_unless : Option ℕ → Option Draft → List ℕ → Result (Option Draft) LineFault
+abbrev pub read_unless : Option BadLine → Option Draft → List ℕ → Result (Option Draft) LineFault
 read_unless None draft line = read_more draft (words_of line)
-read_unless (Some code) draft line = Err (text_fault code)
+read_unless (Some fault) draft line = Err (text_fault fault)
 
 -- the draft behind the line, or the first fault of the line
 abbrev pub read_line : Option Draft → List ℕ → Result (Option Draft) LineFault

@@ -6,7 +6,7 @@ ghost use Rattle.board_parser.specs.OneLine.{read_line, read_words, text_fault};
 
 use board_draft::{AddFault, Sheet};
 use board_statements::{LineFault, first_line, has_words, statement_of};
-use board_text::check_line;
+use board_text::{BadLine, check_line};
 use std::alloc::Global;
 
 /// The sheet behind one more line. There is none before the first line that has words.
@@ -17,8 +17,8 @@ pub(crate) fn read_line(
 ) -> Result<Option<Sheet>, AddFault>
     ensures { Answers result (read_line sheet line.now) }
 {
-    if let Err(code) = check_line(line) {
-        return Err(AddFault::Fault(text_fault(code)));
+    if let Err(fault) = check_line(line) {
+        return Err(AddFault::Fault(text_fault(fault)));
     }
     if !has_words(line) {
         return Ok(sheet);
@@ -26,13 +26,12 @@ pub(crate) fn read_line(
     read_words(alloc, sheet, line)
 }
 
-fn text_fault(code: u8) -> LineFault
-    ensures { result ≡ text_fault code }
+fn text_fault(fault: BadLine) -> LineFault
+    ensures { result ≡ text_fault fault }
 {
-    if code == 3 {
-        LineFault::TooLong
-    } else {
-        LineFault::BadByte
+    match fault {
+        BadLine::TooLong => LineFault::TooLong,
+        BadLine::BadByte => LineFault::BadByte,
     }
 }
 

@@ -1,6 +1,8 @@
 -- A text is lines, and what a line may be.
 use Rattle.std.specs.Prelude.{ℕ, Bool, ◌+◌, List, [], ◌∷◌, length, Option, Some, None, nat_lt, nat_le, ◌==◌, ◌&&◌, ◌||◌, if◌then◌else◌}
 use Rattle.std.specs.List.{list_all, slice_split}
+use Rattle.board_text.specs.declared.reader.BadLine.{BadLine}
+use Rattle.board_text.specs.declared.reader.BadLine.TheVariants.{TooLong, BadByte}
 
 abbrev pub is_newline : ℕ → Bool
 is_newline byte = byte == 10
@@ -19,16 +21,16 @@ lines_of text = without_empty_end (slice_split is_newline text)
 abbrev pub is_allowed : ℕ → Bool
 is_allowed byte = byte == 9 || (nat_le 32 byte && nat_le byte 126)
 
--- fault 3 of a line longer than 256 bytes, else fault 1 of one with a byte that no line may have
-abbrev pub line_fault : List ℕ → Option ℕ
-line_fault line = if nat_lt 256 (length line) then Some 3 else if list_all is_allowed line then None else Some 1
+-- a line longer than 256 bytes is too long; else one with a byte that no line may have is bad for it
+abbrev pub line_fault : List ℕ → Option BadLine
+line_fault line = if nat_lt 256 (length line) then Some TooLong else if list_all is_allowed line then None else Some BadByte
 
 -- the fault of the line of this number, if it has one, and else that of a later line
-abbrev pub fault_or : ℕ → Option ℕ → Option (ℕ × ℕ) → Option (ℕ × ℕ)
+abbrev pub fault_or : ℕ → Option BadLine → Option (ℕ × BadLine) → Option (ℕ × BadLine)
 fault_or number None later = later
-fault_or number (Some code) later = Some (number, code)
+fault_or number (Some fault) later = Some (number, fault)
 
 -- the first line with a fault, by its number, and its fault, where the first line has this number
-abbrev pub first_fault : ℕ → List (List ℕ) → Option (ℕ × ℕ)
+abbrev pub first_fault : ℕ → List (List ℕ) → Option (ℕ × BadLine)
 first_fault number [] = None
 first_fault number (line ∷ lines) = fault_or number (line_fault line) (first_fault (number + 1) lines)

@@ -34,5 +34,5 @@ word_lines count (line ∷ lines) = with_words count (words_of line) (word_lines
 
 -- a refusal is the first fault of the lines, or is for want of memory
 abbrev pub IsFirstFault : List (List ℕ) → TextFault → Type 0
-IsFirstFault lines (Fault line code) = first_fault 1 lines ≡ Some (line, code)
+IsFirstFault lines (Fault line fault) = first_fault 1 lines ≡ Some (line, fault)
 IsFirstFault lines NoMemory = Unit {0}

@@ -7,7 +7,7 @@ mod text;
 mod tokens;
 
 pub use numbers::{NumberFault, decimal, hex};
-pub use reader::{check_line, next_line};
+pub use reader::{BadLine, check_line, next_line};
 pub use text::{Line, TextFault, lines};
 pub use tokens::{Token, tokens_of};
 

@@ -2,6 +2,19 @@ ghost use Rattle.std.specs.Prelude.{◌≡◌, ◌+◌, ◌<◌, ◌≤◌, ◌^
 ghost use Rattle.std.specs.List.{position_or_len, list_all};
 ghost use Rattle.board_text.specs.Lines.{is_newline, is_allowed, lines_of, line_fault};
 
+use thiserror::Error;
+
+/// Why a line may not be read.
+#[derive(Clone, Copy, Debug, PartialEq, Eq, Error)]
+pub enum BadLine {
+    /// It is longer than 256 bytes.
+    #[error("longer than 256 bytes")]
+    TooLong,
+    /// It has a byte other than the tab and 20 to 7e.
+    #[error("a byte other than the tab and 20 to 7e")]
+    BadByte,
+}
+
 /// The line that begins at `at`, without its newline, and the place behind its newline, at which
 /// the next line begins. A last line without a newline has that place as if it had one. There is
 /// no line exactly from the end of the text on.
@@ -21,18 +34,18 @@ pub fn next_line(bytes: &[u8], at: usize) -> Option<(&[u8], usize)>
     Some((line, at + size + 1))
 }
 
-/// Fault 3 of a line longer than 256 bytes, and else fault 1 of one with a byte other than the tab
-/// and 20 to 7e. The line is given without its newline.
-pub fn check_line(line: &[u8]) -> Result<(), u8>
-    ensures { MatchResult result (λ _. line_fault line.now ≡ None) (λ code. line_fault line.now ≡ Some code) }
+/// Refuses a line longer than 256 bytes, and else one with a byte other than the tab and 20 to 7e.
+/// The line is given without its newline.
+pub fn check_line(line: &[u8]) -> Result<(), BadLine>
+    ensures { MatchResult result (λ _. line_fault line.now ≡ None) (λ fault. line_fault line.now ≡ Some fault) }
 {
     if line.len() > 256 {
-        return Err(3);
+        return Err(BadLine::TooLong);
     }
     if has_only_allowed(line) {
         Ok(())
     } else {
-        Err(1)
+        Err(BadLine::BadByte)
     }
 }
 

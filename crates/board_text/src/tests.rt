@@ -42,9 +42,12 @@ fn the_first_fault_and_its_line(rt: HostRuntime) -> Result<(), Fail> {
     let mut long = vec![in rt.alloc(); b'#'; 257]?;
     assert_eq!(rt; check_line(&long[1..]), Ok(()));
     long[200] = b'\r';
-    assert_eq!(rt; check_line(&long), Err(3));
-    assert_eq!(rt; check_line(&long[1..]), Err(1));
-    let fault = TextFault::Fault { line: 3, code: 1 };
+    assert_eq!(rt; check_line(&long), Err(BadLine::TooLong));
+    assert_eq!(rt; check_line(&long[1..]), Err(BadLine::BadByte));
+    let fault = TextFault::Fault {
+        line: 3,
+        fault: BadLine::BadByte,
+    };
     assert_eq!(rt; places(rt.alloc(), b"a\n\n\x7f\n\x80").err(), Some(fault));
     Ok(())
 }

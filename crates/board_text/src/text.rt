@@ -2,7 +2,7 @@ ghost use Rattle.std.specs.Prelude.{◌≡◌, ◌<◌, ◌^◌, length, map, No
 ghost use Rattle.board_text.specs.Lines.{lines_of, first_fault};
 ghost use Rattle.board_text.specs.Text.{token_lines, word_lines, slices_of, IsFirstFault};
 
-use crate::reader::{check_line, next_line};
+use crate::reader::{BadLine, check_line, next_line};
 use crate::tokens::{Token, tokens_of};
 use pci_command::{List, NoMemory};
 use std::alloc::{AllocFailed, Global};
@@ -18,10 +18,9 @@ pub struct Line {
 /// Why a text was not read as lines.
 #[derive(Clone, Copy, Debug, PartialEq, Eq, Error)]
 pub enum TextFault {
-    /// A line is longer than 256 bytes (code 3), or has a byte other than the tab and 20 to 7e
-    /// (code 1). Lines are numbered from 1.
-    #[error("line {line}: fault {code} of the text")]
-    Fault { line: u32, code: u8 },
+    /// A line may not be read. Lines are numbered from 1.
+    #[error("line {line}: {fault}")]
+    Fault { line: u32, fault: BadLine },
     #[error("no memory")]
     NoMemory,
 }
@@ -50,7 +49,7 @@ impl<T: Drop> From<AllocFailed<T>> for TextFault {
 
 /// The lines of a text that have tokens, in order, each with its number and all its tokens. A text
 /// has fewer than 2^31 bytes. The first line that is longer than 256 bytes or has a byte that no
-/// line may have is the fault, of code 3 before code 1.
+/// line may have is the fault; a line that is too long is not looked at further.
 pub fn lines(alloc: Global, bytes: &[u8]) -> Result<List<Line>, TextFault>
     requires { length bytes.now < 2 ^ 31 }
     ensures read { IfOk result (λ found. found ≡ token_lines 1 0 (lines_of bytes.now)) }
@@ -62,8 +61,8 @@ pub fn lines(alloc: Global, bytes: &[u8]) -> Result<List<Line>, TextFault>
     let mut number = 1;
     let mut at = 0;
     while let Some((line, next)) = next_line(bytes, at) {
-        if let Err(code) = check_line(line) {
-            return Err(TextFault::Fault { line: number, code });
+        if let Err(fault) = check_line(line) {
+            return Err(TextFault::Fault { line: number, fault });
         }
         let tokens = tokens_of(alloc, line, at as u32)?;
         if !tokens.as_slice().is_empty() {
