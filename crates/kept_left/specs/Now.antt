@@ -63,6 +63,7 @@ op_now board k on o op =
     if is_posted (request_on op on) then posted_now board k on o op
     else delayed_left (world_now board k) o (way board op on) + (tries_of op - (o.attempt + 1)) * cost_of_try board on op
 
+-- of the operation, where it is there
 abbrev pub turn_now : Board → KeptState → ℕ → OpId → Option Op → ℕ
 turn_now board k on o None = 0
 turn_now board k on o (Some op) = op_now board k on o op
