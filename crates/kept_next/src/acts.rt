@@ -1,13 +1,14 @@
 ghost use Rattle.std.specs.Prelude.{◌≡◌, IsTrue, true};
 ghost use Rattle.board_model.specs.WellFormed.{is_well_formed};
 ghost use Rattle.history_model.specs.declared.event.By.TheVariants.{Lane as ByLane};
-ghost use Rattle.next_event.specs.Next.{first_in, act_given, arrival_of};
+ghost use Rattle.next_event.specs.Next.{first_in};
 ghost use Rattle.kept_next.specs.Now.{arrival_now, act_now, item_now, lane_now, master_now};
 
 use board_model::{Board, Lane};
-use history_model::{Answer, By, Carried, Event, Mark};
+use history_model::{By, Carried, Event};
 use kept_state::Kept;
 use lane_replay::Presented;
+use next_event::{act_given, arrival_of};
 use pci_command::OpId;
 
 /// The first arrival on these lanes.
@@ -20,15 +21,6 @@ pub(crate) fn arrival_of_lanes(kept: &Kept, board: &Board, lanes: &[Lane]) -> Op
         }
     }
     None
-}
-
-fn arrival_of(lane: Lane, next: Option<Mark>) -> Option<Event>
-    ensures { result ≡ arrival_of lane next }
-{
-    match next {
-        Some(mark) => Some(Event::Arrive { lane, mark }),
-        None => None,
-    }
 }
 
 /// The first act of these lanes, which end on the bus.
@@ -128,21 +120,5 @@ fn act_of(kept: &Kept, board: &Board, presented: Presented) -> Option<Event>
         act_given(presented, kept.answer(board, presented))
     } else {
         None
-    }
-}
-
-fn act_given(presented: Presented, answer: Answer) -> Option<Event>
-    ensures { result ≡ act_given presented.bus presented.by presented.op answer }
-{
-    let Presented { bus, by, op } = presented;
-    match answer {
-        Answer::Gives { step, place } => Some(Event::Act {
-            bus,
-            by,
-            op,
-            step,
-            place,
-        }),
-        Answer::Retry { .. } => None,
     }
 }

@@ -1,4 +1,4 @@
-ghost use Rattle.std.specs.Prelude.{◌≡◌, ◌↔◌, ◌∷◌, [], true, false, List, length, slice_get, Some, None, IfOk, IfNone, IfSome, OnOk, OnErr, IsTrue};
+ghost use Rattle.std.specs.Prelude.{◌≡◌, ◌↔◌, ◌∷◌, true, false, List, length, slice_get, Some, None, IfOk, IfNone, IfSome, OnOk, OnErr, IsTrue};
 ghost use Rattle.std.specs.Option.{option_or};
 ghost use Rattle.std.proofs.Math.ListN.{set};
 ghost use Rattle.board_model.specs.WellFormed.{is_well_formed};
@@ -8,6 +8,7 @@ ghost use Rattle.history_model.specs.Runs.{Allowed, Complete};
 ghost use Rattle.history_core.specs.Verdicts.{Holds, cause_in};
 ghost use Rattle.history_model.specs.Local.{bus_of};
 ghost use Rattle.next_event.specs.Next.{first_bus, first_in, next_of};
+ghost use Rattle.kept_state.specs.Stands.{StandsFor};
 ghost use Rattle.kept_next.specs.Lines.{AreLines};
 ghost use Rattle.kept_next.specs.Now.{arrival_now, arrival_on, lane_now, master_now, act_on_now};
 ghost use Rattle.kept_next.specs.Course.{KnowsQuiet, IsCourse, HasCourse};
@@ -31,11 +32,10 @@ pub struct Course {
 }
 
 impl Course {
-    /// The course of a run without events.
-    pub fn new(alloc: Global, tree: &Tree) -> Result<Course, NoMemory>
-        ensures { IfOk result (IsCourse tree.now []) }
+    /// The course of the run for which what is kept stands.
+    pub fn new(alloc: Global, tree: &Tree, kept: Kept) -> Result<Course, NoMemory>
+        ensures { (h : List Event) → StandsFor tree.now h kept → IfOk result (IsCourse tree.now h) }
     {
-        let kept = Kept::new(alloc, tree)?;
         let lines = all_lines(alloc, tree.board())?;
         let quiet = vec![in alloc; false; 256]?;
         Ok(Course { kept, lines, quiet })

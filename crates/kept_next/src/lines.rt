@@ -2,8 +2,9 @@ ghost use Rattle.std.specs.Prelude.{◌≡◌, ◌++◌, IfOk, OnOk, IsTrue, len
 ghost use Rattle.board_model.specs.WellFormed.{is_well_formed};
 ghost use Rattle.kept_next.specs.Lines.{listed, lanes_ending, masters_below, lines_of};
 
-use board_model::{Board, Lane, end_of, has_bridge_to};
+use board_model::{Board, Lane};
 use history_core::is_on;
+use next_event::ends_on;
 use pci_command::NoMemory;
 use std::alloc::Global;
 use std::marker::Model;
@@ -75,7 +76,7 @@ fn lanes_ending(alloc: Global, board: &Board, bus: u8) -> Result<Vec<Lane>, NoMe
 fn list(lanes: &mut Vec<Lane>, board: &Board, bus: u8, lane: Lane) -> Result<(), NoMemory>
     ensures { OnOk result (lanes.new.items ≡ lanes.old.items ++ listed board.now bus lane) }
 {
-    if has_bridge_to(board, lane.bus) && end_of(board, lane) == bus {
+    if ends_on(board, bus, lane) {
         lanes.push(lane)?;
     }
     Ok(())

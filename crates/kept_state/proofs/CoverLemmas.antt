@@ -27,11 +27,11 @@ use Rattle.list_facts.proofs.EachLemmas.{Each-slice_get}
 use Rattle.board_model.proofs.Laws.{op_there}
 use Rattle.law_slots.specs.Phases.{DelayedAreSingle}
 use Rattle.law_slots.proofs.Laws.{delayed-not_parted}
-use Rattle.kept_cover.proofs.CoverLemmas.{RouteEnd, end_from, ends_there}
 use Rattle.kept_state.specs.declared.table.Word.{Word}
 use Rattle.kept_state.specs.State.{WordPlaces}
 use Rattle.kept_state.specs.Words.{place_at, word_on, KnowsRead, KnowsProgram, KnowsReads}
 use Rattle.kept_state.specs.Stands.{Covers}
+use Rattle.kept_state.proofs.RouteLemmas.{RouteEnd, end_from, ends_there}
 
 not_posted : (command : Command) → is_read command ≡ true → same_command command MemWrite ≡ false
 not_posted IoRead reads = refl

@@ -9,6 +9,7 @@ pub mod StepLemmas
 pub mod GoneLemmas
 pub mod TableLemmas
 pub mod KnownLemmas
+pub mod RouteLemmas
 pub mod CoverLemmas
 pub mod SmallLemmas
 pub mod FirstLemmas

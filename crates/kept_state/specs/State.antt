@@ -27,6 +27,7 @@ use Rattle.history_model.specs.declared.event.Event.TheVariants.{Act, Arrive}
 abbrev pub WordPlaces : Type 0
 WordPlaces = List (Word × ℕ)
 
+-- what is kept of a run
 pub record KeptState : Type 0 where
   -- the turn of each master, in the order of the board
   pub turns : List (Option OpId)
@@ -53,6 +54,7 @@ turn_in turns master = flat (slice_get turns master)
 abbrev pub place_of : Board → ℕ → Option ℕ
 place_of board bus = position (λ (bridge : Bridge). bridge.bus == bus) board.bridges
 
+-- the lanes at a place of the list
 abbrev pub lanes_at : List Both → Option ℕ → Option Both
 lanes_at lanes None = None
 lanes_at lanes (Some place) = slice_get lanes place
@@ -61,6 +63,7 @@ lanes_at lanes (Some place) = slice_get lanes place
 abbrev pub lanes_in : Board → List Both → ℕ → Option Both
 lanes_in board lanes bus = lanes_at lanes (place_of board bus)
 
+-- the lane in this direction, of what may be the lanes of a bridge
 abbrev pub lane_from : Bool → Option Both → LaneState
 lane_from up None = empty_lane
 lane_from up (Some x) = (turned up x).here
@@ -71,10 +74,12 @@ lane_in board lanes lane = lane_from lane.up (lanes_in board lanes lane.bus)
 
 -- Changes.
 
+-- the list, where there is one, or else the empty one
 abbrev pub list_in : {X : Type 0} → Option (List X) → List X
 list_in None = []
 list_in (Some xs) = xs
 
+-- the number, where there is one, or else 0
 abbrev pub or_zero : Option ℕ → ℕ
 or_zero None = 0
 or_zero (Some n) = n
@@ -83,17 +88,21 @@ or_zero (Some n) = n
 abbrev pub gone_in : List (List ℕ) → OpId → ℕ
 gone_in gone o = or_zero (slice_get (list_in (slice_get gone o.master)) o.index)
 
+-- a list with what its place holds changed
 abbrev pub changed_with : {X : Type 0} → (X → X) → List X → ℕ → Option X → List X
 changed_with f xs place None = xs
 changed_with f xs place (Some x) = set xs place (f x)
 
+-- the same at a place, where there is one
 abbrev pub changed_at : {X : Type 0} → (X → X) → List X → Option ℕ → List X
 changed_at f xs None = xs
 changed_at f xs (Some place) = changed_with f xs place (slice_get xs place)
 
+-- so many more data phases of the operation went through
 abbrev pub gone_added : OpId → ℕ → List (List ℕ) → List (List ℕ)
 gone_added o more gone = changed_at (λ row. changed_at (λ n. n + more) row (Some o.index)) gone (Some o.master)
 
+-- only a part of a burst counts
 abbrev pub gone_by : OpId → Step → List (List ℕ) → List (List ℕ)
 gone_by o Land gone = gone
 gone_by o (Part phases) gone = gone_added o phases gone
@@ -105,6 +114,7 @@ gone_by o Stall gone = gone
 gone_by o MasterAbort gone = gone
 gone_by o TargetAbort gone = gone
 
+-- the counts after an event
 abbrev pub gone_next : Event → List (List ℕ) → List (List ℕ)
 gone_next (Act on by o step place) gone = gone_by o step gone
 gone_next (Arrive lane mark) gone = gone
@@ -121,15 +131,18 @@ bus_at (Header bus) = None
 bus_at (Lane lane) = Some lane.bus
 bus_at Nobody = None
 
+-- of the initiator
 abbrev pub bus_by : By → Option ℕ
 bus_by Master = None
 bus_by (ByLane lane) = Some lane.bus
 
+-- the second, where it is not the first
 abbrev pub other_than : Option ℕ → Option ℕ → Option ℕ
 other_than first None = None
 other_than None (Some bus) = Some bus
 other_than (Some first) (Some bus) = if first == bus then None else Some bus
 
+-- the lanes after an event
 abbrev pub lanes_next : Board → Event → List Both → List Both
 lanes_next board (Act on by o step place) lanes =
     happens_on board (Act on by o step place) (other_than (bus_at place) (bus_by by))
@@ -140,10 +153,12 @@ lanes_next board (Arrive lane mark) lanes = happens_on board (Arrive lane mark) 
 abbrev pub turn_changed : Board → Event → ℕ → List (Option OpId) → List (Option OpId)
 turn_changed board e master turns = changed_at (λ turn. turn_after board master turn (ended e)) turns (Some master)
 
+-- an act of a lane changes no turn
 abbrev pub turns_by : Board → Event → By → OpId → List (Option OpId) → List (Option OpId)
 turns_by board e Master o turns = turn_changed board e o.master turns
 turns_by board e (ByLane lane) o turns = turns
 
+-- the turns after an event
 abbrev pub turns_next : Board → Event → List (Option OpId) → List (Option OpId)
 turns_next board (Act on by o step place) turns = turns_by board (Act on by o step place) by o turns
 turns_next board (Arrive lane mark) turns = turns
@@ -152,15 +167,18 @@ turns_next board (Arrive lane mark) turns = turns
 abbrev pub tokens_in : List ℕ → ℕ → ℕ
 tokens_in tokens target = or_zero (slice_get tokens target)
 
+-- one is used, if there is one
 abbrev pub token_used : List ℕ → ℕ → List ℕ
 token_used tokens target = changed_at (λ n. n - 1) tokens (Some target)
 
+-- only a target has tokens
 abbrev pub tokens_at : List ℕ → Place → List ℕ
 tokens_at tokens (Target target) = token_used tokens target
 tokens_at tokens (Header bus) = tokens
 tokens_at tokens (Lane lane) = tokens
 tokens_at tokens Nobody = tokens
 
+-- only a stall uses one
 abbrev pub tokens_by : List ℕ → Step → Place → List ℕ
 tokens_by tokens Land place = tokens
 tokens_by tokens (Part phases) place = tokens
@@ -172,6 +190,7 @@ tokens_by tokens Stall place = tokens_at tokens place
 tokens_by tokens MasterAbort place = tokens
 tokens_by tokens TargetAbort place = tokens
 
+-- the tokens after an event
 abbrev pub tokens_next : Event → List ℕ → List ℕ
 tokens_next (Act on by o step place) tokens = tokens_by tokens step place
 tokens_next (Arrive lane mark) tokens = tokens
@@ -197,6 +216,7 @@ gone_fits_by o Stall gone = Unit {0}
 gone_fits_by o MasterAbort gone = Unit {0}
 gone_fits_by o TargetAbort gone = Unit {0}
 
+-- the same for each event
 abbrev pub GoneFits : Event → List (List ℕ) → Type 0
 GoneFits (Act on by o step place) gone = gone_fits_by o step gone
 GoneFits (Arrive lane mark) gone = Unit {0}

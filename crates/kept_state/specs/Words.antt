@@ -19,15 +19,19 @@ use Rattle.history_model.specs.Words.{mask_in, without, brings, opens_as}
 use Rattle.kept_state.specs.declared.table.Word.{Word}
 use Rattle.kept_state.specs.State.{WordPlaces, changed_at, or_zero}
 
+-- the dword that is meant
 abbrev pub dword : Word → Dword
 dword word = record { target = word.target; space = word.space; address = word.address }
 
+-- whether they are the same
 abbrev pub same_word : Word → Word → Bool
 same_word a b = a.target == b.target && same_space a.space b.space && a.address == b.address
 
+-- the place of a word among the values, where it has one
 abbrev pub place_at : WordPlaces → Word → Option ℕ
 place_at places word = lookup (same_word word) places
 
+-- the value at a place, and 0 where there is none
 abbrev pub value_in : List ℕ → Option ℕ → ℕ
 value_in values None = 0
 value_in values (Some place) = or_zero (slice_get values place)
@@ -52,6 +56,7 @@ landed_by places target step gone request values =
     let rest = without gone request in
     landed_in places target (space_of rest.command) (address_in (space_of rest.command) rest.address) (brings step rest.phases) values
 
+-- where each word is, and what it holds
 pub record WordState : Type 0 where
   pub places : WordPlaces
   pub values : List ℕ

@@ -9,7 +9,7 @@ use std::marker::Model;
 
 /// One count for each operation of a program.
 #[derive(Debug, Drop)]
-pub struct Counts {
+pub(crate) struct Counts {
     counts: Vec<u32>,
 }
 
@@ -64,7 +64,7 @@ fn add_to(counts: &mut [u32], place: usize, more: u8)
 
 /// How many data phases went through, of each operation of each master.
 #[derive(Debug, Drop)]
-pub struct KeptGone {
+pub(crate) struct KeptGone {
     gone: Vec<Counts>,
 }
 

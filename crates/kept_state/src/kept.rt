@@ -49,7 +49,7 @@ impl Kept {
     ghost use Rattle.board_model.specs.Valid.{IsValid};
     ghost use Rattle.history_model.specs.declared.event.Event.{Event};
     ghost use Rattle.kept_state.specs.Stands.{StandsFor, Stands};
-    ghost use Rattle.kept_state.specs.State.{wants_now, lanes_in, turn_in, mark_in};
+    ghost use Rattle.kept_state.specs.State.{wants_now, lanes_in, turn_in, gone_in, tokens_in, mark_in};
     ghost use Rattle.std.specs.Option.{option_copied};
     ghost use Rattle.kept_state.specs.Rooms.{HaveRooms};
     ghost use Rattle.history_core.specs.Verdicts.{Holds};
@@ -108,6 +108,20 @@ impl Kept {
         ensures { result ≡ turn_in self.now.turns master }
     {
         self.turns.of(master)
+    }
+
+    /// How many data phases of the operation went through.
+    pub fn through(&self, op: OpId) -> u32
+        ensures { result ≡ gone_in self.now.gone op }
+    {
+        self.gone.of(op)
+    }
+
+    /// The stall tokens that are left of the target.
+    pub fn tokens(&self, target: u16) -> u32
+        ensures { result ≡ tokens_in self.now.tokens target }
+    {
+        self.tokens.of(target)
     }
 
     /// The lanes of the bridge to the bus.

@@ -17,7 +17,7 @@ use std::marker::Model;
 
 /// The lanes of each bridge, in the order of the board.
 #[derive(Debug, Drop)]
-pub struct KeptLanes {
+pub(crate) struct KeptLanes {
     lanes: Vec<BridgeLanes>,
 }
 

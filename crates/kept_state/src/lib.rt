@@ -10,10 +10,4 @@ mod tokens;
 mod turns;
 mod words;
 
-pub use gone::{Counts, KeptGone};
 pub use kept::Kept;
-pub use lanes::KeptLanes;
-pub use table::{Word, WordTable};
-pub use tokens::KeptTokens;
-pub use turns::KeptTurns;
-pub use words::KeptWords;

@@ -9,7 +9,7 @@ use std::marker::Model;
 
 /// The stall tokens that are left of each target, in the order of the board.
 #[derive(Debug, Drop)]
-pub struct KeptTokens {
+pub(crate) struct KeptTokens {
     tokens: Vec<u32>,
 }
 

@@ -13,7 +13,7 @@ use std::marker::Model;
 
 /// The turn of each master, in the order of the board.
 #[derive(Debug, Drop)]
-pub struct KeptTurns {
+pub(crate) struct KeptTurns {
     turns: Vec<Option<OpId>>,
 }
 

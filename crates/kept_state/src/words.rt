@@ -16,7 +16,7 @@ use std::marker::Model;
 
 /// What each word that the programs touch holds.
 #[derive(Debug, Drop)]
-pub struct KeptWords {
+pub(crate) struct KeptWords {
     /// Where each word is among the values.
     places: WordTable,
     values: Vec<u32>,

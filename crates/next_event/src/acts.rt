@@ -177,7 +177,8 @@ fn act_of(board: &Board, before: &[Event], presented: Presented) -> Option<Event
     }
 }
 
-fn act_given(presented: Presented, answer: Answer) -> Option<Event>
+/// The act of what an initiator presents with this answer: none where that is a Retry.
+pub fn act_given(presented: Presented, answer: Answer) -> Option<Event>
     ensures { result ≡ act_given presented.bus presented.by presented.op answer }
 {
     let Presented { bus, by, op } = presented;

@@ -63,7 +63,8 @@ fn arrival_from(board: &Board, before: &[Event], bus: u8, lane: Lane) -> Option<
     }
 }
 
-fn arrival_of(lane: Lane, next: Option<Mark>) -> Option<Event>
+/// The arrival on the lane with the mark of the next one: none where there is no next one.
+pub fn arrival_of(lane: Lane, next: Option<Mark>) -> Option<Event>
     ensures { result ≡ arrival_of lane next }
 {
     match next {

@@ -18,7 +18,7 @@ pub(crate) fn up_from(bus: u8) -> Lane
 }
 
 /// Whether it is a lane of a bridge of the board that ends on the bus.
-pub(crate) fn ends_on(board: &Board, bus: u8, lane: Lane) -> bool
+pub fn ends_on(board: &Board, bus: u8, lane: Lane) -> bool
     ensures { result ≡ ends_on board.now bus lane }
 {
     has_bridge_to(board, lane.bus) && end_of(board, lane) == bus

@@ -1,5 +1,5 @@
-//! The next event of a run in a fixed order, by the plain program: it replays the events before,
-//! and takes no memory.
+//! The next event of a run in a fixed order: it replays the events before, and takes no memory. No
+//! command calls it; `kept_next` finds the same event by the state that is kept.
 #![tactic(auto)]
 
 mod acts;
@@ -12,8 +12,11 @@ ghost use Rattle.board_model.specs.WellFormed.{is_well_formed};
 ghost use Rattle.history_model.specs.Runs.{Run, Allowed, Complete, history_of};
 ghost use Rattle.next_event.specs.Next.{next_of};
 
+pub use crate::acts::act_given;
 use crate::acts::first_act;
+pub use crate::arrivals::arrival_of;
 use crate::arrivals::first_arrival;
+pub use crate::lanes::ends_on;
 use board_model::Board;
 use bus_tree::Tree;
 pub use fits::buses_fit;

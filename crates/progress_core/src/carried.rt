@@ -2,8 +2,8 @@ ghost use Rattle.std.specs.Prelude.{◌≡◌, ◌+◌, ◌*◌, ◌-◌, ◌≤
 ghost use Rattle.list_facts.specs.Lists.{total};
 ghost use Rattle.board_model.specs.Requests.{op_of, phases_of};
 ghost use Rattle.board_model.specs.Ways.{way, pieces_of};
+ghost use Rattle.bus_tree.specs.Decodable.{IsDecodable};
 ghost use Rattle.history_model.specs.World.{world_of};
-ghost use Rattle.history_model.specs.Words.{through};
 ghost use Rattle.history_model.specs.Runs.{history_of};
 ghost use Rattle.history_model.specs.Left.{post_left, flying_left, standing_left, lane_left, bridge_left};
 ghost use Rattle.progress_core.specs.Running.{IsRunning};
@@ -118,20 +118,20 @@ fn post_left(board: &Board, events: &[Event], lane: Lane, op: OpId) -> u32
 {
     match op_of(board, op) {
         None => 0,
-        Some(found) => posted_left(board, events, end_of(board, lane), op, found),
+        Some(found) => posted_left(board, end_of(board, lane), found, through(events, op)),
     }
 }
 
-/// What a posted write has left from the bus on: its way, and the pieces that are left of it.
-pub(crate) fn posted_left(board: &Board, events: &[Event], on: u8, op: OpId, found: &Op) -> u32
-    requires { IsRunning board.now (history_of events.now) }
-    ensures value { result ≡
-        3 * length (way board.now found.now on) + pieces_of board.now found.now on (length (phases_of found.now) - through (history_of events.now) op) }
+/// What a posted write, of which so many data phases went through, has left from the bus on: three
+/// events for each lane of its way, and one for each piece that is left of it.
+pub fn posted_left(board: &Board, on: u8, op: &Op, gone: u128) -> u32
+    requires { IsDecodable board.now }
+    ensures value { result ≡ 3 * length (way board.now op.now on) + pieces_of board.now op.now on (length (phases_of op.now) - gone) }
     ensures fits { result ≤ 66300 }
 {
-    let route = route_of(board, found, on);
-    let request = request_on(found, route.bus);
-    let phases = phases_left(request.phases.len() as u8, through(events, op));
+    let route = route_of(board, op, on);
+    let request = request_on(op, route.bus);
+    let phases = phases_left(request.phases.len() as u8, gone);
     3 * u32::from(route.lanes) + u32::from(pieces_by(board, &request, phases, route.owner))
 }
 

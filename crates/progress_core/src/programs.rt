@@ -12,7 +12,7 @@ use crate::carried::posted_left;
 use crate::waiting::delayed_left;
 use board_model::{Board, Master, Op, op_of, request_on, tries_of};
 use bus_tree::{cost_of_program, cost_of_try, is_posted};
-use history_core::turn_of;
+use history_core::{through, turn_of};
 use history_model::Event;
 use pci_command::OpId;
 
@@ -46,8 +46,8 @@ fn program_left(board: &Board, events: &[Event], index: u16, master: &Master) ->
     }
 }
 
-/// What the operations behind this one cost.
-fn behind_left(board: &Board, bus: u8, ops: &[Op], index: u16) -> u64
+/// What the operations behind this one of a program cost, from the bus on.
+pub fn behind_left(board: &Board, bus: u8, ops: &[Op], index: u16) -> u64
     requires decodable { IsDecodable board.now }
     requires short { total (cost_of board.now bus) ops.now ≤ 500000 }
     ensures value { result ≡ total (cost_of board.now bus) (drop (index + 1) ops.now) }
@@ -80,20 +80,20 @@ fn op_left(board: &Board, events: &[Event], on: u8, op: OpId, found: &Op) -> u64
     ensures fits { result ≤ 2 ^ 49 }
 {
     if is_posted(&request_on(found, on)) {
-        u64::from(posted_left(board, events, on, op, found))
+        u64::from(posted_left(board, on, found, through(events, op)))
     } else {
         u64::from(delayed_left(board, events, on, op, found))
             + tries_left(board, on, op.attempt, found)
     }
 }
 
-/// What the tries of a poll behind this one cost.
-fn tries_left(board: &Board, on: u8, attempt: u32, found: &Op) -> u64
+/// What the tries of an operation behind this one cost, from the bus on.
+pub fn tries_left(board: &Board, on: u8, attempt: u32, op: &Op) -> u64
     requires { IsDecodable board.now }
-    ensures value { result ≡ (tries_of found.now - (attempt + 1)) * cost_of_try board.now on found.now }
+    ensures value { result ≡ (tries_of op.now - (attempt + 1)) * cost_of_try board.now on op.now }
     ensures fits { result ≤ 2 ^ 32 * 66300 }
 {
-    let tries = u64::from(tries_of(found)).saturating_sub(u64::from(attempt) + 1);
-    let cost = u64::from(cost_of_try(board, on, found));
+    let tries = u64::from(tries_of(op)).saturating_sub(u64::from(attempt) + 1);
+    let cost = u64::from(cost_of_try(board, on, op));
     tries * cost
 }

@@ -1,4 +1,4 @@
-ghost use Rattle.std.specs.Prelude.{◌≡◌, ◌+◌, ◌*◌, ◌-◌, ◌≤◌, length, Some, None};
+ghost use Rattle.std.specs.Prelude.{◌≡◌, ◌+◌, ◌*◌, ◌-◌, ◌<◌, ◌≤◌, length, Some, None};
 ghost use Rattle.std.specs.Option.{option_copied};
 ghost use Rattle.std.specs.List.{find, list_any};
 ghost use Rattle.board_model.specs.Ways.{way, route_within};
@@ -18,10 +18,33 @@ use pci_command::OpId;
 
 /// How many lanes of its way, from the first on, hold a slot for an operation, and the last of
 /// these.
-#[derive(Clone, Copy)]
-struct Reach {
-    lanes: u8,
-    last: Option<Lane>,
+#[derive(Clone, Copy, Debug, PartialEq, Eq)]
+pub struct Reach {
+    pub lanes: u8,
+    pub last: Option<Lane>,
+}
+
+impl Reach {
+    /// No lane holds one.
+    pub fn none() -> Reach
+        ensures { result ≡ record { lanes = 0; last = None } }
+    {
+        Reach {
+            lanes: 0,
+            last: None,
+        }
+    }
+
+    /// This lane holds one, and those behind it.
+    pub fn through(lane: Lane, behind: Reach) -> Reach
+        requires { behind.lanes < 255 }
+        ensures { result ≡ record { lanes = behind.lanes + 1; last = Some (lane_or behind.last lane) } }
+    {
+        Reach {
+            lanes: behind.lanes + 1,
+            last: Some(lane_or(behind.last, lane)),
+        }
+    }
 }
 
 /// What a try of a delayed request has left, by the place of the item of its furthest slot.
@@ -44,31 +67,19 @@ fn reach_of(board: &Board, events: &[Event], on: u8, op: OpId, found: &Op, most:
     ensures short { result.lanes ≤ most }
 {
     if most == 0 {
-        return reaches_none();
+        return Reach::none();
     }
     match claim_on(board, on, &request_on(found, on)) {
         Place::Lane(lane) => {
             if !holds_slot(board, events, lane, op) {
-                return reaches_none();
+                return Reach::none();
             }
-            let onwards = reach_of(board, events, end_of(board, lane), op, found, most - 1);
-            Reach {
-                lanes: onwards.lanes + 1,
-                last: Some(lane_or(onwards.last, lane)),
-            }
+            let behind = reach_of(board, events, end_of(board, lane), op, found, most - 1);
+            Reach::through(lane, behind)
         }
-        Place::Target(_) => reaches_none(),
-        Place::Header(_) => reaches_none(),
-        Place::Nobody => reaches_none(),
-    }
-}
-
-fn reaches_none() -> Reach
-    ensures { result ≡ record { lanes = 0; last = None } }
-{
-    Reach {
-        lanes: 0,
-        last: None,
+        Place::Target(_) => Reach::none(),
+        Place::Header(_) => Reach::none(),
+        Place::Nobody => Reach::none(),
     }
 }
 
@@ -90,7 +101,8 @@ fn holds_slot(board: &Board, events: &[Event], lane: Lane, op: OpId) -> bool
     has_slot(lanes.lane(lane.up), op)
 }
 
-fn has_slot(tables: &LaneTables, op: OpId) -> bool
+/// Whether a slot of the lane is held for the operation.
+pub fn has_slot(tables: &LaneTables, op: OpId) -> bool
     ensures { result ≡ list_any (is_slot_of op) tables.now.held }
 {
     some_slot(tables.held(), op)
@@ -123,7 +135,9 @@ fn reach_left(
     }
 }
 
-fn found_left(long: u8, far: u8, here: &LaneTables, back: &LaneTables, op: OpId) -> u32
+/// What a delayed request has left by its furthest slot, on lane number `far` of a way of `long`
+/// lanes: that lane, and the one of its bridge that comes back.
+pub fn found_left(long: u8, far: u8, here: &LaneTables, back: &LaneTables, op: OpId) -> u32
     ensures value { result ≡ slot_left long far here.now back.now (find (is_slot_of op) here.now.held) }
     ensures fits { result ≤ 2000 }
 {

@@ -1,18 +1,19 @@
-ghost use Rattle.std.specs.Prelude.{◌<◌, ◌^◌, length, IfOk, MatchOption};
+ghost use Rattle.std.specs.Prelude.{◌<◌, ◌^◌, List, [], length, IfOk, IfNone, IfSome, MatchOption};
+ghost use Rattle.history_model.specs.declared.event.Event.{Event};
 ghost use Rattle.history_model.specs.Runs.{Run, history_of};
+ghost use Rattle.kept_state.specs.Stands.{StandsFor, Stands};
 ghost use Rattle.trace_check.specs.Verdicts.{Judges, RefusesFirst};
 
 use crate::Verdict;
 use bus_tree::Tree;
-use history_core::complete;
 use history_model::{Event, Why};
+use kept_left::{is_complete, left};
 use kept_state::Kept;
 use law_bound::{left_falls, runs_end};
 use law_fresh::runs_are_fresh;
 use law_progress::runs_go_on;
 use law_slots::{matched, well_formed_boards};
 use pci_command::NoMemory;
-use progress_core::left;
 use std::alloc::Global;
 
 /// What these events of a valid board are, the first event first. There are fewer than 2^32. Each
@@ -21,9 +22,10 @@ pub fn check(alloc: Global, tree: &Tree, events: &[Event]) -> Result<Verdict, No
     requires { length events.now < 2 ^ 32 }
     ensures { IfOk result (Judges tree.now events.now) }
 {
-    match first_refused(alloc, tree, events)? {
+    let mut kept = Kept::new(alloc, tree)?;
+    match take_all(&mut kept, tree, events) {
         Some((event, why)) => Ok(Verdict::NotRun { event, why }),
-        None => Ok(verdict_of_run(tree, events)),
+        None => Ok(verdict_of_run(&kept, tree)),
     }
 }
 
@@ -38,17 +40,30 @@ pub fn first_refused(
     ensures { IfOk result (λ first. MatchOption first (Run tree.now (history_of events.now)) (RefusesFirst tree.now events.now)) }
 {
     let mut kept = Kept::new(alloc, tree)?;
-    for (index, event) in events.iter().enumerate() {
-        if let Err(why) = kept.step(tree, event) {
-            return Ok(Some((index as u32 + 1, why)));
-        }
-    }
-    Ok(None)
+    Ok(take_all(&mut kept, tree, events))
 }
 
-fn verdict_of_run(tree: &Tree, events: &[Event]) -> Verdict
-    requires { Run tree.now (history_of events.now) }
-    ensures { Judges tree.now events.now result }
+/// The events happen one after another to what is kept of a run without events, up to the first
+/// that is not allowed: its number, from 1 on, and why. If there is none, all have happened. There
+/// are fewer than 2^32 events.
+pub fn take_all(kept: &mut Kept, tree: &Tree, events: &[Event]) -> Option<(u32, Why)>
+    requires few { length events.now < 2 ^ 32 }
+    requires start { StandsFor tree.now [] kept.old }
+    ensures run { IfNone result (StandsFor tree.now (history_of events.now) kept.new) }
+    ensures refused { IfSome result (RefusesFirst tree.now events.now) }
+{
+    for (index, event) in events.iter().enumerate() {
+        if let Err(why) = kept.step(tree, event) {
+            return Some((index as u32 + 1, why));
+        }
+    }
+    None
+}
+
+/// Of a run the verdict is whether it is complete, and what it has left.
+fn verdict_of_run(kept: &Kept, tree: &Tree) -> Verdict
+    requires { Stands tree.now kept.now }
+    ensures { (events : List Event) → StandsFor tree.now (history_of events) kept.now → Judges tree.now events result }
 {
     matched();
     well_formed_boards();
@@ -56,11 +71,13 @@ fn verdict_of_run(tree: &Tree, events: &[Event]) -> Verdict
     runs_end();
     runs_go_on();
     runs_are_fresh();
-    if complete(tree.board(), events) {
+    // The board of a tree is valid, so that all of this holds of its runs.
+    let _valid = tree.board();
+    if is_complete(kept, tree) {
         Verdict::Complete
     } else {
         Verdict::Incomplete {
-            left: left(tree, events),
+            left: left(kept, tree),
         }
     }
 }

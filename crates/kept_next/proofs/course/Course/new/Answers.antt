@@ -1,13 +1,11 @@
-use Rattle.std.proofs.Common.{◌≡◌, ℕ, Bool, true, false, List, [], replicate, Some, length, ap, slice_get, subst}
-use Rattle.kept_state.specs.Stands.{StandsFor}
+use Rattle.std.proofs.Common.{◌≡◌, ℕ, Bool, true, false, List, replicate, Some, length, ap, slice_get, subst}
 use Rattle.kept_next.specs.Lines.{AreLines}
 use Rattle.kept_next.proofs.RowLemmas.{none_stands}
 use Rattle.kept_next.proofs.course.Course.new.Goals as goal
 
 -- no bus is known to be quiet
 pub returns : goal.returns
-returns c =
-    let stands : StandsFor c.args.tree.now [] c.in_ok-kept.kept = c.in_ok-kept.ensures in
+returns c = λ h stands.
     let lines : AreLines c.args.tree.now c.in_ok-lines.lines.items = subst (λ board. AreLines board c.in_ok-lines.lines.items) c.board.ensures.value c.in_ok-lines.ensures in
     let none : c.in_ok-quiet.quiet.items ≡ replicate 256 false = c.in_ok-quiet.ensures.items_if_clones_equal (λ _ e. e) in
     record {

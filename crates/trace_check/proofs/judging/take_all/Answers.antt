@@ -4,7 +4,7 @@ use Rattle.history_model.specs.Runs.{history_of}
 use Rattle.lane_replay.proofs.RoomLemmas.{history_more}
 use Rattle.kept_state.specs.Stands.{StandsFor}
 use Rattle.trace_check.proofs.RefusedLemmas.{refused_by}
-use Rattle.trace_check.proofs.judging.first_refused.Goals as goal
+use Rattle.trace_check.proofs.judging.take_all.Goals as goal
 
 pub loop-index-preserved : goal.loop-index-preserved
 loop-index-preserved c =
@@ -15,4 +15,4 @@ loop-index-preserved c =
 pub returns-in-Err : goal.returns-in-Err
 returns-in-Err c =
     let cause = c.in-Err.ensures.verdict (history_of (take c.loop-index.index c.args.events.now)) c.loop-index.invariant in
-    refused_by c.args.tree.now c.args.events.now c.loop-index.index _ c.in-Err.why c.loop-index-test.true c.loop-index.invariant.run cause
+    record { run = tt; refused = refused_by c.args.tree.now c.args.events.now c.loop-index.index _ c.in-Err.why c.loop-index-test.true c.loop-index.invariant.run cause }

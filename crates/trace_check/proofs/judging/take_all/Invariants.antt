@@ -1,7 +1,7 @@
 use Rattle.std.proofs.Common.{take}
 use Rattle.history_model.specs.Runs.{history_of}
 use Rattle.kept_state.specs.Stands.{StandsFor}
-use Rattle.trace_check.proofs.judging.first_refused.Given as goal
+use Rattle.trace_check.proofs.judging.take_all.Given as goal
 
 -- what is kept stands for the events so far
 abbrev pub invariant-loop-index : goal.invariant-loop-index
