@@ -1,0 +1,4 @@
+pub mod Words
+pub mod Reads
+pub mod State
+pub mod Stands
