@@ -11,6 +11,12 @@ pub record ReaderState : Type 0 where
   pub there : Bool
   pub faults : ℕ
 
+-- a writer, what it took of what was passed on to it, and the count of its faults
+pub record WriterState (W : Type 0) : Type 0 where
+  pub writer : W
+  pub taken : List ℕ
+  pub faults : ℕ
+
 -- the count after a call: one more where it failed
 abbrev pub faults_after : {A E : Type 0} → ℕ → Result A E → ℕ
 faults_after faults result = if is_ok result then faults else next_count faults
