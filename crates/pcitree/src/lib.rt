@@ -12,4 +12,6 @@ pub use program_status::{BoardFault, Status};
 pub use words::{FORMS, Form, Part, Row, file_word, input_limit};
 
 #[cfg(test)]
+mod fault_tests;
+#[cfg(test)]
 mod tests;
