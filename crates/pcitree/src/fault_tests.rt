@@ -1,6 +1,6 @@
 //! Each call of a port fails in turn, a sink fills up, and texts are cut. What is wanted stands in
 //! the tables, and was worked out by hand.
-use crate::{BoardFault, Status, pcitree};
+use crate::{BoardFault, Status, pcitree, pcitree_surely};
 use board_statements::LineFault;
 use io_ports::{MemorySink, MemorySource, SureSink, SureSource};
 use pci_command::List;
@@ -125,7 +125,7 @@ fn ports_that_never_fail(rt: HostRuntime) -> Result<(), Fail> {
     let words = words(alloc, &["run", "--steady", "f"])?;
     let mut source = SureSource::new(List::from_vec(BOARD.as_bytes().to_vec(alloc)?));
     let mut sink = SureSink::new();
-    let answer = pcitree(alloc, words.as_slice(), &mut source, &mut sink);
+    let answer = pcitree_surely(alloc, words.as_slice(), &mut source, &mut sink);
     assert_eq!(rt; answer, Status::Done);
     assert_eq!(rt; sink.count(), 181);
     Ok(())
