@@ -55,17 +55,29 @@ fn sink(alloc: Global, size: usize, failing: u32) -> Result<MemorySink, Fail> {
     Ok(MemorySink::new(alloc, MOST, failing, size)?)
 }
 
+/// The first bytes of the text, so many of them as it has.
+fn front(text: &str, count: usize) -> &[u8] {
+    let bytes = text.as_bytes();
+    let (front, _) = bytes.split_at(count.min(bytes.len()));
+    front
+}
+
 #[test]
 fn each_call_of_the_source_fails_in_turn(rt: HostRuntime) -> Result<(), Fail> {
     let alloc = rt.alloc();
     let words = words(alloc, &["run", "--steady", "f"])?;
-    for call in 1..10 {
-        // seven calls give the board, and the eighth is its end
-        let (status, taken) = if call < 9 {
-            (Status::ReadFault, "")
-        } else {
-            (Status::Done, TRACE)
-        };
+    // seven calls give the board, and the eighth is its end
+    for (call, status, taken) in [
+        (1, Status::ReadFault, ""),
+        (2, Status::ReadFault, ""),
+        (3, Status::ReadFault, ""),
+        (4, Status::ReadFault, ""),
+        (5, Status::ReadFault, ""),
+        (6, Status::ReadFault, ""),
+        (7, Status::ReadFault, ""),
+        (8, Status::ReadFault, ""),
+        (9, Status::Done, TRACE),
+    ] {
         let mut source = source(alloc, BOARD.as_bytes(), call)?;
         let mut sink = sink(alloc, 1024, 0)?;
         let answer = pcitree(alloc, words.as_slice(), &mut source, &mut sink);
@@ -79,20 +91,27 @@ fn each_call_of_the_source_fails_in_turn(rt: HostRuntime) -> Result<(), Fail> {
 fn each_call_of_the_sink_fails_in_turn(rt: HostRuntime) -> Result<(), Fail> {
     let alloc = rt.alloc();
     let words = words(alloc, &["run", "--steady", "f"])?;
-    let mut taken = 0;
-    for call in 1..14 {
-        // eleven calls take 16 bytes each, and the twelfth the other five
-        let status = if call < 13 {
-            Status::WriteFault
-        } else {
-            Status::Done
-        };
+    // eleven calls take 16 bytes each, and the twelfth the other five
+    for (call, status, taken) in [
+        (1, Status::WriteFault, 0),
+        (2, Status::WriteFault, 16),
+        (3, Status::WriteFault, 32),
+        (4, Status::WriteFault, 48),
+        (5, Status::WriteFault, 64),
+        (6, Status::WriteFault, 80),
+        (7, Status::WriteFault, 96),
+        (8, Status::WriteFault, 112),
+        (9, Status::WriteFault, 128),
+        (10, Status::WriteFault, 144),
+        (11, Status::WriteFault, 160),
+        (12, Status::WriteFault, 176),
+        (13, Status::Done, 181),
+    ] {
         let mut source = source(alloc, BOARD.as_bytes(), 0)?;
         let mut sink = sink(alloc, 1024, call)?;
         let answer = pcitree(alloc, words.as_slice(), &mut source, &mut sink);
         assert_eq!(rt; answer, status, "at call {call}");
-        assert_eq!(rt; sink.bytes(), &TRACE.as_bytes()[..taken], "at call {call}");
-        taken = (taken + MOST).min(TRACE.len());
+        assert_eq!(rt; sink.bytes(), front(TRACE, taken), "at call {call}");
     }
     Ok(())
 }
@@ -101,20 +120,16 @@ fn each_call_of_the_sink_fails_in_turn(rt: HostRuntime) -> Result<(), Fail> {
 fn a_sink_fills_up(rt: HostRuntime) -> Result<(), Fail> {
     let alloc = rt.alloc();
     let words = words(alloc, &["run", "--steady", "f"])?;
-    for (size, status, taken) in [
-        (100, Status::WriteFault, 100),
-        (180, Status::WriteFault, 180),
-        (181, Status::Done, 181),
+    for (size, status) in [
+        (100, Status::WriteFault),
+        (180, Status::WriteFault),
+        (181, Status::Done),
     ] {
         let mut source = source(alloc, BOARD.as_bytes(), 0)?;
         let mut sink = sink(alloc, size, 0)?;
         let answer = pcitree(alloc, words.as_slice(), &mut source, &mut sink);
         assert_eq!(rt; answer, status, "with room for {size}");
-        assert_eq!(rt;
-            sink.bytes(),
-            &TRACE.as_bytes()[..taken],
-            "with room for {size}"
-        );
+        assert_eq!(rt; sink.bytes(), front(TRACE, size), "with room for {size}");
     }
     Ok(())
 }
@@ -131,38 +146,36 @@ fn ports_that_never_fail(rt: HostRuntime) -> Result<(), Fail> {
     Ok(())
 }
 
+fn at_line(line: u32, fault: LineFault) -> Status {
+    Status::BadBoard {
+        line,
+        fault: BoardFault::Line(fault),
+    }
+}
+
 #[test]
 fn a_board_is_cut(rt: HostRuntime) -> Result<(), Fail> {
     let alloc = rt.alloc();
     let words = words(alloc, &["run", "--steady", "f"])?;
-    for (front, wanted) in [
-        (0, Some((1, LineFault::NoFirstLine))),
-        (10, None),
-        (14, Some((2, LineFault::WrongWord))),
-        (17, Some((2, LineFault::Missing))),
-        (32, None),
-        (58, Some((3, LineFault::Unaligned))),
-        (59, None),
+    for (count, status, end) in [
+        (0, at_line(1, LineFault::NoFirstLine), ""),
+        (10, Status::Done, "events\nend 0\n"),
+        (14, at_line(2, LineFault::WrongWord), ""),
+        (17, at_line(2, LineFault::Missing), ""),
+        (32, Status::Done, "events\nend 0\n"),
+        (58, at_line(3, LineFault::Unaligned), ""),
+        (59, Status::Done, "events\nend 0\n"),
     ] {
-        let mut source = source(alloc, &BOARD.as_bytes()[..front], 0)?;
+        let mut source = source(alloc, front(BOARD, count), 0)?;
         let mut sink = sink(alloc, 1024, 0)?;
         let answer = pcitree(alloc, words.as_slice(), &mut source, &mut sink);
-        let (status, ends) = match wanted {
-            None => (Status::Done, true),
-            Some((line, fault)) => (
-                Status::BadBoard {
-                    line,
-                    fault: BoardFault::Line(fault),
-                },
-                false,
-            ),
-        };
-        assert_eq!(rt; answer, status, "of {front} bytes");
+        assert_eq!(rt; answer, status, "of {count} bytes");
         assert_eq!(rt;
-            sink.bytes().ends_with(b"events\nend 0\n"),
-            ends,
-            "of {front} bytes"
+            sink.bytes().ends_with(end.as_bytes()),
+            true,
+            "of {count} bytes"
         );
+        assert_eq!(rt; sink.bytes().is_empty(), end.is_empty(), "of {count} bytes");
     }
     Ok(())
 }
@@ -171,7 +184,7 @@ fn a_board_is_cut(rt: HostRuntime) -> Result<(), Fail> {
 fn a_trace_is_cut(rt: HostRuntime) -> Result<(), Fail> {
     let alloc = rt.alloc();
     let words = words(alloc, &["check", "f"])?;
-    for (front, line, fault) in [
+    for (count, line, fault) in [
         (0, 1, TraceLineFault::NoFirstLine),
         (11, 2, TraceLineFault::NoEventsLine),
         (121, 8, TraceLineFault::NoEventsLine),
@@ -179,13 +192,13 @@ fn a_trace_is_cut(rt: HostRuntime) -> Result<(), Fail> {
         (175, 11, TraceLineFault::WrongCount),
         (178, 11, TraceLineFault::NoKind),
     ] {
-        let mut source = source(alloc, &TRACE.as_bytes()[..front], 0)?;
+        let mut source = source(alloc, front(TRACE, count), 0)?;
         let mut sink = sink(alloc, 1024, 0)?;
         let answer = pcitree(alloc, words.as_slice(), &mut source, &mut sink);
         assert_eq!(rt;
             answer,
             Status::BadTrace { line, fault },
-            "of {front} bytes"
+            "of {count} bytes"
         );
         assert_eq!(rt; sink.bytes(), b"".as_slice());
     }
