@@ -9,6 +9,9 @@ mod memory_sink;
 mod memory_source;
 mod port;
 mod read_port;
+mod sure_sink;
+mod sure_source;
+mod told;
 mod write_port;
 
 pub use failed::Failed;
@@ -17,6 +20,8 @@ pub use memory_sink::MemorySink;
 pub use memory_source::MemorySource;
 pub use port::{Bytes, Sink, Source};
 pub use read_port::ReadPort;
+pub use sure_sink::SureSink;
+pub use sure_source::SureSource;
 pub use write_port::WritePort;
 
 #[cfg(test)]

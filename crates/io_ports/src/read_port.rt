@@ -1,5 +1,7 @@
 ghost use Rattle.std.specs.Prelude.{◌≡◌, is_some, false, IsErr};
+ghost use Rattle.std.specs.Option.{option_and_then};
 ghost use Rattle.std.specs.Io.{ReadsAtMost};
+ghost use Rattle.std.specs.Io.KnownBytes.{ReadConsumes};
 
 use crate::counts::one_more;
 use crate::{Failed, Source};
@@ -7,7 +9,7 @@ use std::io::{ErrorKind, Read};
 use std::marker::Model;
 
 /// A source over a reader of `std::io`, or over none, as where a file could not be opened. It
-/// tells no bytes.
+/// tells what the reader tells: a file tells nothing.
 #[derive(Drop)]
 pub struct ReadPort<R> {
     inner: Option<R>,
@@ -16,18 +18,17 @@ pub struct ReadPort<R> {
 }
 
 impl<R> Model for ReadPort<R> {
-    ghost use Rattle.std.specs.Prelude.{is_some};
     ghost use Rattle.io_ports.specs.Port.{ReaderState};
 
-    ghost Value = { ReaderState };
+    ghost Value = { ReaderState R };
 
-    ghost view = { λ port. record { there = is_some port.inner; faults = port.faults } };
+    ghost view = { λ port. record { reader = port.inner; faults = port.faults } };
 }
 
 impl<R> ReadPort<R> {
     /// A source over this reader, with no fault yet.
     pub fn new(inner: Option<R>) -> ReadPort<R>
-        ensures { result ≡ record { there = is_some inner; faults = 0 } }
+        ensures { result ≡ record { reader = inner; faults = 0 } }
     {
         ReadPort {
             inner,
@@ -44,25 +45,28 @@ impl<R> ReadPort<R> {
 }
 
 impl<R: Read> Source for ReadPort<R> {
-    ghost use Rattle.std.specs.Prelude.{None, false, ◌≡◌, ◌≤◌, IsErr, OnErr};
+    ghost use Rattle.std.specs.Prelude.{false, is_some, ◌≡◌, ◌≤◌, IsErr, OnErr};
+    ghost use Rattle.std.specs.Option.{option_and_then};
     ghost use Rattle.std.specs.Io.{ReadsAtMost};
     ghost use Rattle.std.specs.Io.KnownBytes.{ReadConsumes};
     ghost use Rattle.io_ports.specs.Faults.{Rose};
     ghost use Rattle.io_ports.specs.Port.{faults_after};
 
-    ghost held = { λ _. None };
+    ghost held = { λ port. option_and_then R.remaining port.reader };
 
     ghost faults = { λ port. port.faults };
 
     fn read(&mut self, buf: &mut [u8]) -> Result<usize, Failed>
         ensures bound { ReadsAtMost result buf.new }
-        ensures bytes { ReadConsumes None None result buf.new }
+        ensures bytes { ReadConsumes (option_and_then R.remaining self.old.reader)
+            (option_and_then R.remaining self.new.reader) result buf.new }
         ensures counted { self.old.faults ≤ self.new.faults }
         ensures failed { OnErr result (Rose self.old.faults self.new.faults) }
 
         // Where nothing is there each call fails. Each failure counts, and nothing else does.
-        ensures none { self.old.there ≡ false → IsErr result }
-        ensures after { self.new ≡ record { there = self.old.there; faults = faults_after self.old.faults result } }
+        ensures none { is_some self.old.reader ≡ false → IsErr result }
+        ensures there { is_some self.new.reader ≡ is_some self.old.reader }
+        ensures after { self.new.faults ≡ faults_after self.old.faults result }
     {
         let answer = read_from(&mut self.inner, &mut self.reason, buf);
         if answer.is_err() {
@@ -79,6 +83,8 @@ fn read_from<R: Read>(
     buf: &mut [u8],
 ) -> Result<usize, Failed>
     ensures bound { ReadsAtMost result buf.new }
+    ensures bytes { ReadConsumes (option_and_then R.remaining inner.old)
+        (option_and_then R.remaining inner.new) result buf.new }
     ensures there { is_some inner.new ≡ is_some inner.old }
     ensures none { is_some inner.old ≡ false → IsErr result }
 {

@@ -1,4 +1,7 @@
-use crate::{Failed, HeldSource, MemorySink, MemorySource, ReadPort, Sink, Source, WritePort};
+use crate::{
+    Failed, HeldSource, MemorySink, MemorySource, ReadPort, Sink, Source, SureSink, SureSource,
+    WritePort,
+};
 use pci_command::List;
 use std::alloc::Global;
 use std::fs::{File, OpenOptions};
@@ -99,6 +102,20 @@ fn a_source_that_was_read_ahead_fails_where_the_reading_failed(
         assert_eq!(rt; held.read(&mut buf), Ok(given.len()));
         assert_eq!(rt; held.read(&mut buf), end);
         assert_eq!(rt; held.read(&mut buf), end);
+    }
+    Ok(())
+}
+
+#[test]
+fn ports_that_never_fail(rt: HostRuntime) -> Result<(), Fail> {
+    let mut source = SureSource::new(List::from_vec("abcde".as_bytes().to_vec(rt.alloc())?));
+    let mut sink = SureSink::new();
+    let mut buf = [0u8; 3];
+    for (count, filled, taken) in [(3, b"abc", 3), (2, b"dec", 5), (0, b"dec", 5)] {
+        assert_eq!(rt; source.read(&mut buf), Ok(count));
+        assert_eq!(rt; buf.as_slice(), filled.as_slice());
+        assert_eq!(rt; sink.write(&buf[..count]), Ok(count));
+        assert_eq!(rt; sink.count(), taken);
     }
     Ok(())
 }

@@ -1,62 +1,78 @@
-ghost use Rattle.std.specs.Prelude.{◌≡◌};
+ghost use Rattle.std.specs.Prelude.{◌≡◌, []};
 ghost use Rattle.std.specs.Io.{WritesAtMost};
+ghost use Rattle.std.specs.Io.KnownBytes.{WriteAppends};
 ghost use Rattle.io_ports.specs.Port.{TakesSome};
 
 use crate::counts::one_more;
+use crate::told::Told;
 use crate::{Failed, Sink};
 use std::io::Write;
 use std::marker::Model;
 
-/// A sink over a writer of `std::io`. It tells no bytes: contracts see its count of faults alone.
+/// A sink over a writer of `std::io`. It tells what it passed on and the writer took. The bytes
+/// that it tells are there for contracts alone, and take no memory.
 #[derive(Drop)]
 pub struct WritePort<W> {
     inner: W,
+    taken: Told,
     faults: u64,
 }
 
 impl<W> Model for WritePort<W> {
-    ghost use Rattle.std.specs.Prelude.{ℕ};
+    ghost use Rattle.io_ports.specs.Port.{WriterState};
 
-    ghost Value = { ℕ };
+    ghost Value = { WriterState W };
 
-    ghost view = { λ port. port.faults };
+    ghost view = { λ port. record { writer = port.inner; taken = port.taken.bytes; faults = port.faults } };
 }
 
 impl<W> WritePort<W> {
-    /// A sink over this writer, with no fault yet.
+    /// A sink over this writer, which took nothing yet and has no fault.
     pub fn new(inner: W) -> WritePort<W>
-        ensures { result ≡ 0 }
+        ensures { result ≡ record { writer = inner; taken = []; faults = 0 } }
     {
-        WritePort { inner, faults: 0 }
+        WritePort {
+            inner,
+            taken: Told::new(),
+            faults: 0,
+        }
     }
 }
 
 impl<W: Write> Sink for WritePort<W> {
-    ghost use Rattle.std.specs.Prelude.{None, ◌≡◌, ◌≤◌, OnErr};
+    ghost use Rattle.std.specs.Prelude.{Some, ◌≡◌, ◌≤◌, OnErr};
     ghost use Rattle.std.specs.Io.{WritesAtMost};
     ghost use Rattle.std.specs.Io.KnownBytes.{WriteAppends};
     ghost use Rattle.io_ports.specs.Faults.{Rose};
     ghost use Rattle.io_ports.specs.Port.{TakesSome, faults_after};
 
-    ghost taken = { λ _. None };
+    ghost taken = { λ port. Some port.taken };
 
-    ghost faults = { λ port. port };
+    ghost faults = { λ port. port.faults };
 
     fn write(&mut self, piece: &[u8]) -> Result<usize, Failed>
         ensures bound { WritesAtMost result piece.now }
-        ensures bytes { WriteAppends None None result piece.now }
+        ensures bytes { WriteAppends (Some self.old.taken) (Some self.new.taken) result piece.now }
         ensures some { TakesSome result piece.now }
-        ensures counted { self.old ≤ self.new }
-        ensures failed { OnErr result (Rose self.old self.new) }
+        ensures counted { self.old.faults ≤ self.new.faults }
+        ensures failed { OnErr result (Rose self.old.faults self.new.faults) }
+
+        // What it tells of a call is what the writer took in it, where that one tells it.
+        ensures passed { WriteAppends (W.contents self.old.writer) (W.contents self.new.writer) result piece.now }
 
         // Each failure counts, and nothing else does.
-        ensures after { self.new ≡ faults_after self.old result }
+        ensures after { self.new.faults ≡ faults_after self.old.faults result }
     {
-        let answer = write_to(&mut self.inner, piece);
-        if answer.is_err() {
-            self.faults = one_more(self.faults);
+        match write_to(&mut self.inner, piece) {
+            Ok(count) => {
+                self.taken.more(&piece[..count]);
+                Ok(count)
+            }
+            Err(Failed) => {
+                self.faults = one_more(self.faults);
+                Err(Failed)
+            }
         }
-        answer
     }
 }
 
@@ -64,6 +80,7 @@ impl<W: Write> Sink for WritePort<W> {
 fn write_to<W: Write>(inner: &mut W, piece: &[u8]) -> Result<usize, Failed>
     ensures bound { WritesAtMost result piece.now }
     ensures some { TakesSome result piece.now }
+    ensures passed { WriteAppends (W.contents inner.old) (W.contents inner.new) result piece.now }
 {
     match inner.write(piece) {
         Ok(0) if !piece.is_empty() => Err(Failed),

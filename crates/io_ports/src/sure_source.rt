@@ -1,0 +1,59 @@
+ghost use Rattle.std.specs.Prelude.{◌≡◌};
+
+use crate::memory_source::give;
+use crate::{Bytes, Failed, Source};
+use std::marker::Model;
+
+/// A source of bytes in memory that never fails. Each call gives as much as it can.
+#[derive(Debug, Drop)]
+pub struct SureSource {
+    bytes: Bytes,
+    given: usize,
+}
+
+impl Model for SureSource {
+    ghost use Rattle.std.specs.Prelude.{ℕ, List, ◌≤◌, length, drop};
+
+    ghost Value = { List ℕ };
+
+    ghost view = { λ source. drop source.given source.bytes };
+
+    ghost invariant = { λ source. source.given ≤ length source.bytes };
+}
+
+impl SureSource {
+    /// A source of these bytes.
+    pub fn new(bytes: Bytes) -> SureSource
+        ensures { result ≡ bytes }
+    {
+        SureSource { bytes, given: 0 }
+    }
+}
+
+impl Source for SureSource {
+    ghost use Rattle.std.specs.Prelude.{Ok, Some, ◌≡◌, ◌≤◌, min, length, take, drop, IfOk, OnErr};
+    ghost use Rattle.std.specs.Io.{ReadsAtMost};
+    ghost use Rattle.std.specs.Io.KnownBytes.{ReadConsumes};
+    ghost use Rattle.io_ports.specs.Faults.{Rose};
+
+    ghost held = { λ source. Some source };
+
+    ghost faults = { λ _. 0 };
+
+    fn read(&mut self, buf: &mut [u8]) -> Result<usize, Failed>
+        ensures bound { ReadsAtMost result buf.new }
+        ensures bytes { ReadConsumes (Some self.old) (Some self.new) result buf.new }
+        ensures counted { 0 ≤ 0 }
+        ensures failed { OnErr result (Rose 0 0) }
+
+        // It never fails, and gives as much as it can.
+        ensures full { result ≡ Ok (min (length buf.old) (length self.old)) }
+        ensures next { IfOk result (λ n. take n buf.new ≡ take n self.old) }
+        ensures after { IfOk result (λ n. self.new ≡ drop n self.old) }
+    {
+        let (_, rest) = self.bytes.as_slice().split_at(self.given);
+        let count = give(rest, buf, rest.len().max(1));
+        self.given += count;
+        Ok(count)
+    }
+}

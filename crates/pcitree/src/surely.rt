@@ -1,0 +1,28 @@
+ghost use Rattle.std.specs.Prelude.{◌≡◌, ◌≢◌, Some, map, string_bytes, ◌⊎◌};
+ghost use Rattle.pcitree.specs.declared.words.Form.{Form as WordForm};
+ghost use Rattle.pcitree.specs.Words.{form_of};
+ghost use Rattle.pcitree.specs.Answers.{IsServed, Causes};
+
+use crate::program::pcitree;
+use io_ports::{SureSink, SureSource};
+use program_status::Status;
+use std::alloc::Global;
+
+/// `pcitree` over ports that never fail. What is left of its answers are `Done`, `NoMemory` and
+/// the refusals of the words and of the input, and an input that is served is answered wherever
+/// there is memory.
+pub fn pcitree_surely(
+    alloc: Global,
+    words: &[String],
+    source: &mut SureSource,
+    sink: &mut SureSink,
+) -> Status
+    ensures reads { result ≢ Status.ReadFault }
+    ensures writes { result ≢ Status.WriteFault }
+    ensures cause { (form : WordForm) → form_of (map string_bytes words.now) ≡ Some form
+        → Causes form source.old result }
+    ensures served { (form : WordForm) → form_of (map string_bytes words.now) ≡ Some form
+        → IsServed form source.old → (result ≡ Status.Done) ⊎ (result ≡ Status.NoMemory) }
+{
+    pcitree(alloc, words, source, sink)
+}
