@@ -10,6 +10,7 @@ use Rattle.command_headers.specs.Answers.{AnswersHeaders}
 use Rattle.command_check.specs.Answers.{AnswersCheck, RefusesCheck}
 use Rattle.command_finish.specs.Answers.{AnswersFinish, RefusesFinish}
 use Rattle.command_audit.specs.Answers.{AnswersAudit, RefusesAudit}
+use Rattle.command_report.specs.Answers.{AnswersReport, RefusesReport}
 use Rattle.command_combine.specs.Answers.{AnswersCombine}
 use Rattle.pcitree.specs.declared.words.Part.{Part}
 use Rattle.pcitree.specs.declared.words.Part.TheVariants as parts
@@ -25,6 +26,11 @@ pub data Shape : Type 0 where
 abbrev pub shape_of : Part → Shape
 shape_of (parts.Word text) = Word text.now
 shape_of parts.File = File
+
+-- how such a word is shown in the help
+abbrev pub shown_as : Shape → List ℕ
+shown_as (Word text) = text
+shown_as File = codes "FILE"
 
 -- a form of words: what each has to be; how many bytes the input may have, 1 MiB for a board text and 64 MiB for a
 -- trace text; the text that answers an input; the status that refuses one; the inputs that have no fault; and whether
@@ -84,6 +90,14 @@ command_of forms.Audit = record {
   limit = 2 ^ 26;
   Answers = AnswersAudit;
   Refuses = RefusesAudit;
+  IsFaultless = IsRunTrace;
+  writes_run = false;
+}
+command_of forms.Report = record {
+  parts = Word (codes "report") ∷ File ∷ [];
+  limit = 2 ^ 26;
+  Answers = AnswersReport;
+  Refuses = RefusesReport;
   IsFaultless = IsRunTrace;
   writes_run = false;
 }
