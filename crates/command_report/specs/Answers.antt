@@ -9,14 +9,18 @@ use Rattle.program_status.specs.declared.status.Status.{Status}
 use Rattle.program_status.specs.declared.status.Status.TheVariants.{NotRun}
 use Rattle.program_input.specs.Traces.{ReadsTrace, RefusesTrace, IsNoRun}
 
+-- a run of a board, and the text of its report
+pub record Reports (board : Board) (events : List Event) (text : List ℕ) : Type 0 where
+  pub run : Run board (history_of events)
+  pub written : text ≡ report_of board (history_of events)
+
 -- the input is the text of a valid board and of a run of it, complete or not, and its report is written
 pub record AnswersReport (input text : List ℕ) : Type 0 where
   pub board : Board
   pub events : List Event
   pub reads : ReadsTrace input board events
   pub valid : IsValid board
-  pub run : Run board (history_of events)
-  pub written : text ≡ report_of board (history_of events)
+  pub reports : Reports board events text
 
 -- refused: as no run, or as no trace text
 abbrev pub RefusesReport : List ℕ → Status → Type 0
