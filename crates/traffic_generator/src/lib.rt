@@ -4,7 +4,9 @@
 
 mod agents;
 mod draws;
+mod laws;
 mod programs;
 mod rounds;
 
+pub use laws::generated_boards_are_valid;
 pub use rounds::Rounds;
