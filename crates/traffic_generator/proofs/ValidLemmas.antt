@@ -71,6 +71,7 @@ module _ (first second : ℕ) where
 -- The board.
 
 well_formed : (rounds : ℕ) → rounds ≤ 300 → is_well_formed (generated rounds) ≡ true
+unfolding generated
 well_formed rounds few =
     let second : ℕ = program_drawn rounds rounds in
     let third : ℕ = program_drawn rounds second in
@@ -104,6 +105,7 @@ add_up : (rounds a b c : ℕ) → a ≡ 25 * rounds → b ≡ 39 * rounds → c 
 add_up rounds a b c first second third = omega (arith, first, second, third)
 
 pub bound_is : (rounds : ℕ) → bound_of (generated rounds) ≡ 97 * rounds
+unfolding generated
 bound_is rounds =
     let second : ℕ = program_drawn rounds rounds in
     let third : ℕ = program_drawn rounds second in
@@ -116,6 +118,7 @@ not_above : (most n : ℕ) → n ≤ most → nat_lt most n ≡ false
 not_above most n within = grind (arith, nat_tests)
 
 pub IsValid-generated : (rounds : ℕ) → rounds ≤ 300 → IsValid (generated rounds)
+unfolding generated
 IsValid-generated rounds few =
     let second : ℕ = program_drawn rounds rounds in
     let third : ℕ = program_drawn rounds second in

@@ -1,6 +1,6 @@
 -- The board that a number of rounds stands for: two chains of two bridges each, and three masters that write and read
 -- across them, by draws that begin with the number itself.
-use Rattle.std.specs.Prelude.{ℕ, ◌+◌, ◌*◌, ◌%◌, zero, suc, false, List, [], ◌∷◌, ◌++◌, Some, None, codes}
+use Rattle.std.specs.Prelude.{ℕ, ◌+◌, ◌*◌, ◌%◌, zero, suc, false, List, [], ◌∷◌, ◌++◌, Option, Some, None, ◌&&◌, nat_le, if◌then◌else◌, codes}
 use Rattle.pci_command.specs.declared.command.Command.TheVariants.{MemRead, MemWrite}
 use Rattle.pci_command.specs.declared.command.Space.TheVariants.{Mem}
 use Rattle.board_model.specs.declared.agents.Target.{Target}
@@ -104,7 +104,7 @@ generated_masters rounds state =
     []
 
 -- the draws begin with the number of rounds as their state
-abbrev pub generated : ℕ → Board
+unfoldable pub generated : ℕ → Board
 generated rounds =
     record {
       bridges = generated_bridges;
@@ -113,3 +113,7 @@ generated rounds =
       discards = [];
       drops = [];
     }
+
+-- one to 300 rounds, and no other number
+abbrev pub rounds_in : ℕ → Option ℕ
+rounds_in count = if nat_le 1 count && nat_le count 300 then Some count else None

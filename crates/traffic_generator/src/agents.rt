@@ -8,7 +8,9 @@ use std::alloc::Global;
 
 /// Where the ranges of the targets on buses 0, 2 and 4 begin.
 pub(crate) const ON_0: u32 = 0x1000_0000;
+
 pub(crate) const ON_2: u32 = 0x8010_0000;
+
 pub(crate) const ON_4: u32 = 0x9010_0000;
 
 /// Two bridges below bus 0, and another below each.
@@ -19,7 +21,7 @@ pub(crate) fn bridges(alloc: Global) -> Result<List<Bridge>, NoMemory>
         bridge_to(1, 0, 1, 2, 0x8000_0000, 0x801f_ffff),
         bridge_to(2, 1, 1, 2, 0x8010_0000, 0x801f_ffff),
         bridge_to(3, 0, 2, 4, 0x9000_0000, 0x901f_ffff),
-        bridge_to(4, 3, 1, 4, 0x9010_0000, 0x901f_ffff)
+        bridge_to(4, 3, 1, 4, 0x9010_0000, 0x901f_ffff),
     ]?;
     Ok(List::from_vec(bridges))
 }
@@ -48,19 +50,13 @@ pub(crate) fn targets(alloc: Global) -> Result<List<Target>, NoMemory>
     let targets = vec![in alloc;
         target_on(alloc, b"t0", 0, 3, ON_0)?,
         target_on(alloc, b"t2", 2, 1, ON_2)?,
-        target_on(alloc, b"t4", 4, 1, ON_4)?
+        target_on(alloc, b"t4", 4, 1, ON_4)?,
     ]?;
     Ok(List::from_vec(targets))
 }
 
 /// A target with a range of 4 KiB of memory.
-fn target_on(
-    alloc: Global,
-    name: &[u8],
-    bus: u8,
-    device: u8,
-    base: u32,
-) -> Result<Target, NoMemory>
+fn target_on(alloc: Global, name: &[u8], bus: u8, device: u8, base: u32) -> Result<Target, NoMemory>
     requires { IsTrue (is_name name.now) }
     ensures { IfOk result (λ target. target ≡ target_on name.now bus device base) }
 {

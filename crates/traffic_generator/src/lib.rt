@@ -4,9 +4,14 @@
 
 mod agents;
 mod draws;
+mod generating;
 mod laws;
 mod programs;
 mod rounds;
 
+pub use generating::generate;
 pub use laws::generated_boards_are_valid;
 pub use rounds::Rounds;
+
+#[cfg(test)]
+mod tests;

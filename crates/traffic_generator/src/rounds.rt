@@ -1,4 +1,5 @@
-ghost use Rattle.std.specs.Prelude.{◌≡◌, ◌↔◌, ◌≤◌, IsSome, IfSome};
+ghost use Rattle.std.specs.Prelude.{◌≡◌, ◌≤◌};
+ghost use Rattle.traffic_generator.specs.Generated.{rounds_in};
 
 use std::marker::Model;
 
@@ -19,10 +20,9 @@ impl Model for Rounds {
 }
 
 impl Rounds {
-    /// So many rounds, if they are 1 to 300.
+    /// So many rounds. There are none exactly where the number is not from 1 to 300.
     pub fn new(count: u32) -> Option<Rounds>
-        ensures exact { IsSome result ↔ ((1 ≤ count) × (count ≤ 300)) }
-        ensures value { IfSome result (λ rounds. rounds ≡ count) }
+        ensures { result ≡ rounds_in count }
     {
         if (1..=300).contains(&count) {
             Some(Rounds {
