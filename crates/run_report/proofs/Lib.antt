@@ -1,0 +1,3 @@
+pub mod TallyLemmas
+pub mod LineLemmas
+pub mod OperationLemmas

@@ -1,0 +1,121 @@
+ghost use Rattle.std.specs.Prelude.{◌≡◌};
+ghost use Rattle.history_model.specs.Local.{bus_of};
+ghost use Rattle.history_model.specs.Runs.{history_of};
+ghost use Rattle.run_report.specs.Counts.{kind_of, kind_of_step};
+ghost use Rattle.run_report.specs.Tallies.{counted, Fits, IsTallied};
+
+use board_model::{Board, end_of};
+use history_model::{Event, Step};
+
+/// What a line of a report counts: a kind of events.
+#[derive(Clone, Copy, Debug, PartialEq, Eq)]
+pub enum Kind {
+    /// A target took a write, or a part of one.
+    Land,
+    /// A target or the header of a bridge gave a dword.
+    Read,
+    /// A bridge posted a memory write.
+    Accept,
+    /// A bridge latched a delayed request.
+    Latch,
+    /// A bridge gave the completion of a delayed request.
+    Take,
+    /// A target asked for a retry.
+    Stall,
+    /// Nobody claimed a transaction.
+    MasterAbort,
+    /// A target answered with Target-Abort.
+    TargetAbort,
+    /// Something arrived on a lane that ends at the bus.
+    Arrive,
+}
+
+/// How many events of each kind there were on one bus.
+#[derive(Clone, Copy, Debug, Default, PartialEq, Eq)]
+pub struct Tally {
+    pub land: u64,
+    pub read: u64,
+    pub accept: u64,
+    pub latch: u64,
+    pub take: u64,
+    pub stall: u64,
+    pub nobody: u64,
+    pub tabort: u64,
+    pub arrive: u64,
+}
+
+/// No events.
+const NONE: Tally = Tally {
+    land: 0,
+    read: 0,
+    accept: 0,
+    latch: 0,
+    take: 0,
+    stall: 0,
+    nobody: 0,
+    tabort: 0,
+    arrive: 0,
+};
+
+/// How many events of each kind there were on each bus number.
+pub(crate) fn tallies_of(board: &Board, events: &[Event]) -> [Tally; 256]
+    ensures { IsTallied board.now (history_of events.now) result }
+{
+    let mut tallies = [NONE; 256];
+    for event in events {
+        note(&mut tallies[usize::from(bus_of(board, event))], kind_of(event));
+    }
+    tallies
+}
+
+/// One event more of the kind.
+fn note(tally: &mut Tally, kind: Kind)
+    requires { Fits tally.old }
+    ensures { tally.new ≡ counted kind tally.old }
+{
+    match kind {
+        Kind::Land => tally.land += 1,
+        Kind::Read => tally.read += 1,
+        Kind::Accept => tally.accept += 1,
+        Kind::Latch => tally.latch += 1,
+        Kind::Take => tally.take += 1,
+        Kind::Stall => tally.stall += 1,
+        Kind::MasterAbort => tally.nobody += 1,
+        Kind::TargetAbort => tally.tabort += 1,
+        Kind::Arrive => tally.arrive += 1,
+    }
+}
+
+/// The bus on which an event happens: an arrival happens where its lane ends.
+fn bus_of(board: &Board, event: &Event) -> u8
+    ensures { result ≡ bus_of board.now event.now }
+{
+    match *event {
+        Event::Act { bus, .. } => bus,
+        Event::Arrive { lane, .. } => end_of(board, lane),
+    }
+}
+
+fn kind_of(event: &Event) -> Kind
+    ensures { result ≡ kind_of event.now }
+{
+    match event {
+        Event::Act { step, .. } => kind_of_step(*step),
+        Event::Arrive { .. } => Kind::Arrive,
+    }
+}
+
+fn kind_of_step(step: Step) -> Kind
+    ensures { result ≡ kind_of_step step }
+{
+    match step {
+        Step::Land | Step::Part(_) => Kind::Land,
+        Step::Read(_) => Kind::Read,
+        Step::Accept => Kind::Accept,
+        Step::Latch => Kind::Latch,
+        Step::Take(_) => Kind::Take,
+        Step::Stall => Kind::Stall,
+        Step::MasterAbort => Kind::MasterAbort,
+        Step::TargetAbort => Kind::TargetAbort,
+    }
+}

@@ -1,0 +1,32 @@
+ghost use Rattle.std.specs.Prelude.{◌≡◌, ◌++◌, IfOk, OnOk, string_bytes};
+ghost use Rattle.history_model.specs.Runs.{history_of};
+ghost use Rattle.run_report.specs.Report.{report_of};
+
+use crate::lines::{print_buses, print_length, print_size};
+use crate::tallies::tallies_of;
+use bus_tree::Tree;
+use history_model::Event;
+use pci_command::{List, NoMemory};
+use std::alloc::{AllocError, Global};
+
+/// The report of a run, complete or not, from its events, the oldest first: how many buses, masters
+/// and operations its board has; how many events it has, and at most may have; and for each bus, by
+/// number, how many events of each kind there were. A part of a burst counts as a land. It goes
+/// over the events once.
+pub fn report(alloc: Global, tree: &Tree, events: &[Event]) -> Result<List<u8>, NoMemory>
+    ensures { IfOk result (λ text. text ≡ report_of tree.now (history_of events.now)) }
+{
+    let mut text = String::new(alloc);
+    print_report(&mut text, tree, events)?;
+    Ok(List::from_vec(text.into_bytes()))
+}
+
+fn print_report(text: &mut String, tree: &Tree, events: &[Event]) -> Result<(), AllocError>
+    ensures { OnOk result (string_bytes text.new ≡ string_bytes text.old ++ report_of tree.now (history_of events.now)) }
+{
+    let board = tree.board();
+    print_size(text, board)?;
+    print_length(text, events.len(), tree.bound())?;
+    let tallies = tallies_of(board, events);
+    print_buses(text, board, &tallies)
+}
