@@ -8,7 +8,7 @@ _pcitree() {
   elif [ "$first" = help ] || [ "$first" = --help ]; then
     mapfile -t COMPREPLY < <(compgen -W "run headers check finish audit combine explain help --version" -- "$word")
   elif [ "$first" = run ] && [ "$COMP_CWORD" = 2 ]; then
-    COMPREPLY=(--steady)
+    mapfile -t COMPREPLY < <(compgen -W "--steady" -- "$word"; compgen -f -- "$word")
   else
     mapfile -t COMPREPLY < <(compgen -f -- "$word")
   fi

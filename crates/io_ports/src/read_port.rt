@@ -3,7 +3,7 @@ ghost use Rattle.std.specs.Io.{ReadsAtMost};
 
 use crate::counts::one_more;
 use crate::{Failed, Source};
-use std::io::Read;
+use std::io::{ErrorKind, Read};
 use std::marker::Model;
 
 /// A source over a reader of `std::io`, or over none, as where a file could not be opened. It
@@ -12,6 +12,7 @@ use std::marker::Model;
 pub struct ReadPort<R> {
     inner: Option<R>,
     faults: u64,
+    reason: Option<ErrorKind>,
 }
 
 impl<R> Model for ReadPort<R> {
@@ -28,7 +29,17 @@ impl<R> ReadPort<R> {
     pub fn new(inner: Option<R>) -> ReadPort<R>
         ensures { result ≡ record { there = is_some inner; faults = 0 } }
     {
-        ReadPort { inner, faults: 0 }
+        ReadPort {
+            inner,
+            faults: 0,
+            reason: None,
+        }
+    }
+
+    /// Why the last read that failed did, as the system tells it. None where none failed, or where
+    /// there is no reader.
+    pub fn reason(&self) -> Option<ErrorKind> {
+        self.reason
     }
 }
 
@@ -53,7 +64,7 @@ impl<R: Read> Source for ReadPort<R> {
         ensures none { self.old.there ≡ false → IsErr result }
         ensures after { self.new ≡ record { there = self.old.there; faults = faults_after self.old.faults result } }
     {
-        let answer = read_from(&mut self.inner, buf);
+        let answer = read_from(&mut self.inner, &mut self.reason, buf);
         if answer.is_err() {
             self.faults = one_more(self.faults);
         }
@@ -61,14 +72,24 @@ impl<R: Read> Source for ReadPort<R> {
     }
 }
 
-/// One read of the reader, if there is one.
-fn read_from<R: Read>(inner: &mut Option<R>, buf: &mut [u8]) -> Result<usize, Failed>
+/// One read of the reader, if there is one. Where it fails, the reason is the system's.
+fn read_from<R: Read>(
+    inner: &mut Option<R>,
+    reason: &mut Option<ErrorKind>,
+    buf: &mut [u8],
+) -> Result<usize, Failed>
     ensures bound { ReadsAtMost result buf.new }
     ensures there { is_some inner.new ≡ is_some inner.old }
     ensures none { is_some inner.old ≡ false → IsErr result }
 {
     match inner {
         None => Err(Failed),
-        Some(reader) => reader.read(buf).map_err(|_| Failed),
+        Some(reader) => match reader.read(buf) {
+            Ok(count) => Ok(count),
+            Err(error) => {
+                *reason = Some(error.kind());
+                Err(Failed)
+            }
+        },
     }
 }

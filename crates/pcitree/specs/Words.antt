@@ -26,6 +26,11 @@ abbrev pub shape_of : Part → Shape
 shape_of (parts.Word text) = Word text.now
 shape_of parts.File = File
 
+-- how such a word is shown in the help
+abbrev pub shown_as : Shape → List ℕ
+shown_as (Word text) = text
+shown_as File = codes "FILE"
+
 -- a form of words: what each has to be; how many bytes the input may have, 1 MiB for a board text and 64 MiB for a
 -- trace text; the text that answers an input; the status that refuses one; the inputs that have no fault; and whether
 -- it writes the trace of a complete run

@@ -1,5 +1,5 @@
 ghost use Rattle.std.specs.Prelude.{◌≡◌, ◌≤◌, ◌<◌, ◌^◌, IfSome, map, length, position, string_bytes};
-ghost use Rattle.pcitree.specs.Words.{names_file, fits, fitting, is_of, form_of, misfit, is_file, file_in, file_place, limit_by, shape_of, command_of};
+ghost use Rattle.pcitree.specs.Words.{names_file, fits, fitting, is_of, form_of, misfit, is_file, file_in, file_place, limit_by, shape_of, shown_as, command_of};
 
 /// What a word has to be.
 #[derive(Clone, Copy, Debug, PartialEq, Eq)]
@@ -29,6 +29,10 @@ pub struct Row {
     pub parts: &'static [Part],
     /// How many bytes the input may have.
     pub limit: usize,
+    /// What is done, in one line.
+    pub line: &'static str,
+    /// What there is more to say of it.
+    pub more: &'static str,
 }
 
 /// A board text may have 1 MiB.
@@ -48,6 +52,60 @@ pub const FORMS: [Form; 7] = [
     Form::Combine,
 ];
 
+const RUN: Row = Row {
+    parts: &[Part::Word("run"), Part::File],
+    limit: BOARD,
+    line: "runs a board to the end of all programs and writes its trace",
+    more: "Every valid board is served. What is written is a complete run, which `check` takes.",
+};
+
+const RUN_STEADY: Row = Row {
+    parts: &[Part::Word("run"), Part::Word("--steady"), Part::File],
+    limit: BOARD,
+    line: "the same, with one and the same schedule each time",
+    more: "For now there is no other schedule, so that `run` alone writes the same trace.",
+};
+
+const HEADERS: Row = Row {
+    parts: &[Part::Word("headers"), Part::File],
+    limit: BOARD,
+    line: "writes the configuration headers of a board's bridges",
+    more: "For each bridge, in the order of the board, a line `bridge B` and the 64 bytes of its header\n\
+        (PCI-to-PCI Bridge Architecture 1.1, section 3.2, from memory).",
+};
+
+const CHECK: Row = Row {
+    parts: &[Part::Word("check"), Part::File],
+    limit: TRACE,
+    line: "says whether a trace is a complete run of its board",
+    more: "Writes the number of events and the bound of the board, or refuses the trace: its text (6, 7), the\n\
+        first event that is not allowed (8), or that the run has not ended (9).",
+};
+
+const FINISH: Row = Row {
+    parts: &[Part::Word("finish"), Part::File],
+    limit: TRACE,
+    line: "takes the events of a trace to the end of all programs",
+    more: "The trace may have no events: then its board is run. What is written is a complete run, which\n\
+        `check` takes.",
+};
+
+const AUDIT: Row = Row {
+    parts: &[Part::Word("audit"), Part::File],
+    limit: TRACE,
+    line: "says of each read of a trace which write it knew of, and how",
+    more: "The trace is of a run, complete or not. For each read that ended and knew of a write of its word\n\
+        there is a line: the last such write to land, and the chain of reads and writes that told of it.",
+};
+
+const COMBINE: Row = Row {
+    parts: &[Part::Word("combine"), Part::File],
+    limit: BOARD,
+    line: "writes a board with neighbouring memory writes joined",
+    more: "As a bridge in front of the bus may join them: combined, or merged in prefetchable memory\n\
+        (PCI Local Bus 2.2, section 3.2.6, from memory).",
+};
+
 impl Form {
     /// The table of words: the row of each form.
     pub fn row(self) -> Row
@@ -55,41 +113,34 @@ impl Form {
         ensures few { length result.parts.now ≤ 3 }
         ensures limit { result.limit ≡ (command_of self).limit }
         ensures small { result.limit < 2 ^ 31 }
+
+        // Each form has a help line, and more that is told of it.
+        ensures line { 0 < length result.line.now }
+        ensures more { 0 < length result.more.now }
     {
         match self {
-            Form::Run => Row {
-                parts: &[Part::Word("run"), Part::File],
-                limit: BOARD,
-            },
-            Form::RunSteady => Row {
-                parts: &[Part::Word("run"), Part::Word("--steady"), Part::File],
-                limit: BOARD,
-            },
-            Form::Headers => Row {
-                parts: &[Part::Word("headers"), Part::File],
-                limit: BOARD,
-            },
-            Form::Check => Row {
-                parts: &[Part::Word("check"), Part::File],
-                limit: TRACE,
-            },
-            Form::Finish => Row {
-                parts: &[Part::Word("finish"), Part::File],
-                limit: TRACE,
-            },
-            Form::Audit => Row {
-                parts: &[Part::Word("audit"), Part::File],
-                limit: TRACE,
-            },
-            Form::Combine => Row {
-                parts: &[Part::Word("combine"), Part::File],
-                limit: BOARD,
-            },
+            Form::Run => RUN,
+            Form::RunSteady => RUN_STEADY,
+            Form::Headers => HEADERS,
+            Form::Check => CHECK,
+            Form::Finish => FINISH,
+            Form::Audit => AUDIT,
+            Form::Combine => COMBINE,
         }
     }
 }
 
 impl Part {
+    /// How a word that has to be so is shown: as it is, or by what it names.
+    pub fn shown(self) -> &'static str
+        ensures { result.now ≡ shown_as (shape_of self) }
+    {
+        match self {
+            Part::Word(text) => text,
+            Part::File => "FILE",
+        }
+    }
+
     fn fits(self, word: &str) -> bool
         ensures { result ≡ fits (shape_of self) word.now }
     {

@@ -1,14 +1,14 @@
 use fault_pages::{Page, explain};
-use program_help::{Help, VERSION, Word, word_help};
+use program_help::{Help, VERSION, WordHelp, word_help};
 use std::io;
 
 /// What the program is asked for.
 #[derive(Clone, Copy, Debug)]
-pub(crate) enum Asked {
+pub(crate) enum Asked<'a> {
     /// To read a file, or what is of no form.
     Work,
     Help,
-    HelpOf(&'static Word),
+    HelpOf(WordHelp<'a>),
     Version,
     Explain(&'static Page),
     /// Of one of these forms, but for the word at this place.
@@ -16,7 +16,7 @@ pub(crate) enum Asked {
 }
 
 /// `--help`, `help`, `help WORD`, `--help WORD`, `--version` or `explain CODE`.
-pub(crate) fn asked_for(words: &[String]) -> Asked {
+pub(crate) fn asked_for(words: &[String]) -> Asked<'_> {
     match words {
         [word] => asked_by_one(word.as_str()),
         [word, other] => asked_by_two(word.as_str(), other.as_str()),
@@ -29,7 +29,7 @@ pub(crate) fn asked_for(words: &[String]) -> Asked {
     }
 }
 
-fn asked_by_one(word: &str) -> Asked {
+fn asked_by_one(word: &str) -> Asked<'_> {
     match word {
         "--help" | "help" => Asked::Help,
         "--version" => Asked::Version,
@@ -38,7 +38,7 @@ fn asked_by_one(word: &str) -> Asked {
     }
 }
 
-fn asked_by_two(word: &str, other: &str) -> Asked {
+fn asked_by_two<'a>(word: &str, other: &'a str) -> Asked<'a> {
     match word {
         "--help" | "help" => word_help(other).map_or(Asked::Misfit(1), Asked::HelpOf),
         "explain" => explain(other).map_or(Asked::Misfit(1), Asked::Explain),
@@ -48,7 +48,7 @@ fn asked_by_two(word: &str, other: &str) -> Asked {
 }
 
 /// Writes it to standard output.
-pub(crate) fn tell(rt: &HostRuntime, asked: Asked) -> io::Result<()> {
+pub(crate) fn tell(rt: &HostRuntime, asked: Asked<'_>) -> io::Result<()> {
     match asked {
         Asked::Work | Asked::Misfit(_) => Ok(()),
         Asked::Help => print!(rt; "{Help}"),

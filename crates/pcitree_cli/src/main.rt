@@ -64,6 +64,7 @@ fn run(rt: &HostRuntime, words: &[String]) -> Status {
     else {
         return status_only(rt, Status::NoMemory);
     };
+    let reason = reason.or(port.reason());
     let mut sink = WritePort::new(rt.stdout());
     let status = pcitree(rt.alloc(), words, &mut source, &mut sink);
     if status != Status::Done {

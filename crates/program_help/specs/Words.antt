@@ -1,7 +1,15 @@
--- The help of a word.
-use Rattle.std.specs.Prelude.{ℕ, Bool, List}
+-- The words that the program may be called with first.
+use Rattle.std.specs.Prelude.{ℕ, Bool, false, List, [], ◌∷◌}
 use Rattle.std.specs.Str.{bytes_eq}
-use Rattle.program_help.specs.declared.word.Word.{Word}
+use Rattle.pcitree.specs.Words.{Shape}
+use Rattle.pcitree.specs.Words.Shape.{Word, File}
+use Rattle.program_help.specs.declared.own.OwnWord.{OwnWord}
 
-abbrev pub is_word : List ℕ → Word → Bool
-is_word word known = bytes_eq known.word.now word
+-- a form of words begins with just this word
+abbrev pub begins : List ℕ → List Shape → Bool
+begins word [] = false
+begins word (Word text ∷ parts) = bytes_eq text word
+begins word (File ∷ parts) = false
+
+abbrev pub is_own : List ℕ → OwnWord → Bool
+is_own word own = bytes_eq own.word.now word

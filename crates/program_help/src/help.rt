@@ -1,18 +1,23 @@
-use crate::WORDS;
+use crate::OWN_WORDS;
+use crate::call::Call;
+use pcitree::FORMS;
 use std::fmt;
 
 /// The version of the program, and of the kit that it is proved with.
 pub const VERSION: &str = "pcitree 0.2.0 (rattle-kit-13f)";
 
-/// What `--help` prints: each form of the words with its help line.
+/// What `--help` prints: each way to call the program with its help line.
 #[derive(Clone, Copy, Debug)]
 pub struct Help;
 
 impl fmt::Display for Help {
     fn fmt<W: fmt::Write>(&self, f: &mut fmt::Formatter<W>) -> fmt::Result {
         f.write_str("usage:\n")?;
-        for word in &WORDS {
-            writeln!(f, "  pcitree {:20} {}", word.form, word.line)?;
+        for form in &FORMS {
+            Call::of_row(form.row()).write_row(f)?;
+        }
+        for own in &OWN_WORDS {
+            Call::of_own(own).write_row(f)?;
         }
         f.write_str("FILE is a path: /dev/stdin and pipes are read as well.\n")
     }

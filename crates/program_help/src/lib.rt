@@ -1,13 +1,14 @@
-//! What the program says of itself: its words, each with its form and a help line, and its version.
+//! What the program says of itself: how it is called, with a help line for each way, and its version.
 #![tactic(auto)]
 
+mod call;
 mod help;
+mod own;
 mod word;
-mod words;
 
 pub use help::{Help, VERSION};
-pub use word::{Word, find_word, word_help};
-pub use words::WORDS;
+pub use own::{OWN_WORDS, OwnWord};
+pub use word::{WordHelp, is_one_of, word_help};
 
 #[cfg(test)]
 mod tests;

@@ -1,48 +1,75 @@
-ghost use Rattle.std.specs.Prelude.{◌≡◌, IsTrue, IfSome, find};
-ghost use Rattle.std.specs.Option.{option_map};
-ghost use Rattle.program_help.specs.Words.{is_word};
+ghost use Rattle.std.specs.Prelude.{◌≡◌, map, IsSome, IsTrue};
+ghost use Rattle.std.specs.List.{list_any};
+ghost use Rattle.pcitree.specs.declared.words.TheConstants.{FORMS};
+ghost use Rattle.pcitree.specs.Words.{command_of, shape_of};
+ghost use Rattle.program_help.specs.Words.{begins, is_own};
 
-use crate::WORDS;
+use crate::call::Call;
+use crate::{OWN_WORDS, OwnWord};
+use pcitree::{FORMS, Part};
 use std::fmt;
 
-/// A word that the program may be called with first.
+/// What the program says of a word that it may be called with first.
 #[derive(Clone, Copy, Debug)]
-pub struct Word {
-    pub word: &'static str,
-    /// All words of its form.
-    pub form: &'static str,
-    /// What it does, in one line.
-    pub line: &'static str,
-    /// What there is more to say.
-    pub more: &'static str,
+pub struct WordHelp<'a> {
+    word: &'a str,
 }
 
 /// The help of a word, if it is one of the program's.
-pub fn word_help(word: &str) -> Option<&'static Word>
-    ensures { IfSome result (λ found. IsTrue (is_word word.now found.now)) }
+pub fn word_help(word: &str) -> Option<WordHelp<'_>>
+    ensures forms { IsTrue (list_any (λ form. begins word.now (command_of form).parts) FORMS) → IsSome result }
 {
-    find_word(&WORDS, word)
-}
-
-/// The first of these with this word.
-pub fn find_word<'a>(words: &'a [Word], word: &str) -> Option<&'a Word>
-    ensures first { option_map (λ found. found.now) result ≡ find (is_word word.now) words.now }
-    ensures found { IfSome result (λ found. IsTrue (is_word word.now found.now)) }
-{
-    match words {
-        [] => None,
-        [known, rest @ ..] => {
-            if known.word == word {
-                Some(known)
-            } else {
-                find_word(rest, word)
-            }
-        }
+    if begins_form(word) || is_one_of(&OWN_WORDS, word) {
+        Some(WordHelp { word })
+    } else {
+        None
     }
 }
 
-impl fmt::Display for Word {
+/// Whether a form of words begins with this one.
+fn begins_form(word: &str) -> bool
+    ensures { result ≡ list_any (λ form. begins word.now (command_of form).parts) FORMS }
+{
+    FORMS.iter().any(|form| begins(form.row().parts, word))
+}
+
+fn begins(parts: &[Part], word: &str) -> bool
+    ensures { result ≡ begins word.now (map shape_of parts.now) }
+{
+    match parts {
+        [] => false,
+        [part, ..] => match *part {
+            Part::Word(text) => text == word,
+            Part::File => false,
+        },
+    }
+}
+
+/// Whether it is one of these.
+pub fn is_one_of(own_words: &[OwnWord], word: &str) -> bool
+    ensures { result ≡ list_any (is_own word.now) own_words.now }
+{
+    own_words.iter().any(|own| own.word == word)
+}
+
+impl<'a> fmt::Display for WordHelp<'a> {
     fn fmt<W: fmt::Write>(&self, f: &mut fmt::Formatter<W>) -> fmt::Result {
-        writeln!(f, "pcitree {}: {}\n\n{}", self.form, self.line, self.more)
+        let mut is_first = true;
+        for form in &FORMS {
+            let row = form.row();
+            if begins(row.parts, self.word) {
+                if !is_first {
+                    f.write_char('\n')?;
+                }
+                is_first = false;
+                Call::of_row(row).write_whole(f)?;
+            }
+        }
+        for own in &OWN_WORDS {
+            if own.word == self.word {
+                Call::of_own(own).write_whole(f)?;
+            }
+        }
+        Ok(())
     }
 }

@@ -1,5 +1,0 @@
-use Rattle.std.proofs.Common.{length}
-use Rattle.program_help.proofs.word.+find_word.Given as goal
-
-abbrev pub decreases-find_word : goal.decreases-find_word
-decreases-find_word l = length l.words.now
