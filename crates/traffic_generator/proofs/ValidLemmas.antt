@@ -1,5 +1,5 @@
 -- The board of at most 300 rounds is valid: its tree has no fault, and whatever is drawn, its operations are well formed.
-use Rattle.std.proofs.Common.{◌≡◌, ℕ, ◌+◌, ◌*◌, ◌%◌, ◌<◌, ◌≤◌, zero, suc, Bool, true, false, nat_lt, List, [], ◌∷◌, length, codes, refl, ◌∙◌, arith, eq-eqb, le-leb}
+use Rattle.std.proofs.Common.{◌≡◌, ℕ, ◌+◌, ◌*◌, ◌%◌, ◌≤◌, zero, suc, true, false, nat_lt, List, length, codes, refl, ◌∙◌, arith, eq-eqb, le-leb}
 use Rattle.std.specs.List.{list_all, list_any}
 use Rattle.std.proofs.lemmas.Bool.{and_from, or_from}
 use Rattle.std.proofs.lemmas.Bool.Decides.{nat_tests}
@@ -7,7 +7,6 @@ use Rattle.list_facts.specs.Lists.{total}
 use Rattle.pci_command.specs.declared.command.Command.TheVariants.{MemRead, MemWrite}
 use Rattle.pci_command.specs.declared.phases.Phase.{Phase}
 use Rattle.board_model.specs.declared.agents.Master.{Master}
-use Rattle.board_model.specs.declared.op.Op.{Op}
 use Rattle.board_model.specs.declared.op.Op.TheVariants.{Read, Write}
 use Rattle.board_model.specs.declared.board.Board.{Board}
 use Rattle.board_model.specs.Requests.{tries_of}
