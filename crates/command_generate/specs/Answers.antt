@@ -1,5 +1,5 @@
 -- generate: what is written for a number of rounds.
-use Rattle.std.specs.Prelude.{◌≡◌, ℕ, ◌*◌, Bool, List, Option, Some, None, Result, Ok, Err, is_some}
+use Rattle.std.specs.Prelude.{◌≡◌, ℕ, ◌*◌, Bool, true, List, Option, Some, None, Result, Ok, Err, is_some}
 use Rattle.board_model.specs.Ways.{bound_of}
 use Rattle.board_model.specs.Valid.{IsValid}
 use Rattle.board_text.specs.declared.numbers.NumberFault.{NumberFault}
@@ -17,11 +17,15 @@ rounds_by (Ok count) = rounds_in count
 rounds_by (Err fault) = None
 
 -- the rounds that a word names: a decimal of 1 to 10 digits, from 1 to 300
-abbrev pub rounds_of : List ℕ → Option ℕ
+unfoldable pub rounds_of : List ℕ → Option ℕ
 rounds_of word = rounds_by (decimal_answer word)
 
 abbrev pub names_rounds : List ℕ → Bool
 names_rounds word = is_some (rounds_of word)
+
+-- the same as a fact
+abbrev pub NamesRounds : List ℕ → Type 0
+NamesRounds word = names_rounds word ≡ true
 
 -- the report of a complete run of the board of so many rounds, which is valid
 pub record GeneratesTo (rounds : ℕ) (text : List ℕ) : Type 0 where
