@@ -1,10 +1,12 @@
 -- The way counts of a board: what each of its operations counts along its way, whatever else there is on the board.
 use Rattle.std.specs.Prelude.{ℕ, Bool, true, false, ◌+◌, List, [], ◌∷◌, Option, Some, None, ◌==◌, if◌then◌else◌, slice_get}
+use Rattle.std.specs.List.{find}
 use Rattle.list_facts.specs.Lists.{total}
 use Rattle.pci_command.specs.declared.request.Request.{Request}
 use Rattle.pci_command.specs.Command.{is_read}
 use Rattle.board_model.specs.declared.agents.Target.{Target as TargetAgent}
 use Rattle.board_model.specs.declared.agents.Master.{Master}
+use Rattle.board_model.specs.declared.bridge.Bridge.{Bridge}
 use Rattle.board_model.specs.declared.bridge.Lane.{Lane as BridgeLane}
 use Rattle.board_model.specs.declared.bridge.Place.{Place}
 use Rattle.board_model.specs.declared.bridge.Place.TheVariants.{Target, Header, Lane, Nobody}
@@ -46,9 +48,13 @@ target_kind request (Some target) =
     else if is_read request.command then Read
     else Land
 
+abbrev pub header_kind : Option Bridge → Kind
+header_kind None = MasterAbort
+header_kind (Some bridge) = Read
+
 abbrev pub last_kind : Board → Request → Place → Kind
 last_kind board request (Target place) = target_kind request (slice_get board.targets place)
-last_kind board request (Header bus) = Read
+last_kind board request (Header bus) = header_kind (find (λ bridge. bridge.bus == bus) board.bridges)
 last_kind board request (Lane lane) = MasterAbort
 last_kind board request Nobody = MasterAbort
 

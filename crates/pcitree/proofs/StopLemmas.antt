@@ -11,6 +11,7 @@ use Rattle.program_input.proofs.RefusalLemmas.{board_refusing}
 use Rattle.command_check.proofs.ServedLemmas.{check_refusing}
 use Rattle.command_finish.proofs.ServedLemmas.{finish_refusing}
 use Rattle.command_audit.proofs.ServedLemmas.{audit_refusing}
+use Rattle.command_report.proofs.ServedLemmas.{report_refusing}
 use Rattle.pcitree.specs.declared.words.Form.{Form}
 use Rattle.pcitree.specs.declared.words.Form.TheVariants as forms
 use Rattle.pcitree.specs.Words.{command_of}
@@ -63,6 +64,7 @@ refusing forms.Headers = board_refusing
 refusing forms.Check = check_refusing
 refusing forms.Finish = finish_refusing
 refusing forms.Audit = audit_refusing
+refusing forms.Report = report_refusing
 refusing forms.Combine = board_refusing
 
 -- an input that was read, and is refused

@@ -10,6 +10,7 @@ use Rattle.command_headers.specs.Answers.{AnswersHeaders}
 use Rattle.command_check.specs.Answers.{AnswersCheck, RefusesCheck}
 use Rattle.command_finish.specs.Answers.{AnswersFinish, RefusesFinish}
 use Rattle.command_audit.specs.Answers.{AnswersAudit, RefusesAudit}
+use Rattle.command_report.specs.Answers.{AnswersReport, RefusesReport}
 use Rattle.command_combine.specs.Answers.{AnswersCombine}
 use Rattle.pcitree.specs.declared.words.Part.{Part}
 use Rattle.pcitree.specs.declared.words.Part.TheVariants as parts
@@ -89,6 +90,14 @@ command_of forms.Audit = record {
   limit = 2 ^ 26;
   Answers = AnswersAudit;
   Refuses = RefusesAudit;
+  IsFaultless = IsRunTrace;
+  writes_run = false;
+}
+command_of forms.Report = record {
+  parts = Word (codes "report") ∷ File ∷ [];
+  limit = 2 ^ 26;
+  Answers = AnswersReport;
+  Refuses = RefusesReport;
   IsFaultless = IsRunTrace;
   writes_run = false;
 }

@@ -19,6 +19,7 @@ pub enum Form {
     Check,
     Finish,
     Audit,
+    Report,
     Combine,
 }
 
@@ -42,13 +43,14 @@ const BOARD: usize = 0x10_0000;
 const TRACE: usize = 0x400_0000;
 
 /// All forms, in the order in which they are told.
-pub const FORMS: [Form; 7] = [
+pub const FORMS: [Form; 8] = [
     Form::Run,
     Form::RunSteady,
     Form::Headers,
     Form::Check,
     Form::Finish,
     Form::Audit,
+    Form::Report,
     Form::Combine,
 ];
 
@@ -98,6 +100,14 @@ const AUDIT: Row = Row {
         there is a line: the last such write to land, and the chain of reads and writes that told of it.",
 };
 
+const REPORT: Row = Row {
+    parts: &[Part::Word("report"), Part::File],
+    limit: TRACE,
+    line: "counts the events of a trace by bus and kind",
+    more: "The trace is of a run, complete or not. Writes how many buses, masters, operations and events there\n\
+        are, the bound of the board, and for each bus its events by kind; a part of a burst is a land.",
+};
+
 const COMBINE: Row = Row {
     parts: &[Part::Word("combine"), Part::File],
     limit: BOARD,
@@ -125,6 +135,7 @@ impl Form {
             Form::Check => CHECK,
             Form::Finish => FINISH,
             Form::Audit => AUDIT,
+            Form::Report => REPORT,
             Form::Combine => COMBINE,
         }
     }

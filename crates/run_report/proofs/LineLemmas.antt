@@ -1,5 +1,5 @@
 -- The lines of a report, bus by bus.
-use Rattle.std.proofs.Common.{◌≡◌, ℕ, ◌+◌, ◌<◌, ◌≤◌, Bool, true, false, cond, map, length, List, [], ◌∷◌, ◌++◌, refl, sym, ap, subst, ◌∙◌, arith, append_assoc, append-nil}
+use Rattle.std.proofs.Common.{◌≡◌, ℕ, ◌+◌, ◌<◌, ◌≤◌, zero, suc, Bool, true, false, cond, map, length, List, [], ◌∷◌, ◌++◌, refl, sym, ap, subst, ◌∙◌, arith, append_assoc, append-nil}
 use Rattle.std.specs.List.{filter, range_with_len}
 use Rattle.std.proofs.lemmas.List.{map-append}
 use Rattle.std.proofs.lemmas.List.Elements.{filter-append}
@@ -10,11 +10,20 @@ use Rattle.board_model.specs.Valid.{is_bus}
 use Rattle.board_printer.specs.Lines.{Line, line_text, text_of}
 use Rattle.run_report.specs.declared.tallies.Kind.{Kind}
 use Rattle.run_report.specs.declared.tallies.Kind.TheVariants.{Land, Read, Accept, Latch, Take, Stall, MasterAbort, TargetAbort, Arrive}
-use Rattle.run_report.specs.Report.{bus_line, buses_text, report_with}
+use Rattle.run_report.specs.declared.tallies.Tally.{Tally}
+use Rattle.history_model.specs.declared.event.Event.{Event}
+use Rattle.board_model.specs.Ways.{bound_of}
+use Rattle.run_report.specs.Counts.{count_of}
+use Rattle.run_report.specs.Tallies.{count_in, tally_at, IsTallied}
+use Rattle.run_report.specs.Report.{operations_of, size_line, length_line, bus_line, buses_text, report_of}
 
 range_more : (a n : ℕ) → range_with_len a (n + 1) ≡ range_with_len a n ++ (a + n) ∷ []
-range_more a zero = ap (λ (m : ℕ). m ∷ []) (omega arith)
-range_more a (suc n) = ap (λ (l : List ℕ). a ∷ l) (range_more (a + 1) n ∙ ap (λ (m : ℕ). range_with_len (a + 1) n ++ m ∷ []) (omega arith))
+range_more a zero =
+    let one : zero + 1 ≡ suc zero = omega arith in
+    ap (range_with_len a) one ∙ ap (λ (m : ℕ). m ∷ []) (omega arith)
+range_more a (suc n) =
+    let more : suc n + 1 ≡ suc (n + 1) = omega arith in
+    ap (range_with_len a) more ∙ ap (λ (l : List ℕ). a ∷ l) (range_more (a + 1) n ∙ ap (λ (m : ℕ). range_with_len (a + 1) n ++ m ∷ []) (omega arith))
 
 -- the lines of the numbers that pass
 abbrev pub lines_to : (ℕ → Bool) → (ℕ → Line) → ℕ → List ℕ
@@ -35,16 +44,16 @@ lines_more test line n =
 
 -- a number that passes has its line behind those before it
 pub lines_one : (test : ℕ → Bool) (line : ℕ → Line) (n : ℕ) (old text longer : List ℕ) → test n ≡ true → text ≡ old ++ lines_to test line n → longer ≡ text ++ line_text (line n) → longer ≡ old ++ lines_to test line (n + 1)
-lines_one test line n old text longer yes so is =
+lines_one test line n old text longer passes so is =
     is
     ∙ ap (λ (t : List ℕ). t ++ line_text (line n)) so
     ∙ append_assoc old (lines_to test line n) (line_text (line n))
-    ∙ ap (λ (t : List ℕ). old ++ t) (sym (lines_more test line n ∙ ap (λ (b : Bool). lines_to test line n ++ cond b (line_text (line n)) []) yes))
+    ∙ ap (λ (t : List ℕ). old ++ t) (sym (lines_more test line n ∙ ap (λ (b : Bool). lines_to test line n ++ cond b (line_text (line n)) []) passes))
 
 -- any other has none
 pub lines_none : (test : ℕ → Bool) (line : ℕ → Line) (n : ℕ) (old text : List ℕ) → test n ≡ false → text ≡ old ++ lines_to test line n → text ≡ old ++ lines_to test line (n + 1)
-lines_none test line n old text no so =
-    so ∙ ap (λ (t : List ℕ). old ++ t) (sym (lines_more test line n ∙ ap (λ (b : Bool). lines_to test line n ++ cond b (line_text (line n)) []) no ∙ append-nil (lines_to test line n)))
+lines_none test line n old text fails so =
+    so ∙ ap (λ (t : List ℕ). old ++ t) (sym (lines_more test line n ∙ ap (λ (b : Bool). lines_to test line n ++ cond b (line_text (line n)) []) fails ∙ append-nil (lines_to test line n)))
 
 -- a line is of its nine counts
 line_same : (bus : ℕ) (c d : Kind → ℕ) → ((kind : Kind) → c kind ≡ d kind) → bus_line bus c ≡ bus_line bus d
@@ -64,3 +73,25 @@ map_same test f g a (suc n) same =
 pub buses_same : (board : Board) (c d : ℕ → Kind → ℕ) → ((bus : ℕ) (kind : Kind) → bus < 256 → c bus kind ≡ d bus kind) → buses_text board c ≡ buses_text board d
 buses_same board c d same =
     ap text_of (map_same (is_bus board) (λ bus. bus_line bus (c bus)) (λ bus. bus_line bus (d bus)) 0 256 (λ bus below. line_same bus (c bus) (d bus) (λ kind. same bus kind (omega arith))))
+
+-- its parts make the report of a history, where these are its numbers
+pub report_parts : (given board : Board) (h : List Event) (buses masters operations events bound : ℕ) (tallies : List Tally) (old first second third : List ℕ) → given ≡ board
+    → buses ≡ length given.bridges + 1 → masters ≡ length given.masters → operations ≡ operations_of given → events ≡ length h → bound ≡ bound_of board → IsTallied given h tallies
+    → first ≡ old ++ line_text (size_line buses masters operations) → second ≡ first ++ line_text (length_line events bound) → third ≡ second ++ buses_text given (λ bus. count_in (tally_at tallies bus))
+    → third ≡ old ++ report_of board h
+report_parts given board h buses masters operations events bound tallies old first second third same buses_are masters_are operations_are events_are bound_is tallied one two three =
+    let P : Board → Type 0 = λ b. third ≡ old ++ (line_text (size_line (length b.bridges + 1) (length b.masters) (operations_of b)) ++ (line_text (length_line (length h) (bound_of board)) ++ buses_text b (count_of b h))) in
+    let size : List ℕ = line_text (size_line buses masters operations) in
+    let long : List ℕ = line_text (length_line events bound) in
+    let counts : List ℕ = buses_text given (λ bus. count_in (tally_at tallies bus)) in
+    let joined : third ≡ old ++ (size ++ (long ++ counts)) =
+    three ∙ ap (λ (t : List ℕ). t ++ counts) (two ∙ ap (λ (t : List ℕ). t ++ long) one)
+    ∙ append_assoc (old ++ size) long counts ∙ append_assoc old size (long ++ counts) in
+    let sizes : size ≡ line_text (size_line (length given.bridges + 1) (length given.masters) (operations_of given)) =
+    ap (λ n. line_text (size_line n masters operations)) buses_are ∙ ap (λ n. line_text (size_line (length given.bridges + 1) n operations)) masters_are
+    ∙ ap (λ n. line_text (size_line (length given.bridges + 1) (length given.masters) n)) operations_are in
+    let longs : long ≡ line_text (length_line (length h) (bound_of board)) = ap (λ n. line_text (length_line n bound)) events_are ∙ ap (λ n. line_text (length_line (length h) n)) bound_is in
+    let same_counts : counts ≡ buses_text given (count_of given h) = buses_same given (λ bus. count_in (tally_at tallies bus)) (count_of given h) (λ bus kind below. tallied.counts bus kind below) in
+    subst P same (joined ∙ ap (λ (t : List ℕ). old ++ (t ++ (long ++ counts))) sizes
+    ∙ ap (λ (t : List ℕ). old ++ (line_text (size_line (length given.bridges + 1) (length given.masters) (operations_of given)) ++ (t ++ counts))) longs
+    ∙ ap (λ (t : List ℕ). old ++ (line_text (size_line (length given.bridges + 1) (length given.masters) (operations_of given)) ++ (line_text (length_line (length h) (bound_of board)) ++ t))) same_counts)

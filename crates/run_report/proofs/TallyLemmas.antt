@@ -1,7 +1,8 @@
 -- The counts of a report, with one event more.
-use Rattle.std.proofs.Common.{◌≡◌, ◌≢◌, ℕ, ◌+◌, ◌<◌, ◌≤◌, ◌^◌, Bool, true, false, cond, ◌==◌, ◌&&◌, take, get_or, set, replicate, map, length, reverse, List, [], ◌∷◌, ◌++◌, refl, sym, ap, subst, ◌∙◌, arith, eqb-true, eqb-false, get_or-set_same, get_or-set_other}
-use Rattle.std.proofs.lemmas.List.{take_more, reverse-append, get_or-replicate, length-set, length-replicate}
-use Rattle.std.proofs.lemmas.List.Sums.{count_by-le-length}
+use Rattle.std.proofs.Common.{◌≡◌, ◌≢◌, ℕ, ◌+◌, ◌<◌, ◌≤◌, ◌^◌, Bool, true, false, cond, ◌==◌, ◌&&◌, take, get_or, set, replicate, map, length, reverse, List, [], ◌∷◌, ◌++◌, refl, sym, ap, subst, ◌∙◌, arith, eqb-true, get_or-set_same, get_or-set_other}
+use Rattle.std.proofs.lemmas.Bool.{eqb-false}
+use Rattle.std.proofs.lemmas.List.{take_more, reverse-append, get_or-replicate, length-set, length-replicate, length-reverse, length-take-le}
+use Rattle.std.proofs.lemmas.List.Sums.{count_by-le-length, sum_by-cons}
 use Rattle.board_model.specs.declared.board.Board.{Board}
 use Rattle.history_model.specs.declared.event.Event.{Event}
 use Rattle.history_model.specs.Local.{bus_of}
@@ -64,7 +65,7 @@ step board h e tallies small so = record {
       let new : Tally = counted (kind_of e) (tally_at tallies at) in
       let P : Bool → Type 0 = λ b. (at == bus) ≡ b → count_in (get_or (set tallies at new) bus no_tally) kind ≡ cond (b && (column (kind_of e) == column kind)) 1 0 + count_of board h bus kind in
       let within : at < length tallies = omega (arith, so.all, small) in
-      (elim (at == bus) as P [
+      let found = (elim (at == bus) as P [
         | true ↦ λ hit.
             let on : at ≡ bus = eqb-true at bus hit in
             let here : get_or (set tallies at new) bus no_tally ≡ new = subst (λ n. get_or (set tallies at new) n no_tally ≡ new) on (get_or-set_same tallies at new no_tally within) in
@@ -74,24 +75,32 @@ step board h e tallies small so = record {
             let other : bus ≢ at = λ is. eqb-false at bus miss (sym is) in
             let there : get_or (set tallies at new) bus no_tally ≡ tally_at tallies bus = get_or-set_other tallies at bus new no_tally other in
             omega (arith, ap (λ (t : Tally). count_in t kind) there, so.counts bus kind below)
-      ]) refl;
+      ]) refl in
+      found ∙ sym (sum_by-cons (λ (x : Event). cond (is_counted board bus kind x) 1 0) e h);
 }
 
 -- one event more of a trace
-pub tallied_more : (board : Board) (events : List Event) (i : ℕ) (d : Event) (tallies : List Tally) → i < length events → bus_of board (get_or events i d) < 256
-    → IsTallied board (history_of (take i events)) tallies
-    → IsTallied board (history_of (take (i + 1) events)) (set tallies (bus_of board (get_or events i d)) (counted (kind_of (get_or events i d)) (tally_at tallies (bus_of board (get_or events i d)))))
-tallied_more board events i d tallies within small so =
+pub tallied_more : (board : Board) (events : List Event) (i : ℕ) (d : Event) (tallies : List Tally) (at : ℕ) (kind : Kind) (new : Tally) → i < length events → at < 256
+    → at ≡ bus_of board (get_or events i d) → kind ≡ kind_of (get_or events i d) → new ≡ counted kind (tally_at tallies at)
+    → IsTallied board (history_of (take i events)) tallies → IsTallied board (history_of (take (i + 1) events)) (set tallies at new)
+tallied_more board events i d tallies at kind new within small at_is kind_is new_is so =
     let e : Event = get_or events i d in
     let h : List Event = history_of (take i events) in
     let turned : history_of (take (i + 1) events) ≡ e ∷ h =
     ap (λ (xs : List Event). reverse xs) (take_more events i d within) ∙ reverse-append (take i events) (e ∷ []) in
-    subst (λ g. IsTallied board g (set tallies (bus_of board e) (counted (kind_of e) (tally_at tallies (bus_of board e))))) (sym turned) (step board h e tallies small so)
+    let there : IsTallied board (e ∷ h) (set tallies (bus_of board e) (counted (kind_of e) (tally_at tallies (bus_of board e)))) =
+    step board h e tallies (subst (λ n. n < 256) at_is small) so in
+    let placed : IsTallied board (e ∷ h) (set tallies at (counted (kind_of e) (tally_at tallies at))) =
+    subst (λ n. IsTallied board (e ∷ h) (set tallies n (counted (kind_of e) (tally_at tallies n)))) (sym at_is) there in
+    let noted : new ≡ counted (kind_of e) (tally_at tallies at) = new_is ∙ ap (λ (k : Kind). counted k (tally_at tallies at)) kind_is in
+    subst (λ g. IsTallied board g (set tallies at new)) (sym turned) (subst (λ t. IsTallied board (e ∷ h) (set tallies at t)) (sym noted) placed)
 
 -- no count is above the number of events, so that there is room for one more
-pub tally_fits : (board : Board) (h : List Event) (tallies : List Tally) (bus : ℕ) → IsTallied board h tallies → bus < 256 → length h + 1 < 2 ^ 64 → Fits (tally_at tallies bus)
-tally_fits board h tallies bus so below few =
-    let fits : (kind : Kind) → count_in (tally_at tallies bus) kind + 1 < 2 ^ 64 = λ kind. omega (arith, so.counts bus kind below, count_by-le-length (is_counted board bus kind) h, few) in
+pub tally_fits : (board : Board) (events : List Event) (i : ℕ) (tallies : List Tally) (bus : ℕ) → IsTallied board (history_of (take i events)) tallies → bus < 256 → i < length events → length events < 2 ^ 64 → Fits (tally_at tallies bus)
+tally_fits board events i tallies bus so below within few =
+    let h : List Event = history_of (take i events) in
+    let long : length h ≡ i = length-reverse (take i events) ∙ length-take-le i events (omega (arith, within)) in
+    let fits : (kind : Kind) → count_in (tally_at tallies bus) kind + 1 < 2 ^ 64 = λ kind. omega (arith, so.counts bus kind below, count_by-le-length (is_counted board bus kind) h, long, within, few) in
     record {
       land = fits Land;
       read = fits Read;

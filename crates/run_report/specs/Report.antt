@@ -22,11 +22,9 @@ abbrev pub operations_of : Board → ℕ
 operations_of board = total (λ (master : Master). length master.ops) board.masters
 
 -- `buses B masters M operations O`
-abbrev pub size_line : Board → Line
-size_line board =
-    codes "buses" ∷ decimal (length board.bridges + 1)
-    ∷ codes "masters" ∷ decimal (length board.masters)
-    ∷ codes "operations" ∷ decimal (operations_of board) ∷ []
+abbrev pub size_line : ℕ → ℕ → ℕ → Line
+size_line buses masters operations =
+    codes "buses" ∷ decimal buses ∷ codes "masters" ∷ decimal masters ∷ codes "operations" ∷ decimal operations ∷ []
 
 -- `events N bound K`
 abbrev pub length_line : ℕ → ℕ → Line
@@ -53,7 +51,8 @@ buses_text board count = text_of (map (λ bus. bus_line bus (count bus)) (buses_
 -- the report with so many events, and so many of each kind on each bus
 abbrev pub report_with : Board → ℕ → (ℕ → Kind → ℕ) → List ℕ
 report_with board events count =
-    line_text (size_line board) ++ (line_text (length_line events (bound_of board)) ++ buses_text board count)
+    line_text (size_line (length board.bridges + 1) (length board.masters) (operations_of board))
+    ++ (line_text (length_line events (bound_of board)) ++ buses_text board count)
 
 -- the report of a history
 abbrev pub report_of : Board → List Event → List ℕ

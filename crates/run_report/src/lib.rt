@@ -3,6 +3,7 @@
 #![tactic(auto)]
 
 mod lines;
+mod sizes;
 mod tallies;
 mod text;
 

@@ -1,38 +1,25 @@
-ghost use Rattle.std.specs.Prelude.{◌≡◌, ◌++◌, ◌<◌, ◌^◌, length, OnOk, string_bytes};
-ghost use Rattle.list_facts.specs.Lists.{total};
+ghost use Rattle.std.specs.Prelude.{◌≡◌, ◌++◌, OnOk, string_bytes};
 ghost use Rattle.board_printer.specs.Lines.{line_text};
-ghost use Rattle.run_report.specs.Report.{operations_of, size_line, length_line, bus_line, buses_text};
+ghost use Rattle.run_report.specs.Report.{size_line, length_line, bus_line, buses_text};
 ghost use Rattle.run_report.specs.Tallies.{count_in, tally_at};
 
 use crate::tallies::Tally;
-use board_model::{Board, Master, is_bus};
+use board_model::{Board, is_bus};
 use std::alloc::AllocError;
 
 /// How large the board is.
-pub(crate) fn print_size(text: &mut String, board: &Board) -> Result<(), AllocError>
-    requires { operations_of board.now < 2 ^ 32 }
-    ensures { OnOk result
-        (string_bytes text.new ≡ string_bytes text.old ++ line_text (size_line board.now)) }
+pub(crate) fn print_size(
+    text: &mut String,
+    buses: usize,
+    masters: usize,
+    operations: u64,
+) -> Result<(), AllocError>
+    ensures { OnOk result (string_bytes text.new ≡ string_bytes text.old ++ line_text (size_line buses masters operations)) }
 {
-    let buses = board.bridges.as_slice().len() + 1;
-    let masters = board.masters.as_slice();
     writeln!(
         text,
-        "buses {buses} masters {} operations {}",
-        masters.len(),
-        operations_of(masters)
+        "buses {buses} masters {masters} operations {operations}"
     )
-}
-
-fn operations_of(masters: &[Master]) -> u64
-    requires { total (λ master. length master.ops) masters.now < 2 ^ 32 }
-    ensures { result ≡ total (λ master. length master.ops) masters.now }
-{
-    let mut operations = 0;
-    for master in masters {
-        operations += master.ops.as_slice().len() as u64;
-    }
-    operations
 }
 
 /// How long the run is, and how long it may be.
@@ -43,7 +30,11 @@ pub(crate) fn print_length(text: &mut String, events: usize, bound: u64) -> Resu
 }
 
 /// A line for each bus of the board, by number.
-pub(crate) fn print_buses(text: &mut String, board: &Board, tallies: &[Tally; 256]) -> Result<(), AllocError>
+pub(crate) fn print_buses(
+    text: &mut String,
+    board: &Board,
+    tallies: &[Tally; 256],
+) -> Result<(), AllocError>
     ensures { OnOk result (string_bytes text.new
         ≡ string_bytes text.old ++ buses_text board.now (λ bus. count_in (tally_at tallies.now bus))) }
 {

@@ -63,7 +63,10 @@ pub(crate) fn tallies_of(board: &Board, events: &[Event]) -> [Tally; 256]
 {
     let mut tallies = [NONE; 256];
     for event in events {
-        note(&mut tallies[usize::from(bus_of(board, event))], kind_of(event));
+        note(
+            &mut tallies[usize::from(bus_of(board, event))],
+            kind_of(event),
+        );
     }
     tallies
 }

@@ -67,7 +67,11 @@ fn a_stall_and_two_reads(rt: HostRuntime) -> Result<(), Fail> {
     let Ok(tree) = validate(board(alloc)?) else {
         return Err(Fail::new("no tree"));
     };
-    let events = vec![in alloc; act(0, Step::Stall), act(0, Step::Read(0)), act(1, Step::Read(0))]?;
+    let events = vec![in alloc;
+        act(0, Step::Stall),
+        act(0, Step::Read(0)),
+        act(1, Step::Read(0)),
+    ]?;
     let text = report(alloc, &tree, events.as_slice())?;
     assert_eq!(rt;
         text.as_slice(),

@@ -3,6 +3,7 @@ ghost use Rattle.history_model.specs.Runs.{history_of};
 ghost use Rattle.run_report.specs.Report.{report_of};
 
 use crate::lines::{print_buses, print_length, print_size};
+use crate::sizes::{buses_of, masters_of, operations_of};
 use crate::tallies::tallies_of;
 use bus_tree::Tree;
 use history_model::Event;
@@ -25,7 +26,12 @@ fn print_report(text: &mut String, tree: &Tree, events: &[Event]) -> Result<(), 
     ensures { OnOk result (string_bytes text.new ≡ string_bytes text.old ++ report_of tree.now (history_of events.now)) }
 {
     let board = tree.board();
-    print_size(text, board)?;
+    print_size(
+        text,
+        buses_of(board),
+        masters_of(board),
+        operations_of(board),
+    )?;
     print_length(text, events.len(), tree.bound())?;
     let tallies = tallies_of(board, events);
     print_buses(text, board, &tallies)

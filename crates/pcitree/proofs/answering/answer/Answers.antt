@@ -22,5 +22,8 @@ returns-in-Finish-clause-ok c = subst (λ (form : Form). IfOk c.answer_finish.re
 pub returns-in-Audit-clause-ok : goal.returns-in-Audit-clause-ok
 returns-in-Audit-clause-ok c = subst (λ (form : Form). IfOk c.answer_audit.result (λ text. AnswersTo form c.args.input.now text.items)) (sym c.in-Audit.is) c.answer_audit.ensures.ok
 
+pub returns-in-Report-clause-ok : goal.returns-in-Report-clause-ok
+returns-in-Report-clause-ok c = subst (λ (form : Form). IfOk c.answer_report.result (λ text. AnswersTo form c.args.input.now text.items)) (sym c.in-Report.is) c.answer_report.ensures.ok
+
 pub returns-in-Combine-clause-ok : goal.returns-in-Combine-clause-ok
 returns-in-Combine-clause-ok c = subst (λ (form : Form). IfOk c.answer_combine.result (λ text. AnswersTo form c.args.input.now text.items)) (sym c.in-Combine.is) c.answer_combine.ensures.ok
