@@ -1,0 +1,11 @@
+//! `generate`: what the program writes for a number of rounds.
+#![tactic(auto)]
+
+mod answer;
+mod word;
+
+pub use answer::answer_generate;
+pub use word::{names_rounds, rounds_of};
+
+#[cfg(test)]
+mod tests;
