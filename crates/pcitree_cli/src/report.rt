@@ -1,7 +1,8 @@
 use pci_command::NoMemory;
 use pcitree::Status;
 use program_help::Help;
-use status_message::{Message, about, message};
+use shown_lines::Message;
+use status_message::{about, message};
 use std::io::ErrorKind;
 
 /// The lines on standard error behind the first. Where there is no memory for them there are none.

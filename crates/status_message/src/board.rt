@@ -1,12 +1,14 @@
-use crate::cut::board_part;
-use crate::reading::{is_refused, line_at};
-use crate::smallest;
-use crate::teller::Teller;
+ghost use Rattle.std.specs.Prelude.{◌<◌, ◌≤◌, ◌^◌, length};
+
 use board_statements::LineFault;
-use board_text::tokens_of;
 use fault_pages::Fault;
 use pci_command::NoMemory;
 use program_status::{BoardFault, Status};
+use refused_text::{
+    Spot, TOO_LONG, board_part, line_at, named_spot, place_of, smallest, word_at_fault,
+};
+use shown_lines::Teller;
+use std::alloc::Global;
 
 /// How many lines are shown of one fault.
 const MOST_SHOWN: u32 = 8;
@@ -57,82 +59,40 @@ fn tell_line(
     let Some((start, line)) = line_at(text, number) else {
         return teller.say(sentence);
     };
-    let at = place_at_fault(teller, text, status, start, line, fault)?;
+    let end = start.saturating_add(line.len()).min(text.len());
+    let front = &text[..end];
+    if front.len() >= TOO_LONG {
+        return teller.say(sentence);
+    }
+    let line = &front[start.min(end)..];
+    let spot = spot_at_fault(teller.alloc(), front, start.min(end), status, fault)?;
+    let at = place_of(teller.alloc(), line, spot)?;
     teller.point(number, line, at, sentence)?;
     match fault {
-        LineFault::NameUsed | LineFault::BusUsed => {
-            let end = start.saturating_add(line.len()).min(text.len());
-            show_smallest(teller, &text[..end], status, number)
-        }
+        LineFault::NameUsed | LineFault::BusUsed => show_smallest(teller, front, status, number),
         _ => Ok(()),
     }
 }
 
-/// The place in a line that is pointed at.
-fn place_at_fault(
-    teller: &Teller,
+/// The spot that the fault names, or else the word at fault of the line that begins at `start` and
+/// ends the text.
+fn spot_at_fault(
+    alloc: Global,
     text: &[u8],
-    status: &Status,
     start: usize,
-    line: &[u8],
+    status: &Status,
     fault: LineFault,
-) -> Result<usize, NoMemory> {
-    match fault {
-        LineFault::TooLong => Ok(256),
-        LineFault::BadByte => Ok(first_bad_byte(line)),
-        LineFault::NoOwner | LineFault::OverLimit => place_of_word(teller, line, 0),
-        LineFault::NameUsed | LineFault::BusUsed => place_of_word(teller, line, 1),
-        LineFault::Missing => Ok(end_of_words(teller, line)?),
-        _ => place_read_to(teller, text, status, start, line),
-    }
-}
-
-fn first_bad_byte(line: &[u8]) -> usize {
-    line.iter()
-        .position(|byte| *byte != b'\t' && !(b' '..=b'~').contains(byte))
-        .unwrap_or(0)
-}
-
-/// The places of the words of a line: where each begins, and where it ends.
-fn words_of(teller: &Teller, line: &[u8]) -> Result<Vec<(usize, usize)>, NoMemory> {
-    let mut words = Vec::new(teller.alloc());
-    if line.len() >= 0x1000 {
-        return Ok(words);
-    }
-    let tokens = tokens_of(teller.alloc(), line, 0)?;
-    for token in tokens.as_slice() {
-        words.push((token.start as usize, token.end as usize))?;
-    }
-    Ok(words)
-}
-
-fn place_of_word(teller: &Teller, line: &[u8], index: usize) -> Result<usize, NoMemory> {
-    let words = words_of(teller, line)?;
-    Ok(words.get(index).map_or(0, |word| word.0))
-}
-
-fn end_of_words(teller: &Teller, line: &[u8]) -> Result<usize, NoMemory> {
-    let words = words_of(teller, line)?;
-    Ok(words.last().map_or(0, |word| word.1.saturating_add(1)))
-}
-
-/// The last word of the shortest front of the line, in words, with which the text up to it is
-/// refused with this status.
-fn place_read_to(
-    teller: &Teller,
-    text: &[u8],
-    status: &Status,
-    start: usize,
-    line: &[u8],
-) -> Result<usize, NoMemory> {
-    let words = words_of(teller, line)?;
-    for (begin, end) in words.as_slice() {
-        let front = start.saturating_add(*end).min(text.len());
-        if is_refused(teller.alloc(), &text[..front], status)? {
-            return Ok(*begin);
+) -> Result<Spot, NoMemory>
+    requires line { start ≤ length text.now }
+    requires short { length text.now < 2 ^ 31 }
+{
+    match named_spot(fault) {
+        Some(spot) => Ok(spot),
+        None => {
+            let place = word_at_fault(alloc, text, start, status)?;
+            Ok(Spot::Word(place.unwrap_or(0)))
         }
     }
-    Ok(0)
 }
 
 /// The lines, but this one, that have the fault of the status together.

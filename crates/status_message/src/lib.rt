@@ -3,19 +3,9 @@
 #![tactic(auto)]
 
 mod board;
-mod causes;
-mod cut;
-mod leaving_out;
-mod lines;
-mod reading;
-mod teller;
 mod telling;
 mod trace;
 
-pub use cut::without_lines;
-pub use leaving_out::smallest;
-pub use lines::Message;
-pub use reading::is_refused;
 pub use telling::{about, message};
 
 #[cfg(test)]

@@ -1,15 +1,14 @@
 ghost use Rattle.std.specs.Prelude.{◌≡◌, [], IfOk, IsTrue};
 ghost use Rattle.std.specs.List.{list_all};
-ghost use Rattle.status_message.specs.Shown.{is_shown};
+ghost use Rattle.shown_lines.specs.Shown.{is_shown};
 ghost use Rattle.status_message.specs.Quiet.{IsQuiet};
 
-use crate::Message;
 use crate::board::tell_board;
-use crate::causes::tell_event;
-use crate::teller::Teller;
 use crate::trace::tell_trace_line;
+use event_message::tell_event;
 use pci_command::NoMemory;
 use program_status::Status;
+use shown_lines::{Message, Teller};
 use std::alloc::Global;
 
 /// What a status says of an input, behind its first line: the lines at fault and why. The name is

@@ -1,10 +1,10 @@
-use crate::cut::board_part;
-use crate::reading::{TOO_LONG, behind, line_at};
-use crate::teller::Teller;
 use board_model::Board;
 use board_parser::{ParseFault, parse};
+use event_message::place_of_piece;
 use fault_pages::Fault;
 use pci_command::NoMemory;
+use refused_text::{TOO_LONG, board_part, line_at};
+use shown_lines::Teller;
 use std::alloc::Global;
 use trace_lines::{Names, read_line};
 use trace_reader::TraceLineFault;
@@ -37,21 +37,6 @@ fn first_unreadable(line: &[u8]) -> usize {
         .unwrap_or(256)
 }
 
-/// Where the piece of this index begins, of those between single spaces; the end of the line where
-/// there are fewer.
-pub(crate) fn place_of_piece(line: &[u8], index: usize) -> usize {
-    let mut passed: usize = 0;
-    let mut place: usize = 0;
-    for piece in line.split(|byte| *byte == b' ') {
-        if passed == index {
-            return place;
-        }
-        passed = passed.saturating_add(1);
-        place = behind(place, piece);
-    }
-    line.len()
-}
-
 /// A space before the first word or behind another space, or the end of the line.
 fn first_gap(line: &[u8]) -> usize {
     let mut spaced = true;
@@ -82,26 +67,46 @@ fn first_unknown(teller: &Teller, input: &[u8], line: &[u8]) -> Result<usize, No
     Ok(place_of_piece(line, index))
 }
 
+/// The words of an act that every kind of it has.
+#[derive(Clone, Copy)]
+struct ActWords<'a> {
+    bus: &'a [u8],
+    kind: &'a [u8],
+    by: &'a [u8],
+    op: &'a [u8],
+}
+
 fn unknown_piece(alloc: Global, board: &Board, pieces: &[&[u8]]) -> Result<usize, NoMemory> {
     match pieces {
         [b"end", ..] => Ok(1),
         [_, b"arrive", lane, ..] => unknown_in_arrival(alloc, board, lane),
         [bus, kind, by, op, rest @ ..] => {
-            if !is_read(alloc, board, &[b"0", b"nobody", b"m", op])? {
-                return Ok(3);
-            }
-            if !is_read(alloc, board, &[bus, b"nobody", b"m", op])? {
-                return Ok(0);
-            }
-            if !is_read(alloc, board, &[b"0", b"nobody", by, op])? {
-                return Ok(2);
-            }
-            match rest {
-                [place, ..] if !is_place(alloc, board, kind, op, place)? => Ok(4),
-                _ => Ok(5),
-            }
+            let words = ActWords { bus, kind, by, op };
+            unknown_in_act(alloc, board, words, rest.first().copied())
         }
         _ => Ok(0),
+    }
+}
+
+fn unknown_in_act(
+    alloc: Global,
+    board: &Board,
+    words: ActWords<'_>,
+    place: Option<&[u8]>,
+) -> Result<usize, NoMemory> {
+    let ActWords { bus, kind, by, op } = words;
+    if !is_read(alloc, board, &[b"0", b"nobody", b"m", op])? {
+        return Ok(3);
+    }
+    if !is_read(alloc, board, &[bus, b"nobody", b"m", op])? {
+        return Ok(0);
+    }
+    if !is_read(alloc, board, &[b"0", b"nobody", by, op])? {
+        return Ok(2);
+    }
+    match place {
+        Some(place) if !is_place(alloc, board, kind, op, place)? => Ok(4),
+        _ => Ok(5),
     }
 }
 

@@ -1,6 +1,6 @@
 use Rattle.std.proofs.Common.{◌≡◌, Some}
 use Rattle.program_input.specs.Refusals.{board_refusal}
-use Rattle.status_message.proofs.leaving_out.smallest.Given as goal
+use Rattle.refused_text.proofs.leaving_out.smallest.Given as goal
 
 -- what is left is refused with the same status
 abbrev pub invariant-loop-size : goal.invariant-loop-size

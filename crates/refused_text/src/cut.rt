@@ -22,7 +22,7 @@ pub fn without_lines(
 
 /// The board text of an input, each line with the number that it has in the input: of a trace the
 /// part between its first line, which is blank here, and the line `events`.
-pub(crate) fn board_part(alloc: Global, input: &[u8]) -> Result<Vec<u8>, NoMemory> {
+pub fn board_part(alloc: Global, input: &[u8]) -> Result<Vec<u8>, NoMemory> {
     match next_line(input, 0) {
         Some((b"pcitrace 1", next)) => {
             let end = match find_line(input, b"events") {

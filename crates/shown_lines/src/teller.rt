@@ -1,6 +1,6 @@
 ghost use Rattle.std.specs.Prelude.{◌≤◌, IsTrue};
 ghost use Rattle.std.specs.List.{list_all};
-ghost use Rattle.status_message.specs.Shown.{is_shown};
+ghost use Rattle.shown_lines.specs.Shown.{is_shown};
 
 use crate::Message;
 use crate::lines::WIDTH;
@@ -15,14 +15,14 @@ const NAME: usize = 40;
 
 /// The lines of a message about one file.
 #[derive(Drop)]
-pub(crate) struct Teller<'a> {
+pub struct Teller<'a> {
     alloc: Global,
     name: &'a str,
     message: Message,
 }
 
 impl<'a> Teller<'a> {
-    pub(crate) fn new(alloc: Global, name: &'a str) -> Teller<'a> {
+    pub fn new(alloc: Global, name: &'a str) -> Teller<'a> {
         Teller {
             alloc,
             name,
@@ -30,27 +30,27 @@ impl<'a> Teller<'a> {
         }
     }
 
-    pub(crate) fn into_message(self) -> Message
+    pub fn into_message(self) -> Message
         ensures { IsTrue (list_all is_shown result) }
     {
         self.message
     }
 
-    pub(crate) fn alloc(&self) -> Global {
+    pub fn alloc(&self) -> Global {
         self.alloc
     }
 
     /// A line of its own.
-    pub(crate) fn say(&mut self, text: &str) -> Result<(), NoMemory> {
+    pub fn say(&mut self, text: &str) -> Result<(), NoMemory> {
         self.message.line(self.alloc, text.as_bytes())
     }
 
-    pub(crate) fn say_bytes(&mut self, text: &[u8]) -> Result<(), NoMemory> {
+    pub fn say_bytes(&mut self, text: &[u8]) -> Result<(), NoMemory> {
         self.message.line(self.alloc, text)
     }
 
     /// A line of the file.
-    pub(crate) fn show(&mut self, number: u32, line: &[u8]) -> Result<(), NoMemory> {
+    pub fn show(&mut self, number: u32, line: &[u8]) -> Result<(), NoMemory> {
         let mut row = self.head(number)?;
         row.extend_from_slice(line)?;
         self.message.line(self.alloc, row.as_slice())
@@ -58,7 +58,7 @@ impl<'a> Teller<'a> {
 
     /// A line of the file, and below it a caret at a place in the line with what is to be said of
     /// it. Of a long line the part around the place is shown.
-    pub(crate) fn point(
+    pub fn point(
         &mut self,
         number: u32,
         line: &[u8],
@@ -83,7 +83,7 @@ impl<'a> Teller<'a> {
     }
 
     /// What is to be said of the file.
-    pub(crate) fn about(&mut self, text: &str) -> Result<(), NoMemory> {
+    pub fn about(&mut self, text: &str) -> Result<(), NoMemory> {
         let mut row = self.short_name()?;
         row.extend_from_slice(b": ")?;
         row.extend_from_slice(text.as_bytes())?;

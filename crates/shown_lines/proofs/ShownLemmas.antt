@@ -2,7 +2,7 @@
 use Rattle.std.proofs.Common.{◌≡◌, ℕ, Bool, true, false, List, [], ◌∷◌, ◌++◌, map, take, IsTrue, refl, arith, sym, subst, ◌==◌, if◌then◌else◌}
 use Rattle.std.specs.List.{list_all}
 use Rattle.std.proofs.lemmas.List.Folds.{list_all-append}
-use Rattle.status_message.specs.Shown.{is_printing, is_shown, shown, shown_line}
+use Rattle.shown_lines.specs.Shown.{is_printing, is_shown, shown, shown_line}
 
 pick : (printing tab : Bool) (byte : ℕ) → printing ≡ is_printing byte → is_shown (if printing then byte else if tab then 32 else 63) ≡ true
 pick true tab byte e = grind (arith, e)

@@ -1,4 +1,4 @@
-ghost use Rattle.std.specs.Prelude.{◌≡◌, Some, IfOk, true};
+ghost use Rattle.std.specs.Prelude.{◌≡◌, ◌≢◌, ◌<◌, ◌^◌, length, Some, IfOk, true, false};
 ghost use Rattle.program_input.specs.Refusals.{board_refusal};
 
 use pci_command::NoMemory;
@@ -7,11 +7,14 @@ use program_status::Status;
 use std::alloc::Global;
 
 /// Texts of so many bytes are not read.
-pub(crate) const TOO_LONG: usize = 0x8000_0000;
+pub const TOO_LONG: usize = 0x8000_0000;
 
-/// Whether a text, read as a board, is refused with this status.
+/// Whether a text, read as a board, is refused with just this status. A text of 2^31 bytes or more is
+/// not read.
 pub fn is_refused(alloc: Global, text: &[u8], status: &Status) -> Result<bool, NoMemory>
-    ensures { IfOk result (λ told. told ≡ true → board_refusal text.now ≡ Some status.now) }
+    ensures yes { IfOk result (λ told. told ≡ true → board_refusal text.now ≡ Some status.now) }
+    ensures no { length text.now < 2 ^ 31
+        → IfOk result (λ told. told ≡ false → board_refusal text.now ≢ Some status.now) }
 {
     if text.len() >= TOO_LONG {
         return Ok(false);
@@ -25,7 +28,7 @@ pub fn is_refused(alloc: Global, text: &[u8], status: &Status) -> Result<bool, N
 
 /// The line of this number, from 1 on, and the place at which it begins. Behind the last newline a
 /// last line begins, which may be empty.
-pub(crate) fn line_at(text: &[u8], number: u32) -> Option<(usize, &[u8])> {
+pub fn line_at(text: &[u8], number: u32) -> Option<(usize, &[u8])> {
     let mut at: usize = 0;
     let mut passed: u32 = 1;
     for line in text.split(|byte| *byte == b'\n') {
@@ -39,7 +42,7 @@ pub(crate) fn line_at(text: &[u8], number: u32) -> Option<(usize, &[u8])> {
 }
 
 /// The number of the first line of just these bytes, and the place at which it begins.
-pub(crate) fn find_line(text: &[u8], wanted: &[u8]) -> Option<(u32, usize)> {
+pub fn find_line(text: &[u8], wanted: &[u8]) -> Option<(u32, usize)> {
     let mut at: usize = 0;
     let mut number: u32 = 1;
     for line in text.split(|byte| *byte == b'\n') {
@@ -53,6 +56,6 @@ pub(crate) fn find_line(text: &[u8], wanted: &[u8]) -> Option<(u32, usize)> {
 }
 
 /// The place behind a line that begins here.
-pub(crate) fn behind(at: usize, line: &[u8]) -> usize {
+pub fn behind(at: usize, line: &[u8]) -> usize {
     at.saturating_add(line.len()).saturating_add(1)
 }

@@ -1,7 +1,7 @@
 use Rattle.std.proofs.Common.{◌∙◌}
 use Rattle.std.specs.Prelude.{is_ok}
-use Rattle.status_message.proofs.ShownLemmas.{either_shown}
-use Rattle.status_message.proofs.lines.Message.line.Goals as goal
+use Rattle.shown_lines.proofs.ShownLemmas.{either_shown}
+use Rattle.shown_lines.proofs.lines.Message.line.Goals as goal
 
 -- the line was put behind the others, or there was no memory and they are as they were
 pub invariant_of-self-2 : goal.invariant_of-self-2

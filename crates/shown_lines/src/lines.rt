@@ -1,6 +1,6 @@
 ghost use Rattle.std.specs.Prelude.{◌≡◌, [], ◌++◌, map, take, IfOk, OnOk, IsTrue};
 ghost use Rattle.std.specs.List.{list_all};
-ghost use Rattle.status_message.specs.Shown.{is_printing, is_shown, shown, shown_line};
+ghost use Rattle.shown_lines.specs.Shown.{is_printing, is_shown, shown, shown_line};
 
 use pci_command::NoMemory;
 use std::alloc::{AllocError, Global};
@@ -18,7 +18,7 @@ pub struct Message {
 impl Model for Message {
     ghost use Rattle.std.specs.Prelude.{ℕ, List, IsTrue};
     ghost use Rattle.std.specs.List.{list_all};
-    ghost use Rattle.status_message.specs.Shown.{is_shown};
+    ghost use Rattle.shown_lines.specs.Shown.{is_shown};
 
     ghost Value = { List ℕ };
 
@@ -29,7 +29,7 @@ impl Model for Message {
 
 impl Message {
     /// No line.
-    pub(crate) fn new(alloc: Global) -> Message
+    pub fn new(alloc: Global) -> Message
         ensures { result ≡ [] }
     {
         Message {
@@ -47,7 +47,7 @@ impl Message {
 
     /// One more line: a text as it is shown.
     #[tactic(auto, using(crate::proofs::ShownLemmas::all_shown))]
-    pub(crate) fn line(&mut self, alloc: Global, text: &[u8]) -> Result<(), NoMemory>
+    pub fn line(&mut self, alloc: Global, text: &[u8]) -> Result<(), NoMemory>
         ensures { OnOk result (self.new ≡ self.old ++ shown_line text.now) }
     {
         let line = shown_line(alloc, text)?;

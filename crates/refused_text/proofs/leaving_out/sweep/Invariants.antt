@@ -1,6 +1,6 @@
 use Rattle.std.proofs.Common.{◌≡◌, ◌<◌, Some}
 use Rattle.program_input.specs.Refusals.{board_refusal}
-use Rattle.status_message.proofs.leaving_out.sweep.Given as goal
+use Rattle.refused_text.proofs.leaving_out.sweep.Given as goal
 
 -- the text is refused with the same status
 abbrev pub invariant-loop-end : goal.invariant-loop-end
