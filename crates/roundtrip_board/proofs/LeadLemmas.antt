@@ -6,6 +6,8 @@ use Rattle.std.proofs.lemmas.Bool.Decides.{nat_tests}
 use Rattle.std.proofs.lemmas.List.{append-nil}
 use Rattle.std.proofs.lemmas.List.Concat.{flat_map-append}
 use Rattle.board_text.specs.Lines.{is_newline, is_allowed, line_fault, lines_of}
+use Rattle.board_text.specs.declared.reader.BadLine.{BadLine}
+use Rattle.board_text.specs.declared.reader.BadLine.TheVariants.{TooLong, BadByte}
 use Rattle.board_text.specs.Tokens.{words_of}
 use Rattle.board_printer.specs.Lines.{Line, line_text, text_of}
 use Rattle.roundtrip_words.specs.Printed.{joined}
@@ -99,14 +101,14 @@ no_newline (byte ∷ bytes) all =
     let here : is_newline byte ≡ false = grind (arith, nat_tests, parts.0) in
     rw here (no_newline bytes parts.1)
 
-fault_cases : (long allowed : Bool) (too_long bad : ℕ) → cond long (Some too_long) (cond allowed None (Some bad)) ≡ None → allowed ≡ true
+fault_cases : (long allowed : Bool) (too_long bad : BadLine) → cond long (Some too_long) (cond allowed None (Some bad)) ≡ None → allowed ≡ true
 fault_cases true allowed too_long bad h = absurd (cc)
 fault_cases false true too_long bad h = refl
 fault_cases false false too_long bad h = absurd (cc)
 
 first_line_of_text : (line : Line) (text : List ℕ) → line_fault (joined line) ≡ None → lines_of (line_text line ++ text) ≡ joined line ∷ lines_of text
 first_line_of_text line text none =
-    let plain = no_newline (joined line) (fault_cases (ltb 256 (length (joined line))) (list_all is_allowed (joined line)) 3 1 none) in
+    let plain = no_newline (joined line) (fault_cases (ltb 256 (length (joined line))) (list_all is_allowed (joined line)) TooLong BadByte none) in
     let whole : line_text line ++ text ≡ joined line ++ 10 ∷ text = ap (λ (t : List ℕ). t ++ text) (line_is line) ∙ append_assoc (joined line) (10 ∷ []) text in
     let split = split_line (joined line) text plain in
     let ends = ends_behind (joined line) text in
@@ -121,7 +123,7 @@ line_read wide bytes statement draft next none read width is =
     let words = words_of bytes in
     let some = has_words wide words statement read in
     let stated : statement_of draft.wide words ≡ Ok statement = ap (λ (w : Bool). statement_of w words) width ∙ read in
-    let one : read_line (Some draft) bytes ≡ read_more (Some draft) words = ap (λ (fault : Option ℕ). read_unless fault (Some draft) bytes) none in
+    let one : read_line (Some draft) bytes ≡ read_more (Some draft) words = ap (λ (fault : Option BadLine). read_unless fault (Some draft) bytes) none in
     let two : read_more (Some draft) words ≡ read_words (Some draft) words = ap (λ (b : Bool). cond b (read_words (Some draft) words) (Ok (Some draft))) some in
     let three : read_words (Some draft) words ≡ some_of (add draft statement) = ap (λ (s : Result Statement LineFault). some_of (s >>= add draft)) stated in
     one ∙ two ∙ three ∙ ap some_of is
