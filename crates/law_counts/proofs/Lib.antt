@@ -1,0 +1,12 @@
+pub mod Weights
+pub mod SumLemmas
+pub mod MoveLemmas
+pub mod ClaimLemmas
+pub mod AnswerLemmas
+pub mod StepLemmas
+pub mod ActLemmas
+pub mod RunLemmas
+pub mod ProgramLemmas
+pub mod EndLemmas
+pub mod ReportLemmas
+pub mod Laws
