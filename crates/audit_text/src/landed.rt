@@ -1,7 +1,7 @@
-ghost use Rattle.std.specs.Prelude.{◌≡◌, ◌≤◌, ◌^◌, length, OnOk};
+ghost use Rattle.std.specs.Prelude.{◌≡◌, ◌≤◌, ◌+◌, ◌^◌, length, OnOk};
 ghost use Rattle.board_model.specs.declared.bridge.Place.TheVariants.{Target};
 ghost use Rattle.history_model.specs.Knowledge.{is_land_step};
-ghost use Rattle.audit_clocks.specs.Tables.{Lands};
+ghost use Rattle.audit_clocks.specs.Tables.{Lands, Puts};
 ghost use Rattle.audit_text.specs.Notes.{few_of, hits, request_hits, place_hits, event_hits, lands, Parted};
 
 use audit_clocks::{Landings, OpTable, Word};
@@ -141,12 +141,24 @@ pub(crate) fn record_parted(gone: &mut OpTable<u128>, event: &Event) -> Result<(
             op,
             step: Step::Part(phases),
             ..
-        } => {
-            let count = gone_of(gone, op) + u128::from(phases);
-            gone.put(op, count)
-        }
+        } => add_part(gone, op, phases),
         Event::Act { .. } | Event::Arrive { .. } => Ok(()),
     }
+}
+
+fn add_part(gone: &mut OpTable<u128>, op: OpId, phases: u8) -> Result<(), NoMemory>
+    ensures puts { OnOk result (Puts op (few_of op gone.old + phases) gone.old gone.new) }
+    ensures small { phases ≤ 255 }
+{
+    let count = with_more(gone_of(gone, op), phases);
+    gone.put(op, count)
+}
+
+fn with_more(count: u128, more: u8) -> u128
+    requires { count ≤ 2 ^ 100 }
+    ensures { result ≡ count + more }
+{
+    count + u128::from(more)
 }
 
 /// Whether all that is left of a write lands in the step.
