@@ -3,7 +3,7 @@ use Rattle.audit_text.proofs.AuditLemmas.{so_far_none, so_far_more}
 use Rattle.audit_text.proofs.audit.print_findings.Goals as goal
 
 pub loop-index-init : goal.loop-index-init
-loop-index-init c = so_far_none c.args.board.now (string_bytes c.args.text.now) c.in_ok-ledger.field-0 c.in_ok-ledger.ensures
+loop-index-init c = so_far_none c.args.board.now (string_bytes c.args.text.now) _ c.in_ok-ledger.ensures
 
 -- one event more
 pub loop-index-preserved : goal.loop-index-preserved
