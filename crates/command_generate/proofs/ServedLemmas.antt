@@ -32,15 +32,3 @@ names_short word names =
 
 pub generate_refusing : IsRefusing RefusesGenerate NamesRounds
 generate_refusing = record { served = λ word status names refuses. refuses; subject = λ word status refuses. inl (ap subject_of refuses) }
-
--- a complete run of the generated board, and its report
-pub GeneratesTo-run : (rounds : ℕ) (board : Board) (events : List Event) (text : List ℕ) → board ≡ generated rounds → bound_of (generated rounds) ≡ 97 * rounds → IsValid board → CompleteRun board events → text ≡ report_of board (history_of events)
-    → GeneratesTo rounds text
-GeneratesTo-run rounds board events text is bound valid runs written =
-    record {
-      valid = subst IsValid is valid;
-      bound = bound;
-      events = events;
-      runs = subst (λ (b : Board). CompleteRun b events) is runs;
-      written = written ∙ ap (λ (b : Board). report_of b (history_of events)) is;
-    }

@@ -1,5 +1,5 @@
 -- generate: what is written for a number of rounds.
-use Rattle.std.specs.Prelude.{◌≡◌, ℕ, ◌*◌, Bool, true, List, Option, Some, None, Result, Ok, Err, is_some}
+use Rattle.std.specs.Prelude.{◌≡◌, ℕ, ◌*◌, Bool, true, List, length, Option, Some, None, Result, Ok, Err, is_some}
 use Rattle.board_model.specs.Ways.{bound_of}
 use Rattle.board_model.specs.Valid.{IsValid}
 use Rattle.board_text.specs.declared.numbers.NumberFault.{NumberFault}
@@ -9,6 +9,7 @@ use Rattle.history_model.specs.Runs.{history_of}
 use Rattle.trace_check.specs.Verdicts.{CompleteRun}
 use Rattle.traffic_generator.specs.Generated.{rounds_in, generated}
 use Rattle.run_report.specs.Report.{report_of}
+use Rattle.law_counts.specs.WayCounts.{way_report}
 use Rattle.program_status.specs.declared.status.Status.{Status}
 use Rattle.program_status.specs.declared.status.Status.TheVariants.{NoMemory}
 
@@ -30,11 +31,12 @@ NamesRounds word = names_rounds word ≡ true
 -- the report of a complete run of the board of so many rounds, which is valid
 pub record GeneratesTo (rounds : ℕ) (text : List ℕ) : Type 0 where
   pub valid : IsValid (generated rounds)
-  -- a run of it has at most 97 events for each round
-  pub bound : bound_of (generated rounds) ≡ 97 * rounds
   pub events : List Event
   pub runs : CompleteRun (generated rounds) events
+  -- each complete run of it has 97 events for each round, and the way counts of the board
+  pub many : length events ≡ 97 * rounds
   pub written : text ≡ report_of (generated rounds) (history_of events)
+  pub counted : text ≡ way_report (generated rounds)
 
 -- the word names a number of rounds, and this is written of it
 pub record AnswersGenerate (word text : List ℕ) : Type 0 where

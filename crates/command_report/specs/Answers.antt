@@ -3,8 +3,10 @@ use Rattle.std.specs.Prelude.{◌≡◌, ℕ, List}
 use Rattle.board_model.specs.declared.board.Board.{Board}
 use Rattle.board_model.specs.Valid.{IsValid}
 use Rattle.history_model.specs.declared.event.Event.{Event}
-use Rattle.history_model.specs.Runs.{Run, history_of}
+use Rattle.history_model.specs.Runs.{Run, Complete, history_of}
 use Rattle.run_report.specs.Report.{report_of}
+use Rattle.law_counts.specs.Plain.{IsSteady}
+use Rattle.law_counts.specs.WayCounts.{way_report}
 use Rattle.program_status.specs.declared.status.Status.{Status}
 use Rattle.program_status.specs.declared.status.Status.TheVariants.{NotRun}
 use Rattle.program_input.specs.Traces.{ReadsTrace, RefusesTrace, IsNoRun}
@@ -13,6 +15,9 @@ use Rattle.program_input.specs.Traces.{ReadsTrace, RefusesTrace, IsNoRun}
 pub record Reports (board : Board) (events : List Event) (text : List ℕ) : Type 0 where
   pub run : Run board (history_of events)
   pub written : text ≡ report_of board (history_of events)
+  -- of a complete run of a board without stalls, bursts in parts, polls, discards and drops, whoever made it, these
+  -- are the way counts of the board
+  pub counted : IsSteady board → Complete board (history_of events) → text ≡ way_report board
 
 -- the input is the text of a valid board and of a run of it, complete or not, and its report is written
 pub record AnswersReport (input text : List ℕ) : Type 0 where

@@ -4,6 +4,7 @@ ghost use Rattle.command_report.specs.Answers.{AnswersReport, RefusesReport, Rep
 
 use bus_tree::Tree;
 use history_model::Event;
+use law_counts::complete_runs_have_the_way_counts;
 use pci_command::{List, NoMemory};
 use program_input::{TreeTrace, read_tree_trace};
 use program_status::Status;
@@ -29,9 +30,13 @@ pub fn answer_report(alloc: Global, input: &[u8]) -> Result<Vec<u8>, Status>
 }
 
 /// The report of a run.
+#[tactic(auto, using(crate::proofs::CountLemmas::Reports-run))]
 fn text_of_run(alloc: Global, tree: &Tree, events: &[Event]) -> Result<List<u8>, NoMemory>
     requires { Run tree.now (history_of events.now) }
     ensures { IfOk result (Reports tree.now events.now) }
 {
+    complete_runs_have_the_way_counts();
+    // The board of a tree is valid.
+    let _valid = tree.board();
     report(alloc, tree, events)
 }

@@ -2,7 +2,7 @@ use Rattle.std.proofs.Common.{ap, ◌∙◌}
 use Rattle.std.proofs.lemmas.Result.{IfOk-weaker}
 use Rattle.history_model.specs.Runs.{history_of}
 use Rattle.run_report.specs.Report.{report_of}
-use Rattle.command_generate.proofs.ServedLemmas.{GeneratesTo-run}
+use Rattle.command_generate.proofs.CountLemmas.{GeneratesTo-run}
 use Rattle.command_generate.proofs.answer.report_of.Goals as goal
 
 pub returns : goal.returns
