@@ -34,12 +34,12 @@ hits_more o target space at n address old now next is so more =
     let one : n + 1 ≡ suc n = omega arith in
     record {
       each = λ word.
-      let here : ℕ → List OpId = λ a. cond (same_word (record { target = target; space = space; address = a }) word) (o ∷ []) [] in
-      more.each word
-      ∙ ap (λ xs. xs ++ here address) (so.each word)
-      ∙ append_assoc (writes_in word old) (hits word o target space at n) (here address)
-      ∙ ap (λ a. writes_in word old ++ (hits word o target space at n ++ here a)) is
-      ∙ ap (λ m. writes_in word old ++ hits word o target space at m) (sym one);
+          let here : ℕ → List OpId = λ a. cond (same_word (record { target = target; space = space; address = a }) word) (o ∷ []) [] in
+          more.each word
+          ∙ ap (λ xs. xs ++ here address) (so.each word)
+          ∙ append_assoc (writes_in word old) (hits word o target space at n) (here address)
+          ∙ ap (λ a. writes_in word old ++ (hits word o target space at n ++ here a)) is
+          ∙ ap (λ m. writes_in word old ++ hits word o target space at m) (sym one);
     }
 
 -- the first of them apart
@@ -139,21 +139,22 @@ pub parted_puts : (on : ℕ) (by : By) (p : OpId) (phases : ℕ) (place : Place)
 parted_puts on by p phases place count old new is small puts =
     record {
       each = λ o at_most.
-      let P : Bool → Type 0 = λ b. same_op p o ≡ b → Rattle.audit_text.specs.Notes.or_zero (cond b (Some count) (value_of o old)) ≡ count_of o old + cond b phases 0 in
-      ap Rattle.audit_text.specs.Notes.or_zero (puts.each o)
-      ∙ (elim (same_op p o) as P [
-        | true ↦ λ same.
-            let one : p ≡ o = same_op_true p o same in
-            let few : few_of p old ≡ count_of o old = ap (λ q. few_of q old) one ∙ few_is (count_of o old) at_most in
-            is ∙ ap (λ n. n + phases) few
-        | false ↦ λ _. plus_none (count_of o old)
-      ]) refl;
+          let P : Bool → Type 0 = λ b. same_op p o ≡ b → Rattle.audit_text.specs.Notes.or_zero (cond b (Some count) (value_of o old)) ≡ count_of o old + cond b phases 0 in
+          ap Rattle.audit_text.specs.Notes.or_zero (puts.each o)
+          ∙ (elim (same_op p o) as P [
+            | true ↦ λ same.
+                let one : p ≡ o = same_op_true p o same in
+                let few : few_of p old ≡ count_of o old = ap (λ q. few_of q old) one ∙ few_is (count_of o old) at_most in
+                is ∙ ap (λ n. n + phases) few
+            | false ↦ λ _. plus_none (count_of o old)
+          ]) refl;
       small = λ o.
-      let P : Bool → Type 0 = λ b. cond b phases 0 ≤ 255 in
-      elim (same_op p o) as P [ true ↦ small | false ↦ omega arith ];
+          let P : Bool → Type 0 = λ b. cond b phases 0 ≤ 255 in
+          elim (same_op p o) as P [ true ↦ small | false ↦ omega arith ];
     }
   where
     few_is : (n : ℕ) → n ≤ 2 ^ 100 → min n (2 ^ 100) ≡ n
     few_is n at_most = omega (arith, at_most)
+
     plus_none : (n : ℕ) → n ≡ n + 0
     plus_none n = omega arith

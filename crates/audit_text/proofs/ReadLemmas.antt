@@ -120,26 +120,26 @@ module _ (board : Board) (h : List Event) (notes : Notes) (stands : StandsFor bo
               known = so.known;
               starts = so.starts;
               taught = λ o author within.
-              let Q : Bool → Type 0 = λ b. number (Rattle.audit_clocks.specs.Tables.list_in (cond b (Some so.told) (value_of o notes.clocks.taught))) author ≡ taught_by board clocks (clocks.taught o) (cond b (reading_by board h on p step place) None) author in
-              ap (λ found. number (Rattle.audit_clocks.specs.Tables.list_in found) author) (so.taught.each o)
-              ∙ (elim (same_op p o) as Q [
-                | true ↦
-                    so.tells.each author within ∙ word_told (word_read (read_of p reading)) author within
-                    ∙ ap (λ g. word_tells board clocks g reading.word author) (sym before)
-                    ∙ sym (ap (λ found. taught_by board clocks (clocks.taught o) found author) some)
-                | false ↦ stands.taught o author within
-              ]);
+                  let Q : Bool → Type 0 = λ b. number (Rattle.audit_clocks.specs.Tables.list_in (cond b (Some so.told) (value_of o notes.clocks.taught))) author ≡ taught_by board clocks (clocks.taught o) (cond b (reading_by board h on p step place) None) author in
+                  ap (λ found. number (Rattle.audit_clocks.specs.Tables.list_in found) author) (so.taught.each o)
+                  ∙ (elim (same_op p o) as Q [
+                    | true ↦
+                        so.tells.each author within ∙ word_told (word_read (read_of p reading)) author within
+                        ∙ ap (λ g. word_tells board clocks g reading.word author) (sym before)
+                        ∙ sym (ap (λ found. taught_by board clocks (clocks.taught o) found author) some)
+                    | false ↦ stands.taught o author within
+                  ]);
               readings_are = λ o.
-              let entry : Reading = Rattle.audit_text.specs.Notes.reading_of (read_of p reading) (length (writes_in (word_read (read_of p reading)) notes.landed)) (length h) in
-              let is_it : entry ≡ reading_as board reading =
-              ap (λ n. Rattle.audit_text.specs.Notes.reading_of (read_of p reading) n (length h)) (ap (λ xs. length xs) (stands.landed (word_read (read_of p reading))) ∙ length-map (landed board h reading.word) op_of_landing)
-              ∙ ap (λ g. Rattle.audit_text.specs.Notes.reading_of (read_of p reading) (length (landed board g reading.word)) (length g)) (sym before) in
-              let Q : Bool → Type 0 = λ b. cond b (Some entry) (value_of o notes.readings) ≡ option_map (reading_as board) (reading_or (cond b (reading_by board h on p step place) None) (last_reading board o h)) in
-              so.reading.each o
-              ∙ (elim (same_op p o) as Q [
-                | true ↦ ap Some is_it ∙ ap (λ found. option_map (reading_as board) (reading_or found (last_reading board o h))) (sym some)
-                | false ↦ stands.readings o
-              ]);
+                  let entry : Reading = Rattle.audit_text.specs.Notes.reading_of (read_of p reading) (length (writes_in (word_read (read_of p reading)) notes.landed)) (length h) in
+                  let is_it : entry ≡ reading_as board reading =
+                  ap (λ n. Rattle.audit_text.specs.Notes.reading_of (read_of p reading) n (length h)) (ap (λ xs. length xs) (stands.landed (word_read (read_of p reading))) ∙ length-map (landed board h reading.word) op_of_landing)
+                  ∙ ap (λ g. Rattle.audit_text.specs.Notes.reading_of (read_of p reading) (length (landed board g reading.word)) (length g)) (sym before) in
+                  let Q : Bool → Type 0 = λ b. cond b (Some entry) (value_of o notes.readings) ≡ option_map (reading_as board) (reading_or (cond b (reading_by board h on p step place) None) (last_reading board o h)) in
+                  so.reading.each o
+                  ∙ (elim (same_op p o) as Q [
+                    | true ↦ ap Some is_it ∙ ap (λ found. option_map (reading_as board) (reading_or found (last_reading board o h))) (sym some)
+                    | false ↦ stands.readings o
+                  ]);
             }
       ]) refl reads
 

@@ -88,13 +88,13 @@ module _ (board : Board) (valid : IsValid board) (h : List Event) (notes : Notes
         known = so.known;
         taught = so.taught;
         starts = λ o author below.
-        let mine : List (List OpId) = known_at old.known p.master in
-        let Q : Bool → Type 0 = λ b. number (list_in (cond b (Some (map length mine)) (value_of o old.starts))) author ≡ (cond b (clocks.known p.master) (clocks.start o)) author in
-        ap (λ found. number (list_in found) author) ((so.starts inside).each o)
-        ∙ (elim (same_op p o) as Q [
-          | true ↦ get_or-map (λ (xs : List OpId). length xs) mine author [] ∙ ap (λ (k : List (List (List OpId))). length (row (known_at k p.master) author)) same_known ∙ stands.known p.master author within below
-          | false ↦ ap (λ (s : List (OpId × List ℕ)). number (numbers_of o s) author) same_starts ∙ stands.starts o author below
-        ]);
+            let mine : List (List OpId) = known_at old.known p.master in
+            let Q : Bool → Type 0 = λ b. number (list_in (cond b (Some (map length mine)) (value_of o old.starts))) author ≡ (cond b (clocks.known p.master) (clocks.start o)) author in
+            ap (λ found. number (list_in found) author) ((so.starts inside).each o)
+            ∙ (elim (same_op p o) as Q [
+              | true ↦ get_or-map (λ (xs : List OpId). length xs) mine author [] ∙ ap (λ (k : List (List (List OpId))). length (row (known_at k p.master) author)) same_known ∙ stands.known p.master author within below
+              | false ↦ ap (λ (s : List (OpId × List ℕ)). number (numbers_of o s) author) same_starts ∙ stands.starts o author below
+            ]);
       }
 
   nobody_presents : (e : Event) (old new : ClockState) → ((o : OpId) (author : ℕ) → (clocks_of board (e ∷ h)).start o author ≡ (clocks_of board h).start o author) → old.starts ≡ notes.clocks.starts → new ≡ old → AfterStart e old new
@@ -153,11 +153,11 @@ module _ (board : Board) (valid : IsValid board) (h : List Event) (notes : Notes
         masters = ap (λ (k : List (List (List OpId))). length k) known ∙ stands.masters;
         authors = λ master within. ap (λ (k : List (List (List OpId))). length (known_at k master)) known ∙ stands.authors master within;
         known = λ master author within below.
-        ap (λ (k : List (List (List OpId))). length (row (known_at k master) author)) known ∙ stands.known master author within below
-        ∙ sym (ap (λ found. known_after master (clocks.known master) taught_next found author) none);
+            ap (λ (k : List (List (List OpId))). length (row (known_at k master) author)) known ∙ stands.known master author within below
+            ∙ sym (ap (λ found. known_after master (clocks.known master) taught_next found author) none);
         since = λ w master is.
-        ap (λ (k : List (List (List OpId))). since_at k master w) known ∙ stands.since w master is
-        ∙ sym (ap (λ found. first_known ((aware_of board w h).since master) master w (aware_of board w (e ∷ h)).taught found) none ∙ first_none ((aware_of board w h).since master) master w (aware_of board w (e ∷ h)).taught);
+            ap (λ (k : List (List (List OpId))). since_at k master w) known ∙ stands.since w master is
+            ∙ sym (ap (λ found. first_known ((aware_of board w h).since master) master w (aware_of board w (e ∷ h)).taught found) none ∙ first_none ((aware_of board w h).since master) master w (aware_of board w (e ∷ h)).taught);
         starts = λ o author below. ap (λ (c : ClockState). number (numbers_of o c.starts) author) same ∙ starts o author below;
         taught = λ o author below. ap (λ (c : ClockState). number (numbers_of o c.taught) author) same ∙ taught o author below;
       }
@@ -271,13 +271,13 @@ module _ (board : Board) (valid : IsValid board) (h : List Event) (notes : Notes
         record {
           masters = so.learns.masters ∙ ap (λ (k : List (List (List OpId))). length k) same_known ∙ stands.masters;
           authors = λ master within.
-          let P : Bool → Type 0 = λ b. eqb mine master ≡ b → length (known_at new.known master) ≡ M in
-          (elim (eqb mine master) as P [
-            | true ↦ λ same.
-                subst (λ m. length (known_at new.known m) ≡ M) (eqb-true mine master same)
-                (so.learns.authors ∙ ap (λ (k : List (List (List OpId))). length (known_at k mine)) same_known ∙ stands.authors mine mine_within)
-            | false ↦ λ other. ap (λ rows. length rows) (other_master master other) ∙ stands.authors master within
-          ]) refl;
+              let P : Bool → Type 0 = λ b. eqb mine master ≡ b → length (known_at new.known master) ≡ M in
+              (elim (eqb mine master) as P [
+                | true ↦ λ same.
+                    subst (λ m. length (known_at new.known m) ≡ M) (eqb-true mine master same)
+                    (so.learns.authors ∙ ap (λ (k : List (List (List OpId))). length (known_at k mine)) same_known ∙ stands.authors mine mine_within)
+                | false ↦ λ other. ap (λ rows. length rows) (other_master master other) ∙ stands.authors master within
+              ]) refl;
           known = known_is;
           since = since_is;
           starts = λ o author below. ap (λ (s : List (OpId × List ℕ)). number (numbers_of o s) author) so.starts ∙ starts o author below;
@@ -308,10 +308,10 @@ module _ (board : Board) (valid : IsValid board) (h : List Event) (notes : Notes
         gone = λ o. let next = happens.gone.each o (few o) in let same = stands.gone o in omega (arith, next, same);
         few = λ o. let small = happens.gone.small o in let old = stands.few o in omega (arith, small, old);
         landed = λ word.
-        happens.landed.each word
-        ∙ ap (λ xs. xs ++ Rattle.audit_text.specs.Notes.event_hits board notes.gone e word) (stands.landed word)
-        ∙ ap (λ xs. map op_of_landing (landed board h (dword word)) ++ xs) (event_hit word board h notes.gone e exact)
-        ∙ sym (map-append op_of_landing (landed board h (dword word)) (brought board h (dword word) e));
+            happens.landed.each word
+            ∙ ap (λ xs. xs ++ Rattle.audit_text.specs.Notes.event_hits board notes.gone e word) (stands.landed word)
+            ∙ ap (λ xs. map op_of_landing (landed board h (dword word)) ++ xs) (event_hit word board h notes.gone e exact)
+            ∙ sym (map-append op_of_landing (landed board h (dword word)) (brought board h (dword word) e));
         whole = λ o. happens.whole.each o ∙ ap (λ found. or_place found (cond (Rattle.history_model.specs.Knowledge.is_land_of o e) (Some (length h)) None)) (stands.whole o);
         readings = read.readings_are;
         gots = event_got board h notes stands e happens.presented new.clocks new.readings new.gots read.readings_are happens.ends;
@@ -347,23 +347,25 @@ stands_first board notes is =
       starts = λ o author below. no_counts author;
       taught = λ o author below. no_counts author;
       since = λ w master writes.
-      let P : Bool → Type 0 = λ b. nat_lt master M ≡ b → since_at (replicate M none) master w ≡ None in
-      let inside : w.master < M = write_within board w writes in
-      (elim (nat_lt master M) as P [
-        | true ↦ λ below.
-            let within : master < M = grind (arith, nat_tests) in
-            ap (λ xs. slice_get (row xs w.master) w.index) (rows master within) ∙ ap (λ xs. slice_get xs w.index) (get_or-replicate M w.master [] [] inside)
-        | false ↦ λ past.
-            let beyond : M ≤ master = grind (arith, nat_tests) in
-            ap (λ xs. slice_get (row xs w.master) w.index) (past_end (replicate M none) master (rw (length-replicate M none) beyond)) ∙ ap (λ xs. slice_get xs w.index) (no_row w.master)
-      ]) refl;
+          let P : Bool → Type 0 = λ b. nat_lt master M ≡ b → since_at (replicate M none) master w ≡ None in
+          let inside : w.master < M = write_within board w writes in
+          (elim (nat_lt master M) as P [
+            | true ↦ λ below.
+                let within : master < M = grind (arith, nat_tests) in
+                ap (λ xs. slice_get (row xs w.master) w.index) (rows master within) ∙ ap (λ xs. slice_get xs w.index) (get_or-replicate M w.master [] [] inside)
+            | false ↦ λ past.
+                let beyond : M ≤ master = grind (arith, nat_tests) in
+                ap (λ xs. slice_get (row xs w.master) w.index) (past_end (replicate M none) master (rw (length-replicate M none) beyond)) ∙ ap (λ xs. slice_get xs w.index) (no_row w.master)
+          ]) refl;
     })
   where
     no_counts : (author : ℕ) → number [] author ≡ 0
     no_counts zero = refl
     no_counts (suc n) = refl
+
     no_row : (author : ℕ) → row [] author ≡ []
     no_row zero = refl
     no_row (suc n) = refl
+
     past_end : (xs : List (List (List OpId))) (i : ℕ) → length xs ≤ i → known_at xs i ≡ []
     past_end xs i beyond = get_or-eq_default xs [] beyond

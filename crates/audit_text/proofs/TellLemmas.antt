@@ -16,8 +16,8 @@ tells_none masters whole starts writes told is =
     record {
       authors = ap (λ xs. length xs) is ∙ length-replicate masters 0;
       each = λ author below.
-      let none : number told author ≡ 0 = ap (λ xs. number xs author) is ∙ get_or-replicate masters author 0 0 below in
-      ap (λ n. max n (greatest (told_by whole starts author) writes)) none ∙ zero_max (greatest (told_by whole starts author) writes);
+          let none : number told author ≡ 0 = ap (λ xs. number xs author) is ∙ get_or-replicate masters author 0 0 below in
+          ap (λ n. max n (greatest (told_by whole starts author) writes)) none ∙ zero_max (greatest (told_by whole starts author) writes);
     }
   where
     zero_max : (n : ℕ) → max 0 n ≡ n
@@ -32,8 +32,8 @@ tells_next masters whole starts writes all rest op told next left is raises =
     record {
       authors = raises.authors ∙ left.authors;
       each = λ author below.
-      let g : ℕ = greatest (told_by whole starts author) rest in
-      ap (λ n. max n g) (raises.each author (subst (λ n. author < n) (sym left.authors) below)) ∙ max_assoc (number told author) (told_by whole starts author op) g ∙ ap (λ xs. max (number told author) (greatest (told_by whole starts author) xs)) (sym is) ∙ left.each author below;
+          let g : ℕ = greatest (told_by whole starts author) rest in
+          ap (λ n. max n g) (raises.each author (subst (λ n. author < n) (sym left.authors) below)) ∙ max_assoc (number told author) (told_by whole starts author op) g ∙ ap (λ xs. max (number told author) (greatest (told_by whole starts author) xs)) (sym is) ∙ left.each author below;
     }
 
 pub tells_all : (masters : ℕ) (whole : List (OpId × ℕ)) (starts : List (OpId × List ℕ)) (writes all : List OpId) (told : List ℕ) → TellsLeft masters whole starts writes all told → all ≡ [] → Tells masters whole starts writes told

@@ -39,12 +39,7 @@ fn stands_after(first: OpId, op: OpId) -> bool
 }
 
 /// The first of these writes that shows the write to the reading.
-fn first_shown(
-    ledger: &Ledger,
-    reading: &Reading,
-    writes: &[OpId],
-    write: OpId,
-) -> Option<OpId>
+fn first_shown(ledger: &Ledger, reading: &Reading, writes: &[OpId], write: OpId) -> Option<OpId>
     ensures { result ≡ first_shown ledger.now reading.now write writes.now }
 {
     for op in writes {

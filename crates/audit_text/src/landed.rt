@@ -29,7 +29,16 @@ pub(crate) fn record_landed(
             step,
             place: Place::Target(target),
             ..
-        } => record_step(alloc, landed, board, gone_of(gone, op), bus, op, step, target),
+        } => record_step(
+            alloc,
+            landed,
+            board,
+            gone_of(gone, op),
+            bus,
+            op,
+            step,
+            target,
+        ),
         Event::Act { .. } | Event::Arrive { .. } => Ok(()),
     }
 }

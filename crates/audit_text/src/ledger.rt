@@ -196,18 +196,16 @@ fn record_start(alloc: Global, clocks: &mut Clocks, event: &Event) -> Result<(),
 {
     match *event {
         Event::Act {
-            by: By::Master, op, ..
+            by: By::Master,
+            op,
+            ..
         } => clocks.present(alloc, op),
         Event::Act { .. } | Event::Arrive { .. } => Ok(()),
     }
 }
 
 /// The event may land all that was left of a write.
-fn record_whole(
-    whole: &mut OpTable<usize>,
-    index: usize,
-    event: &Event,
-) -> Result<(), NoMemory>
+fn record_whole(whole: &mut OpTable<usize>, index: usize, event: &Event) -> Result<(), NoMemory>
     ensures { OnOk result (Landed event.now index whole.old whole.new) }
 {
     match *event {
