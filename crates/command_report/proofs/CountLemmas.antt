@@ -8,8 +8,8 @@ use Rattle.run_report.specs.Report.{report_of}
 use Rattle.law_counts.proofs.Laws.{complete_weighs, complete_report}
 use Rattle.command_report.specs.Answers.{Reports}
 
-pub Reports-run : (board : Board) (events : List Event) (text : List ℕ) → IsValid board → Run board (history_of events) → text ≡ report_of board (history_of events) → Reports board events text
-Reports-run board events text valid run written =
+pub reports_run : (board : Board) (events : List Event) (text : List ℕ) → IsValid board → Run board (history_of events) → text ≡ report_of board (history_of events) → Reports board events text
+reports_run board events text valid run written =
     let h = history_of events in
     record {
       run = run;

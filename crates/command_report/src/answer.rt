@@ -30,7 +30,6 @@ pub fn answer_report(alloc: Global, input: &[u8]) -> Result<Vec<u8>, Status>
 }
 
 /// The report of a run.
-#[tactic(auto, using(crate::proofs::CountLemmas::Reports-run))]
 fn text_of_run(alloc: Global, tree: &Tree, events: &[Event]) -> Result<List<u8>, NoMemory>
     requires { Run tree.now (history_of events.now) }
     ensures { IfOk result (Reports tree.now events.now) }
