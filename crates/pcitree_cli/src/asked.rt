@@ -40,8 +40,14 @@ fn asked_by_one(word: &str) -> Asked<'_> {
 
 fn asked_by_two<'a>(word: &str, other: &'a str) -> Asked<'a> {
     match word {
-        "--help" | "help" => word_help(other).map_or(Asked::Misfit(1), Asked::HelpOf),
-        "explain" => explain(other).map_or(Asked::Misfit(1), Asked::Explain),
+        "--help" | "help" => match word_help(other) {
+            Some(help) => Asked::HelpOf(help),
+            None => Asked::Misfit(1),
+        },
+        "explain" => match explain(other) {
+            Some(page) => Asked::Explain(page),
+            None => Asked::Misfit(1),
+        },
         "--version" => Asked::Misfit(1),
         _ => Asked::Work,
     }
