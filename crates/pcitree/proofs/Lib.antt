@@ -2,3 +2,4 @@ pub mod FileLemmas
 pub mod AppendLemmas
 pub mod StopLemmas
 pub mod WrittenLemmas
+pub mod GivenLemmas
