@@ -1,33 +1,40 @@
 -- The findings by what was noted down are the findings of the run.
-use Rattle.std.proofs.Common.{◌≡◌, ℕ, zero, suc, Bool, true, false, ◌&&◌, ◌||◌, cond, take, map, length, reverse, List, [], ◌∷◌, ◌++◌, Option, Some, None, refl, sym, ap, subst, ◌∙◌}
-use Rattle.std.specs.List.{find}
+use Rattle.std.proofs.Common.{◌≡◌, ◌<◌, ◌≤◌, ℕ, zero, suc, Bool, true, false, ◌&&◌, ◌||◌, cond, take, map, length, reverse, List, [], ◌∷◌, ◌++◌, Option, Some, None, is_some, refl, sym, ap, subst, ◌∙◌, append_assoc, append-nil, length-append, arith}
+use Rattle.std.specs.List.{find, AllByRecursion}
 use Rattle.std.specs.Option.{option_map}
-use Rattle.std.proofs.lemmas.List.{reverse-append}
+use Rattle.std.proofs.Math.Seq.{take-append_seam}
+use Rattle.std.proofs.lemmas.Bool.Decides.{nat_tests}
+use Rattle.std.proofs.lemmas.List.{reverse-append, map-append, length-map}
+use Rattle.list_facts.proofs.EachLemmas.{Each-weaker, Each-append}
 use Rattle.list_facts.proofs.FindLemmas.{find_agree}
 use Rattle.pci_command.specs.declared.op_id.OpId.{OpId}
 use Rattle.pci_command.specs.declared.op_id.Outcome.{Outcome}
 use Rattle.pci_command.specs.declared.op_id.Outcome.TheVariants.{Value, Written, Aborted, Nobody}
 use Rattle.pci_command.specs.Same.{same_op}
 use Rattle.board_model.specs.declared.board.Board.{Board}
+use Rattle.board_model.specs.Ways.{Dword}
+use Rattle.board_model.specs.Valid.{IsValid}
 use Rattle.history_model.specs.declared.event.Event.{Event}
 use Rattle.history_model.specs.Program.{Ending, ended}
-use Rattle.history_model.specs.Words.{Landing, landed}
-use Rattle.history_model.specs.Knowledge.{Reading as WordReading, got, has_landed}
+use Rattle.history_model.specs.Words.{Landing, landed, brought}
+use Rattle.history_model.specs.Knowledge.{Reading as WordReading, got, has_landed, is_land_of, is_write}
 use Rattle.history_model.specs.Runs.{Run}
-use Rattle.law_fresh.specs.Aware.{is_behind, shows, aware_of}
-use Rattle.law_fresh.proofs.Laws.{Front}
+use Rattle.law_fresh.specs.Aware.{is_behind, knows, shows, aware_of}
+use Rattle.law_fresh.proofs.Laws.{Front, front_run}
 use Rattle.audit_model.specs.Chains.{op_in, joined, to_seen, to_reader}
 use Rattle.audit_model.specs.Chains as chains
 use Rattle.audit_model.specs.Audit.{Finding, is_known_by}
 use Rattle.audit_model.specs.Audit as audit
-use Rattle.audit_text.specs.declared.landed.Landed.{Landed}
 use Rattle.audit_text.specs.declared.readings.Reading.{Reading}
-use Rattle.audit_text.specs.declared.since.Since.{Since}
-use Rattle.audit_text.specs.Logs.{Logs, is_in, is_among, since_of, knows_by, tells_it, got_of, ended_of, end_in, logs_of}
-use Rattle.audit_text.specs.Found.{last_known, first_shown, shown_to, chain_to, chain_from, finding_of, findings_by, findings_as, findings_in}
-use Rattle.audit_text.proofs.LandedLemmas.{op_of_landing, ops_in, landed_log, whole_log, ops_landed, whole_landed, landed_front, whole_front}
-use Rattle.audit_text.proofs.ReadingLemmas.{entry_at, gots_got, got_front}
-use Rattle.audit_text.proofs.SinceLemmas.{or_op, since_log, IsNoted, knows_noted, since_noted}
+use Rattle.audit_text.specs.Notes.{Notes, or_place, word_of, ended_of, end_in}
+use Rattle.audit_text.specs.Found.{since_of, knows_by, got_in, landed_before, is_before, last_known, shows_it, first_shown, shown_by, shown_to, chain_to, chain_from, finding_of, findings_by, findings_as, findings_in}
+use Rattle.audit_text.specs.Stands.{StandsFor, op_of_landing, whole_at, reading_as}
+use Rattle.audit_text.proofs.ReadLemmas.{whole_has, got_front}
+use Rattle.audit_text.proofs.WriteLemmas.{IsOfWrite, landings_write}
+
+Each-reverse : (P : Landing → Type 0) (xs : List Landing) → AllByRecursion P xs → AllByRecursion P (reverse xs)
+Each-reverse P [] all = tt
+Each-reverse P (x ∷ xs) all = subst (AllByRecursion P) (sym (reverse-append (x ∷ []) xs)) (Each-append P (reverse xs) (x ∷ []) (Each-reverse P xs all.1) (all.0, tt))
 
 -- The last and the first of some operations that pass.
 
@@ -39,28 +46,26 @@ first_op : (OpId → Bool) → List OpId → Option OpId
 first_op test [] = None
 first_op test (q ∷ qs) = cond (test q) (Some q) (first_op test qs)
 
-last_in : (since : List Since) (reading : Reading) (r : OpId) (found : Option OpId) (xs : List Landed) → last_known since reading r found xs ≡ last_op (λ q. knows_by since q r) found (ops_in reading xs)
-unfolding last_op
-last_in since reading r found [] = refl
-last_in since reading r found (x ∷ xs) =
-    let test : OpId → Bool = λ q. knows_by since q r in
-    let P : Bool → Type 0 = λ i. last_known since reading r (cond (i && knows_by since x.op r) (Some x.op) found) xs ≡ last_op test found (cond i (x.op ∷ ops_in reading xs) (ops_in reading xs)) in
-    elim (is_in reading x) as P [
-      | true ↦ last_in since reading r (cond (knows_by since x.op r) (Some x.op) found) xs
-      | false ↦ last_in since reading r found xs
-    ]
+abbrev pub or_op : Option OpId → Option OpId → Option OpId
+or_op None other = other
+or_op (Some p) other = Some p
 
-first_in : (since : List Since) (reading : Reading) (w : OpId) (whole : List OpId) (xs : List Landed) → first_shown since reading w whole xs ≡ first_op (λ q. is_among whole q && tells_it since w q) (ops_in reading xs)
+last_in : (notes : Notes) (r : OpId) (found : Option OpId) (qs : List OpId) → last_known notes r found qs ≡ last_op (λ q. knows_by notes q r) found qs
+unfolding last_op
+last_in notes r found [] = refl
+last_in notes r found (q ∷ qs) = last_in notes r (cond (knows_by notes q r) (Some q) found) qs
+
+first_in : (notes : Notes) (reading : Reading) (w : OpId) (qs : List OpId) → first_shown notes reading w qs ≡ first_op (shows_it notes reading w) qs
 unfolding first_op
-first_in since reading w whole [] = refl
-first_in since reading w whole (x ∷ xs) =
-    let later = first_in since reading w whole xs in
-    let test : OpId → Bool = λ q. is_among whole q && tells_it since w q in
-    let P : Bool → Type 0 = λ i. cond (i && (is_among whole x.op && tells_it since w x.op)) (Some x.op) (first_shown since reading w whole xs) ≡ first_op test (cond i (x.op ∷ ops_in reading xs) (ops_in reading xs)) in
-    elim (is_in reading x) as P [
-      | true ↦ ap (λ found. cond (is_among whole x.op && tells_it since w x.op) (Some x.op) found) later
-      | false ↦ later
-    ]
+first_in notes reading w [] = refl
+first_in notes reading w (q ∷ qs) = ap (λ found. cond (shows_it notes reading w q) (Some q) found) (first_in notes reading w qs)
+
+find_each : (f g : Landing → Bool) (xs : List Landing) → AllByRecursion (λ l. f l ≡ g l) xs → op_in (find f xs) ≡ op_in (find g xs)
+find_each f g [] alike = refl
+find_each f g (x ∷ xs) alike =
+    ap (λ b. op_in (cond b (Some x) (find f xs))) (alike.0)
+    ∙ (let P : Bool → Type 0 = λ b. op_in (cond b (Some x) (find f xs)) ≡ op_in (cond b (Some x) (find g xs)) in
+    elim (g x) as P [ true ↦ refl | false ↦ find_each f g xs alike.1 ])
 
 or_assoc : (a b c : Option OpId) → or_op (or_op a b) c ≡ or_op a (or_op b c)
 or_assoc None b c = refl
@@ -108,52 +113,107 @@ first_found test (x ∷ xs) =
     let P : Bool → Type 0 = λ b. op_in (cond b (Some x) (find (λ (l : Landing). test l.op) xs)) ≡ cond b (Some x.op) (first_op test (map op_of_landing xs)) in
     elim (test x.op) as P [ true ↦ refl | false ↦ first_found test xs ]
 
-module _ (board : Board) (h : List Event) (run : Run board h) where
-  noted : IsNoted board h
-  noted = since_noted board h run
+-- a history that goes on from another has its landings at the front
+record Fronted (front all : List Landing) : Type 0 where
+  more : List Landing
+  is : all ≡ front ++ more
+
+landed_along : (board : Board) (word : Dword) (before later : List Event) → Fronted (landed board before word) (landed board (later ++ before) word)
+landed_along board word before [] = record { more = []; is = sym (append-nil (landed board before word)) }
+landed_along board word before (e ∷ later) =
+    let old = landed_along board word before later in
+    let new : List Landing = brought board (later ++ before) word e in
+    record { more = old.more ++ new; is = ap (λ xs. xs ++ new) old.is ∙ append_assoc (landed board before word) old.more new }
+
+-- the writes that landed before, of all that landed
+taken : (board : Board) (word : Dword) (before h : List Event) → Front before h → take (length (landed board before word)) (map op_of_landing (landed board h word)) ≡ map op_of_landing (landed board before word)
+taken board word before h front =
+    let front_list : List Landing = landed board before word in
+    let all = landed_along board word before front.later in
+    let ops : List OpId = map op_of_landing front_list in
+    ap (λ g. take (length front_list) (map op_of_landing (landed board g word))) (sym front.is)
+    ∙ ap (λ xs. take (length front_list) (map op_of_landing xs)) all.is
+    ∙ ap (λ xs. take (length front_list) xs) (map-append op_of_landing front_list all.more)
+    ∙ ap (λ n. take n (ops ++ map op_of_landing all.more)) (sym (length-map front_list op_of_landing))
+    ∙ take-append_seam ops (map op_of_landing all.more)
+
+-- who landed whole before a front of the history
+place_or : (n : ℕ) (a : Option ℕ) (m : ℕ) (b : Bool) → n ≤ m → is_before n (or_place a (cond b (Some m) None)) ≡ is_before n a
+place_or n (Some p) m b at_most = refl
+place_or n None m true at_most = grind (arith, nat_tests)
+place_or n None m false at_most = refl
+
+-- a place is below the number of events
+all_before : (h : List Event) (o : OpId) (n : ℕ) → length h ≤ n → is_before n (whole_at h o) ≡ is_some (whole_at h o)
+all_before [] o n at_most = refl
+all_before (e ∷ h) o n at_most =
+    let older : length h ≤ n = omega (arith, at_most) in
+    let old = all_before h o n older in
+    let P : Option ℕ → Type 0 = λ a. is_before n a ≡ is_some a → is_before n (or_place a (cond (is_land_of o e) (Some (length h)) None)) ≡ is_some (or_place a (cond (is_land_of o e) (Some (length h)) None)) in
+    let Q : Bool → Type 0 = λ b. is_before n (cond b (Some (length h)) None) ≡ is_some (cond b (Some (length h)) None) in
+    (elim (whole_at h o) as P [
+      | Some p ↦ λ f. f
+      | None ↦ λ _. elim (is_land_of o e) as Q [ true ↦ (let below : length h < n = omega (arith, at_most) in grind (arith, nat_tests)) | false ↦ refl ]
+    ]) old
+
+whole_along : (before later : List Event) (o : OpId) → is_before (length before) (whole_at (later ++ before) o) ≡ has_landed before o
+whole_along before [] o = all_before before o (length before) (omega arith) ∙ whole_has before o
+whole_along before (e ∷ later) o =
+    place_or (length before) (whole_at (later ++ before) o) (length (later ++ before)) (is_land_of o e) (rw (length-append later before) (omega arith))
+    ∙ whole_along before later o
+
+whole_front : (before h : List Event) (o : OpId) → Front before h → is_before (length before) (whole_at h o) ≡ has_landed before o
+whole_front before h o front = subst (λ g. is_before (length before) (whole_at g o) ≡ has_landed before o) front.is (whole_along before front.later o)
+
+module _ (board : Board) (valid : IsValid board) (h : List Event) (notes : Notes) (run : Run board h) (stands : StandsFor board h notes) where
+  knows_noted : (w q : OpId) → is_write board w ≡ true → knows_by notes w q ≡ knows (aware_of board w h) q
+  knows_noted w q writes = ap (λ found. is_behind found q) (stands.since w q.master writes)
+
+  before_is : (reading : WordReading) → Front reading.before h → landed_before notes (reading_as board reading) ≡ map op_of_landing (landed board reading.before reading.word)
+  before_is reading front =
+      let n : ℕ = length (landed board reading.before reading.word) in
+      ap (λ xs. take n xs) (stands.landed (word_of reading.word.target reading.word.space reading.word.address)) ∙ taken board reading.word reading.before h front
+
+  writes_before : (reading : WordReading) → Front reading.before h → AllByRecursion (IsOfWrite board valid) (landed board reading.before reading.word)
+  writes_before reading front = landings_write board valid reading.before reading.word (front_run board reading.before h front run)
 
   -- the last landing of which the read knew
-  last_same : (r : OpId) (reading : WordReading) → Front reading.before h
-      → last_known (since_log board h) (entry_at board r reading) r None (take (length (landed_log board reading.before)) (landed_log board h)) ≡ audit.last_known board h r reading
+  last_same : (r : OpId) (reading : WordReading) → Front reading.before h → last_known notes r None (landed_before notes (reading_as board reading)) ≡ audit.last_known board h r reading
   last_same r reading front =
       let before : List Event = reading.before in
-      let since : List Since = since_log board h in
-      let entry : Reading = entry_at board r reading in
-      let test : OpId → Bool = λ q. knows_by since q r in
-      ap (λ xs. last_known since entry r None xs) (landed_front board before h front)
-      ∙ last_in since entry r None (landed_log board before)
-      ∙ ap (λ ops. last_op test None ops) (ops_landed entry board before)
-      ∙ sym (last_found test (landed board before reading.word))
-      ∙ ap op_in (find_agree (λ (l : Landing). test l.op) (is_known_by board h r) (λ l. knows_noted board h noted l.op r) (reverse (landed board before reading.word)))
+      let list : List Landing = landed board before reading.word in
+      let test : OpId → Bool = λ q. knows_by notes q r in
+      let alike : AllByRecursion (λ (l : Landing). test l.op ≡ is_known_by board h r l) (reverse list) =
+      Each-reverse (λ (l : Landing). test l.op ≡ is_known_by board h r l) list
+      (Each-weaker (IsOfWrite board valid) (λ (l : Landing). test l.op ≡ is_known_by board h r l) (λ l writes. knows_noted l.op r writes) list (writes_before reading front)) in
+      ap (λ xs. last_known notes r None xs) (before_is reading front)
+      ∙ last_in notes r None (map op_of_landing list)
+      ∙ sym (last_found test list)
+      ∙ find_each (λ (l : Landing). test l.op) (is_known_by board h r) (reverse list) alike
 
   -- the first landing that shows the write
-  first_in_word : (w o : OpId) (reading : WordReading) → Front reading.before h
-      → first_shown (since_log board h) (entry_at board o reading) w (take (length (whole_log board reading.before)) (whole_log board h)) (take (length (landed_log board reading.before)) (landed_log board h))
-      ≡ op_in (find (shows w (aware_of board w h) reading.before) (landed board reading.before reading.word))
-  first_in_word w o reading front =
+  first_same : (w : OpId) (reading : WordReading) → is_write board w ≡ true → Front reading.before h
+      → first_shown notes (reading_as board reading) w (landed_before notes (reading_as board reading)) ≡ op_in (find (shows w (aware_of board w h) reading.before) (landed board reading.before reading.word))
+  first_same w reading writes front =
       let before : List Event = reading.before in
-      let since : List Since = since_log board h in
-      let entry : Reading = entry_at board o reading in
-      let whole : List OpId = whole_log board before in
-      let test : OpId → Bool = λ q. is_among whole q && tells_it since w q in
+      let list : List Landing = landed board before reading.word in
+      let test : OpId → Bool = shows_it notes (reading_as board reading) w in
       let one : (l : Landing) → test l.op ≡ shows w (aware_of board w h) before l = λ l.
-      ap (λ b. b && tells_it since w l.op) (whole_landed board before l.op)
-      ∙ ap (λ b. has_landed before l.op && (same_op l.op w || b)) (knows_noted board h noted w l.op) in
-      ap (λ xs. first_shown since entry w xs (take (length (landed_log board before)) (landed_log board h))) (whole_front board before h front)
-      ∙ ap (λ xs. first_shown since entry w whole xs) (landed_front board before h front)
-      ∙ first_in since entry w whole (landed_log board before)
-      ∙ ap (λ ops. first_op test ops) (ops_landed entry board before)
-      ∙ sym (first_found test (landed board before reading.word))
-      ∙ ap op_in (find_agree (λ (l : Landing). test l.op) (shows w (aware_of board w h) before) one (landed board before reading.word))
+      ap (λ found. is_before (length before) found && (same_op l.op w || knows_by notes w l.op)) (stands.whole l.op)
+      ∙ ap (λ b. b && (same_op l.op w || knows_by notes w l.op)) (whole_front before h l.op front)
+      ∙ ap (λ b. has_landed before l.op && (same_op l.op w || b)) (knows_noted w l.op writes) in
+      ap (λ xs. first_shown notes (reading_as board reading) w xs) (before_is reading front)
+      ∙ first_in notes (reading_as board reading) w (map op_of_landing list)
+      ∙ sym (first_found test list)
+      ∙ ap op_in (find_agree (λ (l : Landing). test l.op) (shows w (aware_of board w h) before) one list)
 
-  shown_same : (w q : OpId) → shown_to (logs_of board h) w (got_of q None (logs_of board h).gots) ≡ chains.first_shown board w h q
-  shown_same w q =
-      let logs : Logs = logs_of board h in
-      let P : Option WordReading → Type 0 = λ found. got board h q ≡ found → shown_to logs w (option_map (entry_at board q) found) ≡ chains.shown_by board w (aware_of board w h) found in
-      ap (λ found. shown_to logs w found) (gots_got board h q)
+  shown_same : (w q : OpId) → is_write board w ≡ true → shown_to notes w q ≡ chains.first_shown board w h q
+  shown_same w q writes =
+      let P : Option WordReading → Type 0 = λ found. got board h q ≡ found → shown_by notes w (option_map (reading_as board) found) ≡ chains.shown_by board w (aware_of board w h) found in
+      ap (λ found. shown_by notes w found) (stands.gots q)
       ∙ (elim (got board h q) as P [
         | None ↦ λ _. refl
-        | Some reading ↦ λ some. first_in_word w q reading (got_front board h q reading some)
+        | Some reading ↦ λ some. first_same w reading writes (got_front board h q reading some)
       ]) refl
 
   seen_same : (f g : OpId → List OpId) → ((p : OpId) → f p ≡ g p) → (since : Option OpId) (v : OpId) → to_seen f since v ≡ to_seen g since v
@@ -165,53 +225,65 @@ module _ (board : Board) (h : List Event) (run : Run board h) where
   reader_same f g s t same since q (Some v) =
       ap (λ x. to_seen f x v ++ q ∷ []) (since v.master) ∙ ap (λ xs. xs ++ q ∷ []) (seen_same f g same (t v.master) v)
 
-  chain_same : (n : ℕ) (w q : OpId) → chain_to n (logs_of board h) w q ≡ chains.chain_to n board w h q
-  chain_same zero w q = refl
-  chain_same (suc n) w q =
-      let logs : Logs = logs_of board h in
-      let f : OpId → List OpId = λ p. chain_to n logs w p in
-      let g : OpId → List OpId = λ p. chains.chain_to n board w h p in
-      let s : ℕ → Option OpId = λ m. since_of w m logs.since in
-      let t : ℕ → Option OpId = (aware_of board w h).since in
-      ap (λ found. cond (same_op q w) (w ∷ []) (to_reader f s q found)) (shown_same w q)
-      ∙ ap (λ xs. cond (same_op q w) (w ∷ []) xs) (reader_same f g s t (λ p. chain_same n w p) (noted w) q (chains.first_shown board w h q))
+  module _ (w : OpId) (writes : is_write board w ≡ true) where
+    chain_same : (n : ℕ) (q : OpId) → chain_to n notes w q ≡ chains.chain_to n board w h q
+    chain_same zero q = refl
+    chain_same (suc n) q =
+        let f : OpId → List OpId = λ p. chain_to n notes w p in
+        let g : OpId → List OpId = λ p. chains.chain_to n board w h p in
+        let s : ℕ → Option OpId = λ m. since_of notes w m in
+        let t : ℕ → Option OpId = (aware_of board w h).since in
+        ap (λ found. cond (same_op q w) (w ∷ []) (to_reader f s q found)) (shown_same w q writes)
+        ∙ ap (λ xs. cond (same_op q w) (w ∷ []) xs) (reader_same f g s t (λ p. chain_same n p) (λ m. stands.since w m writes) q (chains.first_shown board w h q))
 
-  chain_from_same : (w r : OpId) → chain_from (length board.masters) (logs_of board h) w r (since_of w r.master (logs_of board h).since) ≡ chains.chain_from board w h r ((aware_of board w h).since r.master)
-  chain_from_same w r =
-      let n : ℕ = length board.masters in
-      let P : Option OpId → Type 0 = λ found. chain_from n (logs_of board h) w r found ≡ chains.chain_from board w h r found in
-      ap (λ found. chain_from n (logs_of board h) w r found) (noted w r.master)
-      ∙ (elim ((aware_of board w h).since r.master) as P [ None ↦ refl | Some q ↦ ap (λ xs. joined xs q r) (chain_same n w q) ])
+    chain_from_same : (r : OpId) → chain_from (length board.masters) notes w r (since_of notes w r.master) ≡ chains.chain_from board w h r ((aware_of board w h).since r.master)
+    chain_from_same r =
+        let n : ℕ = length board.masters in
+        let P : Option OpId → Type 0 = λ found. chain_from n notes w r found ≡ chains.chain_from board w h r found in
+        ap (λ found. chain_from n notes w r found) (stands.since w r.master writes)
+        ∙ (elim ((aware_of board w h).since r.master) as P [ None ↦ refl | Some q ↦ ap (λ xs. joined xs q r) (chain_same n q) ])
 
-  finding_same : (r : OpId) (reading : WordReading) (found : Option OpId) → finding_of (length board.masters) (logs_of board h) r (entry_at board r reading) found ≡ audit.finding_of board h r reading found
-  finding_same r reading None = refl
-  finding_same r reading (Some w) =
+  -- what is found is a write
+  found_writes : (test : Landing → Bool) (xs : List Landing) (w : OpId) → AllByRecursion (IsOfWrite board valid) xs → op_in (find test xs) ≡ Some w → is_write board w ≡ true
+  found_writes test [] w all is = cc
+  found_writes test (x ∷ xs) w all is =
+      let P : Bool → Type 0 = λ b. op_in (cond b (Some x) (find test xs)) ≡ Some w → is_write board w ≡ true in
+      (elim (test x) as P [
+        | true ↦ λ f. let same : x.op ≡ w = cc in subst (λ p. is_write board p ≡ true) same all.0
+        | false ↦ λ f. found_writes test xs w all.1 f
+      ]) is
+
+  finding_same : (r : OpId) (reading : WordReading) → Front reading.before h → (found : Option OpId) → audit.last_known board h r reading ≡ found → finding_of (length board.masters) notes r (reading_as board reading) found ≡ audit.finding_of board h r reading found
+  finding_same r reading front None is = refl
+  finding_same r reading front (Some w) is =
+      let list : List Landing = landed board reading.before reading.word in
+      let writes : is_write board w ≡ true = found_writes (is_known_by board h r) (reverse list) w (Each-reverse (IsOfWrite board valid) list (writes_before reading front)) is in
       let built : List OpId → List Finding = λ chain. record { read = r; word = reading.word; value = reading.value; write = w; chain = chain } ∷ [] in
-      ap built (chain_from_same w r)
+      ap built (chain_from_same w writes r)
 
-  got_same : (r : OpId) → findings_by (length board.masters) (logs_of board h) r (got_of r None (logs_of board h).gots) ≡ audit.findings_by board h r (got board h r)
+  got_same : (r : OpId) → findings_by (length board.masters) notes r (got_in notes r) ≡ audit.findings_by board h r (got board h r)
   got_same r =
       let n : ℕ = length board.masters in
-      let logs : Logs = logs_of board h in
-      let P : Option WordReading → Type 0 = λ found. got board h r ≡ found → findings_by n logs r (option_map (entry_at board r) found) ≡ audit.findings_by board h r found in
-      ap (λ found. findings_by n logs r found) (gots_got board h r)
+      let P : Option WordReading → Type 0 = λ found. got board h r ≡ found → findings_by n notes r (option_map (reading_as board) found) ≡ audit.findings_by board h r found in
+      ap (λ found. findings_by n notes r found) (stands.gots r)
       ∙ (elim (got board h r) as P [
         | None ↦ λ _. refl
         | Some reading ↦ λ some.
-            ap (λ found. finding_of n logs r (entry_at board r reading) found) (last_same r reading (got_front board h r reading some))
-            ∙ finding_same r reading (audit.last_known board h r reading)
+            let front : Front reading.before h = got_front board h r reading some in
+            ap (λ found. finding_of n notes r (reading_as board reading) found) (last_same r reading front)
+            ∙ finding_same r reading front (audit.last_known board h r reading) refl
       ]) refl
 
-  ended_same : (r : OpId) (outcome : Outcome) → findings_as (length board.masters) (logs_of board h) r (Rattle.history_model.specs.Knowledge.value_in outcome) ≡ audit.findings_as board h r outcome
+  ended_same : (r : OpId) (outcome : Outcome) → findings_as (length board.masters) notes r (Rattle.history_model.specs.Knowledge.value_in outcome) ≡ audit.findings_as board h r outcome
   ended_same r (Value value) = got_same r
   ended_same r Written = refl
   ended_same r Aborted = refl
   ended_same r Nobody = refl
 
-  event_same : (found : Option Ending) → findings_in (length board.masters) (logs_of board h) (option_map ended_of found) ≡ audit.findings_in board h found
+  event_same : (found : Option Ending) → findings_in (length board.masters) notes (option_map ended_of found) ≡ audit.findings_in board h found
   event_same None = refl
   event_same (Some ending) = ended_same ending.op ending.outcome
 
--- what an event finds, by what was noted down up to and with it
-pub found_same : (board : Board) (h : List Event) (e : Event) → Run board h → findings_in (length board.masters) (logs_of board h) (end_in e) ≡ audit.findings_in board h (ended e)
-found_same board h e run = event_same board h run (ended e)
+  -- what an event finds, by what was noted down up to and with it
+  pub found_same : (e : Event) → findings_in (length board.masters) notes (end_in e) ≡ audit.findings_in board h (ended e)
+  found_same e = event_same (ended e)

@@ -1,7 +1,9 @@
-pub mod LandedLemmas
-pub mod ReadingLemmas
+pub mod HitLemmas
+pub mod ReadLemmas
+pub mod WriteLemmas
+pub mod StandsLemmas
 pub mod ChainLemmas
 pub mod LineLemmas
-pub mod SinceLemmas
 pub mod FoundLemmas
 pub mod AuditLemmas
+pub mod TellLemmas

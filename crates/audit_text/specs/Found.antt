@@ -1,61 +1,91 @@
 -- The findings of a run, by what was noted down of it.
-use Rattle.std.specs.Prelude.{ℕ, zero, suc, Bool, List, [], ◌∷◌, ◌++◌, length, take, Option, Some, None, ◌&&◌, if◌then◌else◌}
+use Rattle.std.specs.Prelude.{ℕ, zero, suc, Bool, false, List, [], ◌∷◌, ◌++◌, length, take, Option, Some, None, is_some, nat_lt, ◌&&◌, ◌||◌, if◌then◌else◌}
 use Rattle.pci_command.specs.declared.op_id.OpId.{OpId}
 use Rattle.pci_command.specs.Same.{same_op}
-use Rattle.history_model.specs.declared.event.Event.{Event}
+use Rattle.law_fresh.specs.Aware.{is_behind}
 use Rattle.audit_model.specs.Chains.{joined, to_reader}
 use Rattle.audit_model.specs.Audit.{Finding}
-use Rattle.audit_text.specs.declared.landed.Landed.{Landed}
+use Rattle.audit_clocks.specs.Tables.{value_of, writes_in}
+use Rattle.audit_clocks.specs.Clocks.{since_at}
 use Rattle.audit_text.specs.declared.readings.Reading.{Reading}
 use Rattle.audit_text.specs.declared.ends.Ended.{Ended}
-use Rattle.audit_text.specs.declared.since.Since.{Since}
-use Rattle.audit_text.specs.Logs.{Logs, is_in, is_among, since_of, knows_by, tells_it, got_of, end_in}
+use Rattle.audit_text.specs.Notes.{Notes, flat, word_of}
 
--- the last landing in the dword of which the read's master knew before
-abbrev pub last_known : List Since → Reading → OpId → Option OpId → List Landed → Option OpId
-last_known since reading r found [] = found
-last_known since reading r found (landed ∷ rest) =
-    last_known since reading r (if is_in reading landed && knows_by since landed.op r then Some landed.op else found) rest
+-- with which of its operations the master came to know of the write
+abbrev pub since_of : Notes → OpId → ℕ → Option OpId
+since_of notes w master = since_at notes.clocks.known master w
 
--- the first landing in the dword that shows the write
-abbrev pub first_shown : List Since → Reading → OpId → List OpId → List Landed → Option OpId
-first_shown since reading w whole [] = None
-first_shown since reading w whole (landed ∷ rest) =
-    if is_in reading landed && (is_among whole landed.op && tells_it since w landed.op) then Some landed.op else first_shown since reading w whole rest
+-- an operation stands behind one with which its master came to know of the write
+abbrev pub knows_by : Notes → OpId → OpId → Bool
+knows_by notes w o = is_behind (since_of notes w o.master) o
 
-abbrev pub shown_to : Logs → OpId → Option Reading → Option OpId
-shown_to logs w None = None
-shown_to logs w (Some reading) = first_shown logs.since reading w (take reading.whole logs.whole) (take reading.landed logs.landed)
+-- what a read got
+abbrev pub got_in : Notes → OpId → Option Reading
+got_in notes o = flat (value_of o notes.gots)
 
-abbrev pub chain_to : ℕ → Logs → OpId → OpId → List OpId
-chain_to zero logs w q = []
-chain_to (suc n) logs w q =
+-- the writes of what landed in the dword before the reading
+abbrev pub landed_before : Notes → Reading → List OpId
+landed_before notes reading = take reading.landed (writes_in (word_of reading.target reading.space reading.address) notes.landed)
+
+-- before so many events
+abbrev pub is_before : ℕ → Option ℕ → Bool
+is_before events None = false
+is_before events (Some place) = nat_lt place events
+
+-- the write landed whole before the reading
+abbrev pub landed_whole : Notes → Reading → OpId → Bool
+landed_whole notes reading o = is_before reading.events (value_of o notes.whole)
+
+-- the last of these of which the operation knows
+abbrev pub last_known : Notes → OpId → Option OpId → List OpId → Option OpId
+last_known notes r found [] = found
+last_known notes r found (w ∷ writes) = last_known notes r (if knows_by notes w r then Some w else found) writes
+
+-- a write that landed whole before the reading, and is this one or knows of it
+abbrev pub shows_it : Notes → Reading → OpId → OpId → Bool
+shows_it notes reading w v = landed_whole notes reading v && (same_op v w || knows_by notes w v)
+
+-- the first of these
+abbrev pub first_shown : Notes → Reading → OpId → List OpId → Option OpId
+first_shown notes reading w [] = None
+first_shown notes reading w (v ∷ writes) = if shows_it notes reading w v then Some v else first_shown notes reading w writes
+
+abbrev pub shown_by : Notes → OpId → Option Reading → Option OpId
+shown_by notes w None = None
+shown_by notes w (Some reading) = first_shown notes reading w (landed_before notes reading)
+
+abbrev pub shown_to : Notes → OpId → OpId → Option OpId
+shown_to notes w q = shown_by notes w (got_in notes q)
+
+abbrev pub chain_to : ℕ → Notes → OpId → OpId → List OpId
+chain_to zero notes w q = []
+chain_to (suc n) notes w q =
     if same_op q w then w ∷ []
-    else to_reader (λ p. chain_to n logs w p) (λ master. since_of w master logs.since) q (shown_to logs w (got_of q None logs.gots))
+    else to_reader (λ p. chain_to n notes w p) (λ master. since_of notes w master) q (shown_to notes w q)
 
-abbrev pub chain_from : ℕ → Logs → OpId → OpId → Option OpId → List OpId
-chain_from n logs w r None = []
-chain_from n logs w r (Some q) = joined (chain_to n logs w q) q r
+abbrev pub chain_from : ℕ → Notes → OpId → OpId → Option OpId → List OpId
+chain_from n notes w r None = []
+chain_from n notes w r (Some q) = joined (chain_to n notes w q) q r
 
-abbrev pub finding_of : ℕ → Logs → OpId → Reading → Option OpId → List Finding
-finding_of n logs r reading None = []
-finding_of n logs r reading (Some w) =
+abbrev pub finding_of : ℕ → Notes → OpId → Reading → Option OpId → List Finding
+finding_of n notes r reading None = []
+finding_of n notes r reading (Some w) =
     record {
       read = r;
       word = record { target = reading.target; space = reading.space; address = reading.address };
       value = reading.value;
       write = w;
-      chain = chain_from n logs w r (since_of w r.master logs.since);
+      chain = chain_from n notes w r (since_of notes w r.master);
     } ∷ []
 
-abbrev pub findings_by : ℕ → Logs → OpId → Option Reading → List Finding
-findings_by n logs r None = []
-findings_by n logs r (Some reading) = finding_of n logs r reading (last_known logs.since reading r None (take reading.landed logs.landed))
+abbrev pub findings_by : ℕ → Notes → OpId → Option Reading → List Finding
+findings_by n notes r None = []
+findings_by n notes r (Some reading) = finding_of n notes r reading (last_known notes r None (landed_before notes reading))
 
-abbrev pub findings_as : ℕ → Logs → OpId → Option ℕ → List Finding
-findings_as n logs r None = []
-findings_as n logs r (Some value) = findings_by n logs r (got_of r None logs.gots)
+abbrev pub findings_as : ℕ → Notes → OpId → Option ℕ → List Finding
+findings_as n notes r None = []
+findings_as n notes r (Some value) = findings_by n notes r (got_in notes r)
 
-abbrev pub findings_in : ℕ → Logs → Option Ended → List Finding
-findings_in n logs None = []
-findings_in n logs (Some ended) = findings_as n logs ended.op ended.value
+abbrev pub findings_in : ℕ → Notes → Option Ended → List Finding
+findings_in n notes None = []
+findings_in n notes (Some ended) = findings_as n notes ended.op ended.value

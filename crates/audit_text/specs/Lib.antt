@@ -1,4 +1,4 @@
-pub mod Logs
+pub mod Notes
 pub mod Lines
 pub mod Found
-pub mod Ledgers
+pub mod Stands

@@ -1,19 +1,18 @@
 ghost use Rattle.std.specs.Prelude.{◌≡◌, ◌≤◌, ◌++◌, [], ◌∷◌, codes, length, Some, IfOk, OnOk, string_bytes};
 ghost use Rattle.std.specs.Fmt.{decimal};
 ghost use Rattle.board_printer.specs.Lines.{line_text};
+ghost use Rattle.board_model.specs.Valid.{IsValid};
 ghost use Rattle.history_model.specs.Runs.{Run, history_of};
 ghost use Rattle.audit_model.specs.Audit.{findings};
 ghost use Rattle.audit_text.specs.Lines.{audit_of, findings_text};
-ghost use Rattle.audit_text.specs.Logs.{end_in};
-ghost use Rattle.audit_text.specs.Ledgers.{logs_in};
+ghost use Rattle.audit_text.specs.Notes.{end_in};
 ghost use Rattle.audit_text.specs.Found.{finding_of, findings_in, findings_as, findings_by};
 
 use crate::chains::{chain_from, last_known};
 use crate::ends::{Ended, end_in};
-use crate::landed::first_landed;
 use crate::ledger::Ledger;
 use crate::lines::print_finding;
-use crate::readings::{Reading, got_of};
+use crate::readings::Reading;
 use board_model::Board;
 use bus_tree::Tree;
 use history_model::Event;
@@ -47,15 +46,16 @@ fn print_findings(
     text: &mut String,
     board: &Board,
     events: &[Event],
-) -> Result<usize, AllocError>
-    requires { Run board.now (history_of events.now) }
+) -> Result<usize, NoMemory>
+    requires valid { IsValid board.now }
+    requires run { Run board.now (history_of events.now) }
     ensures text { IfOk result (λ _. string_bytes text.new ≡ string_bytes text.old ++ findings_text board.now (findings board.now (history_of events.now))) }
     ensures told { IfOk result (λ told. told ≡ length (findings board.now (history_of events.now))) }
 {
-    let mut ledger = Ledger::new(alloc);
+    let mut ledger = Ledger::new(alloc, board)?;
     let mut told = 0;
     for (index, event) in events.iter().enumerate() {
-        ledger.happen(alloc, board, &events[..index], event)?;
+        ledger.happen(alloc, board, index, event)?;
         told += print_found(alloc, text, board, &ledger, event)?;
     }
     Ok(told)
@@ -68,9 +68,9 @@ fn print_found(
     board: &Board,
     ledger: &Ledger,
     event: &Event,
-) -> Result<usize, AllocError>
-    ensures text { IfOk result (λ _. string_bytes text.new ≡ string_bytes text.old ++ findings_text board.now (findings_in (length board.now.masters) (logs_in ledger.now) (end_in event.now))) }
-    ensures told { IfOk result (λ told. told ≡ length (findings_in (length board.now.masters) (logs_in ledger.now) (end_in event.now))) }
+) -> Result<usize, NoMemory>
+    ensures text { IfOk result (λ _. string_bytes text.new ≡ string_bytes text.old ++ findings_text board.now (findings_in (length board.now.masters) ledger.now (end_in event.now))) }
+    ensures told { IfOk result (λ told. told ≡ length (findings_in (length board.now.masters) ledger.now (end_in event.now))) }
     ensures one { IfOk result (λ told. told ≤ 1) }
 {
     match end_in(event) {
@@ -85,14 +85,14 @@ fn print_ended(
     board: &Board,
     ledger: &Ledger,
     ended: Ended,
-) -> Result<usize, AllocError>
-    ensures text { IfOk result (λ _. string_bytes text.new ≡ string_bytes text.old ++ findings_text board.now (findings_as (length board.now.masters) (logs_in ledger.now) ended.op ended.value)) }
-    ensures told { IfOk result (λ told. told ≡ length (findings_as (length board.now.masters) (logs_in ledger.now) ended.op ended.value)) }
+) -> Result<usize, NoMemory>
+    ensures text { IfOk result (λ _. string_bytes text.new ≡ string_bytes text.old ++ findings_text board.now (findings_as (length board.now.masters) ledger.now ended.op ended.value)) }
+    ensures told { IfOk result (λ told. told ≡ length (findings_as (length board.now.masters) ledger.now ended.op ended.value)) }
     ensures one { IfOk result (λ told. told ≤ 1) }
 {
     match ended.value {
         None => Ok(0),
-        Some(_) => match got_of(ledger.gots.as_slice(), ended.op) {
+        Some(_) => match ledger.got(ended.op) {
             None => Ok(0),
             Some(reading) => print_reading(alloc, text, board, ledger, ended.op, &reading),
         },
@@ -106,13 +106,12 @@ fn print_reading(
     ledger: &Ledger,
     read: OpId,
     reading: &Reading,
-) -> Result<usize, AllocError>
-    ensures text { IfOk result (λ _. string_bytes text.new ≡ string_bytes text.old ++ findings_text board.now (findings_by (length board.now.masters) (logs_in ledger.now) read (Some reading.now))) }
-    ensures told { IfOk result (λ told. told ≡ length (findings_by (length board.now.masters) (logs_in ledger.now) read (Some reading.now))) }
+) -> Result<usize, NoMemory>
+    ensures text { IfOk result (λ _. string_bytes text.new ≡ string_bytes text.old ++ findings_text board.now (findings_by (length board.now.masters) ledger.now read (Some reading.now))) }
+    ensures told { IfOk result (λ told. told ≡ length (findings_by (length board.now.masters) ledger.now read (Some reading.now))) }
     ensures one { IfOk result (λ told. told ≤ 1) }
 {
-    let landed = first_landed(ledger.landed.as_slice(), reading.landed);
-    match last_known(ledger.since.as_slice(), landed, reading, read) {
+    match last_known(ledger, ledger.landed_before(reading), read) {
         None => Ok(0),
         Some(write) => {
             print_known(alloc, text, board, ledger, read, reading, write)?;
@@ -129,8 +128,8 @@ fn print_known(
     read: OpId,
     reading: &Reading,
     write: OpId,
-) -> Result<(), AllocError>
-    ensures { OnOk result (string_bytes text.new ≡ string_bytes text.old ++ findings_text board.now (finding_of (length board.now.masters) (logs_in ledger.now) read reading.now (Some write))) }
+) -> Result<(), NoMemory>
+    ensures { OnOk result (string_bytes text.new ≡ string_bytes text.old ++ findings_text board.now (finding_of (length board.now.masters) ledger.now read reading.now (Some write))) }
 {
     let masters = board.masters.as_slice().len();
     let chain = chain_from(alloc, ledger, masters, write, read)?;
@@ -144,5 +143,6 @@ fn print_known(
         reading.value,
         write,
         chain.as_slice(),
-    )
+    )?;
+    Ok(())
 }

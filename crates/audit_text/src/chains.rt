@@ -1,65 +1,68 @@
 ghost use Rattle.std.specs.Prelude.{◌≡◌, [], ◌∷◌, ◌++◌, None, IfOk, OnOk};
+ghost use Rattle.history_model.specs.Knowledge.{stands_after};
 ghost use Rattle.audit_model.specs.Chains.{joined};
-ghost use Rattle.audit_text.specs.Ledgers.{logs_in};
-ghost use Rattle.audit_text.specs.Logs.{since_of};
-ghost use Rattle.audit_text.specs.Found.{last_known, first_shown, shown_to, chain_to, chain_from};
+ghost use Rattle.audit_text.specs.Found.{since_of, knows_by, last_known, shows_it, first_shown, shown_to, chain_to, chain_from};
 
-use crate::landed::{Landed, first_landed, first_ops, is_among};
 use crate::ledger::Ledger;
-use crate::readings::{Reading, got_of, is_in};
-use crate::since::{Since, knows, since_of, tells_it};
+use crate::readings::Reading;
 use history_core::is_same_op;
-use pci_command::OpId;
-use std::alloc::{AllocError, Global};
+use pci_command::{NoMemory, OpId};
+use std::alloc::Global;
 
-/// The write of the last of these landings in the dword of which the read's master knew before.
-pub(crate) fn last_known(
-    since: &[Since],
-    landed: &[Landed],
-    reading: &Reading,
-    read: OpId,
-) -> Option<OpId>
-    ensures { result ≡ last_known since.now reading.now read None landed.now }
+/// The last of these writes of which the read's master knew before.
+pub(crate) fn last_known(ledger: &Ledger, writes: &[OpId], read: OpId) -> Option<OpId>
+    ensures { result ≡ last_known ledger.now read None writes.now }
 {
     let mut found = None;
-    for one in landed {
-        if is_in(reading, one) && knows(since, one.op, read) {
-            found = Some(one.op);
+    for op in writes {
+        if knows(ledger, *op, read) {
+            found = Some(*op);
         }
     }
     found
 }
 
-/// The write of the first of these landings in the dword that shows the write.
-fn first_shown(
-    since: &[Since],
-    landed: &[Landed],
-    whole: &[OpId],
-    reading: &Reading,
-    write: OpId,
-) -> Option<OpId>
-    ensures { result ≡ first_shown since.now reading.now write whole.now landed.now }
+/// Whether the operation stands behind one with which its master came to know of the write.
+fn knows(ledger: &Ledger, write: OpId, op: OpId) -> bool
+    ensures { result ≡ knows_by ledger.now write op }
 {
-    for one in landed {
-        if is_in(reading, one) && (is_among(whole, one.op) && tells_it(since, write, one.op)) {
-            return Some(one.op);
+    match ledger.since(write, op.master) {
+        Some(first) => stands_after(first, op),
+        None => false,
+    }
+}
+
+fn stands_after(first: OpId, op: OpId) -> bool
+    ensures { result ≡ stands_after first op }
+{
+    first.index < op.index || (first.index == op.index && first.attempt < op.attempt)
+}
+
+/// The first of these writes that shows the write to the reading.
+fn first_shown(ledger: &Ledger, reading: &Reading, writes: &[OpId], write: OpId) -> Option<OpId>
+    ensures { result ≡ first_shown ledger.now reading.now write writes.now }
+{
+    for op in writes {
+        if shows(ledger, reading, write, *op) {
+            return Some(*op);
         }
     }
     None
 }
 
-fn shown_to(ledger: &Ledger, write: OpId, reading: Option<Reading>) -> Option<OpId>
-    ensures { result ≡ shown_to (logs_in ledger.now) write reading }
+/// Whether an operation landed whole before the reading, and is the write or knows of it.
+fn shows(ledger: &Ledger, reading: &Reading, write: OpId, op: OpId) -> bool
+    ensures { result ≡ shows_it ledger.now reading.now write op }
 {
-    match reading {
+    ledger.landed_whole(reading, op) && (is_same_op(op, write) || knows(ledger, write, op))
+}
+
+fn shown_to(ledger: &Ledger, write: OpId, op: OpId) -> Option<OpId>
+    ensures { result ≡ shown_to ledger.now write op }
+{
+    match ledger.got(op) {
         None => None,
-        Some(reading) => first_shown(
-            ledger.since.as_slice(),
-            first_landed(ledger.landed.as_slice(), reading.landed),
-            first_ops(ledger.whole.as_slice(), reading.whole),
-            &reading,
-            write,
-        ),
+        Some(reading) => first_shown(ledger, &reading, ledger.landed_before(&reading), write),
     }
 }
 
@@ -71,8 +74,8 @@ fn chain_to(
     write: OpId,
     op: OpId,
     chain: &mut Vec<OpId>,
-) -> Result<(), AllocError>
-    ensures { OnOk result (chain.new.items ≡ chain.old.items ++ chain_to masters (logs_in ledger.now) write op) }
+) -> Result<(), NoMemory>
+    ensures { OnOk result (chain.new.items ≡ chain.old.items ++ chain_to masters ledger.now write op) }
 {
     if masters == 0 {
         return Ok(());
@@ -80,10 +83,9 @@ fn chain_to(
     if is_same_op(op, write) {
         return push(chain, write);
     }
-    let got = got_of(ledger.gots.as_slice(), op);
-    match shown_to(ledger, write, got) {
+    match shown_to(ledger, write, op) {
         None => push(chain, op),
-        Some(seen) => match since_of(ledger.since.as_slice(), write, seen.master) {
+        Some(seen) => match ledger.since(write, seen.master) {
             None => push_two(chain, seen, op),
             Some(first) => {
                 chain_to(ledger, masters - 1, write, first, chain)?;
@@ -94,14 +96,14 @@ fn chain_to(
     }
 }
 
-fn push(chain: &mut Vec<OpId>, op: OpId) -> Result<(), AllocError>
+fn push(chain: &mut Vec<OpId>, op: OpId) -> Result<(), NoMemory>
     ensures { OnOk result (chain.new.items ≡ chain.old.items ++ op ∷ []) }
 {
     chain.push(op)?;
     Ok(())
 }
 
-fn push_two(chain: &mut Vec<OpId>, first: OpId, second: OpId) -> Result<(), AllocError>
+fn push_two(chain: &mut Vec<OpId>, first: OpId, second: OpId) -> Result<(), NoMemory>
     ensures { OnOk result (chain.new.items ≡ chain.old.items ++ first ∷ second ∷ []) }
 {
     chain.push(first)?;
@@ -110,7 +112,7 @@ fn push_two(chain: &mut Vec<OpId>, first: OpId, second: OpId) -> Result<(), Allo
 }
 
 /// An operation behind a chain that ends with the last; one that would follow itself is written once.
-fn push_joined(chain: &mut Vec<OpId>, last: OpId, op: OpId) -> Result<(), AllocError>
+fn push_joined(chain: &mut Vec<OpId>, last: OpId, op: OpId) -> Result<(), NoMemory>
     ensures { OnOk result (chain.new.items ≡ joined chain.old.items last op) }
 {
     if is_same_op(last, op) {
@@ -127,11 +129,11 @@ pub(crate) fn chain_from(
     masters: usize,
     write: OpId,
     read: OpId,
-) -> Result<Vec<OpId>, AllocError>
-    ensures { IfOk result (λ chain. chain.items ≡ chain_from masters (logs_in ledger.now) write read (since_of write read.master ledger.now.since.items)) }
+) -> Result<Vec<OpId>, NoMemory>
+    ensures { IfOk result (λ chain. chain.items ≡ chain_from masters ledger.now write read (since_of ledger.now write read.master)) }
 {
     let mut chain = Vec::new(alloc);
-    match since_of(ledger.since.as_slice(), write, read.master) {
+    match ledger.since(write, read.master) {
         None => Ok(chain),
         Some(first) => {
             chain_to(ledger, masters, write, first, &mut chain)?;

@@ -2,7 +2,7 @@ ghost use Rattle.std.specs.Prelude.{◌≡◌};
 ghost use Rattle.std.specs.Option.{option_map};
 ghost use Rattle.history_model.specs.Program.{master_outcome, ending_of};
 ghost use Rattle.history_model.specs.Knowledge.{value_in};
-ghost use Rattle.audit_text.specs.Logs.{end_in, ended_of};
+ghost use Rattle.audit_text.specs.Notes.{end_in, ended_of};
 
 use history_model::{By, Event, Step};
 use pci_command::{OpId, Outcome};

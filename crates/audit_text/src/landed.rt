@@ -1,34 +1,26 @@
-ghost use Rattle.std.specs.Prelude.{◌≡◌, ◌++◌, ◌^◌, ◌≤◌, take, OnOk};
-ghost use Rattle.std.specs.List.{list_any};
-ghost use Rattle.pci_command.specs.Same.{same_op};
-ghost use Rattle.history_model.specs.Runs.{history_of};
+ghost use Rattle.std.specs.Prelude.{◌≡◌, ◌≤◌, ◌+◌, ◌^◌, length, OnOk};
+ghost use Rattle.board_model.specs.declared.bridge.Place.TheVariants.{Target};
 ghost use Rattle.history_model.specs.Knowledge.{is_land_step};
-ghost use Rattle.audit_text.specs.Logs.{phases_landed, request_landed, step_landed, landed_in, whole_in, lands};
+ghost use Rattle.audit_clocks.specs.Tables.{Lands, Puts};
+ghost use Rattle.audit_text.specs.Notes.{few_of, hits, request_hits, place_hits, event_hits, lands, Parted};
 
+use audit_clocks::{Landings, OpTable, Word};
 use board_model::{Board, Place, request_of};
-use history_core::{brought_by, dword_address, is_same_op, left_of, through};
+use history_core::{brought_by, dword_address, left_of};
 use history_model::{Event, Step};
-use pci_command::{OpId, Phase, Request, Space};
-use std::alloc::AllocError;
+use pci_command::{NoMemory, OpId, Phase, Request};
+use std::alloc::Global;
 
-/// A data phase that landed: the dword of a target, and the write that it belongs to.
-#[derive(Clone, Copy, Debug, PartialEq, Eq)]
-pub(crate) struct Landed {
-    pub(crate) target: u16,
-    pub(crate) space: Space,
-    pub(crate) address: u128,
-    pub(crate) op: OpId,
-}
-
-/// The data phases that the event brings to its target, behind those before it.
+/// The data phases that the event brings to its target, behind those before it; so many of each
+/// write went through before.
 pub(crate) fn record_landed(
-    landed: &mut Vec<Landed>,
+    alloc: Global,
+    landed: &mut Landings,
     board: &Board,
-    before: &[Event],
+    gone: &OpTable<u128>,
     event: &Event,
-) -> Result<(), AllocError>
-    ensures { OnOk result
-        (landed.new.items ≡ landed.old.items ++ landed_in board.now (history_of before.now) event.now) }
+) -> Result<(), NoMemory>
+    ensures { OnOk result (Lands landed.old landed.new (event_hits board.now gone.now event.now)) }
 {
     match *event {
         Event::Act {
@@ -37,29 +29,50 @@ pub(crate) fn record_landed(
             step,
             place: Place::Target(target),
             ..
-        } => record_step(landed, board, before, bus, op, step, target),
+        } => record_step(
+            alloc,
+            landed,
+            board,
+            gone_of(gone, op),
+            bus,
+            op,
+            step,
+            target,
+        ),
         Event::Act { .. } | Event::Arrive { .. } => Ok(()),
     }
 }
 
 fn record_step(
-    landed: &mut Vec<Landed>,
+    alloc: Global,
+    landed: &mut Landings,
     board: &Board,
-    before: &[Event],
+    gone: u128,
     bus: u8,
     op: OpId,
     step: Step,
     target: u16,
-) -> Result<(), AllocError>
-    ensures { OnOk result
-        (landed.new.items ≡ landed.old.items ++ step_landed board.now (history_of before.now) bus op step target) }
+) -> Result<(), NoMemory>
+    requires { gone ≤ 2 ^ 100 }
+    ensures { OnOk result (Lands landed.old landed.new (place_hits board.now gone bus op step (Target target))) }
 {
     if !lands(step) {
         return Ok(());
     }
     match request_of(board, op, bus) {
         None => Ok(()),
-        Some(request) => record_request(landed, &request, through(before, op), op, step, target),
+        Some(request) => record_request(alloc, landed, &request, gone, op, step, target),
+    }
+}
+
+/// How many data phases of the write went through; never as many as 2^100.
+fn gone_of(gone: &OpTable<u128>, op: OpId) -> u128
+    ensures few { result ≡ few_of op gone.now }
+    ensures fits { result ≤ 2 ^ 100 }
+{
+    match gone.get(op) {
+        Some(count) => (*count).min(1 << 100),
+        None => 0,
     }
 }
 
@@ -80,67 +93,85 @@ fn lands(step: Step) -> bool
 }
 
 fn record_request(
-    landed: &mut Vec<Landed>,
+    alloc: Global,
+    landed: &mut Landings,
     request: &Request,
     gone: u128,
     op: OpId,
     step: Step,
     target: u16,
-) -> Result<(), AllocError>
+) -> Result<(), NoMemory>
     requires { gone ≤ 2 ^ 100 }
-    ensures { OnOk result
-        (landed.new.items ≡ landed.old.items ++ request_landed gone op step target request.now) }
+    ensures { OnOk result (Lands landed.old landed.new (request_hits gone op step target request.now)) }
 {
     let space = request.command.space();
     let address = dword_address(space, u128::from(request.address) + 4 * gone);
-    let first = Landed {
+    let first = Word {
         target,
         space,
         address,
-        op,
     };
     record_phases(
+        alloc,
         landed,
         first,
+        op,
         brought_by(step, left_of(request.phases.as_slice(), gone)),
     )
 }
 
+#[tactic(auto, using(crate::proofs::HitLemmas::hits_none, crate::proofs::HitLemmas::hits_more))]
 fn record_phases(
-    landed: &mut Vec<Landed>,
-    first: Landed,
+    alloc: Global,
+    landed: &mut Landings,
+    first: Word,
+    op: OpId,
     phases: &[Phase],
-) -> Result<(), AllocError>
+) -> Result<(), NoMemory>
     requires { first.address ≤ 2 ^ 120 }
-    ensures { OnOk result
-        (landed.new.items ≡ landed.old.items ++ phases_landed first first.address phases.now) }
+    ensures { OnOk result (Lands landed.old landed.new (λ word. hits word op first.target first.space first.address (length phases.now))) }
 {
-    let mut at = first.address;
+    let mut address = first.address;
     for phase in phases {
         let _value = phase.value;
-        landed.push(Landed {
-            target: first.target,
-            space: first.space,
-            address: at,
-            op: first.op,
-        })?;
-        at += 4;
+        landed.land(alloc, Word { address, ..first }, op)?;
+        address += 4;
     }
     Ok(())
 }
 
-/// The write of which the event lands all that was left, behind those before it.
-pub(crate) fn record_whole(whole: &mut Vec<OpId>, event: &Event) -> Result<(), AllocError>
-    ensures { OnOk result (whole.new.items ≡ whole.old.items ++ whole_in event.now) }
+/// The data phases of a write that the event is a part of went through too.
+#[tactic(auto, using(crate::proofs::HitLemmas::parted_puts))]
+pub(crate) fn record_parted(gone: &mut OpTable<u128>, event: &Event) -> Result<(), NoMemory>
+    ensures { OnOk result (Parted event.now gone.old gone.new) }
 {
     match *event {
-        Event::Act { op, step, .. } if is_land(step) => whole.push(op)?,
-        Event::Act { .. } | Event::Arrive { .. } => {}
+        Event::Act {
+            op,
+            step: Step::Part(phases),
+            ..
+        } => add_part(gone, op, phases),
+        Event::Act { .. } | Event::Arrive { .. } => Ok(()),
     }
-    Ok(())
 }
 
-fn is_land(step: Step) -> bool
+fn add_part(gone: &mut OpTable<u128>, op: OpId, phases: u8) -> Result<(), NoMemory>
+    ensures puts { OnOk result (Puts op (few_of op gone.old + phases) gone.old gone.new) }
+    ensures small { phases ≤ 255 }
+{
+    let count = with_more(gone_of(gone, op), phases);
+    gone.put(op, count)
+}
+
+fn with_more(count: u128, more: u8) -> u128
+    requires { count ≤ 2 ^ 100 }
+    ensures { result ≡ count + more }
+{
+    count + u128::from(more)
+}
+
+/// Whether all that is left of a write lands in the step.
+pub(crate) fn is_land(step: Step) -> bool
     ensures { result ≡ is_land_step step }
 {
     match step {
@@ -153,36 +184,5 @@ fn is_land(step: Step) -> bool
         | Step::Stall
         | Step::MasterAbort
         | Step::TargetAbort => false,
-    }
-}
-
-/// Whether the operation is one of these.
-pub(crate) fn is_among(ops: &[OpId], op: OpId) -> bool
-    ensures { result ≡ list_any (λ one. same_op one op) ops.now }
-{
-    ops.iter().any(|one| is_same_op(*one, op))
-}
-
-/// The first so many.
-pub(crate) fn first_landed(landed: &[Landed], count: usize) -> &[Landed]
-    ensures { result.now ≡ take count landed.now }
-{
-    if count < landed.len() {
-        let (first, _) = landed.split_at(count);
-        first
-    } else {
-        landed
-    }
-}
-
-/// The first so many.
-pub(crate) fn first_ops(ops: &[OpId], count: usize) -> &[OpId]
-    ensures { result.now ≡ take count ops.now }
-{
-    if count < ops.len() {
-        let (first, _) = ops.split_at(count);
-        first
-    } else {
-        ops
     }
 }

@@ -1,115 +1,261 @@
-ghost use Rattle.std.specs.Prelude.{◌≡◌, ◌++◌, Some, OnOk};
-ghost use Rattle.history_model.specs.Runs.{history_of};
-ghost use Rattle.audit_text.specs.Logs.{logs_after, passed_logs, ended_logs, listed, reading_for, got_for};
-ghost use Rattle.audit_text.specs.Ledgers.{logs_in, no_logs};
+ghost use Rattle.std.specs.Prelude.{◌≡◌, OnOk, IfOk, length, take};
+ghost use Rattle.audit_clocks.specs.Rows.{Raises};
+ghost use Rattle.audit_text.specs.Notes.{Reads, Presents, Landed, Ends, Gets, Tells, told_by};
 
 use crate::ends::{Ended, end_in};
-use crate::landed::{Landed, record_landed, record_whole};
-use crate::readings::{Got, Reading, latest, reading_in, tells_of};
-use crate::since::{Since, learn};
+use crate::landed::{is_land, record_landed, record_parted};
+use crate::readings::{Read, Reading, read_in, word_of};
+use audit_clocks::{Clocks, Landings, Numbers, OpTable};
 use board_model::Board;
-use history_model::Event;
-use pci_command::OpId;
-use std::alloc::{AllocError, Global};
+use history_model::{By, Event};
+use pci_command::{NoMemory, OpId};
+use std::alloc::Global;
+use std::marker::Model;
 
 /// What an audit notes down of a run.
 #[derive(Debug, Drop)]
 pub(crate) struct Ledger {
-    /// The data phases that landed, in their order.
-    pub(crate) landed: Vec<Landed>,
-    /// The writes that landed whole.
-    pub(crate) whole: Vec<OpId>,
-    /// The Read events at targets.
-    pub(crate) readings: Vec<Reading>,
-    /// The reads that their masters ended with a value.
-    pub(crate) gots: Vec<Got>,
-    /// With which operation a master came to know of a write.
-    pub(crate) since: Vec<Since>,
+    /// How many data phases of each write went through.
+    gone: OpTable<u128>,
+    /// The writes of the data phases that landed, by dword.
+    landed: Landings,
+    /// Of each write that landed whole, how many events there were before.
+    whole: OpTable<usize>,
+    /// What each operation last read at a target.
+    readings: OpTable<Reading>,
+    /// What each read got that its master ended with a value, if it read that at a target.
+    gots: OpTable<Option<Reading>>,
+    /// What each master knows, and since when.
+    clocks: Clocks,
+}
+
+impl Model for Ledger {
+    ghost use Rattle.audit_text.specs.Notes.{Notes};
+
+    ghost Value = { Notes };
+
+    ghost view = { λ k. record { gone = k.gone; landed = k.landed; whole = k.whole; readings = k.readings; gots = k.gots; clocks = k.clocks } };
 }
 
 impl Ledger {
+    ghost use Rattle.std.specs.Prelude.{[], replicate};
+    ghost use Rattle.audit_text.specs.Notes.{Happens};
+    ghost use Rattle.audit_text.specs.Found.{since_of, got_in, landed_before, landed_whole};
+
     /// Nothing happened.
-    pub(crate) fn new(alloc: Global) -> Ledger
-        ensures { logs_in result ≡ no_logs }
+    pub(crate) fn new(alloc: Global, board: &Board) -> Result<Ledger, NoMemory>
+        ensures { let masters = length board.now.masters in
+            IfOk result (λ ledger. ledger ≡ record { gone = []; landed = []; whole = []; readings = []; gots = []; clocks = record { known = replicate masters (replicate masters []); starts = []; taught = [] } }) }
     {
-        Ledger {
-            landed: Vec::new(alloc),
-            whole: Vec::new(alloc),
-            readings: Vec::new(alloc),
-            gots: Vec::new(alloc),
-            since: Vec::new(alloc),
-        }
+        Ok(Ledger {
+            gone: OpTable::new(alloc),
+            landed: Landings::new(alloc),
+            whole: OpTable::new(alloc),
+            readings: OpTable::new(alloc),
+            gots: OpTable::new(alloc),
+            clocks: Clocks::new(alloc, board.masters.as_slice().len())?,
+        })
     }
 
-    /// One more event happens, behind those before it.
+    /// One more event happens, after so many.
     pub(crate) fn happen(
         &mut self,
         alloc: Global,
         board: &Board,
-        before: &[Event],
+        index: usize,
         event: &Event,
-    ) -> Result<(), AllocError>
-        ensures { OnOk result (logs_in self.new ≡ logs_after board.now (history_of before.now) (logs_in self.old) event.now) }
+    ) -> Result<(), NoMemory>
+        ensures { OnOk result (Happens board.now index event.now self.old self.new) }
     {
-        self.pass(board, before, event)?;
-        match end_in(event) {
-            None => Ok(()),
-            Some(ended) => self.end(alloc, ended),
+        let masters = board.masters.as_slice().len();
+        let read = read_in(board, event);
+        record_read(
+            alloc,
+            masters,
+            index,
+            &self.landed,
+            &self.whole,
+            read,
+            &mut self.clocks,
+            &mut self.readings,
+        )?;
+        record_start(alloc, &mut self.clocks, event)?;
+        record_landed(alloc, &mut self.landed, board, &self.gone, event)?;
+        record_whole(&mut self.whole, index, event)?;
+        record_parted(&mut self.gone, event)?;
+        let ended = end_in(event);
+        record_end(
+            alloc,
+            &mut self.clocks,
+            &self.readings,
+            &mut self.gots,
+            ended,
+        )
+    }
+
+    /// With which of its operations the master came to know of the write.
+    pub(crate) fn since(&self, write: OpId, master: u16) -> Option<OpId>
+        ensures { result ≡ since_of self.now write master }
+    {
+        self.clocks.since(write, master)
+    }
+
+    /// What the read got that its master ended with a value, if it read that at a target.
+    pub(crate) fn got(&self, op: OpId) -> Option<Reading>
+        ensures { result ≡ got_in self.now op }
+    {
+        match self.gots.get(op) {
+            Some(got) => *got,
+            None => None,
         }
     }
 
-    fn pass(&mut self, board: &Board, before: &[Event], event: &Event) -> Result<(), AllocError>
-        ensures { OnOk result (logs_in self.new ≡ passed_logs board.now (history_of before.now) (logs_in self.old) event.now) }
+    /// The writes of the data phases that landed in the dword of the reading before it.
+    pub(crate) fn landed_before(&self, reading: &Reading) -> &[OpId]
+        ensures { result.now ≡ landed_before self.now reading.now }
     {
-        let reading = reading_in(board, event, self.landed.len(), self.whole.len());
-        record_reading(&mut self.readings, reading)?;
-        record_landed(&mut self.landed, board, before, event)?;
-        record_whole(&mut self.whole, event)
+        let word = word_of(reading.target, reading.space, reading.address);
+        first_ops(self.landed.of(word), reading.landed)
     }
 
-    fn end(&mut self, alloc: Global, ended: Ended) -> Result<(), AllocError>
-        ensures { OnOk result (logs_in self.new ≡ ended_logs (logs_in self.old) (Some ended)) }
+    /// Whether the write landed whole before the reading.
+    pub(crate) fn landed_whole(&self, reading: &Reading, op: OpId) -> bool
+        ensures { result ≡ landed_whole self.now reading.now op }
     {
-        let reading = reading_for(self.readings.as_slice(), ended);
-        record_got(&mut self.gots, ended, reading)?;
-        let tells = tells_of(
-            alloc,
-            self.landed.as_slice(),
-            self.whole.as_slice(),
-            reading,
-        )?;
-        learn(alloc, &mut self.since, ended.op, tells.as_slice())
+        match self.whole.get(op) {
+            Some(events) => *events < reading.events,
+            None => false,
+        }
     }
 }
 
-fn record_reading(readings: &mut Vec<Reading>, reading: Option<Reading>) -> Result<(), AllocError>
-    ensures { OnOk result (readings.new.items ≡ readings.old.items ++ listed reading) }
+/// A Read event at a target: what it read, and what it tells.
+fn record_read(
+    alloc: Global,
+    masters: usize,
+    index: usize,
+    landed: &Landings,
+    whole: &OpTable<usize>,
+    read: Option<Read>,
+    clocks: &mut Clocks,
+    readings: &mut OpTable<Reading>,
+) -> Result<(), NoMemory>
+    ensures { OnOk result (Reads masters index landed.now whole.now read clocks.old clocks.new readings.old readings.new) }
 {
-    match reading {
-        Some(reading) => readings.push(reading)?,
-        None => {}
+    match read {
+        None => Ok(()),
+        Some(read) => {
+            let writes = landed.of(word_of(read.target, read.space, read.address));
+            let told = told(alloc, masters, clocks, whole, writes)?;
+            let count = writes.len();
+            clocks.teach(read.op, told)?;
+            readings.put(
+                read.op,
+                Reading {
+                    target: read.target,
+                    space: read.space,
+                    address: read.address,
+                    value: read.value,
+                    landed: count,
+                    events: index,
+                },
+            )
+        }
     }
-    Ok(())
 }
 
-fn reading_for(readings: &[Reading], ended: Ended) -> Option<Reading>
-    ensures { result ≡ reading_for ended readings.now }
+/// What those of the writes tell that landed whole.
+#[tactic(auto, using(crate::proofs::TellLemmas::tells_none, crate::proofs::TellLemmas::tells_next, crate::proofs::TellLemmas::tells_all))]
+fn told(
+    alloc: Global,
+    masters: usize,
+    clocks: &Clocks,
+    whole: &OpTable<usize>,
+    writes: &[OpId],
+) -> Result<Numbers, NoMemory>
+    ensures { IfOk result (Tells masters whole.now clocks.now.starts writes.now) }
+{
+    let mut told = Numbers::none(alloc, masters)?;
+    for op in writes {
+        tell(alloc, clocks, whole, &mut told, *op);
+    }
+    Ok(told)
+}
+
+fn tell(alloc: Global, clocks: &Clocks, whole: &OpTable<usize>, told: &mut Numbers, op: OpId)
+    ensures { Raises told.old told.new (λ author. told_by whole.now clocks.now.starts author op) }
+{
+    if whole.get(op).is_some() {
+        clocks.raise(alloc, told, op);
+    }
+}
+
+/// A master that presents an operation.
+fn record_start(alloc: Global, clocks: &mut Clocks, event: &Event) -> Result<(), NoMemory>
+    ensures { OnOk result (Presents event.now clocks.old clocks.new) }
+{
+    match *event {
+        Event::Act {
+            by: By::Master,
+            op,
+            ..
+        } => clocks.present(alloc, op),
+        Event::Act { .. } | Event::Arrive { .. } => Ok(()),
+    }
+}
+
+/// The event may land all that was left of a write.
+fn record_whole(whole: &mut OpTable<usize>, index: usize, event: &Event) -> Result<(), NoMemory>
+    ensures { OnOk result (Landed event.now index whole.old whole.new) }
+{
+    match *event {
+        Event::Act { op, step, .. } if is_land(step) && whole.get(op).is_none() => {
+            whole.put(op, index)
+        }
+        Event::Act { .. } | Event::Arrive { .. } => Ok(()),
+    }
+}
+
+/// The operation that ends at its master, and what it got.
+fn record_end(
+    alloc: Global,
+    clocks: &mut Clocks,
+    readings: &OpTable<Reading>,
+    gots: &mut OpTable<Option<Reading>>,
+    ended: Option<Ended>,
+) -> Result<(), NoMemory>
+    ensures { OnOk result (Ends ended readings.now clocks.old clocks.new gots.old gots.new) }
+{
+    match ended {
+        None => Ok(()),
+        Some(ended) => {
+            record_got(readings, gots, ended)?;
+            clocks.end(alloc, ended.op, ended.value.is_some())
+        }
+    }
+}
+
+fn record_got(
+    readings: &OpTable<Reading>,
+    gots: &mut OpTable<Option<Reading>>,
+    ended: Ended,
+) -> Result<(), NoMemory>
+    ensures { OnOk result (Gets ended.value ended.op readings.now gots.old gots.new) }
 {
     match ended.value {
-        Some(_) => latest(readings, ended.op),
-        None => None,
+        Some(_) => gots.put(ended.op, readings.get(ended.op).copied()),
+        None => Ok(()),
     }
 }
 
-fn record_got(gots: &mut Vec<Got>, ended: Ended, reading: Option<Reading>) -> Result<(), AllocError>
-    ensures { OnOk result (gots.new.items ≡ gots.old.items ++ got_for ended reading) }
+/// The first so many.
+fn first_ops(ops: &[OpId], count: usize) -> &[OpId]
+    ensures { result.now ≡ take count ops.now }
 {
-    match ended.value {
-        Some(_) => gots.push(Got {
-            op: ended.op,
-            reading,
-        })?,
-        None => {}
+    if count < ops.len() {
+        let (first, _) = ops.split_at(count);
+        first
+    } else {
+        ops
     }
-    Ok(())
 }

@@ -10,6 +10,5 @@ mod landed;
 mod ledger;
 mod lines;
 mod readings;
-mod since;
 
 pub use audit::audit_text;

@@ -62,7 +62,10 @@ pub fn lines(alloc: Global, bytes: &[u8]) -> Result<List<Line>, TextFault>
     let mut at = 0;
     while let Some((line, next)) = next_line(bytes, at) {
         if let Err(fault) = check_line(line) {
-            return Err(TextFault::Fault { line: number, fault });
+            return Err(TextFault::Fault {
+                line: number,
+                fault,
+            });
         }
         let tokens = tokens_of(alloc, line, at as u32)?;
         if !tokens.as_slice().is_empty() {

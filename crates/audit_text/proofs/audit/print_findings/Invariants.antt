@@ -1,10 +1,9 @@
 use Rattle.std.proofs.Common.{take, string_bytes}
 use Rattle.history_model.specs.Runs.{history_of}
-use Rattle.audit_text.specs.Ledgers.{logs_in}
 use Rattle.audit_text.proofs.AuditLemmas.{SoFar}
 use Rattle.audit_text.proofs.audit.print_findings.Given as goal
 
 -- what was noted down and found of the events so far
 abbrev pub invariant-loop-index : goal.invariant-loop-index
 invariant-loop-index l =
-    SoFar l.board (history_of (take l.index l.events)) (logs_in l.ledger) (string_bytes l.initial.text) (string_bytes l.text) l.told l.index
+    SoFar l.board (history_of (take l.index l.events)) l.ledger (string_bytes l.initial.text) (string_bytes l.text) l.told l.index

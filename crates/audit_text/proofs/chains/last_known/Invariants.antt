@@ -3,5 +3,5 @@ use Rattle.audit_text.specs.Found.{last_known}
 use Rattle.audit_text.proofs.chains.last_known.Given as goal
 
 -- the last so far or to come is the last of all
-abbrev pub invariant-loop-one : goal.invariant-loop-one
-invariant-loop-one l = last_known l.since l.reading l.read l.found (drop l.one-index l.landed) ≡ last_known l.since l.reading l.read None l.landed
+abbrev pub invariant-loop-op : goal.invariant-loop-op
+invariant-loop-op l = last_known l.ledger l.read l.found (drop l.op-index l.writes) ≡ last_known l.ledger l.read None l.writes

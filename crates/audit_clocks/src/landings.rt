@@ -1,0 +1,79 @@
+ghost use Rattle.std.specs.Prelude.{◌≡◌};
+ghost use Rattle.audit_clocks.specs.Tables.{list_in};
+
+use crate::row::Row;
+use pci_command::{NoMemory, OpId, Space};
+use std::alloc::Global;
+use std::collections::HashMap;
+use std::marker::Model;
+
+/// A dword of a target.
+#[derive(Clone, Copy, Debug, PartialEq, Eq, Hash)]
+pub struct Word {
+    /// The number of the target on the board, from 0 on.
+    pub target: u16,
+    pub space: Space,
+    /// Where it is in the space; in configuration space within the header of the target.
+    pub address: u128,
+}
+
+/// The writes of the data phases that landed in each dword, in their order.
+#[derive(Debug, Drop)]
+pub struct Landings {
+    words: HashMap<Word, Row>,
+}
+
+impl Model for Landings {
+    ghost use Rattle.std.specs.Prelude.{List};
+    ghost use Rattle.pci_command.specs.declared.op_id.OpId.{OpId};
+    ghost use Rattle.audit_clocks.specs.declared.landings.Word.{Word};
+
+    ghost Value = { List (Word × List OpId) };
+
+    ghost view = { λ k. k.words.entries };
+}
+
+impl Landings {
+    ghost use Rattle.std.specs.Prelude.{OnOk, if◌then◌else◌, [], ◌∷◌};
+    ghost use Rattle.audit_clocks.specs.Tables.{writes_in, same_word, Lands};
+    ghost use Rattle.audit_clocks.specs.declared.landings.Word.{Word};
+
+    /// Nothing landed.
+    pub fn new(alloc: Global) -> Landings
+        ensures { result ≡ [] }
+    {
+        Landings {
+            words: HashMap::new(alloc),
+        }
+    }
+
+    /// What landed in the dword.
+    pub fn of(&self, word: Word) -> &[OpId]
+        ensures { result.now ≡ writes_in word self.now }
+    {
+        match self.words.get(&word) {
+            Some(row) => row.as_slice(),
+            None => &[],
+        }
+    }
+
+    /// A data phase of the write lands in the dword.
+    pub fn land(&mut self, alloc: Global, word: Word, op: OpId) -> Result<(), NoMemory>
+        ensures { OnOk result (Lands self.old self.new (λ q. if same_word word q then op ∷ [] else [])) }
+    {
+        let found = self.words.remove(&word);
+        let mut row = row_or_new(alloc, found);
+        row.push(op)?;
+        self.words.insert(word, row)?;
+        Ok(())
+    }
+}
+
+fn row_or_new(alloc: Global, row: Option<Row>) -> Row
+    ensures { result ≡ list_in row }
+{
+    match row {
+        Some(row) => row,
+        None => Row::new(alloc),
+    }
+}

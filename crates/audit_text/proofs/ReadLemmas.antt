@@ -1,0 +1,223 @@
+-- What was read, and what a read got, as it is noted down.
+use Rattle.std.proofs.Common.{◌≡◌, ◌<◌, ◌≤◌, ◌||◌, ℕ, ◌+◌, max, Bool, true, false, cond, length, map, List, [], ◌∷◌, ◌++◌, Option, Some, None, is_some, refl, sym, ap, subst, ◌∙◌, arith}
+use Rattle.std.specs.Option.{option_map}
+use Rattle.std.proofs.lemmas.List.{length-map}
+use Rattle.list_facts.specs.Lists.{greatest}
+use Rattle.pci_command.specs.declared.op_id.OpId.{OpId}
+use Rattle.pci_command.specs.declared.request.Request.{Request}
+use Rattle.pci_command.specs.Same.{same_op}
+use Rattle.board_model.specs.declared.bridge.Place.{Place}
+use Rattle.board_model.specs.declared.bridge.Place.TheVariants.{Target, Header, Lane, Nobody}
+use Rattle.board_model.specs.declared.board.Board.{Board}
+use Rattle.board_model.specs.Requests.{request_of}
+use Rattle.history_model.specs.declared.event.Step.{Step}
+use Rattle.history_model.specs.declared.event.Step.TheVariants.{Land, Part, Read, Accept, Latch, Take, Stall, MasterAbort, TargetAbort}
+use Rattle.history_model.specs.declared.event.Event.{Event}
+use Rattle.history_model.specs.declared.event.Event.TheVariants.{Act, Arrive}
+use Rattle.history_model.specs.Program.{Ending, ended}
+use Rattle.history_model.specs.Words.{Landing, landed}
+use Rattle.history_model.specs.Knowledge.{Reading as WordReading, value_in, outcome_in, value_of_ending, ends_with, up_to_end, reading_of, reading_by, reading_in, reading_or, last_reading, got, is_land_of, has_landed}
+use Rattle.history_facts.proofs.RequestLemmas.{same_op_true}
+use Rattle.law_fresh.proofs.Laws.{Front, before_in}
+use Rattle.audit_model.specs.Clocks.{Clocks, clocks_of, taught_by, landing_tells, word_tells}
+use Rattle.audit_clocks.specs.Rows.{number, own}
+use Rattle.audit_clocks.specs.Tables.{value_of, numbers_of, writes_in}
+use Rattle.audit_clocks.specs.Clocks.{ClockState}
+use Rattle.audit_text.specs.declared.readings.Reading.{Reading}
+use Rattle.audit_text.specs.declared.readings.Read.{Read as ReadAt}
+use Rattle.audit_text.specs.declared.ends.Ended.{Ended as EndedOp}
+use Rattle.audit_text.specs.Notes.{Notes, flat, or_place, read_of, word_read, read_in, told_by, Tells, ReadSo, Reads, Gets, EndsSo, Ends, ended_of}
+use Rattle.audit_text.specs.Stands.{StandsFor, op_of_landing, reading_as, whole_at}
+
+-- the history before does not matter to what an event reads
+of_same : (p : OpId) (target value : ℕ) (h : List Event) (request : Option Request) → option_map (read_of p) (reading_of target value [] request) ≡ option_map (read_of p) (reading_of target value h request)
+of_same p target value h None = refl
+of_same p target value h (Some request) = refl
+
+read_same : (board : Board) (h : List Event) (p : OpId) (on : ℕ) (step : Step) (place : Place) → option_map (read_of p) (reading_by board [] on p step place) ≡ option_map (read_of p) (reading_by board h on p step place)
+read_same board h p on Land place = refl
+read_same board h p on (Part phases) place = refl
+read_same board h p on (Read value) (Target target) = of_same p target value h (request_of board p on)
+read_same board h p on (Read value) (Header bus) = refl
+read_same board h p on (Read value) (Lane lane) = refl
+read_same board h p on (Read value) Nobody = refl
+read_same board h p on Accept place = refl
+read_same board h p on Latch place = refl
+read_same board h p on (Take outcome) place = refl
+read_same board h p on Stall place = refl
+read_same board h p on MasterAbort place = refl
+read_same board h p on TargetAbort place = refl
+
+-- who landed whole, by its place among the events
+or_some : (a b : Option ℕ) → is_some (or_place a b) ≡ (is_some b || is_some a)
+or_some None None = refl
+or_some None (Some n) = refl
+or_some (Some m) None = refl
+or_some (Some m) (Some n) = refl
+
+pub whole_has : (h : List Event) (o : OpId) → is_some (whole_at h o) ≡ has_landed h o
+whole_has [] o = refl
+whole_has (e ∷ h) o =
+    let P : Bool → Type 0 = λ b. is_some (cond b (Some (length h)) None) ≡ b in
+    or_some (whole_at h o) (cond (is_land_of o e) (Some (length h)) None)
+    ∙ ap (λ b. b || is_some (whole_at h o)) (elim (is_land_of o e) as P [ true ↦ refl | false ↦ refl ])
+    ∙ ap (λ b. is_land_of o e || b) (whole_has h o)
+
+greatest_map : (f : OpId → ℕ) (xs : List Landing) → greatest f (map op_of_landing xs) ≡ greatest (λ (l : Landing). f l.op) xs
+greatest_map f [] = refl
+greatest_map f (x ∷ xs) = ap (λ n. max (f x.op) n) (greatest_map f xs)
+
+greatest_same : (f g : Landing → ℕ) → ((l : Landing) → f l ≡ g l) → (xs : List Landing) → greatest f xs ≡ greatest g xs
+greatest_same f g same [] = refl
+greatest_same f g same (x ∷ xs) = ap (λ n. max n (greatest f xs)) (same x) ∙ ap (λ n. max (g x) n) (greatest_same f g same xs)
+
+-- after what an event read was noted down
+pub record AfterRead (board : Board) (e : Event) (h : List Event) (old new : ClockState) (readings : List (OpId × Reading)) : Type 0 where
+  pub known : new.known ≡ old.known
+  pub starts : new.starts ≡ old.starts
+  pub taught : (o : OpId) (author : ℕ) → author < length board.masters → number (numbers_of o new.taught) author ≡ (clocks_of board (e ∷ h)).taught o author
+  pub readings_are : (o : OpId) → value_of o readings ≡ option_map (reading_as board) (last_reading board o (e ∷ h))
+
+module _ (board : Board) (h : List Event) (notes : Notes) (stands : StandsFor board h notes) where
+  -- what landed whole in a dword tells what the clocks say
+  word_told : (word : Rattle.audit_clocks.specs.declared.landings.Word.Word) (author : ℕ) → author < length board.masters
+      → greatest (told_by notes.whole notes.clocks.starts author) (writes_in word notes.landed) ≡ word_tells board (clocks_of board h) h (Rattle.audit_text.specs.Stands.dword word) author
+  word_told word author within =
+      let tells : OpId → ℕ = told_by notes.whole notes.clocks.starts author in
+      let list : List Landing = landed board h (Rattle.audit_text.specs.Stands.dword word) in
+      ap (λ ops. greatest tells ops) (stands.landed word)
+      ∙ greatest_map tells list
+      ∙ greatest_same (λ (l : Landing). tells l.op) (landing_tells (clocks_of board h) h author)
+      (λ l.
+      ap (λ found. cond (is_some found) (max (number (numbers_of l.op notes.clocks.starts) author) (own l.op author)) 0) (stands.whole l.op)
+      ∙ ap (λ b. cond b (max (number (numbers_of l.op notes.clocks.starts) author) (own l.op author)) 0) (whole_has h l.op)
+      ∙ ap (λ n. cond (has_landed h l.op) (max n (own l.op author)) 0) (stands.starts l.op author within)) list
+
+  act_read : (on : ℕ) (by : Rattle.history_model.specs.declared.event.By.By) (p : OpId) (step : Step) (place : Place) (new : ClockState) (readings : List (OpId × Reading))
+      → Reads (length board.masters) (length h) notes.landed notes.whole (option_map (read_of p) (reading_by board h on p step place)) notes.clocks new notes.readings readings
+      → AfterRead board (Act on by p step place) h notes.clocks new readings
+  act_read on by p step place new readings reads =
+      let e : Event = Act on by p step place in
+      let masters : ℕ = length board.masters in
+      let clocks : Clocks = clocks_of board h in
+      let P : Option WordReading → Type 0 = λ here. reading_by board h on p step place ≡ here → Reads masters (length h) notes.landed notes.whole (option_map (read_of p) here) notes.clocks new notes.readings readings → AfterRead board e h notes.clocks new readings in
+      (elim (reading_by board h on p step place) as P [
+        | None ↦ λ none r.
+            let nothing : (o : OpId) → reading_in board h o e ≡ None = λ o.
+            let Q : Bool → Type 0 = λ b. cond b (reading_by board h on p step place) None ≡ None in
+            elim (same_op p o) as Q [ true ↦ none | false ↦ refl ] in
+            record {
+              known = ap (λ (c : ClockState). c.known) r.0;
+              starts = ap (λ (c : ClockState). c.starts) r.0;
+              taught = λ o author within. ap (λ (c : ClockState). number (numbers_of o c.taught) author) r.0 ∙ stands.taught o author within ∙ sym (ap (λ found. taught_by board clocks (clocks.taught o) found author) (nothing o));
+              readings_are = λ o. ap (λ xs. value_of o xs) r.1 ∙ stands.readings o ∙ ap (λ found. option_map (reading_as board) (reading_or found (last_reading board o h))) (sym (nothing o));
+            }
+        | Some reading ↦ λ some r.
+            let so : ReadSo masters (length h) notes.landed notes.whole (read_of p reading) notes.clocks new notes.readings readings = r in
+            let mine : reading_in board h p e ≡ Some reading = rw (Rattle.history_facts.proofs.RequestLemmas.same_op_self p) some in
+            let before : reading.before ≡ h = before_in board h p e reading mine in
+            record {
+              known = so.known;
+              starts = so.starts;
+              taught = λ o author within.
+                  let Q : Bool → Type 0 = λ b. number (Rattle.audit_clocks.specs.Tables.list_in (cond b (Some so.told) (value_of o notes.clocks.taught))) author ≡ taught_by board clocks (clocks.taught o) (cond b (reading_by board h on p step place) None) author in
+                  ap (λ found. number (Rattle.audit_clocks.specs.Tables.list_in found) author) (so.taught.each o)
+                  ∙ (elim (same_op p o) as Q [
+                    | true ↦
+                        so.tells.each author within ∙ word_told (word_read (read_of p reading)) author within
+                        ∙ ap (λ g. word_tells board clocks g reading.word author) (sym before)
+                        ∙ sym (ap (λ found. taught_by board clocks (clocks.taught o) found author) some)
+                    | false ↦ stands.taught o author within
+                  ]);
+              readings_are = λ o.
+                  let entry : Reading = Rattle.audit_text.specs.Notes.reading_of (read_of p reading) (length (writes_in (word_read (read_of p reading)) notes.landed)) (length h) in
+                  let is_it : entry ≡ reading_as board reading =
+                  ap (λ n. Rattle.audit_text.specs.Notes.reading_of (read_of p reading) n (length h)) (ap (λ xs. length xs) (stands.landed (word_read (read_of p reading))) ∙ length-map (landed board h reading.word) op_of_landing)
+                  ∙ ap (λ g. Rattle.audit_text.specs.Notes.reading_of (read_of p reading) (length (landed board g reading.word)) (length g)) (sym before) in
+                  let Q : Bool → Type 0 = λ b. cond b (Some entry) (value_of o notes.readings) ≡ option_map (reading_as board) (reading_or (cond b (reading_by board h on p step place) None) (last_reading board o h)) in
+                  so.reading.each o
+                  ∙ (elim (same_op p o) as Q [
+                    | true ↦ ap Some is_it ∙ ap (λ found. option_map (reading_as board) (reading_or found (last_reading board o h))) (sym some)
+                    | false ↦ stands.readings o
+                  ]);
+            }
+      ]) refl reads
+
+  pub event_read : (e : Event) (new : ClockState) (readings : List (OpId × Reading)) → Reads (length board.masters) (length h) notes.landed notes.whole (read_in board e) notes.clocks new notes.readings readings → AfterRead board e h notes.clocks new readings
+  event_read (Act on by p step place) new readings reads =
+      act_read on by p step place new readings
+      (subst (λ found. Reads (length board.masters) (length h) notes.landed notes.whole found notes.clocks new notes.readings readings) (read_same board h p on step place) reads)
+  event_read (Arrive lane mark) new readings reads =
+      record {
+        known = ap (λ (c : ClockState). c.known) reads.0;
+        starts = ap (λ (c : ClockState). c.starts) reads.0;
+        taught = λ o author within. ap (λ (c : ClockState). number (numbers_of o c.taught) author) reads.0 ∙ stands.taught o author within;
+        readings_are = λ o. ap (λ xs. value_of o xs) reads.1 ∙ stands.readings o;
+      }
+
+  -- what a read got
+  end_got : (e : Event) (readings : List (OpId × Reading)) (gots : List (OpId × Option Reading)) (ending : Ending) (o : OpId) → ended e ≡ Some ending
+      → ((q : OpId) → value_of q readings ≡ option_map (reading_as board) (last_reading board q (e ∷ h))) → Gets (value_in ending.outcome) ending.op readings notes.gots gots
+      → flat (value_of o gots) ≡ option_map (reading_as board) (last_reading board o (cond (is_some (value_of_ending (outcome_in o (Some ending)))) (e ∷ h) (up_to_end o h)))
+  end_got e readings gots ending o is now gets =
+      let W : Option ℕ → Bool → Type 0 = λ v b. flat (value_of o gots) ≡ option_map (reading_as board) (last_reading board o (cond (is_some (value_of_ending (cond b (Some ending.outcome) None))) (e ∷ h) (up_to_end o h))) in
+      let old : flat (value_of o notes.gots) ≡ option_map (reading_as board) (last_reading board o (up_to_end o h)) = stands.gots o in
+      let found : Option ℕ = value_in ending.outcome in
+      let X : Option ℕ → Type 0 = λ v. found ≡ v → Gets v ending.op readings notes.gots gots → W v (same_op ending.op o) in
+      (elim found as X [
+        | None ↦ λ none g.
+            let B : Bool → Type 0 = λ b. W None b in
+            elim (same_op ending.op o) as B [ true ↦ ap (λ xs. flat (value_of o xs)) g ∙ old ∙ ap (λ v. option_map (reading_as board) (last_reading board o (cond (is_some v) (e ∷ h) (up_to_end o h)))) (sym none) | false ↦ ap (λ xs. flat (value_of o xs)) g ∙ old ]
+        | Some value ↦ λ some puts.
+            let B : Bool → Type 0 = λ b. same_op ending.op o ≡ b → W (Some value) b in
+            (elim (same_op ending.op o) as B [
+              | true ↦ λ same.
+                  let one : ending.op ≡ o = same_op_true ending.op o same in
+                  let put : value_of o gots ≡ Some (value_of ending.op readings) = puts.each o ∙ rw same refl in
+                  ap flat put ∙ ap (λ q. value_of q readings) one ∙ now o ∙ ap (λ v. option_map (reading_as board) (last_reading board o (cond (is_some v) (e ∷ h) (up_to_end o h)))) (sym some)
+              | false ↦ λ other. let put : value_of o gots ≡ value_of o notes.gots = puts.each o ∙ rw other refl in ap flat put ∙ old
+            ]) refl
+      ]) refl gets
+
+  pub event_got : (e : Event) (clocks clocks_new : ClockState) (readings : List (OpId × Reading)) (gots : List (OpId × Option Reading)) → ((q : OpId) → value_of q readings ≡ option_map (reading_as board) (last_reading board q (e ∷ h)))
+      → Ends (option_map ended_of (ended e)) readings clocks clocks_new notes.gots gots → (o : OpId) → flat (value_of o gots) ≡ option_map (reading_as board) (got board (e ∷ h) o)
+  event_got e clocks clocks_new readings gots now ends o =
+      let P : Option Ending → Type 0 = λ found. ended e ≡ found → Ends (option_map ended_of found) readings clocks clocks_new notes.gots gots
+      → flat (value_of o gots) ≡ option_map (reading_as board) (last_reading board o (cond (is_some (value_of_ending (outcome_in o found))) (e ∷ h) (up_to_end o h))) in
+      (elim (ended e) as P [
+        | None ↦ λ _ f. ap (λ xs. flat (value_of o xs)) f.1 ∙ stands.gots o
+        | Some ending ↦ λ is f. let so : EndsSo (ended_of ending) readings clocks clocks_new notes.gots gots = f in end_got e readings gots ending o is now so.gets
+      ]) refl ends
+
+-- What was read stands in the history.
+
+pub front_same : (h : List Event) → Front h h
+front_same h = record { later = []; is = refl }
+
+pub front_next : (before h : List Event) (e : Event) → Front before h → Front before (e ∷ h)
+front_next before h e front = record { later = e ∷ front.later; is = ap (λ g. e ∷ g) front.is }
+
+-- before an event, or the event itself
+read_front : (board : Board) (h : List Event) (o : OpId) (reading : WordReading) → last_reading board o h ≡ Some reading → Front reading.before h
+read_front board [] o reading is = cc
+read_front board (e ∷ h) o reading is =
+    let P : Option WordReading → Type 0 = λ here. reading_in board h o e ≡ here → reading_or here (last_reading board o h) ≡ Some reading → Front reading.before (e ∷ h) in
+    (elim (reading_in board h o e) as P [
+      | None ↦ λ _ f. front_next reading.before h e (read_front board h o reading f)
+      | Some here ↦ λ some f.
+          let same : here ≡ reading = cc in
+          let before : reading.before ≡ h = before_in board h o e reading (some ∙ ap Some same) in
+          subst (λ g. Front g (e ∷ h)) (sym before) (front_next h h e (front_same h))
+    ]) refl is
+
+front_of_end : (o : OpId) (before h : List Event) → Front before (up_to_end o h) → Front before h
+front_of_end o before [] front = front
+front_of_end o before (e ∷ h) front =
+    let P : Bool → Type 0 = λ b. Front before (cond b (e ∷ h) (up_to_end o h)) → Front before (e ∷ h) in
+    (elim (is_some (ends_with o e)) as P [
+      | true ↦ λ f. f
+      | false ↦ λ f. front_next before h e (front_of_end o before h f)
+    ]) front
+
+pub got_front : (board : Board) (h : List Event) (o : OpId) (reading : WordReading) → got board h o ≡ Some reading → Front reading.before h
+got_front board h o reading is = front_of_end o reading.before h (read_front board (up_to_end o h) o reading is)
