@@ -114,7 +114,6 @@ command_of forms.Combine = record {
   IsFaultless = IsBoardText;
   writes_run = false;
 }
-
 command_of forms.Generate = record {
   parts = Word (codes "generate") ∷ Rounds ∷ [];
   limit = 10;
