@@ -16,8 +16,8 @@ use Rattle.command_generate.proofs.ServedLemmas.{generate_refusing}
 use Rattle.pcitree.specs.declared.words.Form.{Form}
 use Rattle.pcitree.specs.declared.words.Form.TheVariants as forms
 use Rattle.pcitree.specs.Words.{command_of}
-use Rattle.pcitree.specs.Answers.{limit_of, AnswersTo, Refuses, IsFaultless, IsServed, IsAnswered, CausesBy, Causes}
-use Rattle.pcitree.specs.Given.{number_of, given_by, left_by, given, left}
+use Rattle.pcitree.specs.Answers.{limit_of, AnswersTo, Refuses, IsServed, IsAnswered, CausesBy, Causes}
+use Rattle.pcitree.specs.Given.{given, left}
 use Rattle.pcitree.specs.Ends.{HoldsTooMuch, ReadsInput, AnswersInput, RefusesInput, Finishes, StopsInText}
 use Rattle.pcitree.specs.Stops.{StopsBy, StopsAnswering, StopsRunning}
 

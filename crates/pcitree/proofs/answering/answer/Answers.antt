@@ -1,4 +1,4 @@
-use Rattle.std.proofs.Common.{◌≡◌, IfOk, sym, subst}
+use Rattle.std.proofs.Common.{IfOk, sym, subst}
 use Rattle.pcitree.specs.declared.words.Form.{Form}
 use Rattle.pcitree.specs.Answers.{AnswersTo}
 use Rattle.pcitree.specs.Given.{IsGiven}
