@@ -3,3 +3,4 @@ pub mod AppendLemmas
 pub mod StopLemmas
 pub mod WrittenLemmas
 pub mod SureLemmas
+pub mod GivenLemmas

@@ -12,10 +12,12 @@ use Rattle.command_check.proofs.ServedLemmas.{check_refusing}
 use Rattle.command_finish.proofs.ServedLemmas.{finish_refusing}
 use Rattle.command_audit.proofs.ServedLemmas.{audit_refusing}
 use Rattle.command_report.proofs.ServedLemmas.{report_refusing}
+use Rattle.command_generate.proofs.ServedLemmas.{generate_refusing}
 use Rattle.pcitree.specs.declared.words.Form.{Form}
 use Rattle.pcitree.specs.declared.words.Form.TheVariants as forms
 use Rattle.pcitree.specs.Words.{command_of}
-use Rattle.pcitree.specs.Answers.{limit_of, AnswersTo, Refuses, IsFaultless, IsServed, IsAnswered, CausesBy, Causes}
+use Rattle.pcitree.specs.Answers.{limit_of, AnswersTo, Refuses, IsServed, IsAnswered, CausesBy, Causes}
+use Rattle.pcitree.specs.Given.{given, left}
 use Rattle.pcitree.specs.Ends.{HoldsTooMuch, ReadsInput, AnswersInput, RefusesInput, Finishes, StopsInText}
 use Rattle.pcitree.specs.Stops.{StopsBy, StopsAnswering, StopsRunning}
 
@@ -39,12 +41,13 @@ answered form held left input text is answers =
     }
 
 -- an input whose answer the sink took
-pub finished : (known : Option Form) (form : Form) (held left before after : Option (List ℕ)) (input : List ℕ) → known ≡ Some form → held ≡ Some input
-    → IfSome known (λ f. Finishes f held left before after) → IsAnswered form input
-finished None form held left before after input there is done = cc
-finished (Some other) form held left before after input there is done =
+pub finished : (known : Option Form) (form : Form) (words : List (List ℕ)) (held rest before after : Option (List ℕ)) (input : List ℕ) → known ≡ Some form → given form words held ≡ Some input
+    → IfSome known (λ f. Finishes f (given f words held) (left f words rest) before after) → IsAnswered form input
+finished None form words held rest before after input there is done = cc
+finished (Some other) form words held rest before after input there is done =
     let same : other ≡ form = cc in
-    subst (λ (f : Form). IsAnswered f input) same (answered other held left input done.text is done.answers)
+    let told : given other words held ≡ Some input = subst (λ (f : Form). given f words held ≡ Some input) (sym same) is in
+    subst (λ (f : Form). IsAnswered f input) same (answered other (given other words held) (left other words rest) input done.text told done.answers)
 
 -- an input that was refused
 refused : (form : Form) (held left : Option (List ℕ)) (input : List ℕ) (status : Status) → held ≡ Some input → RefusesInput form held left status → (length input ≤ limit_of form) × Refuses form input status
@@ -66,6 +69,7 @@ refusing forms.Finish = finish_refusing
 refusing forms.Audit = audit_refusing
 refusing forms.Report = report_refusing
 refusing forms.Combine = board_refusing
+refusing forms.Generate = generate_refusing
 
 -- an input that was read, and is refused
 pub refused_answer : (form : Form) (held left : Option (List ℕ)) (before now : ℕ) (input : List ℕ) (status : Status) → ReadsInput form held left input → Refuses form input status → StopsAnswering form held left before now status
@@ -106,62 +110,63 @@ caused_as Input form held left before now status input is stops = refused form h
 
 module _ (S K : Type 0) (held : S → Option (List ℕ)) (read_faults : S → ℕ) (taken : K → Option (List ℕ)) (write_faults : K → ℕ) where
   -- a call with words of this form, or of none, stopped with this status
-  abbrev Stopped : Option Form → S → S → K → K → Status → Type 0
-  Stopped known s t k l status = StopsRunning S K held read_faults taken write_faults known s t k l status
+  abbrev Stopped : Option Form → List (List ℕ) → S → S → K → K → Status → Type 0
+  Stopped known words s t k l status = StopsRunning S K held read_faults taken write_faults known words s t k l status
 
   -- what holds of the part that stopped, by what the status speaks of
-  stopped_as : (form : Form) (subject : Subject) (s t : S) (k l : K) (status : Status) → subject_of status ≡ subject → subject ≢ Writing → Stopped (Some form) s t k l status → StopsBy subject form (held s) (held t) (read_faults s) (read_faults t) status
-  stopped_as form subject s t k l status is other stops =
+  stopped_as : (form : Form) (subject : Subject) (words : List (List ℕ)) (s t : S) (k l : K) (status : Status) → subject_of status ≡ subject → subject ≢ Writing → Stopped (Some form) words s t k l status → StopsBy subject form (given form words (held s)) (left form words (held t)) (read_faults s) (read_faults t) status
+  stopped_as form subject words s t k l status is other stops =
       elim stops [
-        | inl early ↦ subst (λ v. StopsBy v form (held s) (held t) (read_faults s) (read_faults t) status) is early.0
+        | inl early ↦ subst (λ v. StopsBy v form (given form words (held s)) (left form words (held t)) (read_faults s) (read_faults t) status) is early.0
         | inr late ↦ absurd (other (sym is ∙ late.subject))
       ]
 
-  pub unwritten : (known : Option Form) (s t : S) (k l : K) (status : Status) → Stopped known s t k l status → IsBeforeWriting status → l ≡ k
-  unwritten None s t k l status stops before = stops.2
-  unwritten (Some form) s t k l status stops before = elim stops [ inl early ↦ early.1 | inr late ↦ absurd (before.1 late.subject) ]
+  pub unwritten : (known : Option Form) (words : List (List ℕ)) (s t : S) (k l : K) (status : Status) → Stopped known words s t k l status → IsBeforeWriting status → l ≡ k
+  unwritten None words s t k l status stops before = stops.2
+  unwritten (Some form) words s t k l status stops before = elim stops [ inl early ↦ early.1 | inr late ↦ absurd (before.1 late.subject) ]
 
-  pub not_done : (known : Option Form) (s t : S) (k l : K) (status : Status) → Stopped known s t k l status → status ≡ Done → ⊥
-  not_done None s t k l status stops is = let words = stops.0 in let success : subject_of status ≡ Success = ap subject_of is in cc
-  not_done (Some form) s t k l status stops is = stopped_as form Success s t k l status (ap subject_of is) (λ e. cc) stops
+  pub not_done : (known : Option Form) (words : List (List ℕ)) (s t : S) (k l : K) (status : Status) → Stopped known words s t k l status → status ≡ Done → ⊥
+  not_done None words s t k l status stops is = let words = stops.0 in let success : subject_of status ≡ Success = ap subject_of is in cc
+  not_done (Some form) words s t k l status stops is = stopped_as form Success words s t k l status (ap subject_of is) (λ e. cc) stops
 
-  no_usage : (form : Form) (s t : S) (k l : K) (status : Status) → Stopped (Some form) s t k l status → IsUsage status → ⊥
-  no_usage form s t k l status stops usage = stopped_as form Words s t k l status usage (λ e. cc) stops
+  no_usage : (form : Form) (words : List (List ℕ)) (s t : S) (k l : K) (status : Status) → Stopped (Some form) words s t k l status → IsUsage status → ⊥
+  no_usage form words s t k l status stops usage = stopped_as form Words words s t k l status usage (λ e. cc) stops
 
-  pub usage_exactly : (known : Option Form) (s t : S) (k l : K) (status : Status) → Stopped known s t k l status → IsUsage status ↔ (known ≡ None)
-  usage_exactly None s t k l status stops = (λ _. refl, λ _. stops.0)
-  usage_exactly (Some form) s t k l status stops = (λ usage. absurd (no_usage form s t k l status stops usage), λ none. cc)
+  pub usage_exactly : (known : Option Form) (words : List (List ℕ)) (s t : S) (k l : K) (status : Status) → Stopped known words s t k l status → IsUsage status ↔ (known ≡ None)
+  usage_exactly None words s t k l status stops = (λ _. refl, λ _. stops.0)
+  usage_exactly (Some form) words s t k l status stops = (λ usage. absurd (no_usage form words s t k l status stops usage), λ none. cc)
 
-  pub usage_unread : (known : Option Form) (s t : S) (k l : K) (status : Status) → Stopped known s t k l status → IsUsage status → t ≡ s
-  usage_unread None s t k l status stops usage = stops.1
-  usage_unread (Some form) s t k l status stops usage = absurd (no_usage form s t k l status stops usage)
+  pub usage_unread : (known : Option Form) (words : List (List ℕ)) (s t : S) (k l : K) (status : Status) → Stopped known words s t k l status → IsUsage status → t ≡ s
+  usage_unread None words s t k l status stops usage = stops.1
+  usage_unread (Some form) words s t k l status stops usage = absurd (no_usage form words s t k l status stops usage)
 
-  pub read_failed : (known : Option Form) (s t : S) (k l : K) (status : Status) → Stopped known s t k l status → status ≡ ReadFault → Rose (read_faults s) (read_faults t)
-  read_failed None s t k l status stops is = let words = stops.0 in let reading : subject_of status ≡ Reading = ap subject_of is in absurd cc
-  read_failed (Some form) s t k l status stops is = stopped_as form Reading s t k l status (ap subject_of is) (λ e. cc) stops
+  pub read_failed : (known : Option Form) (words : List (List ℕ)) (s t : S) (k l : K) (status : Status) → Stopped known words s t k l status → status ≡ ReadFault → Rose (read_faults s) (read_faults t)
+  read_failed None words s t k l status stops is = let words = stops.0 in let reading : subject_of status ≡ Reading = ap subject_of is in absurd cc
+  read_failed (Some form) words s t k l status stops is = stopped_as form Reading words s t k l status (ap subject_of is) (λ e. cc) stops
 
-  pub write_failed : (known : Option Form) (s t : S) (k l : K) (status : Status) → Stopped known s t k l status → status ≡ WriteFault
-      → Rose (write_faults k) (write_faults l) × IfSome known (λ form. StopsInText form (held s) (held t) (taken k) (taken l))
-  write_failed None s t k l status stops is = let words = stops.0 in let writing : subject_of status ≡ Writing = ap subject_of is in absurd cc
-  write_failed (Some form) s t k l status stops is =
+  pub write_failed : (known : Option Form) (words : List (List ℕ)) (s t : S) (k l : K) (status : Status) → Stopped known words s t k l status → status ≡ WriteFault
+      → Rose (write_faults k) (write_faults l) × IfSome known (λ form. StopsInText form (given form words (held s)) (left form words (held t)) (taken k) (taken l))
+  write_failed None words s t k l status stops is = let words = stops.0 in let writing : subject_of status ≡ Writing = ap subject_of is in absurd cc
+  write_failed (Some form) words s t k l status stops is =
       elim stops [
-        | inl early ↦ absurd (subst (λ v. StopsBy v form (held s) (held t) (read_faults s) (read_faults t) status) (ap subject_of is) early.0)
+        | inl early ↦ absurd (subst (λ v. StopsBy v form (given form words (held s)) (left form words (held t)) (read_faults s) (read_faults t) status) (ap subject_of is) early.0)
         | inr late ↦ (late.rose, late.text)
       ]
 
-  caused : (form : Form) (s t : S) (k l : K) (status : Status) (input : List ℕ) → held s ≡ Some input → Stopped (Some form) s t k l status → Causes form input status
-  caused form s t k l status input is stops =
+  caused : (form : Form) (words : List (List ℕ)) (s t : S) (k l : K) (status : Status) (input : List ℕ) → given form words (held s) ≡ Some input → Stopped (Some form) words s t k l status → Causes form input status
+  caused form words s t k l status input is stops =
       elim stops [
-        | inl early ↦ caused_as (subject_of status) form (held s) (held t) (read_faults s) (read_faults t) status input is early.0
-        | inr late ↦ subst (λ v. CausesBy v form input status) (sym late.subject) (answered form (held s) (held t) input late.text.text is late.text.answers)
+        | inl early ↦ caused_as (subject_of status) form (given form words (held s)) (left form words (held t)) (read_faults s) (read_faults t) status input is early.0
+        | inr late ↦ subst (λ v. CausesBy v form input status) (sym late.subject) (answered form (given form words (held s)) (left form words (held t)) input late.text.text is late.text.answers)
       ]
 
-  pub caused_by : (known : Option Form) (form : Form) (s t : S) (k l : K) (status : Status) (input : List ℕ) → known ≡ Some form → held s ≡ Some input → Stopped known s t k l status → Causes form input status
-  caused_by None form s t k l status input there is stops = cc
-  caused_by (Some other) form s t k l status input there is stops =
+  pub caused_by : (known : Option Form) (form : Form) (words : List (List ℕ)) (s t : S) (k l : K) (status : Status) (input : List ℕ) → known ≡ Some form → given form words (held s) ≡ Some input → Stopped known words s t k l status → Causes form input status
+  caused_by None form words s t k l status input there is stops = cc
+  caused_by (Some other) form words s t k l status input there is stops =
       let same : other ≡ form = cc in
-      subst (λ (f : Form). Causes f input status) same (caused other s t k l status input is stops)
+      let told : given other words (held s) ≡ Some input = subst (λ (f : Form). given f words (held s) ≡ Some input) (sym same) is in
+      subst (λ (f : Form). Causes f input status) same (caused other words s t k l status input told stops)
 
-  pub refused_in : (known : Option Form) (s t : S) (k l : K) (status : Status) → Stopped known s t k l status → IsRefusal status → IfSome known (λ form. RefusesInput form (held s) (held t) status)
-  refused_in None s t k l status stops refusal = let words = stops.0 in absurd cc
-  refused_in (Some form) s t k l status stops refusal = stopped_as form Input s t k l status refusal (λ e. cc) stops
+  pub refused_in : (known : Option Form) (words : List (List ℕ)) (s t : S) (k l : K) (status : Status) → Stopped known words s t k l status → IsRefusal status → IfSome known (λ form. RefusesInput form (given form words (held s)) (left form words (held t)) status)
+  refused_in None words s t k l status stops refusal = let words = stops.0 in absurd cc
+  refused_in (Some form) words s t k l status stops refusal = stopped_as form Input words s t k l status refusal (λ e. cc) stops

@@ -6,6 +6,7 @@ use Rattle.command_finish.specs.Answers.{AnswersFinish}
 use Rattle.pcitree.specs.declared.words.Form.{Form}
 use Rattle.pcitree.specs.declared.words.Form.TheVariants as forms
 use Rattle.pcitree.specs.Answers.{AnswersTo}
+use Rattle.pcitree.specs.Given.{given, left}
 use Rattle.pcitree.specs.Ends.{Finishes, writes_run, WritesRun}
 
 -- what is written for a board or a trace is the text of a complete run
@@ -21,10 +22,10 @@ by_form laws forms.RunSteady input text is answers = laws.0 input text answers
 by_form laws forms.Finish input text is answers = laws.1 input text answers
 by_form laws _ input text is answers = absurd cc
 
-pub run_is_written : ((input text : List ℕ) → AnswersRun input text → IsCompleteTrace text) → ((input text : List ℕ) → AnswersFinish input text → IsCompleteTrace text) → (form : Form) (found : Option Form) (held left before after : Option (List ℕ)) → found ≡ Some form → writes_run form ≡ true → IfSome found (λ form. Finishes form held left before after) → WritesRun before after
+pub run_is_written : ((input text : List ℕ) → AnswersRun input text → IsCompleteTrace text) → ((input text : List ℕ) → AnswersFinish input text → IsCompleteTrace text) → (form : Form) (found : Option Form) (words : List (List ℕ)) (held rest before after : Option (List ℕ)) → found ≡ Some form → writes_run form ≡ true → IfSome found (λ form. Finishes form (given form words held) (left form words rest) before after) → WritesRun before after
 unfolding Completes
-run_is_written runs finished form found held left before after is writes done =
-    let ended : Finishes form held left before after = subst (λ f. IfSome f (λ form. Finishes form held left before after)) is done in
+run_is_written runs finished form found words held rest before after is writes done =
+    let ended : Finishes form (given form words held) (left form words rest) before after = subst (λ f. IfSome f (λ form. Finishes form (given form words held) (left form words rest) before after)) is done in
     record {
       text = ended.text;
       complete = by_form (runs, finished) form ended.answers.input ended.text writes ended.answers.answers;

@@ -5,6 +5,7 @@ use Rattle.program_status.specs.declared.status.Status.{Status}
 use Rattle.pcitree.specs.declared.words.Form.{Form}
 use Rattle.program_status.specs.Subjects.{Subject, subject_of}
 use Rattle.program_status.specs.Subjects.Subject.{Success, Memory, Words, Reading, Writing, Length, Input}
+use Rattle.pcitree.specs.Given.{number_of, given_by, left_by}
 use Rattle.pcitree.specs.Ends.{HoldsTooMuch, RefusesInput, StopsInText}
 
 -- an input is not read, or not answered, with a status that speaks of this
@@ -22,17 +23,18 @@ StopsAnswering form held left before now status = StopsBy (subject_of status) fo
 
 module _ (S K : Type 0) (held : S → Option (List ℕ)) (read_faults : S → ℕ) (taken : K → Option (List ℕ)) (write_faults : K → ℕ) where
   -- the sink failed in the text
-  pub record StopsWriting (form : Form) (s t : S) (k l : K) (status : Status) : Type 0 where
+  pub record StopsWriting (form : Form) (number : Option (List ℕ)) (s t : S) (k l : K) (status : Status) : Type 0 where
     pub subject : subject_of status ≡ Writing
     pub rose : Rose (write_faults k) (write_faults l)
-    pub text : StopsInText form (held s) (held t) (taken k) (taken l)
+    pub text : StopsInText form (given_by number (held s)) (left_by number (held t)) (taken k) (taken l)
 
-  -- the serving of an input stops with this status: before anything is written, or as the sink failed
-  abbrev pub StopsServing : Form → S → S → K → K → Status → Type 0
-  StopsServing form s t k l status =
-      (StopsAnswering form (held s) (held t) (read_faults s) (read_faults t) status × (l ≡ k)) ⊎ StopsWriting form s t k l status
+  -- the serving of an input, which may be a number among the words, stops with this status: before anything is written, or as the sink failed
+  abbrev pub StopsServing : Form → Option (List ℕ) → S → S → K → K → Status → Type 0
+  StopsServing form number s t k l status =
+      (StopsAnswering form (given_by number (held s)) (left_by number (held t)) (read_faults s) (read_faults t) status × (l ≡ k))
+      ⊎ StopsWriting form number s t k l status
 
   -- a call with words of this form, or of none, stops with this status
-  abbrev pub StopsRunning : Option Form → S → S → K → K → Status → Type 0
-  StopsRunning None s t k l status = (subject_of status ≡ Words) × (t ≡ s) × (l ≡ k)
-  StopsRunning (Some form) s t k l status = StopsServing form s t k l status
+  abbrev pub StopsRunning : Option Form → List (List ℕ) → S → S → K → K → Status → Type 0
+  StopsRunning None words s t k l status = (subject_of status ≡ Words) × (t ≡ s) × (l ≡ k)
+  StopsRunning (Some form) words s t k l status = StopsServing form (number_of form words) s t k l status

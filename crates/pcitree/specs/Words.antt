@@ -12,28 +12,33 @@ use Rattle.command_finish.specs.Answers.{AnswersFinish, RefusesFinish}
 use Rattle.command_audit.specs.Answers.{AnswersAudit, RefusesAudit}
 use Rattle.command_report.specs.Answers.{AnswersReport, RefusesReport}
 use Rattle.command_combine.specs.Answers.{AnswersCombine}
+use Rattle.command_generate.specs.Answers.{names_rounds, AnswersGenerate, RefusesGenerate, NamesRounds}
 use Rattle.pcitree.specs.declared.words.Part.{Part}
 use Rattle.pcitree.specs.declared.words.Part.TheVariants as parts
 use Rattle.pcitree.specs.declared.words.Form.{Form}
 use Rattle.pcitree.specs.declared.words.Form.TheVariants as forms
 use Rattle.pcitree.specs.declared.words.TheConstants.{FORMS}
 
--- what a word has to be: just this word, or the name of a file, which is not empty and does not begin with `-`
+-- what a word has to be: just this word; the name of a file, which is not empty and does not begin with `-`; or a number
+-- of rounds
 pub data Shape : Type 0 where
   Word : List ℕ → Shape
   File : Shape
+  Rounds : Shape
 
 abbrev pub shape_of : Part → Shape
 shape_of (parts.Word text) = Word text.now
 shape_of parts.File = File
+shape_of parts.Rounds = Rounds
 
 -- how such a word is shown in the help
 abbrev pub shown_as : Shape → List ℕ
 shown_as (Word text) = text
 shown_as File = codes "FILE"
+shown_as Rounds = codes "N"
 
--- a form of words: what each has to be; how many bytes the input may have, 1 MiB for a board text and 64 MiB for a
--- trace text; the text that answers an input; the status that refuses one; the inputs that have no fault; and whether
+-- a form of words: what each has to be; how many bytes the input may have, 1 MiB for a board text, 64 MiB for a trace
+-- text and 10 for a number; the text that answers an input; the status that refuses one; the inputs that have no fault; and whether
 -- it writes the trace of a complete run
 pub record Command : Type 1 where
   pub parts : List Shape
@@ -109,6 +114,14 @@ command_of forms.Combine = record {
   IsFaultless = IsBoardText;
   writes_run = false;
 }
+command_of forms.Generate = record {
+  parts = Word (codes "generate") ∷ Rounds ∷ [];
+  limit = 10;
+  Answers = AnswersGenerate;
+  Refuses = RefusesGenerate;
+  IsFaultless = NamesRounds;
+  writes_run = false;
+}
 
 abbrev pub names_file : List ℕ → Bool
 names_file [] = false
@@ -118,6 +131,7 @@ names_file (first ∷ _) = not (first == 45)
 abbrev pub fits : Shape → List ℕ → Bool
 fits (Word text) word = pointwise nat_eq word text
 fits File word = names_file word
+fits Rounds word = names_rounds word
 
 -- how many words, from the first on, are as the form has them
 abbrev pub fitting : List Shape → List (List ℕ) → ℕ
@@ -145,8 +159,15 @@ misfit words = fold (λ longest form. max longest (fitting (command_of form).par
 abbrev pub is_file : Shape → Bool
 is_file (Word text) = false
 is_file File = true
+is_file Rounds = false
 
--- its place, from 0, among the parts of a form
+-- the word that is a number
+abbrev pub is_number : Shape → Bool
+is_number (Word text) = false
+is_number File = false
+is_number Rounds = true
+
+-- the place of the file, from 0, among the parts of a form
 abbrev pub file_in : List Shape → Option ℕ
 file_in parts = position is_file parts
 

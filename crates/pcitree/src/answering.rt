@@ -1,5 +1,6 @@
 ghost use Rattle.std.specs.Prelude.{◌<◌, ◌^◌, IfOk, IfErr, length};
 ghost use Rattle.pcitree.specs.Answers.{AnswersTo, Refuses};
+ghost use Rattle.pcitree.specs.Given.{IsGiven};
 
 use crate::words::Form;
 use program_status::Status;
@@ -7,7 +8,8 @@ use std::alloc::Global;
 
 /// The text that answers an input.
 pub(crate) fn answer(alloc: Global, form: Form, input: &[u8]) -> Result<Vec<u8>, Status>
-    requires { length input.now < 2 ^ 31 }
+    requires short { length input.now < 2 ^ 31 }
+    requires given { IsGiven form input.now }
     ensures ok { IfOk result (λ text. AnswersTo form input.now text.items) }
     ensures err { IfErr result (Refuses form input.now) }
 {
@@ -20,5 +22,6 @@ pub(crate) fn answer(alloc: Global, form: Form, input: &[u8]) -> Result<Vec<u8>,
         Form::Audit => command_audit::answer_audit(alloc, input),
         Form::Report => command_report::answer_report(alloc, input),
         Form::Combine => command_combine::answer_combine(alloc, input),
+        Form::Generate => command_generate::answer_generate(alloc, input),
     }
 }

@@ -1,7 +1,8 @@
-ghost use Rattle.std.specs.Prelude.{◌≡◌, ◌↔◌, ℕ, true, List, Some, None, map, string_bytes, IsSome, OnOk, IfOk, IfErr, IfSome};
+ghost use Rattle.std.specs.Prelude.{◌≡◌, ◌≤◌, ◌↔◌, ℕ, true, List, [], length, Some, None, map, string_bytes, IsSome, OnOk, IfOk, IfErr, IfSome};
 ghost use Rattle.io_ports.specs.Faults.{Rose};
 ghost use Rattle.pcitree.specs.declared.words.Form.{Form as WordForm};
-ghost use Rattle.pcitree.specs.Words.{form_of, misfit};
+ghost use Rattle.pcitree.specs.Words.{command_of, is_of, form_of, misfit};
+ghost use Rattle.pcitree.specs.Given.{number_of, given, left, IsGiven, reads_file};
 ghost use Rattle.program_status.specs.Subjects.{IsUsage, IsRefusal, IsBeforeWriting, Serves};
 ghost use Rattle.pcitree.specs.Answers.{IsServed, Causes};
 ghost use Rattle.pcitree.specs.Ends.{ReadsInput, AnswersInput, RefusesInput, Finishes, StopsInText, WritesRun, writes_run};
@@ -9,7 +10,7 @@ ghost use Rattle.pcitree.specs.Stops.{StopsAnswering, StopsServing, StopsRunning
 
 use crate::answering::answer;
 use crate::reading::{ReadError, read_all};
-use crate::words::{Form, form_of, misfit};
+use crate::words::{Form, form_of, misfit, number_of};
 use crate::writing::write_all;
 use command_finish::finished_traces_are_complete;
 use command_run::written_runs_are_complete;
@@ -17,8 +18,8 @@ use io_ports::{Sink, Source};
 use program_status::Status;
 use std::alloc::Global;
 
-/// Does what the words say: reads the source to its end, and writes the text that answers it to
-/// the sink. The first of these that holds is the answer: `Usage`, `ReadFault`, `TooLong`,
+/// Does what the words say: reads the source to its end, or takes the number among the words in its
+/// place, and writes the text that answers it to the sink. The first of these that holds is the answer: `Usage`, `ReadFault`, `TooLong`,
 /// `BadTrace` or `BadBoard`, `NotRun`, `Incomplete`, `WriteFault`; `NoMemory` may come at any
 /// moment.
 pub fn pcitree<S: Source, K: Sink>(
@@ -33,6 +34,10 @@ pub fn pcitree<S: Source, K: Sink>(
         → word ≡ misfit (map string_bytes words.now) }
     ensures unread { IsUsage result → source.new ≡ source.old }
 
+    // Where a number among the words is the input, the source is not read.
+    ensures unasked { (form : WordForm) → form_of (map string_bytes words.now) ≡ Some form
+        → IsSome (number_of form (map string_bytes words.now)) → source.new ≡ source.old }
+
     // The faults of the ports.
     ensures read_fault { result ≡ Status.ReadFault
         → Rose (S.faults source.old) (S.faults source.new) }
@@ -42,9 +47,11 @@ pub fn pcitree<S: Source, K: Sink>(
     // What the sink has.
     ensures unwritten { IsBeforeWriting result → sink.new ≡ sink.old }
     ensures front { result ≡ Status.WriteFault → IfSome (form_of (map string_bytes words.now)) (λ form.
-        StopsInText form (S.held source.old) (S.held source.new) (K.taken sink.old) (K.taken sink.new)) }
+        StopsInText form (given form (map string_bytes words.now) (S.held source.old)) (left form (map string_bytes words.now) (S.held source.new))
+        (K.taken sink.old) (K.taken sink.new)) }
     ensures done { result ≡ Status.Done → IfSome (form_of (map string_bytes words.now)) (λ form.
-        Finishes form (S.held source.old) (S.held source.new) (K.taken sink.old) (K.taken sink.new)) }
+        Finishes form (given form (map string_bytes words.now) (S.held source.old)) (left form (map string_bytes words.now) (S.held source.new))
+        (K.taken sink.old) (K.taken sink.new)) }
 
     // What `run` or `finish` wrote is the text of a complete run, as `check` wants it.
     ensures checked { (form : WordForm) → result ≡ Status.Done → form_of (map string_bytes words.now) ≡ Some form
@@ -52,14 +59,14 @@ pub fn pcitree<S: Source, K: Sink>(
 
     // What was read.
     ensures refused { IsRefusal result → IfSome (form_of (map string_bytes words.now)) (λ form.
-        RefusesInput form (S.held source.old) (S.held source.new) result) }
+        RefusesInput form (given form (map string_bytes words.now) (S.held source.old)) (left form (map string_bytes words.now) (S.held source.new)) result) }
 
     // Where the source tells what it holds, each answer has its cause in that, and an input that is
     // served is answered, unless a port fails or there is no memory.
     ensures cause { (form : WordForm) (input : List ℕ) → form_of (map string_bytes words.now) ≡ Some form
-        → S.held source.old ≡ Some input → Causes form input result }
+        → given form (map string_bytes words.now) (S.held source.old) ≡ Some input → Causes form input result }
     ensures served { (form : WordForm) (input : List ℕ) → form_of (map string_bytes words.now) ≡ Some form
-        → S.held source.old ≡ Some input → IsServed form input → Serves result }
+        → given form (map string_bytes words.now) (S.held source.old) ≡ Some input → IsServed form input → Serves result }
 {
     written_runs_are_complete();
     finished_traces_are_complete();
@@ -77,40 +84,64 @@ fn run<S: Source, K: Sink>(
 ) -> Result<(), Status>
     ensures form { OnOk result (IsSome (form_of (map string_bytes words.now))) }
     ensures done { OnOk result (IfSome (form_of (map string_bytes words.now)) (λ form. Finishes form
-        (S.held source.old) (S.held source.new) (K.taken sink.old) (K.taken sink.new))) }
+        (given form (map string_bytes words.now) (S.held source.old)) (left form (map string_bytes words.now) (S.held source.new)) (K.taken sink.old) (K.taken sink.new))) }
     ensures misfit { (word : ℕ) → result ≡ Err (Status.Usage word) → word ≡ misfit (map string_bytes words.now) }
     ensures stopped { IfErr result (StopsRunning S K S.held S.faults K.taken K.faults
-        (form_of (map string_bytes words.now)) source.old source.new sink.old sink.new) }
+        (form_of (map string_bytes words.now)) (map string_bytes words.now) source.old source.new sink.old sink.new) }
+    ensures unasked { (form : WordForm) → form_of (map string_bytes words.now) ≡ Some form
+        → IsSome (number_of form (map string_bytes words.now)) → source.new ≡ source.old }
 {
     match form_of(words) {
         None => Err(Status::Usage {
             word: misfit(words),
         }),
-        Some(form) => serve(alloc, form, source, sink),
+        Some(form) => serve(alloc, form, words, source, sink),
     }
 }
 
-/// Reads an input, and writes the text that answers it.
+/// Takes the input, from the words or from the source, and writes the text that answers it.
 fn serve<S: Source, K: Sink>(
     alloc: Global,
     form: Form,
+    words: &[String],
     source: &mut S,
     sink: &mut K,
 ) -> Result<(), Status>
+    requires { is_of (command_of form).parts (map string_bytes words.now) ≡ true }
     ensures done { OnOk result (Finishes form
-        (S.held source.old) (S.held source.new) (K.taken sink.old) (K.taken sink.new)) }
+        (given form (map string_bytes words.now) (S.held source.old)) (left form (map string_bytes words.now) (S.held source.new)) (K.taken sink.old) (K.taken sink.new)) }
     ensures stopped { IfErr result (StopsServing S K S.held S.faults K.taken K.faults
-        form source.old source.new sink.old sink.new) }
+        form (number_of form (map string_bytes words.now)) source.old source.new sink.old sink.new) }
+    ensures unasked { IsSome (number_of form (map string_bytes words.now)) → source.new ≡ source.old }
 {
-    let text = read_and_answer(alloc, form, source)?;
+    let text = text_of(alloc, form, words, source)?;
     match write_all(sink, &text) {
         Ok(()) => Ok(()),
         Err(_) => Err(Status::WriteFault),
     }
 }
 
+/// The text that answers the number among the words, or what the source holds.
+fn text_of<S: Source>(
+    alloc: Global,
+    form: Form,
+    words: &[String],
+    source: &mut S,
+) -> Result<Vec<u8>, Status>
+    requires { is_of (command_of form).parts (map string_bytes words.now) ≡ true }
+    ensures ok { IfOk result (λ text. AnswersInput form (given form (map string_bytes words.now) (S.held source.old)) (left form (map string_bytes words.now) (S.held source.new)) text.items) }
+    ensures stopped { IfErr result (StopsAnswering form (given form (map string_bytes words.now) (S.held source.old)) (left form (map string_bytes words.now) (S.held source.new)) (S.faults source.old) (S.faults source.new)) }
+    ensures unasked { IsSome (number_of form (map string_bytes words.now)) → source.new ≡ source.old }
+{
+    match number_of(form, words) {
+        Some(number) => answer(alloc, form, number.as_bytes()),
+        None => read_and_answer(alloc, form, source),
+    }
+}
+
 /// Reads an input, and makes the text that answers it.
 fn read_and_answer<S: Source>(alloc: Global, form: Form, source: &mut S) -> Result<Vec<u8>, Status>
+    requires { reads_file form ≡ true }
     ensures ok { IfOk result (λ text. AnswersInput form (S.held source.old) (S.held source.new) text.items) }
     ensures stopped { IfErr result (StopsAnswering form
         (S.held source.old) (S.held source.new) (S.faults source.old) (S.faults source.new)) }

@@ -1,6 +1,7 @@
-ghost use Rattle.std.specs.Prelude.{◌≡◌, ◌≢◌, Some, map, string_bytes, ◌⊎◌};
+ghost use Rattle.std.specs.Prelude.{◌≡◌, ◌≢◌, ℕ, List, Some, map, string_bytes, ◌⊎◌};
 ghost use Rattle.pcitree.specs.declared.words.Form.{Form as WordForm};
 ghost use Rattle.pcitree.specs.Words.{form_of};
+ghost use Rattle.pcitree.specs.Given.{given};
 ghost use Rattle.pcitree.specs.Answers.{IsServed, Causes};
 
 use crate::program::pcitree;
@@ -19,10 +20,13 @@ pub fn pcitree_surely(
 ) -> Status
     ensures reads { result ≢ Status.ReadFault }
     ensures writes { result ≢ Status.WriteFault }
-    ensures cause { (form : WordForm) → form_of (map string_bytes words.now) ≡ Some form
-        → Causes form source.old result }
-    ensures served { (form : WordForm) → form_of (map string_bytes words.now) ≡ Some form
-        → IsServed form source.old → (result ≡ Status.Done) ⊎ (result ≡ Status.NoMemory) }
+
+    // The input is the number among the words, or else what the source holds.
+    ensures cause { (form : WordForm) (input : List ℕ) → form_of (map string_bytes words.now) ≡ Some form
+        → given form (map string_bytes words.now) (Some source.old) ≡ Some input → Causes form input result }
+    ensures served { (form : WordForm) (input : List ℕ) → form_of (map string_bytes words.now) ≡ Some form
+        → given form (map string_bytes words.now) (Some source.old) ≡ Some input
+        → IsServed form input → (result ≡ Status.Done) ⊎ (result ≡ Status.NoMemory) }
 {
     pcitree(alloc, words, source, sink)
 }

@@ -1,5 +1,9 @@
 ghost use Rattle.std.specs.Prelude.{◌≡◌, ◌≤◌, ◌<◌, ◌^◌, IfSome, map, length, position, string_bytes};
-ghost use Rattle.pcitree.specs.Words.{names_file, fits, fitting, is_of, form_of, misfit, is_file, file_in, file_place, limit_by, shape_of, shown_as, command_of};
+ghost use Rattle.std.specs.Option.{option_map};
+ghost use Rattle.pcitree.specs.Words.{names_file, fits, fitting, is_of, form_of, misfit, is_file, is_number, file_in, file_place, limit_by, shape_of, shown_as, command_of};
+ghost use Rattle.pcitree.specs.Given.{number_in, number_of};
+
+use command_generate::names_rounds;
 
 /// What a word has to be.
 #[derive(Clone, Copy, Debug, PartialEq, Eq)]
@@ -8,6 +12,8 @@ pub enum Part {
     Word(&'static str),
     /// A word that is not empty and does not begin with `-`: it names the file.
     File,
+    /// A number of rounds: a decimal of 1 to 10 digits, from 1 to 300. No file is read.
+    Rounds,
 }
 
 /// What the words ask for.
@@ -21,6 +27,7 @@ pub enum Form {
     Audit,
     Report,
     Combine,
+    Generate,
 }
 
 /// A row of the table of words.
@@ -42,8 +49,11 @@ const BOARD: usize = 0x10_0000;
 /// A trace text may have 64 MiB.
 const TRACE: usize = 0x400_0000;
 
+/// A number may have 10 digits.
+const NUMBER: usize = 10;
+
 /// All forms, in the order in which they are told.
-pub const FORMS: [Form; 8] = [
+pub const FORMS: [Form; 9] = [
     Form::Run,
     Form::RunSteady,
     Form::Headers,
@@ -52,6 +62,7 @@ pub const FORMS: [Form; 8] = [
     Form::Audit,
     Form::Report,
     Form::Combine,
+    Form::Generate,
 ];
 
 const RUN: Row = Row {
@@ -116,6 +127,14 @@ const COMBINE: Row = Row {
         (PCI Local Bus 2.2, section 3.2.6, from memory).",
 };
 
+const GENERATE: Row = Row {
+    parts: &[Part::Word("generate"), Part::Rounds],
+    limit: NUMBER,
+    line: "runs a board made from a number, 1 to 300, and reports the run",
+    more: "Three masters write and read across four bridges, in N rounds of three operations each, at addresses\n\
+        and of values drawn from N; each round adds 97 events. What is written is the report of the run.",
+};
+
 impl Form {
     /// The table of words: the row of each form.
     pub fn row(self) -> Row
@@ -137,6 +156,7 @@ impl Form {
             Form::Audit => AUDIT,
             Form::Report => REPORT,
             Form::Combine => COMBINE,
+            Form::Generate => GENERATE,
         }
     }
 }
@@ -149,6 +169,7 @@ impl Part {
         match self {
             Part::Word(text) => text,
             Part::File => "FILE",
+            Part::Rounds => "N",
         }
     }
 
@@ -158,6 +179,7 @@ impl Part {
         match self {
             Part::Word(text) => word == text,
             Part::File => names_file(word.as_bytes()),
+            Part::Rounds => names_rounds(word.as_bytes()),
         }
     }
 
@@ -166,6 +188,13 @@ impl Part {
         ensures { result ≡ is_file (shape_of self) }
     {
         matches!(self, Part::File)
+    }
+
+    /// Whether the word is a number.
+    fn is_number(self) -> bool
+        ensures { result ≡ is_number (shape_of self) }
+    {
+        matches!(self, Part::Rounds)
     }
 }
 
@@ -204,6 +233,28 @@ fn is_of(parts: &[Part], words: &[String]) -> bool
     }
 }
 
+/// The number among words of this form, if the form has one.
+pub(crate) fn number_of(form: Form, words: &[String]) -> Option<&str>
+    ensures value { option_map (λ number. number.now) result ≡ number_of form (map string_bytes words.now) }
+    ensures small { (command_of form).limit < 2 ^ 31 }
+{
+    number_in(form.row().parts, words)
+}
+
+/// The number among the words, where one of the parts is a number.
+fn number_in<'a>(parts: &[Part], words: &'a [String]) -> Option<&'a str>
+    ensures { option_map (λ number. number.now) result ≡ number_in (map shape_of parts.now) (map string_bytes words.now) }
+{
+    match parts {
+        [] => None,
+        [part, parts @ ..] => match words {
+            [] => None,
+            [word, _words @ ..] if part.is_number() => Some(word.as_str()),
+            [_word, words @ ..] => number_in(parts, words),
+        },
+    }
+}
+
 /// The form that the words are of.
 pub(crate) fn form_of(words: &[String]) -> Option<Form>
     ensures { result ≡ form_of (map string_bytes words.now) }
@@ -226,7 +277,7 @@ pub(crate) fn misfit(words: &[String]) -> u32
 }
 
 /// The place, from 0, of the word that names the file to be read. None exactly where the words are
-/// of no form.
+/// of no form, or of one that reads no file.
 pub fn file_word(words: &[String]) -> Option<u32>
     ensures { result ≡ file_place (map string_bytes words.now) }
 {

@@ -5,7 +5,7 @@ use std::io;
 /// What the program is asked for.
 #[derive(Clone, Copy, Debug)]
 pub(crate) enum Asked<'a> {
-    /// To read a file, or what is of no form.
+    /// What a form of words says, or what is of no form.
     Work,
     Help,
     HelpOf(WordHelp<'a>),

@@ -1,6 +1,6 @@
-//! `pcitree WORDS..`: reads the file that the words name, and writes to standard output. A line on
-//! standard error and the number that it ends with say what went wrong; the lines behind it say
-//! where and why.
+//! `pcitree WORDS..`: reads the file that the words name, if they name one, and writes to standard
+//! output. A line on standard error and the number that it ends with say what went wrong; the lines
+//! behind it say where and why.
 #![tactic(auto)]
 
 mod asked;
@@ -55,7 +55,8 @@ fn misfit(rt: &HostRuntime, word: u32) -> Status {
     status
 }
 
-/// Reads the file whole, so far as an input may go, and hands it to the call that answers it.
+/// Reads the file whole, if the words name one, so far as an input may go, and hands it to the call
+/// that answers it.
 fn run(rt: &HostRuntime, words: &[String]) -> Status {
     let name = file_name(words);
     let (file, reason) = open(rt, name);
@@ -74,7 +75,7 @@ fn run(rt: &HostRuntime, words: &[String]) -> Status {
     status
 }
 
-/// The name of the file to be read, if the words are of a form.
+/// The name of the file to be read, if the words are of a form that reads one.
 fn file_name(words: &[String]) -> &str {
     match file_word(words).and_then(|place| words.get(place as usize)) {
         Some(name) => name.as_str(),

@@ -2,7 +2,7 @@
 use Rattle.std.specs.Prelude.{ℕ, Bool, false, List, [], ◌∷◌}
 use Rattle.std.specs.Str.{bytes_eq}
 use Rattle.pcitree.specs.Words.{Shape}
-use Rattle.pcitree.specs.Words.Shape.{Word, File}
+use Rattle.pcitree.specs.Words.Shape.{Word, File, Rounds}
 use Rattle.program_help.specs.declared.own.OwnWord.{OwnWord}
 
 -- a form of words begins with just this word
@@ -10,6 +10,7 @@ abbrev pub begins : List ℕ → List Shape → Bool
 begins word [] = false
 begins word (Word text ∷ parts) = bytes_eq text word
 begins word (File ∷ parts) = false
+begins word (Rounds ∷ parts) = false
 
 abbrev pub is_own : List ℕ → OwnWord → Bool
 is_own word own = bytes_eq own.word.now word

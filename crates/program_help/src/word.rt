@@ -40,7 +40,7 @@ fn begins(parts: &[Part], word: &str) -> bool
         [] => false,
         [part, ..] => match *part {
             Part::Word(text) => text == word,
-            Part::File => false,
+            Part::File | Part::Rounds => false,
         },
     }
 }

@@ -1,6 +1,7 @@
-use Rattle.std.proofs.Common.{◌≡◌, IfOk, sym, subst}
+use Rattle.std.proofs.Common.{IfOk, sym, subst}
 use Rattle.pcitree.specs.declared.words.Form.{Form}
 use Rattle.pcitree.specs.Answers.{AnswersTo}
+use Rattle.pcitree.specs.Given.{IsGiven}
 use Rattle.pcitree.proofs.answering.answer.Goals as goal
 
 -- each word is answered by its crate
@@ -27,3 +28,10 @@ returns-in-Report-clause-ok c = subst (λ (form : Form). IfOk c.answer_report.re
 
 pub returns-in-Combine-clause-ok : goal.returns-in-Combine-clause-ok
 returns-in-Combine-clause-ok c = subst (λ (form : Form). IfOk c.answer_combine.result (λ text. AnswersTo form c.args.input.now text.items)) (sym c.in-Combine.is) c.answer_combine.ensures.ok
+
+pub returns-in-Generate-clause-ok : goal.returns-in-Generate-clause-ok
+returns-in-Generate-clause-ok c = subst (λ (form : Form). IfOk c.answer_generate.result (λ text. AnswersTo form c.args.input.now text.items)) (sym c.in-Generate.is) c.answer_generate.ensures.ok
+
+-- a number is answered only where it names rounds
+pub answer_generate-requires : goal.answer_generate-requires
+answer_generate-requires c = subst (λ (form : Form). IsGiven form c.args.input.now) c.in-Generate.is c.requires.given

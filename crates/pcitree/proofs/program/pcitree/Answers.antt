@@ -3,43 +3,43 @@ use Rattle.pcitree.proofs.WrittenLemmas.{run_is_written}
 use Rattle.pcitree.proofs.program.pcitree.Goals as goal
 
 pub returns-in-Ok-clause-checked : goal.returns-in-Ok-clause-checked
-returns-in-Ok-clause-checked g c = λ form is found writes. run_is_written c.written_runs_are_complete.ensures c.finished_traces_are_complete.ensures form _ _ _ _ _ found writes c.in-Ok.ensures.done
+returns-in-Ok-clause-checked g c = λ form is found writes. run_is_written c.written_runs_are_complete.ensures c.finished_traces_are_complete.ensures form _ _ _ _ _ _ found writes c.in-Ok.ensures.done
 
 pub returns-in-Ok-clause-cause : goal.returns-in-Ok-clause-cause
-returns-in-Ok-clause-cause g c = λ form input there is. finished _ form _ _ _ _ input there is c.in-Ok.ensures.done
+returns-in-Ok-clause-cause g c = λ form input there is. finished _ form _ _ _ _ _ input there is c.in-Ok.ensures.done
 
 pub returns-in-Ok-clause-served : goal.returns-in-Ok-clause-served
 returns-in-Ok-clause-served g c = λ form input there is served. done_serves
 
 pub returns-in-Err-clause-usage : goal.returns-in-Err-clause-usage
-returns-in-Err-clause-usage g c = usage_exactly _ _ _ _ _ _ _ _ _ _ _ _ c.in-Err.ensures.stopped
+returns-in-Err-clause-usage g c = usage_exactly _ _ _ _ _ _ _ _ _ _ _ _ _ c.in-Err.ensures.stopped
 
 pub returns-in-Err-clause-unread : goal.returns-in-Err-clause-unread
-returns-in-Err-clause-unread g c = λ usage. usage_unread _ _ _ _ _ _ _ _ _ _ _ _ c.in-Err.ensures.stopped usage
+returns-in-Err-clause-unread g c = λ usage. usage_unread _ _ _ _ _ _ _ _ _ _ _ _ _ c.in-Err.ensures.stopped usage
 
 pub returns-in-Err-clause-read_fault : goal.returns-in-Err-clause-read_fault
-returns-in-Err-clause-read_fault g c = λ is. read_failed _ _ _ _ _ _ _ _ _ _ _ _ c.in-Err.ensures.stopped is
+returns-in-Err-clause-read_fault g c = λ is. read_failed _ _ _ _ _ _ _ _ _ _ _ _ _ c.in-Err.ensures.stopped is
 
 pub returns-in-Err-clause-write_fault : goal.returns-in-Err-clause-write_fault
-returns-in-Err-clause-write_fault g c = λ is. (write_failed _ _ _ _ _ _ _ _ _ _ _ _ c.in-Err.ensures.stopped is).0
+returns-in-Err-clause-write_fault g c = λ is. (write_failed _ _ _ _ _ _ _ _ _ _ _ _ _ c.in-Err.ensures.stopped is).0
 
 pub returns-in-Err-clause-unwritten : goal.returns-in-Err-clause-unwritten
-returns-in-Err-clause-unwritten g c = λ before. unwritten _ _ _ _ _ _ _ _ _ _ _ _ c.in-Err.ensures.stopped before
+returns-in-Err-clause-unwritten g c = λ before. unwritten _ _ _ _ _ _ _ _ _ _ _ _ _ c.in-Err.ensures.stopped before
 
 pub returns-in-Err-clause-front : goal.returns-in-Err-clause-front
-returns-in-Err-clause-front g c = λ is. (write_failed _ _ _ _ _ _ _ _ _ _ _ _ c.in-Err.ensures.stopped is).1
+returns-in-Err-clause-front g c = λ is. (write_failed _ _ _ _ _ _ _ _ _ _ _ _ _ c.in-Err.ensures.stopped is).1
 
 pub returns-in-Err-clause-done : goal.returns-in-Err-clause-done
-returns-in-Err-clause-done g c = λ is. absurd (not_done _ _ _ _ _ _ _ _ _ _ _ _ c.in-Err.ensures.stopped is)
+returns-in-Err-clause-done g c = λ is. absurd (not_done _ _ _ _ _ _ _ _ _ _ _ _ _ c.in-Err.ensures.stopped is)
 
 pub returns-in-Err-clause-checked : goal.returns-in-Err-clause-checked
-returns-in-Err-clause-checked g c = λ form is. absurd (not_done _ _ _ _ _ _ _ _ _ _ _ _ c.in-Err.ensures.stopped is)
+returns-in-Err-clause-checked g c = λ form is. absurd (not_done _ _ _ _ _ _ _ _ _ _ _ _ _ c.in-Err.ensures.stopped is)
 
 pub returns-in-Err-clause-refused : goal.returns-in-Err-clause-refused
-returns-in-Err-clause-refused g c = λ refusal. refused_in _ _ _ _ _ _ _ _ _ _ _ _ c.in-Err.ensures.stopped refusal
+returns-in-Err-clause-refused g c = λ refusal. refused_in _ _ _ _ _ _ _ _ _ _ _ _ _ c.in-Err.ensures.stopped refusal
 
 pub returns-in-Err-clause-cause : goal.returns-in-Err-clause-cause
-returns-in-Err-clause-cause g c = λ form input there is. caused_by _ _ _ _ _ _ _ form _ _ _ _ _ input there is c.in-Err.ensures.stopped
+returns-in-Err-clause-cause g c = λ form input there is. caused_by _ _ _ _ _ _ _ form _ _ _ _ _ _ input there is c.in-Err.ensures.stopped
 
 pub returns-in-Err-clause-served : goal.returns-in-Err-clause-served
-returns-in-Err-clause-served g c = λ form input there is served. served_by form input _ served (caused_by _ _ _ _ _ _ _ form _ _ _ _ _ input there is c.in-Err.ensures.stopped)
+returns-in-Err-clause-served g c = λ form input there is served. served_by form input _ served (caused_by _ _ _ _ _ _ _ form _ _ _ _ _ _ input there is c.in-Err.ensures.stopped)

@@ -1,4 +1,3 @@
-use Rattle.std.proofs.Common.{refl}
 use Rattle.pcitree.proofs.SureLemmas.{never_rose, done_or_no_memory}
 use Rattle.pcitree.proofs.surely.pcitree_surely.Goals as goal
 
@@ -9,8 +8,8 @@ pub returns-clause-writes : goal.returns-clause-writes
 returns-clause-writes c = λ is. never_rose (c.pcitree.ensures.write_fault is)
 
 pub returns-clause-cause : goal.returns-clause-cause
-returns-clause-cause c = λ form is. c.pcitree.ensures.cause form _ is refl
+returns-clause-cause c = λ form input is told. c.pcitree.ensures.cause form input is told
 
 pub returns-clause-served : goal.returns-clause-served
-returns-clause-served c = λ form is served.
-    done_or_no_memory _ (λ e. never_rose (c.pcitree.ensures.read_fault e)) (λ e. never_rose (c.pcitree.ensures.write_fault e)) (c.pcitree.ensures.served form _ is refl served)
+returns-clause-served c = λ form input is told served.
+    done_or_no_memory _ (λ e. never_rose (c.pcitree.ensures.read_fault e)) (λ e. never_rose (c.pcitree.ensures.write_fault e)) (c.pcitree.ensures.served form input is told served)
