@@ -9,6 +9,3 @@ mod text;
 
 pub use tallies::{Kind, Tally};
 pub use text::report;
-
-#[cfg(test)]
-mod tests;
