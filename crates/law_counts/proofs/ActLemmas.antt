@@ -92,8 +92,8 @@ module _ (board : Board) (valid : IsValid board) (steady : IsSteady board) (weig
   abbrev op : Op
   op = there.0
 
-  short : length (phases_of op) ≤ 8
-  short = (op_phases op (op_formed board o op valid.well_formed there.1)).to
+  few_phases : length (phases_of op) ≤ 8
+  few_phases = (op_phases op (op_formed board o op valid.well_formed there.1)).to
 
   -- the lane that presents it has its item, and is of a bridge
   record Stands (k : BridgeLane) : Type 0 where
@@ -241,4 +241,4 @@ by_claim board valid steady weight h on by o step place run whole op is_op short
 pub act_counts : (board : Board) (valid : IsValid board) (steady : IsSteady board) (weight : Weight) (h : List Event) (on : ℕ) (by : By) (o : OpId) (step : Step) (place : Place) (run : Run board (Act on by o step place ∷ h)) → through h o ≡ 0 → Acts board weight h on by o step place
 act_counts board valid steady weight h on by o step place run whole =
     let found = there board valid steady weight h on by o step place run whole in
-    by_claim board valid steady weight h on by o step place run whole found.0 found.1 (short board valid steady weight h on by o step place run whole) (lane_place board valid steady weight h on by o step place run whole) (claim board on (request_on found.0 on)) refl
+    by_claim board valid steady weight h on by o step place run whole found.0 found.1 (few_phases board valid steady weight h on by o step place run whole) (lane_place board valid steady weight h on by o step place run whole) (claim board on (request_on found.0 on)) refl

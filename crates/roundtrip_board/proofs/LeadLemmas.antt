@@ -101,10 +101,10 @@ no_newline (byte ∷ bytes) all =
     let here : is_newline byte ≡ false = grind (arith, nat_tests, parts.0) in
     rw here (no_newline bytes parts.1)
 
-fault_cases : (long allowed : Bool) (too_long bad : BadLine) → cond long (Some too_long) (cond allowed None (Some bad)) ≡ None → allowed ≡ true
-fault_cases true allowed too_long bad h = absurd (cc)
-fault_cases false true too_long bad h = refl
-fault_cases false false too_long bad h = absurd (cc)
+fault_cases : (long allowed : Bool) (one other : BadLine) → cond long (Some one) (cond allowed None (Some other)) ≡ None → allowed ≡ true
+fault_cases true allowed one other h = absurd (cc)
+fault_cases false true one other h = refl
+fault_cases false false one other h = absurd (cc)
 
 first_line_of_text : (line : Line) (text : List ℕ) → line_fault (joined line) ≡ None → lines_of (line_text line ++ text) ≡ joined line ∷ lines_of text
 first_line_of_text line text none =
