@@ -4,6 +4,7 @@ use Rattle.board_model.specs.declared.board.Board.{Board}
 use Rattle.board_model.specs.Valid.{IsValid}
 use Rattle.history_model.specs.declared.event.Event.{Event}
 use Rattle.history_model.specs.Runs.{Run, Complete, history_of}
+use Rattle.history_model.specs.Knowledge.{Fresh}
 use Rattle.run_report.specs.Report.{report_of}
 use Rattle.law_counts.specs.Plain.{IsSteady}
 use Rattle.law_counts.specs.WayCounts.{way_report}
@@ -11,9 +12,11 @@ use Rattle.program_status.specs.declared.status.Status.{Status}
 use Rattle.program_status.specs.declared.status.Status.TheVariants.{NotRun}
 use Rattle.program_input.specs.Traces.{ReadsTrace, RefusesTrace, IsNoRun}
 
--- a run of a board, and the text of its report
+-- a run of a board, which is fresh: each read that was told of a write reads its words after it has landed; and the
+-- text of its report
 pub record Reports (board : Board) (events : List Event) (text : List ℕ) : Type 0 where
   pub run : Run board (history_of events)
+  pub fresh : Fresh board (history_of events)
   pub written : text ≡ report_of board (history_of events)
   -- of a complete run of a board without stalls, bursts in parts, polls, discards and drops, whoever made it, these
   -- are the way counts of the board

@@ -5,6 +5,7 @@ ghost use Rattle.command_report.specs.Answers.{AnswersReport, RefusesReport, Rep
 use bus_tree::Tree;
 use history_model::Event;
 use law_counts::complete_runs_have_the_way_counts;
+use law_fresh::runs_are_fresh;
 use pci_command::{List, NoMemory};
 use program_input::{TreeTrace, read_tree_trace};
 use program_status::Status;
@@ -34,6 +35,7 @@ fn text_of_run(alloc: Global, tree: &Tree, events: &[Event]) -> Result<List<u8>,
     requires { Run tree.now (history_of events.now) }
     ensures { IfOk result (Reports tree.now events.now) }
 {
+    runs_are_fresh();
     complete_runs_have_the_way_counts();
     // The board of a tree is valid.
     let _valid = tree.board();
