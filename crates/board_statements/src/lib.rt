@@ -16,6 +16,3 @@ pub use fault::{Family, LineFault};
 pub use kinds::parts;
 pub use lines::{first_line, has_words, statement_of};
 pub use statement::Statement;
-
-#[cfg(test)]
-mod tests;

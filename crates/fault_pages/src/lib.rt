@@ -9,6 +9,3 @@ mod pages;
 pub use fault::Fault;
 pub use page::{Page, explain, find_page};
 pub use pages::PAGES;
-
-#[cfg(test)]
-mod tests;

@@ -3,7 +3,5 @@
 #![tactic(auto)]
 
 mod plain_end;
-#[cfg(test)]
-mod tests;
 
 pub use plain_end::PlainEnd;

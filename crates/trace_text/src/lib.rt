@@ -9,6 +9,3 @@ mod words;
 pub use events::print_operation;
 pub use lines::has_line;
 pub use trace::print_trace;
-
-#[cfg(test)]
-mod tests;
