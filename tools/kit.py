@@ -1,0 +1,68 @@
+"""The kit's own rt as a library, with what it computes of a crate and all that it uses computed once: the sum of their
+sources, and their list. rt computes both anew for each way from one crate to another along crates.txt, and from the
+program down there are hundreds of thousands of ways; the answers are the same.
+"""
+import hashlib
+import importlib.machinery
+import importlib.util
+import os
+import subprocess
+import sys
+
+sys.dont_write_bytecode = True
+
+
+def command():
+    """rt, as a module: its function main takes the words. What it is made of is its rtlib."""
+    page = subprocess.run(["rt", "doc"], stdout=subprocess.PIPE, text=True, check=True).stdout.strip()
+    made = load("rt_kit", os.path.join(os.path.dirname(page), "bin", "rt"))
+    made.rtlib.Crate.stamp, made.rtlib.Crate.below = once_for_each_crate(made.rtlib)
+    return made
+
+
+def library():
+    """What rt is made of."""
+    made = command().rtlib
+    made.guarded()  # (its first call sets a signal's handler, which only the main thread may)
+    return made
+
+
+def load(name, file):
+    loader = importlib.machinery.SourceFileLoader(name, file)
+    made = importlib.util.module_from_spec(importlib.util.spec_from_loader(name, loader))
+    sys.modules[name] = made
+    loader.exec_module(made)
+    return made
+
+
+def once_for_each_crate(rtlib):
+    texts = {}
+
+    def text_of(file, folder):
+        found = os.stat(file)
+        key = (file, found.st_mtime_ns, found.st_size)
+        if key not in texts:
+            with open(file, "rb") as it:
+                texts[key] = repr((file.replace(folder, ""), it.read())).encode()
+        return texts[key]
+
+    def stamp(self, known=None):
+        known = {} if known is None else known
+        if self.folder not in known:
+            total = hashlib.sha256(repr((self.said, self.has_c)).encode())
+            with open(os.path.join(rtlib.KIT, "WHAT"), "rb") as it:
+                total.update(it.read())
+            for file in rtlib.files_of(self.folder):
+                total.update(text_of(file, self.folder))
+            total.update(repr([stamp(it, known) for it in self.deps]).encode())
+            known[self.folder] = total.hexdigest()
+        return known[self.folder]
+
+    def below(self):
+        if not hasattr(self, "all_below"):
+            self.all_below = []
+            for it in self.deps:
+                self.all_below += [other for other in [*it.below(), it] if other not in self.all_below]
+        return [*self.all_below]
+
+    return stamp, below
