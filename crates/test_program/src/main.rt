@@ -1,5 +1,5 @@
-//! Tests of the crates of the program and its words: of what no clause says, and that calls succeed where there is memory. They stand
-//! here and not in those crates, since a crate with tests is proved twice.
+//! Tests of the crates of the program and its words: of what no clause says, and that calls succeed where there is
+//! memory. They stand here and not in those crates, since a crate with tests is proved twice. The program does nothing.
 #![tactic(auto)]
 
 #[cfg(test)]
@@ -22,3 +22,5 @@ mod refused_text_tests;
 mod shown_lines_tests;
 #[cfg(test)]
 mod status_message_tests;
+
+fn main(_rt: HostRuntime) {}
