@@ -5,14 +5,18 @@
 
 mod clocks;
 mod known;
+mod landed;
 mod landings;
 mod numbers;
 mod op_table;
 mod row;
+mod word_table;
 
 pub use clocks::Clocks;
 pub use known::Known;
+pub use landed::{Landed, Track};
 pub use landings::{Landings, Word};
 pub use numbers::Numbers;
 pub use op_table::OpTable;
 pub use row::Row;
+pub use word_table::WordTable;

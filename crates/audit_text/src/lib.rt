@@ -10,5 +10,6 @@ mod landed;
 mod ledger;
 mod lines;
 mod readings;
+mod told;
 
 pub use audit::audit_text;
