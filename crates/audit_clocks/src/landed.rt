@@ -1,5 +1,5 @@
 ghost use Rattle.std.specs.Prelude.{◌≡◌, ◌++◌, ◌∷◌, [], length, IfOk, OnOk, IfSome};
-ghost use Rattle.audit_clocks.specs.Tracks.{in_order, goes_on, op_on, Tracked, GoesOn};
+ghost use Rattle.audit_clocks.specs.Tracks.{in_order, goes_on, last_on, Tracked, GoesOn};
 
 use pci_command::{NoMemory, OpId};
 use std::alloc::Global;
@@ -56,6 +56,7 @@ pub struct Landed {
 impl Model for Landed {
     ghost use Rattle.std.specs.Prelude.{List};
     ghost use Rattle.pci_command.specs.declared.op_id.OpId.{OpId};
+    ghost use Rattle.audit_clocks.specs.Tracks.{Tracked};
 
     ghost Value = { List OpId };
 
@@ -99,7 +100,7 @@ impl Landed {
             mut ops,
             mut tracks,
         } = self;
-        track(alloc, &mut tracks, ops.as_slice(), op)?;
+        keep_track(alloc, &mut tracks, ops.as_slice(), op)?;
         ops.push(op)?;
         Ok(Landed { ops, tracks })
     }
@@ -107,7 +108,7 @@ impl Landed {
 
 /// The operation that lands behind these is put on a track.
 #[tactic(auto, using(crate::proofs::TrackLemmas::tracked_along, crate::proofs::TrackLemmas::tracked_apart))]
-fn track(
+fn keep_track(
     alloc: Global,
     tracks: &mut Vec<Track>,
     ops: &[OpId],

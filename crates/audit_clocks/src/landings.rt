@@ -59,7 +59,6 @@ impl Landings {
     }
 
     /// The places of what landed in the dword, along the programs of the authors.
-    #[tactic(auto, using(crate::proofs::TrackLemmas::nothing_tracked))]
     pub fn tracks(&self, word: Word) -> &[Track]
         ensures { Tracked (writes_in word self.now) result.now }
     {

@@ -7,7 +7,7 @@ use Rattle.audit_clocks.specs.Tables.{writes_in}
 use Rattle.audit_clocks.specs.Tracks.{in_order_at, place, track_at}
 use Rattle.audit_text.specs.declared.readings.Reading.{Reading}
 use Rattle.audit_text.specs.Notes.{Notes, word_of}
-use Rattle.audit_text.specs.Found.{knows_by, landed_whole}
+use Rattle.audit_text.specs.Found.{knows_by, landed_whole, shows_it}
 
 -- all that landed in the dword of a reading
 abbrev pub writes_at : Notes → Reading → List OpId
@@ -86,3 +86,8 @@ abbrev pub earlier : Option ℕ → Option ℕ → Option ℕ
 earlier None other = other
 earlier (Some a) None = Some a
 earlier (Some a) (Some b) = Some (min a b)
+
+-- an operation is there, landed whole before the reading, and is the write or knows of it
+abbrev pub shows_at : Notes → Reading → OpId → Option OpId → Bool
+shows_at notes reading w None = false
+shows_at notes reading w (Some v) = shows_it notes reading w v

@@ -5,7 +5,7 @@ ghost use Rattle.audit_text.specs.Told.{ToldsFor};
 use crate::ends::{Ended, end_in};
 use crate::landed::{is_land, record_landed, record_parted};
 use crate::readings::{Read, Reading, read_in, word_of};
-use crate::told::{Told, told};
+use crate::told::{Told, told_in};
 use audit_clocks::{Clocks, Landings, OpTable, Track, WordTable};
 use board_model::Board;
 use history_model::{By, Event};
@@ -165,7 +165,7 @@ fn record_read(
         None => Ok(()),
         Some(read) => {
             let word = word_of(read.target, read.space, read.address);
-            let numbers = told(alloc, masters, clocks, whole, landed, tolds, word)?;
+            let numbers = told_in(alloc, masters, clocks, whole, landed, tolds, word)?;
             let count = landed.of(word).len();
             clocks.teach(read.op, numbers)?;
             readings.put(

@@ -22,7 +22,7 @@ pub(crate) struct Told {
 
 /// What those writes tell that landed whole in the dword. Each landing is looked at once as it is
 /// new, and then at each call as long as the rest of its write did not land.
-pub(crate) fn told(
+pub(crate) fn told_in(
     alloc: Global,
     masters: usize,
     clocks: &Clocks,
