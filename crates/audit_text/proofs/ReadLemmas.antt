@@ -26,7 +26,8 @@ use Rattle.audit_clocks.specs.Clocks.{ClockState}
 use Rattle.audit_text.specs.declared.readings.Reading.{Reading}
 use Rattle.audit_text.specs.declared.readings.Read.{Read as ReadAt}
 use Rattle.audit_text.specs.declared.ends.Ended.{Ended as EndedOp}
-use Rattle.audit_text.specs.Notes.{Notes, flat, or_place, read_of, word_read, read_in, told_by, Tells, ReadSo, Reads, Gets, EndsSo, Ends, ended_of}
+use Rattle.audit_text.specs.Notes.{Notes, flat, or_place, read_of, word_read, read_in, ReadSo, Reads, Gets, EndsSo, Ends, ended_of}
+use Rattle.audit_text.specs.Told.{told_by}
 use Rattle.audit_text.specs.Stands.{StandsFor, op_of_landing, reading_as, whole_at}
 
 -- the history before does not matter to what an event reads

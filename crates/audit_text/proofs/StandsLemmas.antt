@@ -328,11 +328,11 @@ module _ (board : Board) (valid : IsValid board) (h : List Event) (notes : Notes
 
 -- before the first event
 pub stands_first : (board : Board) (notes : Notes)
-    → notes ≡ record { gone = []; landed = []; whole = []; readings = []; gots = []; clocks = record { known = replicate (length board.masters) (replicate (length board.masters) []); starts = []; taught = [] } } → StandsFor board [] notes
+    → notes ≡ record { gone = []; landed = []; whole = []; readings = []; gots = []; clocks = record { known = replicate (length board.masters) (replicate (length board.masters) []); starts = []; taught = [] }; tolds = [] } → StandsFor board [] notes
 stands_first board notes is =
     let M : ℕ = length board.masters in
     let none : List (List OpId) = replicate M [] in
-    let first : Notes = record { gone = []; landed = []; whole = []; readings = []; gots = []; clocks = record { known = replicate M none; starts = []; taught = [] } } in
+    let first : Notes = record { gone = []; landed = []; whole = []; readings = []; gots = []; clocks = record { known = replicate M none; starts = []; taught = [] }; tolds = [] } in
     let rows : (master : ℕ) → master < M → known_at (replicate M none) master ≡ none = λ master within. get_or-replicate M master none [] within in
     subst (StandsFor board []) (sym is) (record {
       gone = λ o. refl;
