@@ -1,5 +1,5 @@
 -- The last and the first of what landed in a dword, track by track.
-use Rattle.std.proofs.Common.{◌≡◌, ◌<◌, ◌≤◌, ℕ, zero, suc, ◌+◌, ◌-◌, min, max, Bool, true, false, not, ◌&&◌, ◌||◌, cond, eqb, nat_lt, take, drop, length, get_or, slice_get, slice_index_or, List, [], ◌∷◌, Option, Some, None, refl, sym, ap, subst, ◌∙◌, arith}
+use Rattle.std.proofs.Common.{◌≡◌, ◌<◌, ◌≤◌, ℕ, zero, suc, ◌+◌, ◌-◌, min, max, Bool, true, false, not, ◌&&◌, ◌||◌, ◌⊎◌, inl, inr, cond, eqb, nat_lt, take, drop, length, get_or, slice_get, slice_index_or, List, [], ◌∷◌, Option, Some, None, refl, sym, ap, subst, ◌∙◌, arith}
 use Rattle.std.specs.List.{AllWithin}
 use Rattle.std.proofs.lemmas.List.{length-take, length-drop, get_or-drop}
 use Rattle.std.proofs.lemmas.Option.{slice_get_past}
@@ -106,7 +106,7 @@ each_more Q n number below old new =
     ]) refl
 
 none_true : (b : Bool) → b ≡ false → b ≡ true → {X : Type 0} → X
-none_true b no yes {X} = let e : true ≡ false = sym yes ∙ no in cc
+none_true b failed passed {X} = let e : true ≡ false = sym passed ∙ failed in cc
 
 module _ (test : ℕ → Bool) (tracks : List (List ℕ)) where
   abbrev T : ℕ → List ℕ
@@ -122,19 +122,19 @@ module _ (test : ℕ → Bool) (tracks : List (List ℕ)) where
       record {
         passes = new.passes;
         last = λ number below. each_more (λ k. (a : ℕ) → a < length (T k) → test (place (T k) a) ≡ true → place (T k) a ≤ b) n number below
-            (λ lower a within yes. none_true (test (place (T number) a)) (old.none number lower a within) yes) new.last;
+            (λ lower a within passed. none_true (test (place (T number) a)) (old.none number lower a within) passed) new.last;
       }
   last_of_more n (Some c) None old new =
       record {
         passes = old.passes;
         last = λ number below. each_more (λ k. (a : ℕ) → a < length (T k) → test (place (T k) a) ≡ true → place (T k) a ≤ c) n number below
-            (λ lower. old.last number lower) (λ a within yes. none_true (test (place (T n) a)) (new a within) yes);
+            (λ lower. old.last number lower) (λ a within passed. none_true (test (place (T n) a)) (new a within) passed);
       }
   last_of_more n (Some c) (Some b) old new =
       record {
         passes = greater c b old.passes new.passes;
         last = λ number below. each_more (λ k. (a : ℕ) → a < length (T k) → test (place (T k) a) ≡ true → place (T k) a ≤ max c b) n number below
-            (λ lower a within yes. let at_most = old.last number lower a within yes in omega (arith, at_most)) (λ a within yes. let at_most = new.last a within yes in omega (arith, at_most));
+            (λ lower a within passed. let at_most = old.last number lower a within passed in omega (arith, at_most)) (λ a within passed. let at_most = new.last a within passed in omega (arith, at_most));
       }
     where
       greater : (c b : ℕ) → test c ≡ true → test b ≡ true → test (max c b) ≡ true
@@ -152,19 +152,19 @@ module _ (test : ℕ → Bool) (tracks : List (List ℕ)) where
       record {
         passes = new.passes;
         first = λ number below. each_more (λ k. (a : ℕ) → a < length (T k) → test (place (T k) a) ≡ true → b ≤ place (T k) a) n number below
-            (λ lower a within yes. none_true (test (place (T number) a)) (old.none number lower a within) yes) new.first;
+            (λ lower a within passed. none_true (test (place (T number) a)) (old.none number lower a within) passed) new.first;
       }
   first_of_more n (Some c) None old new =
       record {
         passes = old.passes;
         first = λ number below. each_more (λ k. (a : ℕ) → a < length (T k) → test (place (T k) a) ≡ true → c ≤ place (T k) a) n number below
-            (λ lower. old.first number lower) (λ a within yes. none_true (test (place (T n) a)) (new a within) yes);
+            (λ lower. old.first number lower) (λ a within passed. none_true (test (place (T n) a)) (new a within) passed);
       }
   first_of_more n (Some c) (Some b) old new =
       record {
         passes = less c b old.passes new.passes;
         first = λ number below. each_more (λ k. (a : ℕ) → a < length (T k) → test (place (T k) a) ≡ true → min c b ≤ place (T k) a) n number below
-            (λ lower a within yes. let at_least = old.first number lower a within yes in omega (arith, at_least)) (λ a within yes. let at_least = new.first a within yes in omega (arith, at_least));
+            (λ lower a within passed. let at_least = old.first number lower a within passed in omega (arith, at_least)) (λ a within passed. let at_least = new.first a within passed in omega (arith, at_least));
       }
     where
       less : (c b : ℕ) → test c ≡ true → test b ≡ true → test (min c b) ≡ true
@@ -176,58 +176,61 @@ module _ (test : ℕ → Bool) (tracks : List (List ℕ)) where
           ]) refl
 
   -- where each place is on a track, none passes, or those behind the last and before the first fail
-  pub none_passes : (ops : List OpId) → Tracked ops tracks → NoneOf test tracks (length tracks) → (at : ℕ) → at < length ops → test at ≡ false
-  none_passes ops tracked none at within =
+  pub none_passes : (ops : List OpId) (n : ℕ) → length tracks ≤ n → Tracked ops tracks → NoneOf test tracks n → (at : ℕ) → at < length ops → test at ≡ false
+  none_passes ops n all tracked none at within =
       let on : IsOn tracks at = tracked.all at within in
-      subst (λ n. test n ≡ false) on.is (none.none on.number on.is_track on.index on.within)
+      let on_one = on.is_track in
+      subst (λ k. test k ≡ false) on.is (none.none on.number (omega (arith, on_one, all)) on.index on.within)
 
-  pub behind_last : (ops : List OpId) (last : ℕ) → Tracked ops tracks → IsLastOf test tracks (length tracks) last → (at : ℕ) → last < at → at < length ops → test at ≡ false
-  behind_last ops last tracked is at behind within =
+  pub behind_last : (ops : List OpId) (n last : ℕ) → length tracks ≤ n → Tracked ops tracks → IsLastOf test tracks n last → (at : ℕ) → last < at → at < length ops → test at ≡ false
+  behind_last ops n last all tracked is at behind within =
       let on : IsOn tracks at = tracked.all at within in
+      let on_one = on.is_track in
       let P : Bool → Type 0 = λ b. test at ≡ b → b ≡ false in
       (elim (test at) as P [
-        | true ↦ λ yes.
-            let at_most : place (T on.number) on.index ≤ last = is.last on.number on.is_track on.index on.within (subst (λ n. test n ≡ true) (sym on.is) yes) in
+        | true ↦ λ passed.
+            let at_most : place (T on.number) on.index ≤ last = is.last on.number (omega (arith, on_one, all)) on.index on.within (subst (λ n. test n ≡ true) (sym on.is) passed) in
             absurd (omega (arith, at_most, on.is, behind))
         | false ↦ λ _. refl
       ]) refl
 
-  pub before_first : (ops : List OpId) (first : ℕ) → Tracked ops tracks → IsFirstOf test tracks (length tracks) first → (at : ℕ) → at < first → at < length ops → test at ≡ false
-  before_first ops first tracked is at before within =
+  pub before_first : (ops : List OpId) (n first : ℕ) → length tracks ≤ n → Tracked ops tracks → IsFirstOf test tracks n first → (at : ℕ) → at < first → at < length ops → test at ≡ false
+  before_first ops n first all tracked is at before within =
       let on : IsOn tracks at = tracked.all at within in
+      let on_one = on.is_track in
       let P : Bool → Type 0 = λ b. test at ≡ b → b ≡ false in
       (elim (test at) as P [
-        | true ↦ λ yes.
-            let at_least : first ≤ place (T on.number) on.index = is.first on.number on.is_track on.index on.within (subst (λ n. test n ≡ true) (sym on.is) yes) in
+        | true ↦ λ passed.
+            let at_least : first ≤ place (T on.number) on.index = is.first on.number (omega (arith, on_one, all)) on.index on.within (subst (λ n. test n ≡ true) (sym on.is) passed) in
             absurd (omega (arith, at_least, on.is, before))
         | false ↦ λ _. refl
       ]) refl
 
 -- what is found on all tracks
-pub last_found_on : (notes : Notes) (r : OpId) (ops writes : List OpId) (count : ℕ) (tracks : List (List ℕ)) (last : Option ℕ) → Tracked ops tracks → writes ≡ take count ops
-    → LastOf (λ at. is_known notes r (slice_get writes at)) tracks (length tracks) last → op_on writes last ≡ last_known notes r None writes
-last_found_on notes r ops writes count tracks None tracked is none =
+pub last_found_on : (notes : Notes) (r : OpId) (ops writes : List OpId) (count : ℕ) (tracks : List (List ℕ)) (n : ℕ) (last : Option ℕ) → length tracks ≤ n → Tracked ops tracks → writes ≡ take count ops
+    → LastOf (λ at. is_known notes r (slice_get writes at)) tracks n last → op_on writes last ≡ last_known notes r None writes
+last_found_on notes r ops writes count tracks n None all tracked is none =
     let short : length writes ≤ length ops = rw (is, length-take count ops) (omega arith) in
-    sym (all_unknown notes r writes None (λ i within. none_passes (λ at. is_known notes r (slice_get writes at)) tracks ops tracked none i (omega (arith, within, short))))
-last_found_on notes r ops writes count tracks (Some at) tracked is last =
+    sym (all_unknown notes r writes None (λ i within. none_passes (λ at. is_known notes r (slice_get writes at)) tracks ops n all tracked none i (omega (arith, within, short))))
+last_found_on notes r ops writes count tracks n (Some at) all tracked is last =
     let short : length writes ≤ length ops = rw (is, length-take count ops) (omega arith) in
     let found = known_write notes r (slice_get writes at) last.passes in
     found.1.0
     ∙ sym (last_is notes r writes None at found.0 found.1.0 found.1.1
-    (λ j behind within. behind_last (λ n. is_known notes r (slice_get writes n)) tracks ops at tracked last j behind (omega (arith, within, short))))
+    (λ j behind within. behind_last (λ k. is_known notes r (slice_get writes k)) tracks ops n at all tracked last j behind (omega (arith, within, short))))
 
-pub first_found_on : (notes : Notes) (reading : Reading) (w : OpId) (ops writes : List OpId) (count : ℕ) (tracks : List (List ℕ)) (first : Option ℕ) → Tracked ops tracks → writes ≡ take count ops
-    → FirstOf (λ at. shows_at notes reading w (slice_get writes at)) tracks (length tracks) first → op_on writes first ≡ first_shown notes reading w writes
-first_found_on notes reading w ops writes count tracks None tracked is none =
+pub first_found_on : (notes : Notes) (reading : Reading) (w : OpId) (ops writes : List OpId) (count : ℕ) (tracks : List (List ℕ)) (n : ℕ) (first : Option ℕ) → length tracks ≤ n → Tracked ops tracks → writes ≡ take count ops
+    → FirstOf (λ at. shows_at notes reading w (slice_get writes at)) tracks n first → op_on writes first ≡ first_shown notes reading w writes
+first_found_on notes reading w ops writes count tracks n None all tracked is none =
     let short : length writes ≤ length ops = rw (is, length-take count ops) (omega arith) in
-    sym (none_shows notes reading w writes (λ i within. none_passes (λ at. shows_at notes reading w (slice_get writes at)) tracks ops tracked none i (omega (arith, within, short))))
-first_found_on notes reading w ops writes count tracks (Some at) tracked is first =
+    sym (none_shows notes reading w writes (λ i within. none_passes (λ at. shows_at notes reading w (slice_get writes at)) tracks ops n all tracked none i (omega (arith, within, short))))
+first_found_on notes reading w ops writes count tracks n (Some at) all tracked is first =
     let short : length writes ≤ length ops = rw (is, length-take count ops) (omega arith) in
     let found = shown_write notes reading w (slice_get writes at) first.passes in
     let inside : at < length writes = Rattle.std.proofs.lemmas.Option.slice_get_within writes at found.0 found.1.0 in
     found.1.0
     ∙ sym (first_is notes reading w writes at found.0 found.1.0 found.1.1
-    (λ j before. before_first (λ n. shows_at notes reading w (slice_get writes n)) tracks ops at tracked first j before (omega (arith, before, inside, short))))
+    (λ j before. before_first (λ k. shows_at notes reading w (slice_get writes k)) tracks ops n at all tracked first j before (omega (arith, before, inside, short))))
 
 -- Along one track.
 
@@ -247,11 +250,11 @@ not_after ops track rises a b order within =
 
 -- what a read knows is known of the earlier ones
 pub falls_known : (notes : Notes) (r : OpId) (ops writes : List OpId) (count : ℕ) (track : List ℕ) → Rises ops track → writes ≡ take count ops → KnowsEarlier notes r ops → FallsAlong (λ at. is_known notes r (slice_get writes at)) track
-falls_known notes r ops writes count track rises is earlier_known = λ a b order within yes.
+falls_known notes r ops writes count track rises is earlier_known = λ a b order within passed.
     let pa : ℕ = place track a in
     let pb : ℕ = place track b in
     let lower : pa ≤ pb = not_after ops track rises a b order within in
-    let taken : is_known notes r (slice_get (take count ops) pb) ≡ true = subst (λ xs. is_known notes r (slice_get xs pb) ≡ true) is yes in
+    let taken : is_known notes r (slice_get (take count ops) pb) ≡ true = subst (λ xs. is_known notes r (slice_get xs pb) ≡ true) is passed in
     let P : Bool → Type 0 = λ c. nat_lt pb count ≡ c → is_known notes r (slice_get writes pa) ≡ true in
     (elim (nat_lt pb count) as P [
       | true ↦ λ lt.
@@ -271,11 +274,11 @@ not_true false is = refl
 
 -- what tells of a write is told by the later ones
 pub falls_told : (notes : Notes) (w : OpId) (ops writes : List OpId) (count : ℕ) (track : List ℕ) → Rises ops track → writes ≡ take count ops → TellsLater notes w ops → FallsAlong (λ at. not (tells_of notes w (slice_get writes at))) track
-falls_told notes w ops writes count track rises is later_tells = λ a b order within yes.
+falls_told notes w ops writes count track rises is later_tells = λ a b order within passed.
     let pa : ℕ = place track a in
     let pb : ℕ = place track b in
     let lower : pa ≤ pb = not_after ops track rises a b order within in
-    let taken : tells_of notes w (slice_get (take count ops) pb) ≡ false = not_true (tells_of notes w (slice_get (take count ops) pb)) (subst (λ xs. not (tells_of notes w (slice_get xs pb)) ≡ true) is yes) in
+    let taken : tells_of notes w (slice_get (take count ops) pb) ≡ false = not_true (tells_of notes w (slice_get (take count ops) pb)) (subst (λ xs. not (tells_of notes w (slice_get xs pb)) ≡ true) is passed) in
     let P : Bool → Type 0 = λ c. nat_lt pb count ≡ c → not (tells_of notes w (slice_get writes pa)) ≡ true in
     (elim (nat_lt pb count) as P [
       | true ↦ λ lt.
@@ -302,7 +305,7 @@ pub point_last : (test : ℕ → Bool) (places : List ℕ) (count at : ℕ) → 
 point_last test places count at rises some within is passes fails =
     record {
       passes = subst (λ n. test n ≡ true) (sym is) (passes (count - 1) 0 (omega arith) (omega (arith, some)));
-      last = λ a inside yes.
+      last = λ a inside passed.
           let P : Bool → Type 0 = λ c. nat_lt a (count - 1) ≡ c → place places a ≤ at in
           (elim (nat_lt a (count - 1)) as P [
             | true ↦ λ lt.
@@ -320,7 +323,7 @@ point_last test places count at rises some within is passes fails =
                       omega (arith, here)
                   | false ↦ λ beyond.
                       let behind : count ≤ a = grind (arith, nat_tests) in
-                      none_true (test (place places a)) (fails a 0 behind inside) yes
+                      none_true (test (place places a)) (fails a 0 behind inside) passed
                 ]) refl
           ]) refl;
     }
@@ -380,13 +383,13 @@ point_first notes reading w writes places rest start result within is before beh
           is = here;
           passes = subst (λ n. shows_at notes reading w (slice_get writes n) ≡ true) here
               (late (start + first.index) (omega arith) inside ∙ subst (λ n. is_whole notes reading (slice_get writes n) ≡ true) (sym here) first.passes);
-          first = λ a inside_a yes.
+          first = λ a inside_a passed.
               let P : Bool → Type 0 = λ c. nat_lt a start ≡ c → at ≤ place places a in
               (elim (nat_lt a start) as P [
-                | true ↦ λ lt. let lower : a < start = grind (arith, nat_tests) in none_true (shows_at notes reading w (slice_get writes (place places a))) (early a lower) yes
+                | true ↦ λ lt. let lower : a < start = grind (arith, nat_tests) in none_true (shows_at notes reading w (slice_get writes (place places a))) (early a lower) passed
                 | false ↦ λ ge.
                     let past : start ≤ a = grind (arith, nat_tests) in
-                    let whole : is_whole notes reading (slice_get writes (place places a)) ≡ true = sym (late a past inside_a) ∙ yes in
+                    let whole : is_whole notes reading (slice_get writes (place places a)) ≡ true = sym (late a past inside_a) ∙ passed in
                     subst (λ n. at ≤ n) (moved a past) (first.first (a - start) (omega (arith, past, inside_a, count)) (subst (λ n. is_whole notes reading (slice_get writes n) ≡ true) (sym (moved a past)) whole))
               ]) refl;
         }
@@ -404,12 +407,12 @@ fails_more test places n so here = record { fails = λ a below. each_more (λ k.
 
 -- the first that passes, and none where no operation is there any more
 pub first_passes : (test : ℕ → Bool) (places : List ℕ) (n at : ℕ) → AreRising places → n < length places → FailsSo test places n → at ≡ place places n → test at ≡ true → FirstOn test places (Some at)
-first_passes test places n at rises inside so is yes =
+first_passes test places n at rises inside so is passed =
     record {
       index = n;
       within = inside;
       is = sym is;
-      passes = yes;
+      passes = passed;
       first = λ a within passes.
           let P : Bool → Type 0 = λ c. nat_lt a n ≡ c → at ≤ place places a in
           (elim (nat_lt a n) as P [
@@ -445,13 +448,17 @@ all_fail test places n all so = λ a within. so.fails a (omega (arith, within, a
 
 -- What is found landed.
 pub last_landed : (notes : Notes) (r : OpId) (ws : List OpId) (found : Option OpId) (w : OpId) → last_known notes r found ws ≡ Some w → ((i : ℕ) × (slice_get ws i ≡ Some w)) ⊎ (found ≡ Some w)
-last_landed notes r [] found w is = Rattle.std.proofs.Common.inr is
+last_landed notes r [] found w is = inr is
 last_landed notes r (v ∷ ws) found w is =
     let old = last_landed notes r ws (cond (knows_by notes v r) (Some v) found) w is in
     let X : Type 0 = ((i : ℕ) × (slice_get (v ∷ ws) i ≡ Some w)) ⊎ (found ≡ Some w) in
     elim old [
-      | Rattle.std.proofs.Common.inl there ↦ Rattle.std.proofs.Common.inl (suc there.0, there.1)
-      | Rattle.std.proofs.Common.inr here ↦
+      | inl there ↦ inl (suc there.0, there.1)
+      | inr here ↦
           (let P : Bool → Type 0 = λ b. cond b (Some v) found ≡ Some w → X in
-          (elim (knows_by notes v r) as P [ true ↦ λ e. Rattle.std.proofs.Common.inl (zero, e) | false ↦ λ e. Rattle.std.proofs.Common.inr e ]) here)
+          (elim (knows_by notes v r) as P [ true ↦ λ e. inl (zero, e) | false ↦ λ e. inr e ]) here)
     ]
+
+-- a track that a loop goes over
+pub item_track : (tracks : List (List ℕ)) (n : ℕ) (item places : List ℕ) → n < length tracks → item ≡ get_or tracks n item → places ≡ item → places ≡ track_at tracks n
+item_track tracks n item places within is same = same ∙ is ∙ Rattle.std.proofs.lemmas.List.get_or_default tracks n item [] within

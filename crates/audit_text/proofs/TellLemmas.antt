@@ -51,7 +51,7 @@ module _ (whole : List (OpId × ℕ)) where
       let P : Bool → Type 0 = λ t. is_there x ≡ t → greatest (told_by whole starts author) (cond (not t) (x ∷ rest) rest) ≡ 0 in
       (elim (is_there x) as P [
         | true ↦ λ _. old
-        | false ↦ λ no. let none : told_by whole starts author x ≡ 0 = rw no refl in omega (arith, none, old)
+        | false ↦ λ absent. let none : told_by whole starts author x ≡ 0 = rw absent refl in omega (arith, none, old)
       ]) refl
 
   there_tell : (starts : List (OpId × List ℕ)) (author : ℕ) (xs : List OpId) → greatest (told_by whole starts author) (filter is_there xs) ≡ greatest (told_by whole starts author) xs
@@ -64,7 +64,7 @@ module _ (whole : List (OpId × ℕ)) where
   all_there [] = tt
   all_there (x ∷ xs) =
       let P : Bool → Type 0 = λ t. is_there x ≡ t → AllByRecursion (λ o. is_some (value_of o whole) ≡ true) (cond t (x ∷ filter is_there xs) (filter is_there xs)) in
-      (elim (is_there x) as P [ true ↦ λ yes. (yes, all_there xs) | false ↦ λ _. all_there xs ]) refl
+      (elim (is_there x) as P [ true ↦ λ there. (there, all_there xs) | false ↦ λ _. all_there xs ]) refl
 
 -- One write after the other.
 
@@ -174,7 +174,9 @@ module _ (whole : List (OpId × ℕ)) (starts : List (OpId × List ℕ)) (writes
       let of_looked : greatest f (filter (is_there whole) looked) ≡ greatest f looked = there_tell whole starts author looked in
       let of_fresh : greatest f (filter (is_there whole) fresh) ≡ greatest f fresh = there_tell whole starts author fresh in
       let of_joined = joined_is f in
-      last ∙ rw (before, kept) (max_assoc (greatest f stands.joined) (greatest f looked) (greatest f fresh)) ∙ sym (of_joined ∙ rw (of_looked, of_fresh) refl)
+      let joined_tell : greatest f joined ≡ max (greatest f stands.joined) (max (greatest f looked) (greatest f fresh)) =
+      of_joined ∙ ap (λ n. max (greatest f stands.joined) (max n (greatest f (filter (is_there whole) fresh)))) of_looked ∙ ap (λ n. max (greatest f stands.joined) (max (greatest f looked) n)) of_fresh in
+      last ∙ ap (λ n. max n (greatest f fresh)) (before ∙ ap (λ n. max n (greatest f looked)) kept) ∙ max_assoc (greatest f stands.joined) (greatest f looked) (greatest f fresh) ∙ sym joined_tell
 
   pub further_stands : (next : Told) → next.count ≡ length writes → next.numbers ≡ new → next.waiting.items ≡ waits → ToldOf whole starts writes next
   further_stands next count numbers waiting =
@@ -200,6 +202,26 @@ module _ (whole : List (OpId × ℕ)) (starts : List (OpId × List ℕ)) (writes
             let same : greatest f joined ≡ greatest f writes = omega (arith, all, none) in
             ap (λ xs. number xs author) is ∙ here ∙ same;
       }
+
+-- those that waited are looked at again, and then the new ones
+pub record Further (whole : List (OpId × ℕ)) (starts : List (OpId × List ℕ)) (writes : List OpId) (old next : Told) : Type 0 where
+  pub stands : ToldOf whole starts writes next
+  pub tells : Tells (length old.numbers) whole starts writes next.numbers
+
+pub told_next : (whole : List (OpId × ℕ)) (starts : List (OpId × List ℕ)) (writes : List OpId) (old : Told) → ToldOf whole starts writes old
+    → (mid new : List ℕ) (none waits_mid waits looked fresh : List OpId) → none ≡ [] → looked ≡ old.waiting.items → fresh ≡ drop old.count writes
+    → Raises old.numbers mid (λ author. greatest (told_by whole starts author) looked) → waits_mid ≡ none ++ filter (is_waiting whole) looked
+    → Raises mid new (λ author. greatest (told_by whole starts author) fresh) → waits ≡ waits_mid ++ filter (is_waiting whole) fresh
+    → (next : Told) → next.count ≡ length writes → next.numbers ≡ new → next.waiting.items ≡ waits → Further whole starts writes old next
+told_next whole starts writes old stands mid new none waits_mid waits looked fresh none_is looked_is fresh_is first first_waits second second_waits next count numbers waiting =
+    let first_at : Raises old.numbers mid (λ author. greatest (told_by whole starts author) old.waiting.items) = subst (λ xs. Raises old.numbers mid (λ author. greatest (told_by whole starts author) xs)) looked_is first in
+    let second_at : Raises mid new (λ author. greatest (told_by whole starts author) (drop old.count writes)) = subst (λ xs. Raises mid new (λ author. greatest (told_by whole starts author) xs)) fresh_is second in
+    let first_left : waits_mid ≡ [] ++ filter (is_waiting whole) old.waiting.items = first_waits ∙ ap (λ xs. xs ++ filter (is_waiting whole) looked) none_is ∙ ap (λ xs. [] ++ filter (is_waiting whole) xs) looked_is in
+    let second_left : waits ≡ waits_mid ++ filter (is_waiting whole) (drop old.count writes) = second_waits ∙ ap (λ xs. waits_mid ++ filter (is_waiting whole) xs) fresh_is in
+    record {
+      stands = further_stands whole starts writes old stands mid new waits_mid waits first_at first_left second_at second_left next count numbers waiting;
+      tells = further_tells whole starts writes old stands mid new waits_mid waits first_at first_left second_at second_left next.numbers numbers;
+    }
 
 -- what is kept of the dword stands, and nothing stands for none
 pub found_stands : (masters : ℕ) (whole : List (OpId × ℕ)) (starts : List (OpId × List ℕ)) (landed : List (Word × List OpId)) (tolds : List (Word × Told)) (word : Word) (found : Option Told) (told : Told)

@@ -12,7 +12,6 @@ use pci_command::OpId;
 
 /// The last write that landed in the dword of the reading before it, and of which the read's master
 /// knew before. A binary search for each author whose writes landed there.
-#[tactic(auto, using(crate::proofs::SearchLemmas::last_none, crate::proofs::SearchLemmas::last_next))]
 pub(crate) fn last_known(ledger: &Ledger, reading: &Reading, read: OpId) -> Option<OpId>
     requires { KnowsAlways ledger.now read }
     ensures { result ≡ last_known ledger.now read None (landed_before ledger.now reading.now) }
@@ -31,11 +30,7 @@ fn last_on(ledger: &Ledger, writes: &[OpId], places: &[usize], read: OpId) -> Op
     requires falls { FallsAlong (λ at. is_known ledger.now read (slice_get writes.now at)) places.now }
     ensures { LastOn (λ at. is_known ledger.now read (slice_get writes.now at)) places.now result }
 {
-    let count = places.partition_point(
-        |at: &usize| -> bool
-            ensures { result ≡ is_known ledger.now read (slice_get writes.now at.now) }
-        { knows_at(ledger, writes, *at, read) },
-    );
+    let count = places.partition_point(|at| knows_at(ledger, writes, *at, read));
     if count == 0 {
         None
     } else {
@@ -100,11 +95,7 @@ fn first_on(
     requires falls { FallsAlong (λ at. not (tells_of ledger.now write (slice_get writes.now at))) places.now }
     ensures { FirstOn (λ at. shows_at ledger.now reading.now write (slice_get writes.now at)) places.now result }
 {
-    let start = places.partition_point(
-        |at: &usize| -> bool
-            ensures { result ≡ not (tells_of ledger.now write (slice_get writes.now at.now)) }
-        { !tells_at(ledger, writes, *at, write) },
-    );
+    let start = places.partition_point(|at| !tells_at(ledger, writes, *at, write));
     let (_, rest) = places.split_at(start);
     first_whole(ledger, reading, writes, rest)
 }
