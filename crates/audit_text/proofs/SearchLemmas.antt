@@ -1,6 +1,7 @@
 -- The last and the first of what landed in a dword, track by track.
 use Rattle.std.proofs.Common.{◌≡◌, ◌<◌, ◌≤◌, ℕ, zero, suc, ◌+◌, ◌-◌, min, max, Bool, true, false, not, ◌&&◌, ◌||◌, ◌⊎◌, inl, inr, cond, eqb, nat_lt, take, drop, length, get_or, slice_get, slice_index_or, List, [], ◌∷◌, Option, Some, None, refl, sym, ap, subst, ◌∙◌, arith}
 use Rattle.std.specs.List.{AllWithin}
+use Rattle.std.specs.List.Sorted.{IsPartitionedBy}
 use Rattle.std.proofs.lemmas.List.{length-take, length-drop, get_or-drop}
 use Rattle.std.proofs.lemmas.Option.{slice_get_past}
 use Rattle.std.proofs.lemmas.Bool.Decides.{nat_tests}
@@ -9,8 +10,8 @@ use Rattle.pci_command.specs.Same.{same_op}
 use Rattle.audit_clocks.specs.Tracks.{in_order_at, place, Rises, track_at, IsOn, Tracked, op_on}
 use Rattle.audit_text.specs.declared.readings.Reading.{Reading}
 use Rattle.audit_text.specs.Notes.{Notes}
-use Rattle.audit_text.specs.Found.{knows_by, landed_whole, shows_it, last_known, first_shown}
-use Rattle.audit_text.specs.Search.{is_known, tells_of, is_whole, shows_at, KnowsEarlier, TellsLater, AreRising, FallsAlong, IsLastOn, LastOn, IsFirstOn, FirstOn, later, earlier}
+use Rattle.audit_text.specs.Found.{knows_by, landed_before, landed_whole, shows_it, last_known, first_shown}
+use Rattle.audit_text.specs.Search.{is_known, tells_of, is_whole, shows_at, KnowsEarlier, TellsLater, TellsAlways, Searchable, writes_at, AreRising, FallsAlong, IsLastOn, LastOn, IsFirstOn, FirstOn, later, earlier}
 
 -- The first operations of a list.
 
@@ -462,3 +463,22 @@ last_landed notes r (v ∷ ws) found w is =
 -- a track that a loop goes over
 pub item_track : (tracks : List (List ℕ)) (n : ℕ) (item places : List ℕ) → n < length tracks → item ≡ get_or tracks n item → places ≡ item → places ≡ track_at tracks n
 item_track tracks n item places within is same = same ∙ is ∙ Rattle.std.proofs.lemmas.List.get_or_default tracks n item [] within
+
+-- what a search along a track asks
+pub parted_by : (test : ℕ → Bool) (places : List ℕ) → FallsAlong test places → IsPartitionedBy test places
+parted_by test places falls = λ i j d order within passed.
+    subst (λ n. test n ≡ true) (Rattle.std.proofs.lemmas.List.get_or_default places i 0 d (omega (arith, order, within)))
+    (falls i j order within (subst (λ n. test n ≡ true) (Rattle.std.proofs.lemmas.List.get_or_default places j d 0 within) passed))
+
+-- the last that is known tells of itself always
+pub last_tells : (notes : Notes) (reading : Reading) (r w : OpId) → Searchable notes → last_known notes r None (landed_before notes reading) ≡ Some w → TellsAlways notes w
+last_tells notes reading r w can is =
+    let all : List OpId = writes_at notes reading in
+    let found = last_landed notes r (take reading.landed all) None w is in
+    elim found [
+      | inl there ↦
+          (let inside : there.0 < length (take reading.landed all) = Rattle.std.proofs.lemmas.Option.slice_get_within (take reading.landed all) there.0 w there.1 in
+          let short : length (take reading.landed all) ≤ reading.landed = rw (length-take reading.landed all) (omega arith) in
+          can.told (Rattle.audit_text.specs.Notes.word_of reading.target reading.space reading.address) there.0 w (sym (get_taken all reading.landed there.0 (omega (arith, inside, short))) ∙ there.1))
+      | inr here ↦ cc
+    ]

@@ -255,3 +255,7 @@ put_stands masters whole starts landed old mid new word told stand takes puts is
           subst (λ w. IsTold masters whole starts (writes_in w landed) other) one (subst (IsTold masters whole starts (writes_in word landed)) this is_told)
       | false ↦ λ _ e. stand q other e
     ]) refl found
+
+pub tells_same : (masters other : ℕ) (whole : List (OpId × ℕ)) (starts : List (OpId × List ℕ)) (writes landed : List OpId) (told numbers : List ℕ) → Tells masters whole starts writes told → masters ≡ other → writes ≡ landed → numbers ≡ told → Tells other whole starts landed numbers
+tells_same masters other whole starts writes landed told numbers tells masters_are writes_are numbers_are =
+    subst (λ m. Tells m whole starts landed numbers) masters_are (subst (λ xs. Tells masters whole starts xs numbers) writes_are (subst (Tells masters whole starts writes) (sym numbers_are) tells))
