@@ -84,11 +84,12 @@ module _ (board : Board) (h : List Event) (e : Event) (index : ℕ) (notes new :
       }
 
   pub tolds_next : ToldsFor (length board.masters) new.whole new.clocks.starts new.landed new.tolds
-  tolds_next word told is = told_on word told (happens.tolds word told is)
+  tolds_next = record { each = λ word told is. told_on word told (happens.tolds.each word told is) }
 
 -- before the first event
 pub tolds_first : (masters : ℕ) (whole : List (OpId × ℕ)) (starts : List (OpId × List ℕ)) (landed : List (Word × List OpId)) (tolds : List (Word × Told)) → tolds ≡ [] → ToldsFor masters whole starts landed tolds
-tolds_first masters whole starts landed tolds is = λ word told found. let none : None ≡ Some told = ap (λ (xs : List (Word × Told)). found_in word xs) (sym is) ∙ found in cc
+tolds_first masters whole starts landed tolds is =
+    record { each = λ word told found. let none : None ≡ Some told = ap (λ (xs : List (Word × Told)). found_in word xs) (sym is) ∙ found in cc }
 
 -- What landed can be searched.
 

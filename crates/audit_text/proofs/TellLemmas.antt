@@ -226,7 +226,7 @@ told_next whole starts writes old stands mid new none waits_mid waits looked fre
 -- what is kept of the dword stands, and nothing stands for none
 pub found_stands : (masters : ℕ) (whole : List (OpId × ℕ)) (starts : List (OpId × List ℕ)) (landed : List (Word × List OpId)) (tolds : List (Word × Told)) (word : Word) (found : Option Told) (told : Told)
     → ToldsFor masters whole starts landed tolds → found ≡ found_in word tolds → ToldFrom masters found told → IsTold masters whole starts (writes_in word landed) told
-found_stands masters whole starts landed tolds word (Some old) told stand found from = subst (IsTold masters whole starts (writes_in word landed)) (sym from) (stand word old (sym found))
+found_stands masters whole starts landed tolds word (Some old) told stand found from = subst (IsTold masters whole starts (writes_in word landed)) (sym from) (stand.each word old (sym found))
 found_stands masters whole starts landed tolds word None told stand found from =
     let none : ℕ → ℕ = λ author. 0 in
     record {
@@ -245,16 +245,20 @@ found_stands masters whole starts landed tolds word None told stand found from =
 -- what is put back stands beside the others
 pub put_stands : (masters : ℕ) (whole : List (OpId × ℕ)) (starts : List (OpId × List ℕ)) (landed : List (Word × List OpId)) (old mid new : List (Word × Told)) (word : Word) (told : Told)
     → ToldsFor masters whole starts landed old → TakesWord word old mid → PutsWord word told mid new → IsTold masters whole starts (writes_in word landed) told → ToldsFor masters whole starts landed new
-put_stands masters whole starts landed old mid new word told stand takes puts is_told = λ q other is.
-    let P : Bool → Type 0 = λ b. same_word word q ≡ b → cond b (Some told) (cond b None (found_in q old)) ≡ Some other → IsTold masters whole starts (writes_in q landed) other in
-    let found : cond (same_word word q) (Some told) (cond (same_word word q) None (found_in q old)) ≡ Some other = ap (λ f. cond (same_word word q) (Some told) f) (sym (takes.each q)) ∙ sym (puts.each q) ∙ is in
-    (elim (same_word word q) as P [
-      | true ↦ λ same e.
-          let one : word ≡ q = same_word_true word q same in
-          let this : told ≡ other = cc in
-          subst (λ w. IsTold masters whole starts (writes_in w landed) other) one (subst (IsTold masters whole starts (writes_in word landed)) this is_told)
-      | false ↦ λ _ e. stand q other e
-    ]) refl found
+put_stands masters whole starts landed old mid new word told stand takes puts is_told =
+    record { each = λ q other is. put q other is }
+  where
+    put : (q : Word) (other : Told) → found_in q new ≡ Some other → IsTold masters whole starts (writes_in q landed) other
+    put q other is =
+        let P : Bool → Type 0 = λ b. same_word word q ≡ b → cond b (Some told) (cond b None (found_in q old)) ≡ Some other → IsTold masters whole starts (writes_in q landed) other in
+        let found : cond (same_word word q) (Some told) (cond (same_word word q) None (found_in q old)) ≡ Some other = ap (λ f. cond (same_word word q) (Some told) f) (sym (takes.each q)) ∙ sym (puts.each q) ∙ is in
+        (elim (same_word word q) as P [
+          | true ↦ λ same e.
+              let one : word ≡ q = same_word_true word q same in
+              let this : told ≡ other = cc in
+              subst (λ w. IsTold masters whole starts (writes_in w landed) other) one (subst (IsTold masters whole starts (writes_in word landed)) this is_told)
+          | false ↦ λ _ e. stand.each q other e
+        ]) refl found
 
 pub tells_same : (masters other : ℕ) (whole : List (OpId × ℕ)) (starts : List (OpId × List ℕ)) (writes landed : List OpId) (told numbers : List ℕ) → Tells masters whole starts writes told → masters ≡ other → writes ≡ landed → numbers ≡ told → Tells other whole starts landed numbers
 tells_same masters other whole starts writes landed told numbers tells masters_are writes_are numbers_are =

@@ -35,8 +35,8 @@ pub record IsTold (masters : ℕ) (whole : List (OpId × ℕ)) (starts : List (O
   pub stands : ToldOf whole starts writes told
 
 -- so it is of each dword of which something is kept
-abbrev pub ToldsFor : ℕ → List (OpId × ℕ) → List (OpId × List ℕ) → List (Word × List OpId) → List (Word × Told) → Type 0
-ToldsFor masters whole starts landed tolds = (word : Word) (told : Told) → found_in word tolds ≡ Some told → IsTold masters whole starts (writes_in word landed) told
+pub record ToldsFor (masters : ℕ) (whole : List (OpId × ℕ)) (starts : List (OpId × List ℕ)) (landed : List (Word × List OpId)) (tolds : List (Word × Told)) : Type 0 where
+  pub each : (word : Word) (told : Told) → found_in word tolds ≡ Some told → IsTold masters whole starts (writes_in word landed) told
 
 -- no landing was looked at
 pub record IsNothing (masters : ℕ) (told : Told) : Type 0 where
