@@ -435,11 +435,11 @@ none_whole notes reading writes places n at rises inside so is beyond = λ a wit
       | true ↦ λ lt. let lower : a < n = grind (arith, nat_tests) in so.fails a lower
       | false ↦ λ ge.
           let past : length writes ≤ place places a = (
-            let Q : Bool → Type 0 = λ c. nat_lt n a ≡ c → length writes ≤ place places a in
-            (elim (nat_lt n a) as Q [
-              | true ↦ λ lt. let before : n < a = grind (arith, nat_tests) in let lower = rises n a before within in omega (arith, lower, is, beyond)
-              | false ↦ λ le. let same : a ≡ n = grind (arith, nat_tests) in let here : place places a ≡ at = ap (λ k. place places k) same ∙ sym is in omega (arith, here, beyond)
-            ]) refl
+          let Q : Bool → Type 0 = λ c. nat_lt n a ≡ c → length writes ≤ place places a in
+          (elim (nat_lt n a) as Q [
+            | true ↦ λ lt. let before : n < a = grind (arith, nat_tests) in let lower = rises n a before within in omega (arith, lower, is, beyond)
+            | false ↦ λ le. let same : a ≡ n = grind (arith, nat_tests) in let here : place places a ≡ at = ap (λ k. place places k) same ∙ sym is in omega (arith, here, beyond)
+          ]) refl
           ) in
           ap (λ found. is_whole notes reading found) (slice_get_past writes (place places a) past)
     ]) refl
