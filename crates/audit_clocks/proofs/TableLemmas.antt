@@ -1,6 +1,5 @@
 -- The equality that is derived for operations and dwords is that of the definitions, and what a table has after a change.
-use Rattle.std.proofs.Common.{◌≡◌, ℕ, Bool, true, false, ◌&&◌, ◌==◌, cond, eqb, eqb-true, List, [], ◌∷◌, ◌++◌, Option, None, Some, refl, sym, ap, subst, ◌∙◌, arith, append-nil}
-use Rattle.std.proofs.lemmas.Bool.Decides.{nat_tests}
+use Rattle.std.proofs.Common.{◌≡◌, ℕ, Bool, true, false, ◌&&◌, ◌==◌, cond, eqb, eqb-true, List, [], ◌∷◌, ◌++◌, Option, None, Some, refl, sym, ap, ◌∙◌, append-nil}
 use Rattle.std.proofs.lemmas.Bool.{and_parts}
 use Rattle.std.specs.Map.{lookup}
 use denote.Enum.Bare.{sameb}
@@ -10,7 +9,7 @@ use Rattle.pci_command.specs.declared.command.Space.TheVariants.{Mem, Io, Cfg}
 use Rattle.pci_command.specs.declared.op_id.OpId.{OpId}
 use Rattle.pci_command.specs.Same.{same_op, same_space}
 use Rattle.audit_clocks.specs.declared.landings.Word.{Word}
-use Rattle.audit_clocks.specs.Tables.{value_of, list_in, same_word, writes_in, found_in, Lands, Puts, TakesWord, PutsWord}
+use Rattle.audit_clocks.specs.Tables.{list_in, same_word, Lands, Puts, TakesWord, PutsWord}
 
 abbrev pub derived_word : Word → Word → Bool
 derived_word a b = eqb a.target b.target && (sameb the_type a.space b.space && eqb a.address b.address)

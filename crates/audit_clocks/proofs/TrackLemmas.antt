@@ -1,12 +1,11 @@
 -- Tracks, one landing more.
-use Rattle.std.proofs.Common.{◌≡◌, ◌≢◌, ◌<◌, ◌≤◌, ℕ, zero, suc, ◌+◌, ◌-◌, Bool, true, false, not, ◌&&◌, ◌==◌, cond, eqb, eqb-true, nat_lt, List, [], ◌∷◌, ◌++◌, length, get_or, slice_get, Option, None, Some, refl, sym, ap, subst, ◌∙◌, arith, length-append}
+use Rattle.std.proofs.Common.{◌≡◌, ◌≢◌, ◌<◌, ◌≤◌, ℕ, zero, suc, ◌+◌, ◌-◌, Bool, true, false, eqb, eqb-true, nat_lt, List, [], ◌∷◌, ◌++◌, length, get_or, slice_get, Option, None, Some, refl, sym, ap, subst, ◌∙◌, arith, length-append}
 use Rattle.std.proofs.lemmas.Bool.Decides.{nat_tests}
 use Rattle.std.proofs.Math.ListN.{set, get_or-append}
-use Rattle.std.proofs.Math.Seq.{get_or-append_right}
 use Rattle.std.proofs.lemmas.List.{get_or-set_same, get_or-set_other, length-set}
-use Rattle.std.proofs.lemmas.Option.{slice_get_past, slice_get-get_or}
+use Rattle.std.proofs.lemmas.Option.{slice_get-get_or}
 use Rattle.pci_command.specs.declared.op_id.OpId.{OpId}
-use Rattle.audit_clocks.specs.Tracks.{in_order, in_order_at, place, Rises, track_at, IsOn, Tracked, op_on, last_on, goes_on}
+use Rattle.audit_clocks.specs.Tracks.{in_order, in_order_at, place, Rises, track_at, IsOn, Tracked, op_on, goes_on}
 
 pub nothing_tracked : (tracks : List (List ℕ)) → tracks ≡ [] → Tracked [] tracks
 nothing_tracked tracks is =

@@ -1,5 +1,4 @@
-use Rattle.std.proofs.Common.{cond, subst, [], ◌∷◌, List}
-use Rattle.pci_command.specs.declared.op_id.OpId.{OpId}
+use Rattle.std.proofs.Common.{cond, subst, [], ◌∷◌}
 use Rattle.audit_clocks.specs.Tables.{same_word, Lands}
 use Rattle.audit_clocks.proofs.TableLemmas.{lands_back}
 use Rattle.audit_clocks.proofs.landings.Landings.land.Goals as goal

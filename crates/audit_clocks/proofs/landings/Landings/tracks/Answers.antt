@@ -1,4 +1,4 @@
-use Rattle.std.proofs.Common.{◌≡◌, subst, refl, [], List, rules}
+use Rattle.std.proofs.Common.{◌≡◌, subst, refl, [], rules}
 use Rattle.audit_clocks.specs.Tables.{writes_in}
 use Rattle.audit_clocks.specs.Tracks.{Tracked}
 use Rattle.audit_clocks.proofs.TrackLemmas.{nothing_tracked}

@@ -1,5 +1,4 @@
-use Rattle.std.proofs.Common.{subst, List}
-use Rattle.audit_clocks.specs.declared.landings.Word.{Word}
+use Rattle.std.proofs.Common.{subst}
 use Rattle.audit_clocks.specs.Tables.{PutsWord}
 use Rattle.audit_clocks.proofs.TableLemmas.{word_puts}
 use Rattle.audit_clocks.proofs.word_table.WordTable.put.Goals as goal

@@ -1,5 +1,4 @@
-use Rattle.std.proofs.Common.{subst, List}
-use Rattle.audit_clocks.specs.declared.landings.Word.{Word}
+use Rattle.std.proofs.Common.{subst}
 use Rattle.audit_clocks.specs.Tables.{TakesWord}
 use Rattle.audit_clocks.proofs.TableLemmas.{word_takes}
 use Rattle.audit_clocks.proofs.word_table.WordTable.take.Goals as goal
