@@ -3,7 +3,7 @@ use Rattle.std.proofs.Common.{◌≡◌, ℕ, ◌+◌, ◌<◌, ◌≤◌, take,
 use Rattle.std.proofs.lemmas.List.{length-reverse, length-take-le, take_more, reverse-append, take-append-drop, map-append}
 use Rattle.std.proofs.lemmas.Grind.{flat_map-append}
 use Rattle.board_model.specs.declared.board.Board.{Board}
-use Rattle.board_printer.specs.Lines.{Line, line_text, text_of}
+use Rattle.board_printer.specs.Lines.{line_text, text_of}
 use Rattle.history_model.specs.declared.event.Event.{Event}
 use Rattle.history_model.specs.Runs.{Run, history_of}
 use Rattle.history_model.specs.Program.{ended}

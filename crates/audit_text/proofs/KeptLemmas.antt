@@ -1,5 +1,5 @@
 -- What is kept of the dwords stands for one event more, and what landed can be searched along the programs of the authors.
-use Rattle.std.proofs.Common.{◌≡◌, ◌<◌, ◌≤◌, ℕ, zero, suc, ◌+◌, max, Bool, true, false, not, ◌&&◌, ◌||◌, ◌==◌, cond, eqb, eqb-true, nat_lt, length, take, map, slice_get, List, [], ◌∷◌, ◌++◌, Option, Some, None, is_some, refl, sym, ap, subst, ◌∙◌, arith, length-append}
+use Rattle.std.proofs.Common.{◌≡◌, ◌<◌, ◌≤◌, ℕ, zero, suc, ◌+◌, max, Bool, true, false, not, ◌||◌, ◌==◌, cond, eqb-true, nat_lt, length, take, map, slice_get, List, [], ◌∷◌, ◌++◌, Option, Some, None, is_some, refl, sym, ap, subst, ◌∙◌, arith, length-append}
 use Rattle.std.specs.List.{AllByRecursion}
 use Rattle.std.proofs.lemmas.List.{take-append-le}
 use Rattle.std.proofs.lemmas.Bool.Decides.{nat_tests}
@@ -13,28 +13,26 @@ use Rattle.board_model.specs.Requests.{op_of, reads}
 use Rattle.board_model.specs.Valid.{IsValid}
 use Rattle.history_model.specs.declared.event.Event.{Event}
 use Rattle.history_model.specs.Words.{Landing, landed}
-use Rattle.history_model.specs.Knowledge.{stands_after, is_write, is_land_of, has_landed}
+use Rattle.history_model.specs.Knowledge.{is_write, is_land_of, has_landed}
 use Rattle.history_model.specs.Runs.{Run}
 use Rattle.history_facts.proofs.RequestLemmas.{same_op_true}
 use Rattle.law_fresh.specs.Aware.{is_behind, knows, aware_of}
 use Rattle.law_fresh.proofs.Laws.{or_either}
-use Rattle.audit_model.specs.Clocks.{clocks_of}
 use Rattle.audit_model.proofs.OwnLemmas.{write_op, same_place}
 use Rattle.audit_model.proofs.StartLemmas.{start_stays}
-use Rattle.audit_model.proofs.OrderLemmas.{earlier_known, KnowsOwn, landings_know}
+use Rattle.audit_model.proofs.OrderLemmas.{earlier_known, landings_know}
 use Rattle.audit_clocks.specs.declared.landings.Word.{Word}
 use Rattle.audit_clocks.specs.Rows.{number, own}
 use Rattle.audit_clocks.specs.Tables.{value_of, numbers_of, writes_in, found_in}
-use Rattle.audit_clocks.specs.Tracks.{in_order, in_order_at}
+use Rattle.audit_clocks.specs.Tracks.{in_order_at}
 use Rattle.audit_text.specs.declared.told.Told.{Told}
 use Rattle.audit_text.specs.Notes.{Notes, or_place, event_hits, Happens}
 use Rattle.audit_text.specs.Told.{told_by, ToldOf, IsTold, ToldsFor}
 use Rattle.audit_text.specs.Found.{knows_by}
-use Rattle.audit_text.specs.Search.{is_known, tells_of, KnowsAlways, TellsAlways, Searchable}
-use Rattle.audit_text.specs.Stands.{StandsFor, op_of_landing, dword, whole_at}
+use Rattle.audit_text.specs.Search.{is_known, tells_of, KnowsAlways, Searchable}
+use Rattle.audit_text.specs.Stands.{StandsFor, op_of_landing, dword}
 use Rattle.audit_text.proofs.ReadLemmas.{whole_has}
-use Rattle.audit_text.proofs.WriteLemmas.{IsOfWrite, landings_write}
-use Rattle.audit_text.proofs.SearchLemmas.{known_write}
+use Rattle.audit_text.proofs.WriteLemmas.{landings_write}
 
 greatest_each : (f g : OpId → ℕ) (xs : List OpId) → AllByRecursion (λ o. f o ≡ g o) xs → greatest f xs ≡ greatest g xs
 greatest_each f g [] alike = refl

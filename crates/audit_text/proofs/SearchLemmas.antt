@@ -1,17 +1,16 @@
 -- The last and the first of what landed in a dword, track by track.
-use Rattle.std.proofs.Common.{◌≡◌, ◌<◌, ◌≤◌, ℕ, zero, suc, ◌+◌, ◌-◌, min, max, Bool, true, false, not, ◌&&◌, ◌||◌, ◌⊎◌, inl, inr, cond, eqb, nat_lt, take, drop, length, get_or, slice_get, slice_index_or, List, [], ◌∷◌, Option, Some, None, refl, sym, ap, subst, ◌∙◌, arith}
+use Rattle.std.proofs.Common.{◌≡◌, ◌<◌, ◌≤◌, ℕ, zero, suc, ◌+◌, ◌-◌, min, max, Bool, true, false, not, ◌&&◌, ◌⊎◌, inl, inr, cond, nat_lt, take, drop, length, get_or, slice_get, List, [], ◌∷◌, Option, Some, None, refl, sym, ap, subst, ◌∙◌, arith}
 use Rattle.std.specs.List.{AllWithin}
 use Rattle.std.specs.List.Sorted.{IsPartitionedBy}
 use Rattle.std.proofs.lemmas.List.{length-take, length-drop, get_or-drop}
 use Rattle.std.proofs.lemmas.Option.{slice_get_past}
 use Rattle.std.proofs.lemmas.Bool.Decides.{nat_tests}
 use Rattle.pci_command.specs.declared.op_id.OpId.{OpId}
-use Rattle.pci_command.specs.Same.{same_op}
-use Rattle.audit_clocks.specs.Tracks.{in_order_at, place, Rises, track_at, IsOn, Tracked, op_on}
+use Rattle.audit_clocks.specs.Tracks.{place, Rises, track_at, IsOn, Tracked, op_on}
 use Rattle.audit_text.specs.declared.readings.Reading.{Reading}
 use Rattle.audit_text.specs.Notes.{Notes}
 use Rattle.audit_text.specs.Found.{knows_by, landed_before, landed_whole, shows_it, last_known, first_shown}
-use Rattle.audit_text.specs.Search.{is_known, tells_of, is_whole, shows_at, KnowsEarlier, TellsLater, TellsAlways, Searchable, writes_at, AreRising, FallsAlong, IsLastOn, LastOn, IsFirstOn, FirstOn, later, earlier}
+use Rattle.audit_text.specs.Search.{is_known, tells_of, is_whole, shows_at, KnowsEarlier, TellsLater, TellsAlways, Searchable, writes_at, AreRising, FallsAlong, LastOn, FirstOn, later, earlier}
 
 -- The first operations of a list.
 

@@ -1,7 +1,7 @@
 -- What the writes tell that landed in a dword, one after the other, and what is kept of it.
-use Rattle.std.proofs.Common.{◌≡◌, ◌<◌, ◌≤◌, ℕ, zero, suc, ◌-◌, max, Bool, true, false, not, cond, List, [], ◌∷◌, ◌++◌, length, take, drop, replicate, filter, Option, Some, None, is_some, refl, sym, ap, subst, ◌∙◌, arith, append_assoc, append-nil}
+use Rattle.std.proofs.Common.{◌≡◌, ◌<◌, ℕ, max, Bool, true, false, not, cond, List, [], ◌∷◌, ◌++◌, length, take, drop, filter, Option, Some, None, is_some, refl, sym, ap, subst, ◌∙◌, arith, append_assoc, append-nil}
 use Rattle.std.specs.List.{AllByRecursion}
-use Rattle.std.proofs.lemmas.List.{length-replicate, get_or-replicate, take-append-drop, take_all, take-append-le}
+use Rattle.std.proofs.lemmas.List.{length-replicate, get_or-replicate, take-append-drop, take_all}
 use Rattle.list_facts.specs.Lists.{greatest}
 use Rattle.list_facts.proofs.EachLemmas.{Each-append}
 use Rattle.pci_command.specs.declared.op_id.OpId.{OpId}
@@ -10,7 +10,7 @@ use Rattle.audit_clocks.specs.Rows.{number, Raises}
 use Rattle.audit_clocks.specs.Tables.{value_of, writes_in, same_word, found_in, TakesWord, PutsWord}
 use Rattle.audit_clocks.proofs.TableLemmas.{same_word_true}
 use Rattle.audit_text.specs.declared.told.Told.{Told}
-use Rattle.audit_text.specs.Told.{told_by, is_waiting, Tells, ToldOf, IsTold, ToldsFor, IsNothing, ToldFrom}
+use Rattle.audit_text.specs.Told.{told_by, is_waiting, Tells, ToldOf, IsTold, ToldsFor, ToldFrom}
 
 -- The greatest of parts of a list.
 

@@ -1,12 +1,10 @@
 -- What an audit notes down of a run, and what each event adds to it.
-use Rattle.std.specs.Prelude.{◌≡◌, ◌<◌, ◌≤◌, ℕ, zero, suc, ◌+◌, ◌*◌, ◌^◌, Bool, true, false, max, min, List, [], ◌∷◌, ◌++◌, length, Option, Some, None, is_some, ◌==◌, ◌&&◌, nat_lt, if◌then◌else◌}
+use Rattle.std.specs.Prelude.{◌≡◌, ◌<◌, ◌≤◌, ℕ, zero, suc, ◌+◌, ◌*◌, ◌^◌, Bool, true, false, min, List, [], ◌∷◌, ◌++◌, length, Option, Some, None, is_some, if◌then◌else◌}
 use Rattle.std.specs.Option.{option_map}
-use Rattle.list_facts.specs.Lists.{greatest}
 use Rattle.pci_command.specs.declared.command.Space.{Space}
 use Rattle.pci_command.specs.declared.op_id.OpId.{OpId}
 use Rattle.pci_command.specs.declared.request.Request.{Request}
 use Rattle.pci_command.specs.Command.{space_of}
-use Rattle.pci_command.specs.Same.{same_op}
 use Rattle.board_model.specs.declared.bridge.Place.{Place}
 use Rattle.board_model.specs.declared.bridge.Place.TheVariants.{Target, Header, Lane, Nobody}
 use Rattle.board_model.specs.declared.board.Board.{Board}
@@ -20,10 +18,9 @@ use Rattle.history_model.specs.declared.event.Event.{Event}
 use Rattle.history_model.specs.declared.event.Event.TheVariants.{Act, Arrive}
 use Rattle.history_model.specs.Program.{Ending, ended}
 use Rattle.history_model.specs.Words.{without, brings, parted_by}
-use Rattle.history_model.specs.Knowledge.{Reading as WordReading, reading_in, reading_by, is_land_of, value_in}
+use Rattle.history_model.specs.Knowledge.{Reading as WordReading, reading_by, is_land_of, value_in}
 use Rattle.audit_clocks.specs.declared.landings.Word.{Word}
-use Rattle.audit_clocks.specs.Rows.{number, own}
-use Rattle.audit_clocks.specs.Tables.{value_of, numbers_of, writes_in, same_word, Lands, Puts}
+use Rattle.audit_clocks.specs.Tables.{value_of, writes_in, same_word, Lands, Puts}
 use Rattle.audit_clocks.specs.Clocks.{ClockState, Presented, Ended}
 use Rattle.audit_text.specs.declared.told.Told.{Told}
 use Rattle.audit_text.specs.Told.{Tells, ToldsFor}

@@ -1,10 +1,10 @@
 -- Why a search along the programs of the authors finds what it looks for.
-use Rattle.std.specs.Prelude.{◌≡◌, ◌<◌, ◌≤◌, ℕ, Bool, true, false, not, List, length, Option, Some, None, ◌||◌, max, min, slice_get}
+use Rattle.std.specs.Prelude.{◌≡◌, ◌<◌, ◌≤◌, ℕ, Bool, true, false, List, length, Option, Some, None, ◌||◌, max, min, slice_get}
 use Rattle.pci_command.specs.declared.op_id.OpId.{OpId}
 use Rattle.pci_command.specs.Same.{same_op}
 use Rattle.audit_clocks.specs.declared.landings.Word.{Word}
 use Rattle.audit_clocks.specs.Tables.{writes_in}
-use Rattle.audit_clocks.specs.Tracks.{in_order_at, place, track_at}
+use Rattle.audit_clocks.specs.Tracks.{in_order_at, place}
 use Rattle.audit_text.specs.declared.readings.Reading.{Reading}
 use Rattle.audit_text.specs.Notes.{Notes, word_of}
 use Rattle.audit_text.specs.Found.{knows_by, landed_whole, shows_it}

@@ -1,4 +1,4 @@
-use Rattle.std.proofs.Common.{rules, of_calls, ◌≡◌, ℕ, Bool, not, slice_get}
+use Rattle.std.proofs.Common.{rules, of_calls, ℕ, Bool, not, slice_get}
 use Rattle.std.proofs.lemmas.Fn.{always_returns_same}
 use Rattle.audit_text.specs.Search.{tells_of}
 use Rattle.audit_text.proofs.SearchLemmas.{point_first, parted_by}

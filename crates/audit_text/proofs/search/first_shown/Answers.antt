@@ -1,8 +1,7 @@
-use Rattle.std.proofs.Common.{◌≡◌, ℕ, ◌+◌, Bool, not, List, slice_get, take, sym, ap, subst, ◌∙◌}
-use Rattle.audit_clocks.specs.Tracks.{Rises, track_at}
-use Rattle.audit_text.specs.Notes.{Notes}
-use Rattle.audit_text.specs.Found.{landed_before, first_shown}
-use Rattle.audit_text.specs.Search.{tells_of, shows_at, writes_at, AreRising, FallsAlong, FirstOn, earlier}
+use Rattle.std.proofs.Common.{ℕ, ◌+◌, Bool, not, slice_get, sym, ap, subst, ◌∙◌}
+use Rattle.audit_clocks.specs.Tracks.{track_at}
+use Rattle.audit_text.specs.Found.{first_shown}
+use Rattle.audit_text.specs.Search.{tells_of, shows_at, writes_at, AreRising, FallsAlong, FirstOn}
 use Rattle.audit_text.proofs.SearchLemmas.{FirstOf, nothing_of, first_of_more, first_found_on, rising, falls_told, item_track}
 use Rattle.audit_text.proofs.search.first_shown.Goals as goal
 

@@ -1,8 +1,7 @@
-use Rattle.std.proofs.Common.{◌≡◌, ℕ, ◌+◌, Bool, List, None, slice_get, take, sym, ap, subst, ◌∙◌}
-use Rattle.audit_clocks.specs.Tracks.{Rises, track_at}
-use Rattle.audit_text.specs.Notes.{Notes}
-use Rattle.audit_text.specs.Found.{landed_before, last_known}
-use Rattle.audit_text.specs.Search.{is_known, writes_at, AreRising, FallsAlong, LastOn, later}
+use Rattle.std.proofs.Common.{ℕ, ◌+◌, Bool, None, slice_get, sym, ap, subst, ◌∙◌}
+use Rattle.audit_clocks.specs.Tracks.{track_at}
+use Rattle.audit_text.specs.Found.{last_known}
+use Rattle.audit_text.specs.Search.{is_known, writes_at, AreRising, FallsAlong, LastOn}
 use Rattle.audit_text.proofs.SearchLemmas.{LastOf, nothing_of, last_of_more, last_found_on, rising, falls_known, item_track}
 use Rattle.audit_text.proofs.search.last_known.Goals as goal
 

@@ -1,4 +1,4 @@
-use Rattle.std.proofs.Common.{rules, of_calls, ◌≡◌, ℕ, Bool, slice_get, refl, arith}
+use Rattle.std.proofs.Common.{rules, of_calls, ℕ, Bool, slice_get, refl, arith}
 use Rattle.std.proofs.lemmas.Fn.{always_returns_same}
 use Rattle.audit_text.specs.Search.{is_known}
 use Rattle.audit_text.proofs.SearchLemmas.{point_none, point_last, parted_by}
