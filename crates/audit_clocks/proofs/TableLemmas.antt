@@ -1,6 +1,5 @@
 -- The equality that is derived for operations and dwords is that of the definitions, and what a table has after a change.
-use Rattle.std.proofs.Common.{◌≡◌, ℕ, Bool, true, false, ◌&&◌, ◌==◌, cond, eqb, eqb-true, List, [], ◌∷◌, ◌++◌, Option, None, Some, refl, sym, ap, subst, ◌∙◌, arith, append-nil}
-use Rattle.std.proofs.lemmas.Bool.Decides.{nat_tests}
+use Rattle.std.proofs.Common.{◌≡◌, ℕ, Bool, true, false, ◌&&◌, ◌==◌, cond, eqb, eqb-true, List, [], ◌∷◌, ◌++◌, Option, None, Some, refl, sym, ap, ◌∙◌, append-nil}
 use Rattle.std.proofs.lemmas.Bool.{and_parts}
 use Rattle.std.specs.Map.{lookup}
 use denote.Enum.Bare.{sameb}
@@ -10,7 +9,7 @@ use Rattle.pci_command.specs.declared.command.Space.TheVariants.{Mem, Io, Cfg}
 use Rattle.pci_command.specs.declared.op_id.OpId.{OpId}
 use Rattle.pci_command.specs.Same.{same_op, same_space}
 use Rattle.audit_clocks.specs.declared.landings.Word.{Word}
-use Rattle.audit_clocks.specs.Tables.{value_of, list_in, same_word, writes_in, Lands, Puts}
+use Rattle.audit_clocks.specs.Tables.{list_in, same_word, Lands, Puts, TakesWord, PutsWord}
 
 abbrev pub derived_word : Word → Word → Bool
 derived_word a b = eqb a.target b.target && (sameb the_type a.space b.space && eqb a.address b.address)
@@ -69,7 +68,7 @@ same_space_true Cfg Mem is = cc
 same_space_true Cfg Io is = cc
 same_space_true Cfg Cfg is = refl
 
-same_word_true : (a b : Word) → same_word a b ≡ true → a ≡ b
+pub same_word_true : (a b : Word) → same_word a b ≡ true → a ≡ b
 same_word_true a b is =
     let built : ℕ → Space → ℕ → Word = λ target space address. record { target = target; space = space; address = address } in
     let parts = and_parts (a.target == b.target && same_space a.space b.space) (a.address == b.address) is in
@@ -104,4 +103,26 @@ lands_back word op old mid new found row longer found_is row_is longer_is out ba
                 longer_is ∙ ap (λ xs. xs ++ op ∷ []) (row_is ∙ ap list_in found_q)
             | false ↦ λ _. sym (append-nil (list_in was))
           ]) refl;
+    }
+
+-- after the value of a dword was taken, or put
+word_agrees : {V : Type 0} (q : Word) (es : List (Word × V)) → lookup (derived_word q) es ≡ lookup (same_word q) es
+word_agrees q es = lookup_agree (derived_word q) (same_word q) (derived_word_same q) es
+
+pub word_takes : {V : Type 0} (word : Word) (old new : List (Word × V)) → ((q : Word) → lookup (derived_word q) new ≡ cond (derived_word word q) None (lookup (derived_word q) old)) → TakesWord word old new
+word_takes {V} word old new is =
+    record {
+      each = λ q.
+          sym (word_agrees q new) ∙ is q
+          ∙ ap (λ (b : Bool). cond b None (lookup (derived_word q) old)) (derived_word_same word q)
+          ∙ ap (λ (r : Option V). cond (same_word word q) None r) (word_agrees q old);
+    }
+
+pub word_puts : {V : Type 0} (word : Word) (value : V) (old new : List (Word × V)) → ((q : Word) → lookup (derived_word q) new ≡ cond (derived_word word q) (Some value) (lookup (derived_word q) old)) → PutsWord word value old new
+word_puts {V} word value old new is =
+    record {
+      each = λ q.
+          sym (word_agrees q new) ∙ is q
+          ∙ ap (λ (b : Bool). cond b (Some value) (lookup (derived_word q) old)) (derived_word_same word q)
+          ∙ ap (λ (r : Option V). cond (same_word word q) (Some value) r) (word_agrees q old);
     }

@@ -1,5 +1,5 @@
 -- What is kept of what each master knows, and what each step makes of it.
-use Rattle.std.specs.Prelude.{◌≡◌, ◌<◌, ℕ, Bool, false, max, List, [], ◌∷◌, map, length, Option, Some, None, ◌==◌, get_or, nat_lt, if◌then◌else◌}
+use Rattle.std.specs.Prelude.{◌≡◌, ◌<◌, ℕ, Bool, false, max, List, [], map, length, Option, None, ◌==◌, get_or, if◌then◌else◌}
 use Rattle.pci_command.specs.declared.op_id.OpId.{OpId}
 use Rattle.audit_clocks.specs.Rows.{number, own, row, reached, since_in}
 use Rattle.audit_clocks.specs.Tables.{value_of, list_in, Puts}

@@ -31,3 +31,15 @@ pub record Lands (old new : List (Word × List OpId)) (more : Word → List OpId
 -- an operation has this value, and each other has its own
 pub record Puts {V : Type 0} (o : OpId) (value : V) (old new : List (OpId × V)) : Type 0 where
   pub each : (q : OpId) → value_of q new ≡ (if same_op o q then Some value else value_of q old)
+
+-- the value of a dword, where it has one
+abbrev pub found_in : {V : Type 0} → Word → List (Word × V) → Option V
+found_in word entries = lookup (same_word word) entries
+
+-- a dword has no value, and each other has its own
+pub record TakesWord {V : Type 0} (word : Word) (old new : List (Word × V)) : Type 0 where
+  pub each : (q : Word) → found_in q new ≡ (if same_word word q then None else found_in q old)
+
+-- a dword has this value, and each other has its own
+pub record PutsWord {V : Type 0} (word : Word) (value : V) (old new : List (Word × V)) : Type 0 where
+  pub each : (q : Word) → found_in q new ≡ (if same_word word q then Some value else found_in q old)

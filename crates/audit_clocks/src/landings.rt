@@ -1,7 +1,7 @@
 ghost use Rattle.std.specs.Prelude.{◌≡◌};
 ghost use Rattle.audit_clocks.specs.Tables.{list_in};
 
-use crate::row::Row;
+use crate::landed::{Landed, Track};
 use pci_command::{NoMemory, OpId, Space};
 use std::alloc::Global;
 use std::collections::HashMap;
@@ -20,7 +20,7 @@ pub struct Word {
 /// The writes of the data phases that landed in each dword, in their order.
 #[derive(Debug, Drop)]
 pub struct Landings {
-    words: HashMap<Word, Row>,
+    words: HashMap<Word, Landed>,
 }
 
 impl Model for Landings {
@@ -36,6 +36,7 @@ impl Model for Landings {
 impl Landings {
     ghost use Rattle.std.specs.Prelude.{OnOk, if◌then◌else◌, [], ◌∷◌};
     ghost use Rattle.audit_clocks.specs.Tables.{writes_in, same_word, Lands};
+    ghost use Rattle.audit_clocks.specs.Tracks.{Tracked};
     ghost use Rattle.audit_clocks.specs.declared.landings.Word.{Word};
 
     /// Nothing landed.
@@ -52,7 +53,17 @@ impl Landings {
         ensures { result.now ≡ writes_in word self.now }
     {
         match self.words.get(&word) {
-            Some(row) => row.as_slice(),
+            Some(landed) => landed.as_slice(),
+            None => &[],
+        }
+    }
+
+    /// The places of what landed in the dword, along the programs of the authors.
+    pub fn tracks(&self, word: Word) -> &[Track]
+        ensures { Tracked (writes_in word self.now) result.now }
+    {
+        match self.words.get(&word) {
+            Some(landed) => landed.tracks(),
             None => &[],
         }
     }
@@ -62,18 +73,17 @@ impl Landings {
         ensures { OnOk result (Lands self.old self.new (λ q. if same_word word q then op ∷ [] else [])) }
     {
         let found = self.words.remove(&word);
-        let mut row = row_or_new(alloc, found);
-        row.push(op)?;
-        self.words.insert(word, row)?;
+        let landed = landed_or_new(alloc, found).with(alloc, op)?;
+        self.words.insert(word, landed)?;
         Ok(())
     }
 }
 
-fn row_or_new(alloc: Global, row: Option<Row>) -> Row
-    ensures { result ≡ list_in row }
+fn landed_or_new(alloc: Global, landed: Option<Landed>) -> Landed
+    ensures { result ≡ list_in landed }
 {
-    match row {
-        Some(row) => row,
-        None => Row::new(alloc),
+    match landed {
+        Some(landed) => landed,
+        None => Landed::new(alloc),
     }
 }

@@ -47,6 +47,14 @@ impl Numbers {
         Numbers { counts }
     }
 
+    /// The same again.
+    pub fn copied(&self, alloc: Global) -> Result<Numbers, NoMemory>
+        ensures { IfOk result (λ numbers. numbers ≡ self.now) }
+    {
+        let counts = self.counts.iter().copied().collect(alloc)?;
+        Ok(Numbers { counts })
+    }
+
     /// That of the author; 0 where there is none.
     pub fn of(&self, author: usize) -> usize
         ensures { result ≡ number self.now author }

@@ -46,21 +46,6 @@ impl Row {
         self.ops.as_slice().get(place).copied()
     }
 
-    /// All of them.
-    pub fn as_slice(&self) -> &[OpId]
-        ensures { result.now ≡ self.now }
-    {
-        self.ops.as_slice()
-    }
-
-    /// One more at the end.
-    pub fn push(&mut self, op: OpId) -> Result<(), NoMemory>
-        ensures { OnOk result (self.new ≡ self.old ++ op ∷ []) }
-    {
-        self.ops.push(op)?;
-        Ok(())
-    }
-
     /// The operation stands at each place up to so many that has none.
     #[tactic(auto, using(crate::proofs::RowLemmas::resized))]
     pub fn reach(&mut self, op: OpId, count: usize) -> Result<(), NoMemory>

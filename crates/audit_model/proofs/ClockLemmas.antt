@@ -116,15 +116,15 @@ module _ (board : Board) (valid : IsValid board) (w : OpId) (write : WriteOp boa
       ]) refl
 
   -- what an operation knew as its master presented it
-  record Starts (h : List Event) (q : OpId) : Type 0 where
-    begun : Begun board h q
-    law : (knows (aware_of board w h) q || same_op q w) ≡ (reaches ((clocks_of board h).start q) w || reaches (own q) w)
+  pub record Starts (h : List Event) (q : OpId) : Type 0 where
+    pub begun : Begun board h q
+    pub law : (knows (aware_of board w h) q || same_op q w) ≡ (reaches ((clocks_of board h).start q) w || reaches (own q) w)
 
-  record Law (h : List Event) : Type 0 where
-    known : (master : ℕ) → is_some ((aware_of board w h).since master) ≡ reaches ((clocks_of board h).known master) w
-    taught : (o : OpId) → (aware_of board w h).taught o ≡ reaches ((clocks_of board h).taught o) w
-    items : WorldHas (Names (Starts h)) (world_of board h)
-    landings : (word : Dword) → AllByRecursion (λ (l : Landing). Starts h l.op) (landed board h word)
+  pub record Law (h : List Event) : Type 0 where
+    pub known : (master : ℕ) → is_some ((aware_of board w h).since master) ≡ reaches ((clocks_of board h).known master) w
+    pub taught : (o : OpId) → (aware_of board w h).taught o ≡ reaches ((clocks_of board h).taught o) w
+    pub items : WorldHas (Names (Starts h)) (world_of board h)
+    pub landings : (word : Dword) → AllByRecursion (λ (l : Landing). Starts h l.op) (landed board h word)
 
   -- as a master presents an operation
   presented_starts : (on : ℕ) (o : OpId) (step : Step) (place : Place) (h : List Event) → Run board (Act on Master o step place ∷ h) → Law h → Starts (Act on Master o step place ∷ h) o
@@ -265,7 +265,7 @@ module _ (board : Board) (valid : IsValid board) (w : OpId) (write : WriteOp boa
         | Some ending ↦ λ is. ending_law h master taught clock ending run.1 (ends_turn board e h ending run is) (λ o. taught_law e h o old) old
       ]) refl
 
-  Law-run : (h : List Event) → Run board h → Law h
+  pub Law-run : (h : List Event) → Run board h → Law h
   Law-run [] run = record { known = λ master. sym (lt_none w.index); taught = λ o. sym (lt_none w.index); items = λ lane. (tt, tt); landings = λ word. tt }
   Law-run (e ∷ h) run =
       let old : Law h = Law-run h run.1 in

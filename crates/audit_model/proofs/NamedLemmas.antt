@@ -78,7 +78,7 @@ module _ (board : Board) (h : List Event) (P Q : OpId → Type 0) (kept : (q : O
     Each-weaker (Names P) (Names Q) (names_weaker P Q kept) (world_of board h lane).standing (old lane).1,
   )
 
-  presents_named : (on : ℕ) (by : By) (o : OpId) (step : Step) (place : Place) → Run board (Act on by o step place ∷ h) → Entry Q (Act on by o step place) → Q o
+  pub presents_named : (on : ℕ) (by : By) (o : OpId) (step : Step) (place : Place) → Run board (Act on by o step place ∷ h) → Entry Q (Act on by o step place) → Q o
   presents_named on Master o step place run entry = entry
   presents_named on (ByLane k) o step place run entry =
       let here = (presented_at board h on k o run.0.0).1 in

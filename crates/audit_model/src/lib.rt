@@ -3,13 +3,13 @@
 //! came to know of it. The laws are the contracts of functions that do nothing.
 #![tactic(auto)]
 
-ghost use Rattle.std.specs.Prelude.{◌≡◌, ℕ, true, List, Some, None, is_some};
+ghost use Rattle.std.specs.Prelude.{◌≡◌, ◌≤◌, ℕ, true, List, ◌∷◌, Some, None, is_some};
 ghost use Rattle.board_model.specs.declared.board.Board.{Board};
 ghost use Rattle.board_model.specs.Valid.{IsValid};
 ghost use Rattle.history_model.specs.declared.event.Event.{Event};
 ghost use Rattle.history_model.specs.Runs.{Run};
-ghost use Rattle.history_model.specs.Knowledge.{is_write};
-ghost use Rattle.law_fresh.specs.Aware.{aware_of};
+ghost use Rattle.history_model.specs.Knowledge.{has_landed, is_write};
+ghost use Rattle.law_fresh.specs.Aware.{aware_of, knows};
 ghost use Rattle.audit_model.specs.Clocks.{reaches, clocks_of};
 ghost use Rattle.pci_command.specs.declared.op_id.OpId.{OpId};
 ghost use Rattle.history_model.specs.Runs.{history_of};
@@ -35,4 +35,15 @@ pub fn one_word()
 /// master knows of a write exactly where its number for the write's master is above the write's index.
 pub fn clocks()
     ensures { (board : Board) (h : List Event) (w : OpId) (master : ℕ) → IsValid board → Run board h → is_write board w ≡ true → is_some ((aware_of board w h).since master) ≡ reaches ((clocks_of board h).known master) w }
+{}
+
+/// What a write tells is settled as it lands: what its author knew as it presented the write stays
+/// the same at each event behind that.
+pub fn landed_starts_stay()
+    ensures { (board : Board) (e : Event) (h : List Event) (w : OpId) (author : ℕ) → Run board (e ∷ h) → has_landed h w ≡ true → (clocks_of board (e ∷ h)).start w author ≡ (clocks_of board h).start w author }
+{}
+
+/// An operation that knows of a write knows of each write before it in its author's program.
+pub fn earlier_is_known()
+    ensures { (board : Board) (h : List Event) (w v : OpId) (r : OpId) → IsValid board → Run board h → is_write board w ≡ true → is_write board v ≡ true → w.master ≡ v.master → w.index ≤ v.index → knows (aware_of board v h) r ≡ true → knows (aware_of board w h) r ≡ true }
 {}

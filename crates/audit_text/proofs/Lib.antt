@@ -7,3 +7,5 @@ pub mod LineLemmas
 pub mod FoundLemmas
 pub mod AuditLemmas
 pub mod TellLemmas
+pub mod SearchLemmas
+pub mod KeptLemmas

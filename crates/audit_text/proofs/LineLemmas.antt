@@ -1,7 +1,5 @@
 -- The words of a line, part by part.
-use Rattle.std.proofs.Common.{◌≡◌, ℕ, List, [], ◌∷◌, ◌++◌, map, refl, sym, ap, ◌∙◌, append_assoc}
-use Rattle.pci_command.specs.declared.op_id.OpId.{OpId}
-use Rattle.board_model.specs.declared.board.Board.{Board}
+use Rattle.std.proofs.Common.{◌≡◌, ℕ, List, [], ◌∷◌, ◌++◌, sym, ap, ◌∙◌, append_assoc}
 use Rattle.board_printer.specs.Lines.{Line, spaced, line_text}
 use Rattle.board_printer.proofs.LineLemmas.{spaced-rest, spaced-append}
 

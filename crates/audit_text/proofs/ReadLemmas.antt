@@ -1,5 +1,5 @@
 -- What was read, and what a read got, as it is noted down.
-use Rattle.std.proofs.Common.{◌≡◌, ◌<◌, ◌≤◌, ◌||◌, ℕ, ◌+◌, max, Bool, true, false, cond, length, map, List, [], ◌∷◌, ◌++◌, Option, Some, None, is_some, refl, sym, ap, subst, ◌∙◌, arith}
+use Rattle.std.proofs.Common.{◌≡◌, ◌<◌, ◌||◌, ℕ, max, Bool, true, false, cond, length, map, List, [], ◌∷◌, Option, Some, None, is_some, refl, sym, ap, subst, ◌∙◌}
 use Rattle.std.specs.Option.{option_map}
 use Rattle.std.proofs.lemmas.List.{length-map}
 use Rattle.list_facts.specs.Lists.{greatest}
@@ -24,9 +24,8 @@ use Rattle.audit_clocks.specs.Rows.{number, own}
 use Rattle.audit_clocks.specs.Tables.{value_of, numbers_of, writes_in}
 use Rattle.audit_clocks.specs.Clocks.{ClockState}
 use Rattle.audit_text.specs.declared.readings.Reading.{Reading}
-use Rattle.audit_text.specs.declared.readings.Read.{Read as ReadAt}
-use Rattle.audit_text.specs.declared.ends.Ended.{Ended as EndedOp}
-use Rattle.audit_text.specs.Notes.{Notes, flat, or_place, read_of, word_read, read_in, told_by, Tells, ReadSo, Reads, Gets, EndsSo, Ends, ended_of}
+use Rattle.audit_text.specs.Notes.{Notes, flat, or_place, read_of, word_read, read_in, ReadSo, Reads, Gets, EndsSo, Ends, ended_of}
+use Rattle.audit_text.specs.Told.{told_by}
 use Rattle.audit_text.specs.Stands.{StandsFor, op_of_landing, reading_as, whole_at}
 
 -- the history before does not matter to what an event reads

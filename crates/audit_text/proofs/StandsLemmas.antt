@@ -1,5 +1,5 @@
 -- What is noted down stands for one event more.
-use Rattle.std.proofs.Common.{◌≡◌, ◌<◌, ◌≤◌, ℕ, zero, suc, ◌+◌, ◌-◌, ◌*◌, ◌^◌, min, max, Bool, true, false, ◌&&◌, ◌==◌, cond, eqb, eqb-true, nat_lt, length, map, replicate, get_or, slice_get, List, [], ◌∷◌, ◌++◌, Option, Some, None, is_some, refl, sym, ap, subst, ◌∙◌, arith, length-append}
+use Rattle.std.proofs.Common.{◌≡◌, ◌<◌, ◌≤◌, ℕ, zero, suc, ◌+◌, ◌-◌, ◌^◌, max, Bool, true, false, ◌&&◌, ◌==◌, cond, eqb, eqb-true, nat_lt, length, map, replicate, slice_get, List, [], ◌∷◌, ◌++◌, Option, Some, None, is_some, refl, sym, ap, subst, ◌∙◌, arith, length-append}
 use Rattle.std.specs.Option.{option_map}
 use Rattle.std.proofs.Math.ListN.{get_or-map, get_or-append, get_or-eq_default}
 use Rattle.std.proofs.Math.Seq.{get_or-append_right}
@@ -12,13 +12,12 @@ use Rattle.board_model.specs.declared.board.Board.{Board}
 use Rattle.board_model.specs.declared.bridge.Place.{Place}
 use Rattle.board_model.specs.Requests.{op_of}
 use Rattle.board_model.specs.Valid.{IsValid}
-use Rattle.history_model.specs.declared.event.By.{By}
 use Rattle.history_model.specs.declared.event.By.TheVariants.{Master, Lane as ByLane}
 use Rattle.history_model.specs.declared.event.Step.{Step}
 use Rattle.history_model.specs.declared.event.Event.{Event}
 use Rattle.history_model.specs.declared.event.Event.TheVariants.{Act, Arrive}
 use Rattle.history_model.specs.Program.{Ending, ended, turn_of}
-use Rattle.history_model.specs.Words.{Landing, through, parted_by, landed, brought}
+use Rattle.history_model.specs.Words.{through, landed, brought}
 use Rattle.history_model.specs.Knowledge.{value_in, is_write, last_reading}
 use Rattle.history_model.specs.Runs.{Run}
 use Rattle.history_facts.proofs.WantsLemmas.{wants-turn}
@@ -26,14 +25,14 @@ use Rattle.audit_model.proofs.OwnLemmas.{turn_is_there}
 use Rattle.law_reads.proofs.Laws.{master_there}
 use Rattle.law_fresh.specs.Aware.{brings, first_known, aware_of}
 use Rattle.law_fresh.proofs.Laws.{ends_turn}
-use Rattle.audit_model.specs.Clocks.{Clocks, clocks_of, clocks_after, known_after, start_after, value_tells, reaches}
+use Rattle.audit_model.specs.Clocks.{Clocks, clocks_of, known_after, value_tells}
 use Rattle.audit_model.proofs.ClockLemmas.{known_reaches}
 use Rattle.audit_clocks.specs.Rows.{number, own, row, reached}
-use Rattle.audit_clocks.specs.Tables.{value_of, numbers_of, list_in, writes_in}
+use Rattle.audit_clocks.specs.Tables.{value_of, numbers_of, list_in}
 use Rattle.audit_clocks.specs.Clocks.{ClockState, Presented, Ended, known_at, since_at, told_at}
 use Rattle.audit_text.specs.declared.readings.Reading.{Reading}
 use Rattle.audit_text.specs.Notes.{Notes, few_of, count_of, or_place, Presents, EndsSo, Ends, ended_of, Happens}
-use Rattle.audit_text.specs.Stands.{StandsFor, op_of_landing, dword, whole_at}
+use Rattle.audit_text.specs.Stands.{StandsFor, op_of_landing, dword}
 use Rattle.audit_text.proofs.HitLemmas.{event_hit}
 use Rattle.audit_text.proofs.ReadLemmas.{AfterRead, event_read, event_got}
 
@@ -328,11 +327,11 @@ module _ (board : Board) (valid : IsValid board) (h : List Event) (notes : Notes
 
 -- before the first event
 pub stands_first : (board : Board) (notes : Notes)
-    → notes ≡ record { gone = []; landed = []; whole = []; readings = []; gots = []; clocks = record { known = replicate (length board.masters) (replicate (length board.masters) []); starts = []; taught = [] } } → StandsFor board [] notes
+    → notes ≡ record { gone = []; landed = []; whole = []; readings = []; gots = []; clocks = record { known = replicate (length board.masters) (replicate (length board.masters) []); starts = []; taught = [] }; tolds = [] } → StandsFor board [] notes
 stands_first board notes is =
     let M : ℕ = length board.masters in
     let none : List (List OpId) = replicate M [] in
-    let first : Notes = record { gone = []; landed = []; whole = []; readings = []; gots = []; clocks = record { known = replicate M none; starts = []; taught = [] } } in
+    let first : Notes = record { gone = []; landed = []; whole = []; readings = []; gots = []; clocks = record { known = replicate M none; starts = []; taught = [] }; tolds = [] } in
     let rows : (master : ℕ) → master < M → known_at (replicate M none) master ≡ none = λ master within. get_or-replicate M master none [] within in
     subst (StandsFor board []) (sym is) (record {
       gone = λ o. refl;

@@ -1,5 +1,5 @@
 -- What lands is of writes.
-use Rattle.std.proofs.Common.{◌≡◌, ℕ, Bool, true, false, not, ◌&&◌, ◌==◌, cond, List, [], ◌∷◌, ◌++◌, Option, Some, None, is_some, refl, sym, ap, subst, ◌∙◌}
+use Rattle.std.proofs.Common.{◌≡◌, ℕ, Bool, true, false, ◌==◌, cond, List, [], ◌∷◌, refl, sym, ap, subst}
 use Rattle.std.specs.List.{AllByRecursion}
 use Rattle.list_facts.proofs.EachLemmas.{Each-weaker, Each-append}
 use Rattle.pci_command.specs.declared.command.Command.TheVariants.{MemWrite}
@@ -9,7 +9,7 @@ use Rattle.pci_command.specs.Same.{same_command}
 use Rattle.board_model.specs.declared.bridge.Place.{Place}
 use Rattle.board_model.specs.declared.bridge.Place.TheVariants.{Target, Header, Lane, Nobody}
 use Rattle.board_model.specs.declared.board.Board.{Board}
-use Rattle.board_model.specs.Requests.{op_of, command_of, request_on, request_of, reads}
+use Rattle.board_model.specs.Requests.{command_of, request_on, request_of, reads}
 use Rattle.board_model.specs.Claims.{claim}
 use Rattle.board_model.specs.Ways.{Dword, is_lane}
 use Rattle.board_model.specs.Valid.{IsValid}

@@ -1,5 +1,5 @@
 -- The findings of a run, by what was noted down of it.
-use Rattle.std.specs.Prelude.{ℕ, zero, suc, Bool, false, List, [], ◌∷◌, ◌++◌, length, take, Option, Some, None, is_some, nat_lt, ◌&&◌, ◌||◌, if◌then◌else◌}
+use Rattle.std.specs.Prelude.{ℕ, zero, suc, Bool, false, List, [], ◌∷◌, take, Option, Some, None, nat_lt, ◌&&◌, ◌||◌, if◌then◌else◌}
 use Rattle.pci_command.specs.declared.op_id.OpId.{OpId}
 use Rattle.pci_command.specs.Same.{same_op}
 use Rattle.law_fresh.specs.Aware.{is_behind}

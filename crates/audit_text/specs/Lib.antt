@@ -1,4 +1,6 @@
+pub mod Told
 pub mod Notes
 pub mod Lines
 pub mod Found
 pub mod Stands
+pub mod Search

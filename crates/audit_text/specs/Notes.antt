@@ -1,12 +1,10 @@
 -- What an audit notes down of a run, and what each event adds to it.
-use Rattle.std.specs.Prelude.{◌≡◌, ◌<◌, ◌≤◌, ℕ, zero, suc, ◌+◌, ◌*◌, ◌^◌, Bool, true, false, max, min, List, [], ◌∷◌, ◌++◌, length, Option, Some, None, is_some, ◌==◌, ◌&&◌, nat_lt, if◌then◌else◌}
+use Rattle.std.specs.Prelude.{◌≡◌, ◌<◌, ◌≤◌, ℕ, zero, suc, ◌+◌, ◌*◌, ◌^◌, Bool, true, false, min, List, [], ◌∷◌, ◌++◌, length, Option, Some, None, is_some, if◌then◌else◌}
 use Rattle.std.specs.Option.{option_map}
-use Rattle.list_facts.specs.Lists.{greatest}
 use Rattle.pci_command.specs.declared.command.Space.{Space}
 use Rattle.pci_command.specs.declared.op_id.OpId.{OpId}
 use Rattle.pci_command.specs.declared.request.Request.{Request}
 use Rattle.pci_command.specs.Command.{space_of}
-use Rattle.pci_command.specs.Same.{same_op}
 use Rattle.board_model.specs.declared.bridge.Place.{Place}
 use Rattle.board_model.specs.declared.bridge.Place.TheVariants.{Target, Header, Lane, Nobody}
 use Rattle.board_model.specs.declared.board.Board.{Board}
@@ -20,11 +18,12 @@ use Rattle.history_model.specs.declared.event.Event.{Event}
 use Rattle.history_model.specs.declared.event.Event.TheVariants.{Act, Arrive}
 use Rattle.history_model.specs.Program.{Ending, ended}
 use Rattle.history_model.specs.Words.{without, brings, parted_by}
-use Rattle.history_model.specs.Knowledge.{Reading as WordReading, reading_in, reading_by, is_land_of, value_in}
+use Rattle.history_model.specs.Knowledge.{Reading as WordReading, reading_by, is_land_of, value_in}
 use Rattle.audit_clocks.specs.declared.landings.Word.{Word}
-use Rattle.audit_clocks.specs.Rows.{number, own}
-use Rattle.audit_clocks.specs.Tables.{value_of, numbers_of, writes_in, same_word, Lands, Puts}
+use Rattle.audit_clocks.specs.Tables.{value_of, writes_in, same_word, Lands, Puts}
 use Rattle.audit_clocks.specs.Clocks.{ClockState, Presented, Ended}
+use Rattle.audit_text.specs.declared.told.Told.{Told}
+use Rattle.audit_text.specs.Told.{Tells, ToldsFor}
 use Rattle.audit_text.specs.declared.readings.Reading.{Reading}
 use Rattle.audit_text.specs.declared.readings.Read.{Read as ReadAt}
 use Rattle.audit_text.specs.declared.ends.Ended.{Ended as EndedOp}
@@ -42,6 +41,8 @@ pub record Notes : Type 0 where
   pub gots : List (OpId × Option Reading)
   -- what each master knows
   pub clocks : ClockState
+  -- what the landings of each dword tell that were looked at
+  pub tolds : List (Word × Told)
 
 -- what is there, of what may be there
 abbrev pub flat : {X : Type 0} → Option (Option X) → Option X
@@ -135,15 +136,6 @@ abbrev pub read_in : Board → Event → Option ReadAt
 read_in board (Act on by o step place) = option_map (read_of o) (reading_by board [] on o step place)
 read_in board (Arrive lane mark) = None
 
--- what a write that landed whole tells of an author
-abbrev pub told_by : List (OpId × ℕ) → List (OpId × List ℕ) → ℕ → OpId → ℕ
-told_by whole starts author o = if is_some (value_of o whole) then max (number (numbers_of o starts) author) (own o author) else 0
-
--- what the writes tell that landed in a dword
-pub record Tells (masters : ℕ) (whole : List (OpId × ℕ)) (starts : List (OpId × List ℕ)) (writes : List OpId) (told : List ℕ) : Type 0 where
-  pub authors : length told ≡ masters
-  pub each : (author : ℕ) → author < masters → number told author ≡ greatest (told_by whole starts author) writes
-
 -- the reading of an operation after so many events, and what it was told
 pub record ReadSo (masters index : ℕ) (landed : List (Word × List OpId)) (whole : List (OpId × ℕ)) (read : ReadAt) (old new : ClockState) (readings readings_new : List (OpId × Reading)) : Type 0 where
   pub known : new.known ≡ old.known
@@ -194,6 +186,7 @@ pub record Happens (board : Board) (index : ℕ) (e : Event) (old new : Notes) :
   pub presented : ClockState
   pub reads : Reads (length board.masters) index old.landed old.whole (read_in board e) old.clocks read old.readings new.readings
   pub presents : Presents e read presented
+  pub tolds : ToldsFor (length board.masters) old.whole old.clocks.starts old.landed new.tolds
   pub landed : Lands old.landed new.landed (event_hits board old.gone e)
   pub whole : Landed e index old.whole new.whole
   pub gone : Parted e old.gone new.gone

@@ -7,7 +7,6 @@ use Rattle.board_model.specs.Ways.{Dword}
 use Rattle.history_model.specs.declared.event.Event.{Event}
 use Rattle.history_model.specs.Words.{Landing, landed, through}
 use Rattle.history_model.specs.Knowledge.{Reading as WordReading, last_reading, got, is_land_of, is_write}
-use Rattle.history_model.specs.Runs.{Run}
 use Rattle.law_fresh.specs.Aware.{aware_of}
 use Rattle.audit_model.specs.Clocks.{clocks_of}
 use Rattle.audit_clocks.specs.declared.landings.Word.{Word}

@@ -6,13 +6,15 @@ ghost use Rattle.history_model.specs.Runs.{Run, history_of};
 ghost use Rattle.audit_model.specs.Audit.{findings};
 ghost use Rattle.audit_text.specs.Lines.{audit_of, findings_text};
 ghost use Rattle.audit_text.specs.Notes.{end_in};
+ghost use Rattle.audit_text.specs.Search.{Searchable, TellsAlways};
 ghost use Rattle.audit_text.specs.Found.{finding_of, findings_in, findings_as, findings_by};
 
-use crate::chains::{chain_from, last_known};
+use crate::chains::chain_from;
 use crate::ends::{Ended, end_in};
 use crate::ledger::Ledger;
 use crate::lines::print_finding;
 use crate::readings::Reading;
+use crate::search::last_known;
 use board_model::Board;
 use bus_tree::Tree;
 use history_model::Event;
@@ -21,8 +23,9 @@ use std::alloc::{AllocError, Global};
 
 /// The text of the audit of a run, complete or not: a line for each read that ended with a value of
 /// its target and whose master knew of a write of that dword before, in the order of the ends, and
-/// then `told N`. What landed and who came to know is noted down event by event; the time grows with
-/// the events and with the knowledge that there is at each end of a read.
+/// then `told N`. Each event costs a step for each master, whatever landed before it: what a dword
+/// tells is kept, and what a read knew of it is found by a binary search for each author that wrote
+/// there, once for the last write and once for each operation of the chain.
 pub fn audit_text(alloc: Global, tree: &Tree, events: &[Event]) -> Result<List<u8>, NoMemory>
     requires { Run tree.now (history_of events.now) }
     ensures { IfOk result (λ text. text ≡ audit_of tree.now (findings tree.now (history_of events.now))) }
@@ -69,6 +72,7 @@ fn print_found(
     ledger: &Ledger,
     event: &Event,
 ) -> Result<usize, NoMemory>
+    requires { Searchable ledger.now }
     ensures text { IfOk result (λ _. string_bytes text.new ≡ string_bytes text.old ++ findings_text board.now (findings_in (length board.now.masters) ledger.now (end_in event.now))) }
     ensures told { IfOk result (λ told. told ≡ length (findings_in (length board.now.masters) ledger.now (end_in event.now))) }
     ensures one { IfOk result (λ told. told ≤ 1) }
@@ -86,6 +90,7 @@ fn print_ended(
     ledger: &Ledger,
     ended: Ended,
 ) -> Result<usize, NoMemory>
+    requires { Searchable ledger.now }
     ensures text { IfOk result (λ _. string_bytes text.new ≡ string_bytes text.old ++ findings_text board.now (findings_as (length board.now.masters) ledger.now ended.op ended.value)) }
     ensures told { IfOk result (λ told. told ≡ length (findings_as (length board.now.masters) ledger.now ended.op ended.value)) }
     ensures one { IfOk result (λ told. told ≤ 1) }
@@ -107,11 +112,12 @@ fn print_reading(
     read: OpId,
     reading: &Reading,
 ) -> Result<usize, NoMemory>
+    requires { Searchable ledger.now }
     ensures text { IfOk result (λ _. string_bytes text.new ≡ string_bytes text.old ++ findings_text board.now (findings_by (length board.now.masters) ledger.now read (Some reading.now))) }
     ensures told { IfOk result (λ told. told ≡ length (findings_by (length board.now.masters) ledger.now read (Some reading.now))) }
     ensures one { IfOk result (λ told. told ≤ 1) }
 {
-    match last_known(ledger, ledger.landed_before(reading), read) {
+    match last_known(ledger, reading, read) {
         None => Ok(0),
         Some(write) => {
             print_known(alloc, text, board, ledger, read, reading, write)?;
@@ -129,6 +135,7 @@ fn print_known(
     reading: &Reading,
     write: OpId,
 ) -> Result<(), NoMemory>
+    requires { TellsAlways ledger.now write }
     ensures { OnOk result (string_bytes text.new ≡ string_bytes text.old ++ findings_text board.now (finding_of (length board.now.masters) ledger.now read reading.now (Some write))) }
 {
     let masters = board.masters.as_slice().len();

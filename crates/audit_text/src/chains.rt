@@ -1,68 +1,21 @@
-ghost use Rattle.std.specs.Prelude.{◌≡◌, [], ◌∷◌, ◌++◌, None, IfOk, OnOk};
-ghost use Rattle.history_model.specs.Knowledge.{stands_after};
+ghost use Rattle.std.specs.Prelude.{◌≡◌, [], ◌∷◌, ◌++◌, IfOk, OnOk};
 ghost use Rattle.audit_model.specs.Chains.{joined};
-ghost use Rattle.audit_text.specs.Found.{since_of, knows_by, last_known, shows_it, first_shown, shown_to, chain_to, chain_from};
+ghost use Rattle.audit_text.specs.Found.{since_of, shown_to, chain_to, chain_from};
+ghost use Rattle.audit_text.specs.Search.{TellsAlways};
 
 use crate::ledger::Ledger;
-use crate::readings::Reading;
+use crate::search::first_shown;
 use history_core::is_same_op;
 use pci_command::{NoMemory, OpId};
 use std::alloc::Global;
 
-/// The last of these writes of which the read's master knew before.
-pub(crate) fn last_known(ledger: &Ledger, writes: &[OpId], read: OpId) -> Option<OpId>
-    ensures { result ≡ last_known ledger.now read None writes.now }
-{
-    let mut found = None;
-    for op in writes {
-        if knows(ledger, *op, read) {
-            found = Some(*op);
-        }
-    }
-    found
-}
-
-/// Whether the operation stands behind one with which its master came to know of the write.
-fn knows(ledger: &Ledger, write: OpId, op: OpId) -> bool
-    ensures { result ≡ knows_by ledger.now write op }
-{
-    match ledger.since(write, op.master) {
-        Some(first) => stands_after(first, op),
-        None => false,
-    }
-}
-
-fn stands_after(first: OpId, op: OpId) -> bool
-    ensures { result ≡ stands_after first op }
-{
-    first.index < op.index || (first.index == op.index && first.attempt < op.attempt)
-}
-
-/// The first of these writes that shows the write to the reading.
-fn first_shown(ledger: &Ledger, reading: &Reading, writes: &[OpId], write: OpId) -> Option<OpId>
-    ensures { result ≡ first_shown ledger.now reading.now write writes.now }
-{
-    for op in writes {
-        if shows(ledger, reading, write, *op) {
-            return Some(*op);
-        }
-    }
-    None
-}
-
-/// Whether an operation landed whole before the reading, and is the write or knows of it.
-fn shows(ledger: &Ledger, reading: &Reading, write: OpId, op: OpId) -> bool
-    ensures { result ≡ shows_it ledger.now reading.now write op }
-{
-    ledger.landed_whole(reading, op) && (is_same_op(op, write) || knows(ledger, write, op))
-}
-
 fn shown_to(ledger: &Ledger, write: OpId, op: OpId) -> Option<OpId>
+    requires { TellsAlways ledger.now write }
     ensures { result ≡ shown_to ledger.now write op }
 {
     match ledger.got(op) {
         None => None,
-        Some(reading) => first_shown(ledger, &reading, ledger.landed_before(&reading), write),
+        Some(reading) => first_shown(ledger, &reading, write),
     }
 }
 
@@ -75,6 +28,7 @@ fn chain_to(
     op: OpId,
     chain: &mut Vec<OpId>,
 ) -> Result<(), NoMemory>
+    requires { TellsAlways ledger.now write }
     ensures { OnOk result (chain.new.items ≡ chain.old.items ++ chain_to masters ledger.now write op) }
 {
     if masters == 0 {
@@ -130,6 +84,7 @@ pub(crate) fn chain_from(
     write: OpId,
     read: OpId,
 ) -> Result<Vec<OpId>, NoMemory>
+    requires { TellsAlways ledger.now write }
     ensures { IfOk result (λ chain. chain.items ≡ chain_from masters ledger.now write read (since_of ledger.now write read.master)) }
 {
     let mut chain = Vec::new(alloc);

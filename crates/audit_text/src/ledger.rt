@@ -1,11 +1,12 @@
 ghost use Rattle.std.specs.Prelude.{◌≡◌, OnOk, IfOk, length, take};
-ghost use Rattle.audit_clocks.specs.Rows.{Raises};
-ghost use Rattle.audit_text.specs.Notes.{Reads, Presents, Landed, Ends, Gets, Tells, told_by};
+ghost use Rattle.audit_text.specs.Notes.{Reads, Presents, Landed, Ends, Gets};
+ghost use Rattle.audit_text.specs.Told.{ToldsFor};
 
 use crate::ends::{Ended, end_in};
 use crate::landed::{is_land, record_landed, record_parted};
 use crate::readings::{Read, Reading, read_in, word_of};
-use audit_clocks::{Clocks, Landings, Numbers, OpTable};
+use crate::told::{Told, told_in};
+use audit_clocks::{Clocks, Landings, OpTable, Track, WordTable};
 use board_model::Board;
 use history_model::{By, Event};
 use pci_command::{NoMemory, OpId};
@@ -27,6 +28,8 @@ pub(crate) struct Ledger {
     gots: OpTable<Option<Reading>>,
     /// What each master knows, and since when.
     clocks: Clocks,
+    /// What the landings of each dword tell that were looked at.
+    tolds: WordTable<Told>,
 }
 
 impl Model for Ledger {
@@ -34,18 +37,20 @@ impl Model for Ledger {
 
     ghost Value = { Notes };
 
-    ghost view = { λ k. record { gone = k.gone; landed = k.landed; whole = k.whole; readings = k.readings; gots = k.gots; clocks = k.clocks } };
+    ghost view = { λ k. record { gone = k.gone; landed = k.landed; whole = k.whole; readings = k.readings; gots = k.gots; clocks = k.clocks; tolds = k.tolds } };
 }
 
 impl Ledger {
     ghost use Rattle.std.specs.Prelude.{[], replicate};
     ghost use Rattle.audit_text.specs.Notes.{Happens};
+    ghost use Rattle.audit_clocks.specs.Tracks.{Tracked};
     ghost use Rattle.audit_text.specs.Found.{since_of, got_in, landed_before, landed_whole};
+    ghost use Rattle.audit_text.specs.Search.{writes_at};
 
     /// Nothing happened.
     pub(crate) fn new(alloc: Global, board: &Board) -> Result<Ledger, NoMemory>
         ensures { let masters = length board.now.masters in
-            IfOk result (λ ledger. ledger ≡ record { gone = []; landed = []; whole = []; readings = []; gots = []; clocks = record { known = replicate masters (replicate masters []); starts = []; taught = [] } }) }
+            IfOk result (λ ledger. ledger ≡ record { gone = []; landed = []; whole = []; readings = []; gots = []; clocks = record { known = replicate masters (replicate masters []); starts = []; taught = [] }; tolds = [] }) }
     {
         Ok(Ledger {
             gone: OpTable::new(alloc),
@@ -54,6 +59,7 @@ impl Ledger {
             readings: OpTable::new(alloc),
             gots: OpTable::new(alloc),
             clocks: Clocks::new(alloc, board.masters.as_slice().len())?,
+            tolds: WordTable::new(alloc),
         })
     }
 
@@ -65,6 +71,7 @@ impl Ledger {
         index: usize,
         event: &Event,
     ) -> Result<(), NoMemory>
+        requires { ToldsFor (length board.now.masters) self.old.whole self.old.clocks.starts self.old.landed self.old.tolds }
         ensures { OnOk result (Happens board.now index event.now self.old self.new) }
     {
         let masters = board.masters.as_slice().len();
@@ -75,6 +82,7 @@ impl Ledger {
             index,
             &self.landed,
             &self.whole,
+            &mut self.tolds,
             read,
             &mut self.clocks,
             &mut self.readings,
@@ -118,6 +126,14 @@ impl Ledger {
         first_ops(self.landed.of(word), reading.landed)
     }
 
+    /// The places of what landed in the dword of the reading, along the programs of the authors.
+    pub(crate) fn tracks(&self, reading: &Reading) -> &[Track]
+        ensures { Tracked (writes_at self.now reading.now) result.now }
+    {
+        self.landed
+            .tracks(word_of(reading.target, reading.space, reading.address))
+    }
+
     /// Whether the write landed whole before the reading.
     pub(crate) fn landed_whole(&self, reading: &Reading, op: OpId) -> bool
         ensures { result ≡ landed_whole self.now reading.now op }
@@ -136,19 +152,22 @@ fn record_read(
     index: usize,
     landed: &Landings,
     whole: &OpTable<usize>,
+    tolds: &mut WordTable<Told>,
     read: Option<Read>,
     clocks: &mut Clocks,
     readings: &mut OpTable<Reading>,
 ) -> Result<(), NoMemory>
-    ensures { OnOk result (Reads masters index landed.now whole.now read clocks.old clocks.new readings.old readings.new) }
+    requires { ToldsFor masters whole.now clocks.old.starts landed.now tolds.old }
+    ensures reads { OnOk result (Reads masters index landed.now whole.now read clocks.old clocks.new readings.old readings.new) }
+    ensures tolds { OnOk result (ToldsFor masters whole.now clocks.old.starts landed.now tolds.new) }
 {
     match read {
         None => Ok(()),
         Some(read) => {
-            let writes = landed.of(word_of(read.target, read.space, read.address));
-            let told = told(alloc, masters, clocks, whole, writes)?;
-            let count = writes.len();
-            clocks.teach(read.op, told)?;
+            let word = word_of(read.target, read.space, read.address);
+            let numbers = told_in(alloc, masters, clocks, whole, landed, tolds, word)?;
+            let count = landed.of(word).len();
+            clocks.teach(read.op, numbers)?;
             readings.put(
                 read.op,
                 Reading {
@@ -161,32 +180,6 @@ fn record_read(
                 },
             )
         }
-    }
-}
-
-/// What those of the writes tell that landed whole.
-#[tactic(auto, using(crate::proofs::TellLemmas::tells_none, crate::proofs::TellLemmas::tells_next, crate::proofs::TellLemmas::tells_all))]
-fn told(
-    alloc: Global,
-    masters: usize,
-    clocks: &Clocks,
-    whole: &OpTable<usize>,
-    writes: &[OpId],
-) -> Result<Numbers, NoMemory>
-    ensures { IfOk result (Tells masters whole.now clocks.now.starts writes.now) }
-{
-    let mut told = Numbers::none(alloc, masters)?;
-    for op in writes {
-        tell(alloc, clocks, whole, &mut told, *op);
-    }
-    Ok(told)
-}
-
-fn tell(alloc: Global, clocks: &Clocks, whole: &OpTable<usize>, told: &mut Numbers, op: OpId)
-    ensures { Raises told.old told.new (λ author. told_by whole.now clocks.now.starts author op) }
-{
-    if whole.get(op).is_some() {
-        clocks.raise(alloc, told, op);
     }
 }
 

@@ -10,5 +10,7 @@ mod landed;
 mod ledger;
 mod lines;
 mod readings;
+mod search;
+mod told;
 
 pub use audit::audit_text;

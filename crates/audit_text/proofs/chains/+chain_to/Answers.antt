@@ -1,4 +1,4 @@
-use Rattle.std.proofs.Common.{◌≡◌, ◌-◌, ◌<◌, false, None, Some, List, sym, ap, ◌∙◌, ◌++◌, rules}
+use Rattle.std.proofs.Common.{◌≡◌, ◌-◌, ◌<◌, false, Some, List, sym, ap, ◌∙◌, ◌++◌, rules}
 use Rattle.std.proofs.lemmas.Result.{IfOk-weaker}
 use Rattle.pci_command.specs.declared.op_id.OpId.{OpId}
 use Rattle.pci_command.specs.Same.{same_op}

@@ -1,4 +1,4 @@
-use Rattle.std.proofs.Common.{[], ◌∷◌, map, codes, rules, string_bytes}
+use Rattle.std.proofs.Common.{map, codes, string_bytes}
 use Rattle.std.proofs.lemmas.Result.{IfOk-weaker}
 use Rattle.trace_text.specs.Words.{op_word}
 use Rattle.audit_text.specs.Lines.{word_words, known_words}

@@ -1,5 +1,4 @@
-use Rattle.std.proofs.Common.{subst, List}
-use Rattle.pci_command.specs.declared.op_id.OpId.{OpId}
+use Rattle.std.proofs.Common.{subst}
 use Rattle.audit_clocks.specs.Tables.{Puts}
 use Rattle.audit_clocks.proofs.TableLemmas.{op_puts}
 use Rattle.audit_clocks.proofs.op_table.OpTable.put.Goals as goal
