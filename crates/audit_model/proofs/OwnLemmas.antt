@@ -34,7 +34,7 @@ poll_reads Mem = refl
 poll_reads Io = refl
 poll_reads Cfg = refl
 
-write_tries : (op : Op) → is_read (command_of op) ≡ false → tries_of op ≡ 1
+pub write_tries : (op : Op) → is_read (command_of op) ≡ false → tries_of op ≡ 1
 write_tries (ReadOp command address) writes = refl
 write_tries (Write command address phases) writes = refl
 write_tries (CfgRead bus device register) writes = refl

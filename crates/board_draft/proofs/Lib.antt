@@ -9,3 +9,4 @@ pub mod SoundLemmas
 pub mod HeaderLemmas
 pub mod DraftLemmas
 pub mod AgentLemmas
+pub mod OwnerLemmas

@@ -1,6 +1,6 @@
 -- When a target is added to a board, and a detail to the target that began last.
 use Rattle.std.specs.Prelude.{ℕ, Bool, true, false, ◌+◌, ◌%◌, ◌^◌, List, [], ◌∷◌, ◌++◌, length, Option, Some, None, Result, Ok, Err, not, ◌&&◌, ◌||◌, ◌==◌, nat_lt, nat_le, if◌then◌else◌}
-use Rattle.std.specs.List.{list_any}
+use Rattle.std.specs.List.{find, list_any}
 use Rattle.list_facts.specs.Lists.{total}
 use Rattle.pci_command.specs.declared.command.Space.{Space}
 use Rattle.pci_command.specs.declared.command.Space.TheVariants.{Mem, Io, Cfg}
@@ -19,6 +19,20 @@ use Rattle.board_draft.specs.Steps.{◌>>=◌}
 -- a target or master before has the name
 abbrev pub is_name_used : Board → List ℕ → Bool
 is_name_used board name = list_any (is_target_named name) board.targets || list_any (is_master_named name) board.masters
+
+-- the bus of the target of a name
+abbrev pub bus_in : Option Target → Option ℕ
+bus_in None = None
+bus_in (Some target) = Some target.bus
+
+abbrev pub bus_of_target : Board → List ℕ → Option ℕ
+bus_of_target board name = bus_in (find (is_target_named name) board.targets)
+
+-- the target whose details the next line may give
+abbrev pub owned : Owner → List Target
+owned Nobody = []
+owned (OfTarget target) = target ∷ []
+owned (OfMaster master) = []
 
 -- a new name; at most 8 targets and masters on one bus
 abbrev pub agent_fault : Board → List ℕ → ℕ → Option LineFault

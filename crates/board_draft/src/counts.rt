@@ -48,6 +48,7 @@ impl Agent {
 
 impl Counts {
     ghost use Rattle.std.specs.Prelude.{◌≡◌, ℕ, ◌+◌, ◌<◌, ◌≤◌, IfOk, Some, slice_index, string_bytes};
+    ghost use Rattle.std.specs.HashSet.{contains_text};
     ghost use Rattle.board_draft.specs.Drafts.{empty_board};
     ghost use Rattle.board_draft.specs.Counts.{IsCountOf, IsGrown, fault_in, name_and_bus};
 
@@ -60,6 +61,13 @@ impl Counts {
             agents: [0; 256],
             operations: 0,
         }
+    }
+
+    /// Whether a target or master has the name.
+    pub(crate) fn has_name(&self, name: &Name) -> bool
+        ensures { result ≡ contains_text self.now.names name.now }
+    {
+        self.names.contains(name.as_str())
     }
 
     /// Why no target or master of this name may be added on that bus.

@@ -1,8 +1,14 @@
+ghost use Rattle.std.specs.Prelude.{◌≡◌, [], ◌∷◌};
+ghost use Rattle.std.specs.List.{find};
+ghost use Rattle.board_model.specs.declared.agents.Target.{Target};
+ghost use Rattle.board_model.specs.WellFormed.{is_target_named};
+ghost use Rattle.board_draft.specs.Targets.{bus_in, owned};
+
 use crate::add::{add, board_of, tries_in};
 use crate::counts::{Agent, Counts};
 use crate::lists::empty;
 use crate::{AddFault, Draft, Owner};
-use board_model::Board;
+use board_model::{Board, Name, Target, is_bus};
 use board_statements::Statement;
 use pci_command::NoMemory;
 use std::alloc::Global;
@@ -29,9 +35,11 @@ impl Model for Sheet {
 }
 
 impl Sheet {
-    ghost use Rattle.std.specs.Prelude.{◌≡◌, ◌≤◌, IfOk};
+    ghost use Rattle.std.specs.Prelude.{◌≡◌, ◌≤◌, IfOk, length};
     ghost use Rattle.board_draft.specs.Steps.{Answers};
     ghost use Rattle.board_draft.specs.Drafts.{board_of, first_draft};
+    ghost use Rattle.board_draft.specs.Targets.{is_name_used, bus_of_target};
+    ghost use Rattle.board_model.specs.Valid.{is_bus};
     ghost use Rattle.board_draft.specs.Add.{add};
 
     /// The draft of a text of which the first line was read, where `wide` is whether that line is
@@ -75,11 +83,66 @@ impl Sheet {
         Ok(Sheet { draft, counts })
     }
 
+    /// Whether a target or a master has the name.
+    pub fn has_name(&self, name: &Name) -> bool
+        ensures { result ≡ is_name_used (board_of self.now) name.now }
+    {
+        self.counts.has_name(name)
+    }
+
+    /// Whether the bus is there: the first one, or one behind a bridge.
+    #[tactic(auto, using(crate::proofs::OwnerLemmas::owner_bus))]
+    pub fn has_bus(&self, bus: u8) -> bool
+        ensures { result ≡ is_bus (board_of self.now) bus }
+    {
+        is_bus(&self.draft.board, bus)
+    }
+
+    /// The bus of the target of this name.
+    #[tactic(auto, using(crate::proofs::OwnerLemmas::bus_before, crate::proofs::OwnerLemmas::bus_behind))]
+    pub fn bus_of_target(&self, name: &Name) -> Option<u8>
+        ensures { result ≡ bus_of_target (board_of self.now) name.now }
+    {
+        match bus_of_named(self.draft.board.targets.as_slice(), name) {
+            Some(bus) => Some(bus),
+            None => bus_of_owner(&self.draft.owner, name),
+        }
+    }
+
+    /// How many masters there are.
+    pub fn master_count(&self) -> usize
+        ensures { result ≡ length (board_of self.now).masters }
+    {
+        let before = self.draft.board.masters.as_slice().len();
+        match &self.draft.owner {
+            Owner::OfMaster(_) => before + 1,
+            Owner::Nobody | Owner::OfTarget(_) => before,
+        }
+    }
+
     /// The board of the draft.
     pub fn into_board(self, alloc: Global) -> Result<Board, NoMemory>
         ensures { IfOk result (λ board. board ≡ board_of self) }
     {
         let Sheet { draft, counts: _ } = self;
         board_of(alloc, draft)
+    }
+}
+
+fn bus_of_named(targets: &[Target], name: &Name) -> Option<u8>
+    ensures { result ≡ bus_in (find (is_target_named name.now) targets.now) }
+{
+    let target = targets
+        .iter()
+        .find(|target| target.name.bytes() == name.bytes())?;
+    Some(target.bus)
+}
+
+fn bus_of_owner(owner: &Owner, name: &Name) -> Option<u8>
+    ensures { result ≡ bus_in (find (is_target_named name.now) (owned owner.now)) }
+{
+    match owner {
+        Owner::OfTarget(target) if target.name.bytes() == name.bytes() => Some(target.bus),
+        _ => None,
     }
 }

@@ -18,7 +18,7 @@ use Rattle.board_parser.specs.OneLine.{begin, some_of, read_words, read_unless, 
 use Rattle.board_parser.specs.Boards.{then_lines, read_lines, ended, board_read}
 use Rattle.board_parser.proofs.StatementLemmas.{statement-formed}
 
-abbrev SomeSound : Option Draft → Type 0
+abbrev pub SomeSound : Option Draft → Type 0
 SomeSound None = Unit {0}
 SomeSound (Some draft) = IsDraftSound draft
 
@@ -49,7 +49,7 @@ then-ok : (number : ℕ) (step : Result (Option Draft) LineFault) (later : Optio
 then-ok number (Ok next) later end h = (next, (refl, h))
 then-ok number (Err fault) later end h = absurd (cc)
 
-lines-sound : (before : Option Draft) (number : ℕ) (lines : List (List ℕ)) (end : Option Draft) → SomeSound before → read_lines before number lines ≡ Ok end → SomeSound end
+pub lines-sound : (before : Option Draft) (number : ℕ) (lines : List (List ℕ)) (end : Option Draft) → SomeSound before → read_lines before number lines ≡ Ok end → SomeSound end
 lines-sound before number [] end sound h = let is : before ≡ end = cc in subst SomeSound is sound
 lines-sound before number (line ∷ lines) end sound h =
     let step = then-ok number (read_line before line) (λ next. read_lines next (number + 1) lines) end h in

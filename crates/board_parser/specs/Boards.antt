@@ -27,15 +27,31 @@ ended (Ok None) = Err (1, NoFirstLine)
 ended (Ok (Some draft)) = Ok (board_of draft)
 ended (Err fault) = Err fault
 
+-- the same of the draft, to which more can be added
+abbrev pub sheet_ended : Result (Option Draft) (ℕ × LineFault) → Result Draft (ℕ × LineFault)
+sheet_ended (Ok None) = Err (1, NoFirstLine)
+sheet_ended (Ok (Some draft)) = Ok draft
+sheet_ended (Err fault) = Err fault
+
 -- the board of a text, or its first fault
 abbrev pub board_read : List ℕ → Result Board (ℕ × LineFault)
 board_read text = ended (read_lines None 1 (lines_of text))
+
+-- the draft of a text, or its first fault
+abbrev pub sheet_read : List ℕ → Result Draft (ℕ × LineFault)
+sheet_read text = sheet_ended (read_lines None 1 (lines_of text))
 
 -- a board or a fault is told exactly where the text reads so, unless there was no memory
 abbrev pub Tells : Result Board ParseFault → Result Board (ℕ × LineFault) → Type 0
 Tells (Ok board) reading = reading ≡ Ok board
 Tells (Err (Fault line fault)) reading = reading ≡ Err (line, fault)
 Tells (Err NoMemory) reading = Unit {0}
+
+-- the same of a draft
+abbrev pub TellsSheet : Result Draft ParseFault → Result Draft (ℕ × LineFault) → Type 0
+TellsSheet (Ok draft) reading = reading ≡ Ok draft
+TellsSheet (Err (Fault line fault)) reading = reading ≡ Err (line, fault)
+TellsSheet (Err NoMemory) reading = Unit {0}
 
 -- a fault is told of one of so many lines
 abbrev pub IsWithin : ℕ → ParseFault → Type 0

@@ -8,4 +8,4 @@ mod text;
 
 pub use fault::ParseFault;
 pub use laws::read_is_well_formed;
-pub use text::parse;
+pub use text::{parse, parse_sheet};

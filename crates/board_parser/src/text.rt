@@ -1,9 +1,9 @@
 ghost use Rattle.std.specs.Prelude.{◌≡◌, ◌+◌, ◌<◌, ◌^◌, length, IfErr};
-ghost use Rattle.board_parser.specs.Boards.{board_read, Tells, IsWithin};
+ghost use Rattle.board_parser.specs.Boards.{board_read, sheet_read, Tells, TellsSheet, IsWithin};
 
 use crate::ParseFault;
 use crate::line::read_line;
-use board_draft::AddFault;
+use board_draft::{AddFault, Sheet};
 use board_model::Board;
 use board_statements::LineFault;
 use board_text::next_line;
@@ -16,6 +16,17 @@ use std::alloc::Global;
 pub fn parse(alloc: Global, bytes: &[u8]) -> Result<Board, ParseFault>
     requires { length bytes.now < 2 ^ 31 }
     ensures read { Tells result (board_read bytes.now) }
+    ensures numbered { IfErr result (IsWithin (length bytes.now + 1)) }
+{
+    let sheet = parse_sheet(alloc, bytes)?;
+    Ok(sheet.into_board(alloc)?)
+}
+
+/// The sheet of a text, to which more can be added, or the first fault of the text, as `parse` tells
+/// it. A text has fewer than 2^31 bytes.
+pub fn parse_sheet(alloc: Global, bytes: &[u8]) -> Result<Sheet, ParseFault>
+    requires { length bytes.now < 2 ^ 31 }
+    ensures read { TellsSheet result (sheet_read bytes.now) }
     ensures numbered { IfErr result (IsWithin (length bytes.now + 1)) }
 {
     let mut sheet = None;
@@ -40,6 +51,6 @@ pub fn parse(alloc: Global, bytes: &[u8]) -> Result<Board, ParseFault>
             line: 1,
             fault: LineFault::NoFirstLine,
         }),
-        Some(sheet) => Ok(sheet.into_board(alloc)?),
+        Some(sheet) => Ok(sheet),
     }
 }

@@ -16,3 +16,4 @@ pub use fault::{Family, LineFault};
 pub use kinds::parts;
 pub use lines::{first_line, has_words, statement_of};
 pub use statement::Statement;
+pub use words::{Words, is_word};

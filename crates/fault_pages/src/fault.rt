@@ -1,5 +1,6 @@
 use board_faults::TreeFault;
 use board_statements::LineFault;
+use device_faults::DeviceFault;
 use history_model::Why;
 use program_status::{BoardFault, Status};
 use std::fmt;
@@ -14,6 +15,8 @@ pub enum Fault {
     Tree(TreeFault),
     /// A run may have too many events.
     Bound,
+    /// A fault of the text of devices on a board.
+    Device(DeviceFault),
     /// A fault of a trace outside its board.
     Trace(TraceLineFault),
     /// An event is not allowed.
@@ -28,6 +31,7 @@ impl Fault {
                 BoardFault::Line(fault) => Fault::Line(*fault),
                 BoardFault::Tree(fault) => Fault::Tree(*fault),
                 BoardFault::Bound(_) => Fault::Bound,
+                BoardFault::Device(fault) => Fault::Device(*fault),
             }),
             Status::BadTrace { fault, .. } => Some(Fault::Trace(*fault)),
             Status::NotRun { why, .. } => Some(Fault::Cause(*why)),
@@ -42,6 +46,7 @@ impl fmt::Display for Fault {
             Fault::Line(fault) => write!(f, "{fault}"),
             Fault::Tree(fault) => write!(f, "{fault}"),
             Fault::Bound => write!(f, "a run may have more than 500,000 events"),
+            Fault::Device(fault) => write!(f, "{fault}"),
             Fault::Trace(fault) => write!(f, "{fault}"),
             Fault::Cause(why) => f.write_str(sentence_of(*why)),
         }

@@ -2,10 +2,12 @@
 //! messages on standard error are printed.
 #![tactic(auto)]
 
+mod device_pages;
 mod fault;
 mod page;
 mod pages;
 
+pub use device_pages::DEVICE_PAGES;
 pub use fault::Fault;
 pub use page::{Page, explain, find_page};
 pub use pages::PAGES;

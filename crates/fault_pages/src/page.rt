@@ -2,7 +2,7 @@ ghost use Rattle.std.specs.Prelude.{◌≡◌, IsTrue, IfSome, find};
 ghost use Rattle.std.specs.Option.{option_map};
 ghost use Rattle.fault_pages.specs.Pages.{has_code};
 
-use crate::{Fault, PAGES};
+use crate::{DEVICE_PAGES, Fault, PAGES};
 use std::fmt;
 
 /// What one code means.
@@ -22,7 +22,10 @@ pub struct Page {
 pub fn explain(code: &str) -> Option<&'static Page>
     ensures { IfSome result (λ page. IsTrue (has_code code.now page.now)) }
 {
-    find_page(&PAGES, code)
+    match find_page(&PAGES, code) {
+        Some(page) => Some(page),
+        None => find_page(&DEVICE_PAGES, code),
+    }
 }
 
 /// The first of the pages that has this code, in upper or lower case.

@@ -4,7 +4,7 @@ use board_statements::LineFault;
 use history_model::Why;
 use trace_reader::TraceLineFault;
 
-/// The pages, by code.
+/// The pages of boards and traces, by code.
 pub static PAGES: [Page; 41] = [
     Page {
         code: "L1",

@@ -95,10 +95,10 @@ module _ (board : Board) (valid : IsValid board) (op : Op) (posted : same_comman
     number : bridge.bus ≡ bus
     number = eqb-true bridge.bus bus (find_passes (λ (b : Bridge). b.bus == bus) board.bridges bridge is_bridge)
 
-    parent : primary_of board bus ≡ bridge.parent
+    pub parent : primary_of board bus ≡ bridge.parent
     parent = ap primary_in is_bridge
 
-    goes_down : (address : ℕ) → bridge_holds Mem address bridge ≡ true → address ≡ (request_on op bridge.parent).address → claim board bridge.parent (request_on op bridge.parent) ≡ Lane (record { bus = bus; up = false })
+    pub goes_down : (address : ℕ) → bridge_holds Mem address bridge ≡ true → address ≡ (request_on op bridge.parent).address → claim board bridge.parent (request_on op bridge.parent) ≡ Lane (record { bus = bus; up = false })
     goes_down address holds same =
         let test : Bridge → Bool = decodes_down bridge.parent Mem address in
         let self : eqb bridge.parent bridge.parent ≡ true = grind (arith, nat_tests) in
@@ -111,7 +111,7 @@ module _ (board : Board) (valid : IsValid board) (op : Op) (posted : same_comman
         let F : ℕ → Type 0 = λ a. Among (lane bridge) (claimants_by_address board bridge.parent Mem a) in
         claims_it bridge.parent (lane bridge) (subst F same all) ∙ ap (λ n. Lane (record { bus = n; up = false })) number
 
-    goes_up : (address : ℕ) → bridge_holds Mem address bridge ≡ false → address ≡ (request_on op bus).address → claim board bus (request_on op bus) ≡ Lane (record { bus = bus; up = true })
+    pub goes_up : (address : ℕ) → bridge_holds Mem address bridge ≡ false → address ≡ (request_on op bus).address → claim board bus (request_on op bus) ≡ Lane (record { bus = bus; up = true })
     goes_up address outside same =
         let test : Bridge → Bool = decodes_up bus Mem address in
         let self : eqb bridge.bus bus ≡ true = find_passes (λ (b : Bridge). b.bus == bus) board.bridges bridge is_bridge in

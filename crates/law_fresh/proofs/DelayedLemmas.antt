@@ -84,7 +84,7 @@ place_takes board h on by o request (Lane lane) step at writes word gives = cc
 place_takes board h on by o request Nobody step at writes word gives = cc
 
 -- a request of which nothing went through is whole
-whole : (gone : ℕ) (request : Request) → gone ≡ 0 → without gone request ≡ request
+pub whole : (gone : ℕ) (request : Request) → gone ≡ 0 → without gone request ≡ request
 whole gone request none =
     let built : ℕ → Request = λ address. record { command = request.command; address = address; phases = request.phases } in
     let same : request.address + 4 * 0 ≡ request.address = omega arith in

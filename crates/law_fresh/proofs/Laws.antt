@@ -20,5 +20,13 @@ pub use Rattle.law_fresh.proofs.AwareLemmas.{ends_turn, knew, knows_kept, since_
 pub use Rattle.law_fresh.proofs.SinceLemmas.{write_since, since_behind, Since, got_since, ends_as_ended}
 -- what was known before a reading
 pub use Rattle.law_fresh.proofs.ToldLemmas.{Front, front_run, front_end, front_front, knew_before, before_in}
--- one of two is true
-pub use Rattle.law_fresh.proofs.ListLemmas.{or_either}
+-- what a reading was, and what was known before it
+pub use Rattle.law_fresh.proofs.ToldLemmas.{ReadBy, read_by}
+-- which side of a bridge claims a memory request, and that it is the same request on every bus
+pub use Rattle.law_fresh.proofs.CrossLemmas.{parent, goes_down, goes_up, same_on}
+-- a target that claims is on the bus, and so is one that answers
+pub use Rattle.law_fresh.proofs.TargetLemmas.{target_on, answers_claim}
+-- a request of which nothing went through is whole
+pub use Rattle.law_fresh.proofs.DelayedLemmas.{whole}
+-- one of two is true; what is found by its place; one of many
+pub use Rattle.law_fresh.proofs.ListLemmas.{or_either, At, found_at, each_contains}

@@ -13,6 +13,7 @@ use Rattle.command_finish.proofs.ServedLemmas.{finish_refusing}
 use Rattle.command_audit.proofs.ServedLemmas.{audit_refusing}
 use Rattle.command_report.proofs.ServedLemmas.{report_refusing}
 use Rattle.command_generate.proofs.ServedLemmas.{generate_refusing}
+use Rattle.command_devices.proofs.ServedLemmas.{devices_refusing}
 use Rattle.pcitree.specs.declared.words.Form.{Form}
 use Rattle.pcitree.specs.declared.words.Form.TheVariants as forms
 use Rattle.pcitree.specs.Words.{command_of}
@@ -70,6 +71,7 @@ refusing forms.Audit = audit_refusing
 refusing forms.Report = report_refusing
 refusing forms.Combine = board_refusing
 refusing forms.Generate = generate_refusing
+refusing forms.Devices = devices_refusing
 
 -- an input that was read, and is refused
 pub refused_answer : (form : Form) (held left : Option (List ℕ)) (before now : ℕ) (input : List ℕ) (status : Status) → ReadsInput form held left input → Refuses form input status → StopsAnswering form held left before now status

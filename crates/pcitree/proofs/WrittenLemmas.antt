@@ -1,33 +1,36 @@
--- What `run` and `finish` wrote is what `check` wants.
+-- What `run`, `finish` and `devices` wrote is what `check` wants.
 use Rattle.std.proofs.Common.{◌≡◌, ℕ, true, List, Option, Some, IfSome, subst}
 use Rattle.command_run.specs.Answers.{AnswersRun}
 use Rattle.program_input.specs.Traces.{IsCompleteTrace}
 use Rattle.command_finish.specs.Answers.{AnswersFinish}
+use Rattle.command_devices.specs.Answers.{AnswersDevices}
 use Rattle.pcitree.specs.declared.words.Form.{Form}
 use Rattle.pcitree.specs.declared.words.Form.TheVariants as forms
 use Rattle.pcitree.specs.Answers.{AnswersTo}
 use Rattle.pcitree.specs.Given.{given, left}
 use Rattle.pcitree.specs.Ends.{Finishes, writes_run, WritesRun}
 
--- what is written for a board or a trace is the text of a complete run
+-- what is written for a board, a trace or devices is the text of a complete run
 Completes : Type 0
 Completes =
     ((input text : List ℕ) → AnswersRun input text → IsCompleteTrace text)
     × ((input text : List ℕ) → AnswersFinish input text → IsCompleteTrace text)
+    × ((input text : List ℕ) → AnswersDevices input text → IsCompleteTrace text)
 
 by_form : Completes → (form : Form) (input text : List ℕ) → writes_run form ≡ true → AnswersTo form input text → IsCompleteTrace text
 unfolding Completes
 by_form laws forms.Run input text is answers = laws.0 input text answers
 by_form laws forms.RunSteady input text is answers = laws.0 input text answers
 by_form laws forms.Finish input text is answers = laws.1 input text answers
+by_form laws forms.Devices input text is answers = laws.2 input text answers
 by_form laws _ input text is answers = absurd cc
 
-pub run_is_written : ((input text : List ℕ) → AnswersRun input text → IsCompleteTrace text) → ((input text : List ℕ) → AnswersFinish input text → IsCompleteTrace text) → (form : Form) (found : Option Form) (words : List (List ℕ)) (held rest before after : Option (List ℕ)) → found ≡ Some form → writes_run form ≡ true → IfSome found (λ form. Finishes form (given form words held) (left form words rest) before after) → WritesRun before after
+pub run_is_written : ((input text : List ℕ) → AnswersRun input text → IsCompleteTrace text) → ((input text : List ℕ) → AnswersFinish input text → IsCompleteTrace text) → ((input text : List ℕ) → AnswersDevices input text → IsCompleteTrace text) → (form : Form) (found : Option Form) (words : List (List ℕ)) (held rest before after : Option (List ℕ)) → found ≡ Some form → writes_run form ≡ true → IfSome found (λ form. Finishes form (given form words held) (left form words rest) before after) → WritesRun before after
 unfolding Completes
-run_is_written runs finished form found words held rest before after is writes done =
+run_is_written runs finished devices form found words held rest before after is writes done =
     let ended : Finishes form (given form words held) (left form words rest) before after = subst (λ f. IfSome f (λ form. Finishes form (given form words held) (left form words rest) before after)) is done in
     record {
       text = ended.text;
-      complete = by_form (runs, finished) form ended.answers.input ended.text writes ended.answers.answers;
+      complete = by_form (runs, finished, devices) form ended.answers.input ended.text writes ended.answers.answers;
       written = ended.written;
     }

@@ -13,6 +13,8 @@ use Rattle.command_audit.specs.Answers.{AnswersAudit, RefusesAudit}
 use Rattle.command_report.specs.Answers.{AnswersReport, RefusesReport}
 use Rattle.command_combine.specs.Answers.{AnswersCombine}
 use Rattle.command_generate.specs.Answers.{names_rounds, AnswersGenerate, RefusesGenerate, NamesRounds}
+use Rattle.command_devices.specs.Answers.{AnswersDevices}
+use Rattle.command_devices.specs.Refusals.{RefusesDevices, IsDeviceText}
 use Rattle.pcitree.specs.declared.words.Part.{Part}
 use Rattle.pcitree.specs.declared.words.Part.TheVariants as parts
 use Rattle.pcitree.specs.declared.words.Form.{Form}
@@ -121,6 +123,14 @@ command_of forms.Generate = record {
   Refuses = RefusesGenerate;
   IsFaultless = NamesRounds;
   writes_run = false;
+}
+command_of forms.Devices = record {
+  parts = Word (codes "devices") ∷ File ∷ [];
+  limit = 2 ^ 20;
+  Answers = AnswersDevices;
+  Refuses = RefusesDevices;
+  IsFaultless = IsDeviceText;
+  writes_run = true;
 }
 
 abbrev pub names_file : List ℕ → Bool

@@ -23,5 +23,6 @@ pub(crate) fn answer(alloc: Global, form: Form, input: &[u8]) -> Result<Vec<u8>,
         Form::Report => command_report::answer_report(alloc, input),
         Form::Combine => command_combine::answer_combine(alloc, input),
         Form::Generate => command_generate::answer_generate(alloc, input),
+        Form::Devices => command_devices::answer_devices(alloc, input),
     }
 }

@@ -12,6 +12,7 @@ use crate::answering::answer;
 use crate::reading::{ReadError, read_all};
 use crate::words::{Form, form_of, misfit, number_of};
 use crate::writing::write_all;
+use command_devices::written_devices_are_complete;
 use command_finish::finished_traces_are_complete;
 use command_run::written_runs_are_complete;
 use io_ports::{Sink, Source};
@@ -53,7 +54,7 @@ pub fn pcitree<S: Source, K: Sink>(
         Finishes form (given form (map string_bytes words.now) (S.held source.old)) (left form (map string_bytes words.now) (S.held source.new))
         (K.taken sink.old) (K.taken sink.new)) }
 
-    // What `run` or `finish` wrote is the text of a complete run, as `check` wants it.
+    // What `run`, `finish` or `devices` wrote is the text of a complete run, as `check` wants it.
     ensures checked { (form : WordForm) → result ≡ Status.Done → form_of (map string_bytes words.now) ≡ Some form
         → writes_run form ≡ true → WritesRun (K.taken sink.old) (K.taken sink.new) }
 
@@ -70,6 +71,7 @@ pub fn pcitree<S: Source, K: Sink>(
 {
     written_runs_are_complete();
     finished_traces_are_complete();
+    written_devices_are_complete();
     match run(alloc, words, source, sink) {
         Ok(()) => Status::Done,
         Err(status) => status,

@@ -28,6 +28,7 @@ pub enum Form {
     Report,
     Combine,
     Generate,
+    Devices,
 }
 
 /// A row of the table of words.
@@ -53,7 +54,7 @@ const TRACE: usize = 0x400_0000;
 const NUMBER: usize = 10;
 
 /// All forms, in the order in which they are told.
-pub const FORMS: [Form; 9] = [
+pub const FORMS: [Form; 10] = [
     Form::Run,
     Form::RunSteady,
     Form::Headers,
@@ -63,6 +64,7 @@ pub const FORMS: [Form; 9] = [
     Form::Report,
     Form::Combine,
     Form::Generate,
+    Form::Devices,
 ];
 
 const RUN: Row = Row {
@@ -135,6 +137,15 @@ const GENERATE: Row = Row {
         and of values drawn from N; each round adds 97 events. What is written is the report of the run.",
 };
 
+const DEVICES: Row = Row {
+    parts: &[Part::Word("devices"), Part::File],
+    limit: BOARD,
+    line: "runs a board with devices that wait, write and interrupt",
+    more: "Each device is a master that waits for its doorbell and then puts bytes, reads and sends messages\n\
+        (PCI Local Bus 2.2, section 6.8, from memory); each handler waits for a message. What is written is\n\
+        the trace of the run, as `run` writes it.",
+};
+
 impl Form {
     /// The table of words: the row of each form.
     pub fn row(self) -> Row
@@ -157,6 +168,7 @@ impl Form {
             Form::Report => REPORT,
             Form::Combine => COMBINE,
             Form::Generate => GENERATE,
+            Form::Devices => DEVICES,
         }
     }
 }

@@ -5,5 +5,5 @@
 mod board;
 mod trace;
 
-pub use board::read_tree;
+pub use board::{read_tree, tree_of};
 pub use trace::{TreeTrace, read_tree_trace};

@@ -5,12 +5,13 @@ use Rattle.board_faults.specs.Faults.{code_of as tree_code_of}
 use Rattle.board_statements.specs.declared.fault.Family.{Family}
 use Rattle.board_statements.specs.declared.fault.Family.TheVariants.{L, P, H}
 use Rattle.board_statements.specs.Faults.{family_of, code_of}
+use Rattle.device_faults.specs.Faults.{code_of as device_code_of}
 use Rattle.history_model.specs.WhyText.{why_text}
 use Rattle.trace_reader.specs.Faults.{code_of as trace_code_of}
 use Rattle.program_status.specs.declared.status.Status.{Status}
 use Rattle.program_status.specs.declared.status.Status.TheVariants.{Done, NoMemory, Usage, ReadFault, WriteFault, TooLong, BadBoard, BadTrace, NotRun, Incomplete}
 use Rattle.program_status.specs.declared.status.BoardFault.{BoardFault}
-use Rattle.program_status.specs.declared.status.BoardFault.TheVariants.{Line, Tree, Bound}
+use Rattle.program_status.specs.declared.status.BoardFault.TheVariants.{Line, Tree, Bound, Device}
 
 -- what the process ends with
 abbrev pub number_of : Status → ℕ
@@ -30,12 +31,13 @@ letter_of L = codes "L"
 letter_of P = codes "P"
 letter_of H = codes "H"
 
--- a fault of a board: of a line (L, P or H) or of its tree (V), by its number; a bound that is too high is V9, and
--- comes with it
+-- a fault of a board: of a line (L, P or H), of its tree (V) or of the devices on it (Q), by its number; a bound that
+-- is too high is V9, and comes with it
 abbrev pub fault_text : BoardFault → List ℕ
 fault_text (Line fault) = letter_of (family_of fault) ++ decimal (code_of fault)
 fault_text (Tree fault) = codes "V" ++ decimal (tree_code_of fault)
 fault_text (Bound bound) = codes "V9 bound " ++ decimal bound
+fault_text (Device fault) = codes "Q" ++ decimal (device_code_of fault)
 
 -- the line, without its newline
 abbrev pub status_text : Status → List ℕ

@@ -3,6 +3,7 @@ ghost use Rattle.program_status.specs.StatusText.{letter_of};
 
 use board_faults::TreeFault;
 use board_statements::{Family, LineFault};
+use device_faults::DeviceFault;
 use history_model::Why;
 use std::alloc::AllocError;
 use std::fmt;
@@ -17,6 +18,8 @@ pub enum BoardFault {
     Tree(TreeFault),
     /// This bound on the number of events is too high.
     Bound(u64),
+    /// A fault of the text of devices on the board.
+    Device(DeviceFault),
 }
 
 /// How a call of the program ends.
@@ -96,6 +99,10 @@ impl fmt::Display for BoardFault {
                 write!(f, "V{code}")
             }
             BoardFault::Bound(bound) => write!(f, "V9 bound {bound}"),
+            BoardFault::Device(fault) => {
+                let code = fault.code();
+                write!(f, "Q{code}")
+            }
         }
     }
 }

@@ -21,18 +21,27 @@ pub fn without_lines(
 }
 
 /// The board text of an input, each line with the number that it has in the input: of a trace the
-/// part between its first line, which is blank here, and the line `events`.
+/// part between its first line, which is blank here, and the line `events`, and of a text of devices
+/// that up to the line `devices`.
 pub fn board_part(alloc: Global, input: &[u8]) -> Result<Vec<u8>, NoMemory> {
     match next_line(input, 0) {
-        Some((b"pcitrace 1", next)) => {
-            let end = match find_line(input, b"events") {
-                Some((_, at)) => at,
-                None => input.len(),
-            };
-            without_lines(alloc, &input[..end.min(input.len())], 0, next)
-        }
+        Some((b"pcitrace 1", next)) => board_between(alloc, input, next, b"events"),
+        Some((b"pcidevices 1", next)) => board_between(alloc, input, next, b"devices"),
         _ => Ok(input.to_vec(alloc)?),
     }
+}
+
+fn board_between(
+    alloc: Global,
+    input: &[u8],
+    from: usize,
+    mark: &[u8],
+) -> Result<Vec<u8>, NoMemory> {
+    let end = match find_line(input, mark) {
+        Some((_, at)) => at,
+        None => input.len(),
+    };
+    without_lines(alloc, &input[..end.min(input.len())], 0, from)
 }
 
 /// Whether nothing but spaces and newlines stands between two places.

@@ -1,6 +1,7 @@
 ghost use Rattle.std.specs.Prelude.{◌<◌, ◌≤◌, ◌^◌, length};
 
 use board_statements::LineFault;
+use device_faults::DeviceFault;
 use fault_pages::Fault;
 use pci_command::NoMemory;
 use program_status::{BoardFault, Status};
@@ -45,6 +46,42 @@ pub(crate) fn tell_board(
             let line = format!(in teller.alloc(); "{sentence}: this board may have {bound}")?;
             teller.say(line.as_str())
         }
+        BoardFault::Device(fault) => tell_device(teller, input, number, fault, sentence.as_str()),
+    }
+}
+
+/// A line of devices, or a mark of their text.
+fn tell_device(
+    teller: &mut Teller,
+    input: &[u8],
+    number: u32,
+    fault: DeviceFault,
+    sentence: &str,
+) -> Result<(), NoMemory> {
+    let Some((_, line)) = line_at(input, number) else {
+        return teller.say(sentence);
+    };
+    if line.len() >= TOO_LONG {
+        return teller.say(sentence);
+    }
+    let word = match fault {
+        DeviceFault::Misshapen | DeviceFault::OverLimit => 0,
+        DeviceFault::NameUsed => 1,
+        DeviceFault::NotThere => 3,
+        DeviceFault::Misplaced | DeviceFault::NotClear => word_of_address(line),
+    };
+    let at = place_of(teller.alloc(), line, Spot::Word(word))?;
+    teller.point(number, line, at, sentence)
+}
+
+/// Which word of a line of devices is its address: behind `bell` or `wait`, or else the second.
+fn word_of_address(line: &[u8]) -> usize {
+    let start = line.iter().position(|byte| *byte != b' ' && *byte != b'\t');
+    let words = &line[start.unwrap_or(0)..];
+    if words.starts_with(b"device") || words.starts_with(b"handler") {
+        5
+    } else {
+        1
     }
 }
 

@@ -25,6 +25,8 @@ mod header_text_tests;
 #[cfg(test)]
 mod io_ports_tests;
 #[cfg(test)]
+mod msi_agents_tests;
+#[cfg(test)]
 mod order_table_tests;
 #[cfg(test)]
 mod pci_command_tests;

@@ -1,5 +1,6 @@
 use board_faults::TreeFault;
 use board_statements::LineFault;
+use device_faults::DeviceFault;
 use history_model::Why;
 use program_status::{BoardFault, Status};
 use std::test::Fail;
@@ -37,6 +38,11 @@ fn statuses_are_printed(rt: HostRuntime) -> Result<(), Fail> {
             at_line(0, BoardFault::Bound(500_001)),
             6,
             "pcitree: board line 0 fault V9 bound 500001",
+        ),
+        (
+            at_line(11, BoardFault::Device(DeviceFault::NotClear)),
+            6,
+            "pcitree: board line 11 fault Q6",
         ),
         (
             Status::BadTrace {

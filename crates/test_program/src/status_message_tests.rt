@@ -1,6 +1,7 @@
 use board_faults::TreeFault;
 use board_statements::LineFault;
-use fault_pages::{Fault, PAGES, Page};
+use dma_agents::{MakeFault, make};
+use fault_pages::{DEVICE_PAGES, Fault, PAGES, Page};
 use history_model::Why;
 use program_input::{read_tree, read_tree_trace};
 use program_status::{BoardFault, Status};
@@ -72,6 +73,13 @@ fn refusal_of(alloc: Global, page: &Page) -> Result<Status, Fail> {
                 None => Err("a run".into()),
             },
         },
+        Fault::Device(fault) => match make(alloc, input) {
+            Err(MakeFault::Device { line, fault: told }) if told == fault => {
+                let fault = BoardFault::Device(told);
+                Ok(Status::BadBoard { line, fault })
+            }
+            _ => Err("another fault".into()),
+        },
         _ => match read_tree(alloc, input) {
             Err(status) => Ok(status),
             Ok(_) => Err("a board".into()),
@@ -81,7 +89,7 @@ fn refusal_of(alloc: Global, page: &Page) -> Result<Status, Fail> {
 
 #[test]
 fn every_example_has_its_fault(rt: HostRuntime) -> Result<(), Fail> {
-    for page in &PAGES {
+    for page in PAGES.iter().chain(DEVICE_PAGES.iter()) {
         let status = refusal_of(rt.alloc(), page)?;
         assert_eq!(rt; Fault::of(&status), Some(page.fault), "{}", page.code);
         let sentence = page.fault.to_string(rt.alloc())?;

@@ -2,7 +2,7 @@ use Rattle.std.proofs.Common.{◌≡◌, ◌+◌, ◌-◌, ◌≤◌, length, dr
 use Rattle.std.specs.Prelude.{None}
 use Rattle.board_text.specs.Lines.{lines_of}
 use Rattle.board_parser.specs.Boards.{read_lines}
-use Rattle.board_parser.proofs.text.parse.Given as goal
+use Rattle.board_parser.proofs.text.parse_sheet.Given as goal
 
 -- what the lines to come make of the sheet is what the whole text reads as
 abbrev pub invariant-loop-line : goal.invariant-loop-line

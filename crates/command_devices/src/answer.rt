@@ -1,0 +1,68 @@
+ghost use Rattle.std.specs.Prelude.{◌<◌, ◌^◌, length, IfOk, IfErr};
+ghost use Rattle.dma_agents.specs.Made.{IsMade, made_read};
+ghost use Rattle.command_devices.specs.Refusals.{RefusesDevices};
+ghost use Rattle.command_devices.specs.Answers.{ReadsDevices, AnswersDevices, DeliversTo};
+
+use bus_tree::Tree;
+use dma_agents::{MakeFault, delivered, make};
+use pci_command::{List, NoMemory};
+use program_input::tree_of;
+use program_status::{BoardFault, Status};
+use roundtrip_runs::run_has_lines;
+use roundtrip_trace::printed_trace_is_read;
+use std::alloc::Global;
+use trace_finish::finish;
+use trace_text::print_trace;
+
+/// The trace of the run of the board whose devices these bytes tell. It is refused as the text of no
+/// devices on a valid board.
+pub fn answer_devices(alloc: Global, input: &[u8]) -> Result<Vec<u8>, Status>
+    requires { length input.now < 2 ^ 31 }
+    ensures ok { IfOk result (λ trace. AnswersDevices input.now trace.items) }
+    ensures err { IfErr result (RefusesDevices input.now) }
+{
+    let tree = read_devices(alloc, input)?;
+    match trace_of(alloc, input, &tree) {
+        Ok(trace) => Ok(trace.into_vec()),
+        Err(_) => Err(Status::NoMemory),
+    }
+}
+
+/// The valid board of these devices.
+#[tactic(auto, using(crate::proofs::ReadLemmas::made_tree, crate::proofs::ReadLemmas::tree_refused))]
+fn read_devices(alloc: Global, input: &[u8]) -> Result<Tree, Status>
+    requires { length input.now < 2 ^ 31 }
+    ensures ok { IfOk result (ReadsDevices input.now) }
+    ensures err { IfErr result (RefusesDevices input.now) }
+{
+    match make(alloc, input) {
+        Ok(board) => match tree_of(board) {
+            Ok(tree) => Ok(tree),
+            Err(status) => Err(status),
+        },
+        Err(MakeFault::Board { line, fault }) => Err(Status::BadBoard {
+            line,
+            fault: BoardFault::Line(fault),
+        }),
+        Err(MakeFault::Device { line, fault }) => Err(Status::BadBoard {
+            line,
+            fault: BoardFault::Device(fault),
+        }),
+        Err(MakeFault::NoMemory) => Err(Status::NoMemory),
+    }
+}
+
+/// The trace text of the run of a board, from no events on, which delivers.
+fn trace_of(alloc: Global, input: &[u8], tree: &Tree) -> Result<List<u8>, NoMemory>
+    requires { IsMade tree.now (made_read input.now) }
+    ensures { IfOk result (DeliversTo input.now tree.now) }
+{
+    let board = tree.board();
+    let Ok(events) = finish(alloc, tree, List::from_vec(Vec::new(alloc))) else {
+        return Err(NoMemory);
+    };
+    run_has_lines(board, events.as_slice());
+    printed_trace_is_read(board, events.as_slice());
+    let _always = delivered(input, tree, events.as_slice());
+    print_trace(alloc, board, events.as_slice())
+}

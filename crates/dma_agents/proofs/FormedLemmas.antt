@@ -1,0 +1,286 @@
+-- A board that is made is well formed.
+use Rattle.std.proofs.Common.{◌≡◌, ℕ, zero, suc, ◌+◌, ◌≤◌, Bool, true, false, ◌&&◌, cond, not, nat_le, nat_lt, List, [], ◌∷◌, length, drop, Option, Some, None, Result, Ok, Err, refl, sym, ap, subst, ◌∙◌, arith, codes}
+use Rattle.std.specs.Str.{bytes_eq}
+use Rattle.std.specs.List.{list_all}
+use Rattle.std.proofs.lemmas.Bool.{and_parts, and_from}
+use Rattle.pci_command.specs.declared.phases.Phase.{Phase}
+use Rattle.board_model.specs.declared.board.Board.{Board}
+use Rattle.board_model.specs.declared.op.Op.{Op}
+use Rattle.board_model.specs.WellFormed.{is_within, is_well_formed_op, is_well_formed_phase, is_well_formed}
+use Rattle.board_text.specs.Lines.{lines_of, line_fault}
+use Rattle.board_text.specs.Tokens.{words_of}
+use Rattle.board_statements.specs.declared.fault.LineFault.{LineFault}
+use Rattle.board_statements.specs.declared.statement.Statement.TheVariants.{Does, NewMaster}
+use Rattle.board_statements.specs.Words.{Reader, one_word, hex, decimal, fixed, decimal_of}
+use Rattle.board_draft.specs.declared.draft.Draft.{Draft}
+use Rattle.board_draft.specs.Drafts.{board_of}
+use Rattle.board_draft.specs.Formed.{is_formed_op}
+use Rattle.board_draft.specs.Masters.{add_master, does}
+use Rattle.board_draft.specs.Targets.{is_name_used}
+use Rattle.board_draft.proofs.SoundLemmas.{well_formed_by}
+use Rattle.board_draft.proofs.DraftLemmas.{IsDraftSound, closed_sound, add_sound}
+use Rattle.board_parser.specs.Boards.{read_lines}
+use Rattle.board_parser.proofs.ReaderLemmas.{Yields, yields-bind, yields-next, yields-give, yields-word, yields-any, yields-whole}
+use Rattle.board_parser.proofs.WordKindLemmas.{decimal-within}
+use Rattle.board_parser.proofs.ReadingLemmas.{SomeSound, lines-sound}
+use Rattle.msi_agents.specs.Message.{message_of}
+use Rattle.device_faults.specs.declared.DeviceFault.{DeviceFault}
+use Rattle.device_faults.specs.declared.DeviceFault.TheVariants.{Misshapen, Misplaced, NameUsed, OverLimit}
+use Rattle.dma_agents.specs.declared.fault.MakeFault.{MakeFault}
+use Rattle.dma_agents.specs.declared.fault.MakeFault.TheVariants.{Device as OfLine}
+use Rattle.dma_agents.specs.declared.line.Flag.{Flag}
+use Rattle.dma_agents.specs.declared.line.DeviceLine.{DeviceLine}
+use Rattle.dma_agents.specs.declared.line.DeviceLine.TheVariants.{Device, Handler, Puts, Gets, Sends, Looks}
+use Rattle.dma_agents.specs.declared.line.Owner.{Owner}
+use Rattle.dma_agents.specs.declared.line.Owner.TheVariants.{Nobody}
+use Rattle.dma_agents.specs.declared.making.Making.{Making}
+use Rattle.dma_agents.specs.Put.{cut, write_in, writes_from, dwords_in, first_in}
+use Rattle.dma_agents.specs.DeviceLines.{name_in, flag_form, device_form, handler_form, seeded, put_form, get_form, look_form, sent, send_form, form_behind, device_line}
+use Rattle.dma_agents.specs.Adding.{stands, is_placed, poll_of, read_of, message_to, limited, then_adds, add_one, add_ops, begins_on, begins, bus_of, bus_there, added, line_added}
+use Rattle.dma_agents.specs.Made.{is_faultless, is_line, is_blank, with_draft, by_form, line_read, fault_behind, behind_end, then_lines, lines_read, unclear, Made, by_flags, by_lines, by_board, until_devices, by_parts, by_first, made_read, board_in}
+use Rattle.dma_agents.proofs.PutLemmas.{cut_formed}
+
+-- What a line gives.
+
+-- a poll is tried at least once, and a put has a byte
+is_formed_line : DeviceLine → Bool
+is_formed_line (Device name target bell) = is_within 1 65536 bell.tries
+is_formed_line (Handler name bus wait) = is_within 1 65536 wait.tries
+is_formed_line (Puts put) = nat_le 1 put.length
+is_formed_line (Gets address) = true
+is_formed_line (Sends address message) = true
+is_formed_line (Looks address) = true
+
+abbrev IsFormedLine : DeviceLine → Type 0
+IsFormedLine line = is_formed_line line ≡ true
+
+abbrev Any : {A : Type 0} → A → Type 0
+Any value = Unit {0}
+
+abbrev HasTries : Flag → Type 0
+HasTries flag = is_within 1 65536 flag.tries ≡ true
+
+flag_yields : Yields flag_form HasTries
+unfolding flag_form
+flag_yields =
+    yields-bind (hex 8) _ Any HasTries (yields-any (hex 8)) (λ address _.
+    yields-bind (hex 8) _ Any HasTries (yields-any (hex 8)) (λ value _.
+    yields-bind (decimal 1 65536) _ (λ n. is_within 1 65536 n ≡ true) HasTries (yields-word (decimal_of 1 65536) (λ n. is_within 1 65536 n ≡ true) (decimal-within 1 65536)) (λ tries within.
+    yields-give (record { address = address; value = value; tries = tries }) HasTries within)))
+
+device_yields : Yields device_form IsFormedLine
+unfolding device_form is_formed_line
+device_yields =
+    yields-bind (one_word name_in) _ Any IsFormedLine (yields-any (one_word name_in)) (λ name _.
+    yields-next (fixed (codes "on")) _ IsFormedLine (
+    yields-bind (one_word name_in) _ Any IsFormedLine (yields-any (one_word name_in)) (λ target _.
+    yields-next (fixed (codes "bell")) _ IsFormedLine (
+    yields-bind flag_form _ HasTries IsFormedLine flag_yields (λ bell tries.
+    yields-give (Device name target bell) IsFormedLine tries)))))
+
+handler_yields : Yields handler_form IsFormedLine
+unfolding handler_form is_formed_line
+handler_yields =
+    yields-bind (one_word name_in) _ Any IsFormedLine (yields-any (one_word name_in)) (λ name _.
+    yields-next (fixed (codes "on")) _ IsFormedLine (
+    yields-bind (decimal 0 255) _ Any IsFormedLine (yields-any (decimal 0 255)) (λ bus _.
+    yields-next (fixed (codes "wait")) _ IsFormedLine (
+    yields-bind flag_form _ HasTries IsFormedLine flag_yields (λ wait tries.
+    yields-give (Handler name bus wait) IsFormedLine tries)))))
+
+seeded_ok : (address length seed : ℕ) (words : List (List ℕ)) (read : DeviceLine × List (List ℕ)) → nat_le 1 length ≡ true → seeded address length seed words ≡ Ok read → IsFormedLine read.0
+unfolding is_formed_line
+seeded_ok address length seed words read some h =
+    let line : DeviceLine = Puts (record { address = address; length = length; seed = seed }) in
+    let P : Bool → Type 0 = λ b. cond b (Ok (line, words)) (Err LineFault.IllFormed) ≡ Ok read → IsFormedLine read.0 in
+    (elim (nat_le seed 255) as P [ true ↦ λ e. let same : line ≡ read.0 = cc in subst IsFormedLine same some | false ↦ λ e. cc ]) h
+
+put_yields : Yields put_form IsFormedLine
+unfolding put_form
+put_yields =
+    yields-bind (hex 8) _ Any IsFormedLine (yields-any (hex 8)) (λ address _.
+    yields-bind (decimal 1 4096) _ (λ n. is_within 1 4096 n ≡ true) IsFormedLine (yields-word (decimal_of 1 4096) (λ n. is_within 1 4096 n ≡ true) (decimal-within 1 4096)) (λ length within.
+    yields-bind (hex 8) _ Any IsFormedLine (yields-any (hex 8)) (λ seed _.
+    record { at = λ words read h. seeded_ok address length seed words read (and_parts (nat_le 1 length) (nat_le length 4096) within).0 h })))
+
+get_yields : Yields get_form IsFormedLine
+unfolding get_form is_formed_line
+get_yields = yields-bind (hex 8) _ Any IsFormedLine (yields-any (hex 8)) (λ address _. yields-give (Gets address) IsFormedLine refl)
+
+look_yields : Yields look_form IsFormedLine
+unfolding look_form is_formed_line
+look_yields = yields-bind (hex 8) _ Any IsFormedLine (yields-any (hex 8)) (λ address _. yields-give (Looks address) IsFormedLine refl)
+
+sent_ok : (address : ℕ) (message : Option ℕ) (words : List (List ℕ)) (read : DeviceLine × List (List ℕ)) → sent address message words ≡ Ok read → IsFormedLine read.0
+unfolding is_formed_line
+sent_ok address None words read h = cc
+sent_ok address (Some message) words read h = let same : Sends address message ≡ read.0 = cc in subst IsFormedLine same refl
+
+send_yields : Yields send_form IsFormedLine
+unfolding send_form
+send_yields =
+    yields-bind (hex 8) _ Any IsFormedLine (yields-any (hex 8)) (λ address _.
+    yields-bind (hex 4) _ Any IsFormedLine (yields-any (hex 4)) (λ low _.
+    yields-bind (decimal 0 32) _ Any IsFormedLine (yields-any (decimal 0 32)) (λ vectors _.
+    yields-bind (decimal 0 31) _ Any IsFormedLine (yields-any (decimal 0 31)) (λ number _.
+    record { at = λ words read h. sent_ok address (message_of low vectors number) words read h }))))
+
+-- one of two readers
+either_yields : (test : Bool) (first second : Reader DeviceLine) → Yields first IsFormedLine → Yields second IsFormedLine → (words : List (List ℕ)) (read : DeviceLine × List (List ℕ)) → cond test (first words) (second words) ≡ Ok read → IsFormedLine read.0
+either_yields true first second one other words read h = one.at words read h
+either_yields false first second one other words read h = other.at words read h
+
+abbrev choose : Bool → Reader DeviceLine → Reader DeviceLine → Reader DeviceLine
+choose test first second words = cond test (first words) (second words)
+
+chosen : (test : Bool) (first second : Reader DeviceLine) → Yields first IsFormedLine → Yields second IsFormedLine → Yields (choose test first second) IsFormedLine
+chosen test first second one other = record { at = λ words read h. either_yields test first second one other words read h }
+
+refused : (fault : LineFault) → Yields (λ words. Err fault) IsFormedLine
+refused fault = record { at = λ words read h. cc }
+
+behind_yields : (word : List ℕ) → Yields (form_behind word) IsFormedLine
+unfolding form_behind
+behind_yields word =
+    chosen (bytes_eq word (codes "device")) device_form _ device_yields (
+    chosen (bytes_eq word (codes "handler")) handler_form _ handler_yields (
+    chosen (bytes_eq word (codes "put")) put_form _ put_yields (
+    chosen (bytes_eq word (codes "get")) get_form _ get_yields (
+    chosen (bytes_eq word (codes "send")) send_form _ send_yields (
+    chosen (bytes_eq word (codes "look")) look_form _ look_yields (refused LineFault.WrongWord))))))
+
+line_formed : (words : List (List ℕ)) (line : DeviceLine) → device_line words ≡ Ok line → IsFormedLine line
+unfolding device_line
+line_formed words line h =
+    let reader = yields-bind (one_word (λ word. Ok word)) form_behind Any IsFormedLine (yields-any (one_word (λ word. Ok word))) (λ word _. behind_yields word) in
+    yields-whole _ IsFormedLine (reader.at words) line h
+
+-- What it adds keeps the draft sound.
+
+abbrev IsSoundStep : Result Draft DeviceFault → Type 0
+IsSoundStep (Ok draft) = IsDraftSound draft
+IsSoundStep (Err fault) = Unit {0}
+
+limited_sound : (step : Result Draft LineFault) → ((draft : Draft) → step ≡ Ok draft → IsDraftSound draft) → IsSoundStep (limited step)
+limited_sound (Ok draft) each = each draft refl
+limited_sound (Err fault) each = tt
+
+then_sound : (step : Result Draft DeviceFault) (later : Draft → Result Draft DeviceFault) → IsSoundStep step → ((draft : Draft) → IsDraftSound draft → IsSoundStep (later draft)) → IsSoundStep (then_adds step later)
+then_sound (Ok draft) later sound each = each draft sound
+then_sound (Err fault) later sound each = tt
+
+one_sound : (draft : Draft) (op : Op) → is_formed_op op ≡ true → IsDraftSound draft → IsSoundStep (add_one draft op)
+one_sound draft op formed sound = limited_sound (does draft op false) (λ next is. add_sound draft (Does op false) next formed sound is)
+
+ops_sound : (draft : Draft) (ops : List Op) → list_all is_formed_op ops ≡ true → IsDraftSound draft → IsSoundStep (add_ops draft ops)
+ops_sound draft [] formed sound = sound
+ops_sound draft (op ∷ ops) formed sound =
+    let parts = and_parts (is_formed_op op) (list_all is_formed_op ops) formed in
+    then_sound (add_one draft op) (λ next. add_ops next ops) (one_sound draft op parts.0 sound) (λ next still. ops_sound next ops parts.1 still)
+
+on_sound : (draft : Draft) (name : List ℕ) (bus : Option ℕ) (flag : Flag) → HasTries flag → IsDraftSound draft → IsSoundStep (begins_on draft name bus (poll_of flag))
+on_sound draft name None flag tries sound = tt
+on_sound draft name (Some bus) flag tries sound =
+    then_sound (limited (add_master draft.wide (board_of draft) name bus)) (λ next. add_one next (poll_of flag))
+    (limited_sound (add_master draft.wide (board_of draft) name bus) (λ next is. add_sound draft (NewMaster name bus) next refl sound is))
+    (λ next still. one_sound next (poll_of flag) tries still)
+
+begins_sound : (draft : Draft) (name : Option (List ℕ)) (bus : Option ℕ) (flag : Flag) → HasTries flag → IsDraftSound draft → IsSoundStep (begins draft name bus (poll_of flag))
+begins_sound draft None bus flag tries sound = tt
+begins_sound draft (Some name) bus flag tries sound =
+    let P : Bool → Type 0 = λ b. IsSoundStep (cond b (Err NameUsed) (begins_on draft name bus (poll_of flag))) in
+    elim (is_name_used (board_of draft) name) as P [ true ↦ tt | false ↦ on_sound draft name bus flag tries sound ]
+
+added_sound : (draft : Draft) (line : DeviceLine) → IsFormedLine line → IsDraftSound draft → IsSoundStep (added draft line)
+unfolding is_formed_line
+added_sound draft (Device name target bell) formed sound = begins_sound draft name (bus_of (board_of draft) target) bell formed sound
+added_sound draft (Handler name bus wait) formed sound = begins_sound draft name (bus_there (board_of draft) bus) wait formed sound
+added_sound draft (Puts put) formed sound = ops_sound draft (cut put) (cut_formed put formed) sound
+added_sound draft (Gets address) formed sound = one_sound draft (read_of address) refl sound
+added_sound draft (Sends address message) formed sound = one_sound draft (message_to address message) refl sound
+added_sound draft (Looks address) formed sound = one_sound draft (read_of address) refl sound
+
+line_sound : (owner : Owner) (draft : Draft) (line : DeviceLine) → IsFormedLine line → IsDraftSound draft → IsSoundStep (line_added owner draft line)
+line_sound owner draft line formed sound =
+    let P : Bool → Type 0 = λ b. IsSoundStep (cond b (Err Misplaced) (added draft line)) in
+    let placed : P (not (is_placed line)) = elim (not (is_placed line)) as P [ true ↦ tt | false ↦ added_sound draft line formed sound ] in
+    let Q : Bool → Type 0 = λ b. IsSoundStep (cond b (Err Misshapen) (cond (not (is_placed line)) (Err Misplaced) (added draft line))) in
+    elim (not (stands owner line)) as Q [ true ↦ tt | false ↦ placed ]
+
+-- All lines.
+
+abbrev IsSoundMaking : {F : Type 0} → Result Making F → Type 0
+IsSoundMaking (Ok making) = IsDraftSound making.sheet
+IsSoundMaking (Err fault) = Unit {0}
+
+draft_sound : (making : Making) (number : ℕ) (line : DeviceLine) (step : Result Draft DeviceFault) → IsSoundStep step → IsSoundMaking (with_draft making number line step)
+draft_sound making number line (Ok draft) sound = sound
+draft_sound making number line (Err fault) sound = tt
+
+form_sound : (making : Making) (number : ℕ) (words : List (List ℕ)) (said : Result DeviceLine LineFault) → device_line words ≡ said → IsDraftSound making.sheet → IsSoundMaking (by_form making number said)
+form_sound making number words (Ok line) is sound = draft_sound making number line _ (line_sound making.owner making.sheet line (line_formed words line is) sound)
+form_sound making number words (Err fault) is sound = tt
+
+read_sound : (making : Making) (number : ℕ) (line : List ℕ) → IsDraftSound making.sheet → IsSoundMaking (line_read making number line)
+read_sound making number line sound =
+    let words : List (List ℕ) = words_of line in
+    let P : Bool → Type 0 = λ b. IsSoundMaking (cond b (by_form making number (device_line words)) (Ok making)) in
+    let by_words : (b : Bool) → P b = λ b. elim b as P [ true ↦ form_sound making number words (device_line words) refl sound | false ↦ sound ] in
+    let Q : Bool → Type 0 = λ b. IsSoundMaking (cond b (cond (nat_lt 0 (length words)) (by_form making number (device_line words)) (Ok making)) (Err Misshapen)) in
+    elim (is_faultless (line_fault line)) as Q [ true ↦ by_words (nat_lt 0 (length words)) | false ↦ tt ]
+
+end_sound : (making : Making) (found : Option ℕ) → IsDraftSound making.sheet → IsSoundMaking (behind_end making found)
+end_sound making None sound = sound
+end_sound making (Some number) sound = tt
+
+step_sound : (step : Result Making DeviceFault) (number : ℕ) (later : Making → Result Making MakeFault) → IsSoundMaking step → ((making : Making) → IsDraftSound making.sheet → IsSoundMaking (later making)) → IsSoundMaking (then_lines step number later)
+step_sound (Ok making) number later sound each = each making sound
+step_sound (Err fault) number later sound each = tt
+
+all_sound : (making : Making) (number : ℕ) (lines : List (List ℕ)) → IsDraftSound making.sheet → IsSoundMaking (lines_read making number lines)
+all_sound making number [] sound = tt
+all_sound making number (line ∷ lines) sound =
+    let more : Result Making MakeFault = then_lines (line_read making number line) number (λ next. lines_read next (number + 1) lines) in
+    let rest : IsSoundMaking more = step_sound (line_read making number line) number (λ next. lines_read next (number + 1) lines) (read_sound making number line sound) (λ next still. all_sound next (number + 1) lines still) in
+    let P : Bool → Type 0 = λ b. IsSoundMaking (cond b (behind_end making (fault_behind (number + 1) lines)) more) in
+    elim (is_line (codes "end" ∷ []) line && list_all is_blank lines) as P [ true ↦ end_sound making (fault_behind (number + 1) lines) sound | false ↦ rest ]
+
+-- The whole text.
+
+abbrev IsFormedMade : Result Made MakeFault → Type 0
+IsFormedMade (Ok made) = is_well_formed made.board ≡ true
+IsFormedMade (Err fault) = Unit {0}
+
+flags_formed : (board : Board) (first : ℕ) (found : Option ℕ) → is_well_formed board ≡ true → IsFormedMade (by_flags board first found)
+flags_formed board first None formed = formed
+flags_formed board first (Some line) formed = tt
+
+lines_formed : (first : ℕ) (making : Result Making MakeFault) → IsSoundMaking making → IsFormedMade (by_lines first making)
+lines_formed first (Ok making) sound =
+    flags_formed (board_of making.sheet) first (unclear (board_of making.sheet) (drop first (board_of making.sheet).masters) making.lines)
+    (well_formed_by (board_of making.sheet) (closed_sound making.sheet sound))
+lines_formed first (Err fault) sound = tt
+
+board_formed : (number : ℕ) (lines : List (List ℕ)) (reading : Result (Option Draft) (ℕ × LineFault)) → ((end : Option Draft) → reading ≡ Ok end → SomeSound end) → IsFormedMade (by_board number lines reading)
+board_formed number lines (Ok None) each = tt
+board_formed number lines (Ok (Some draft)) each =
+    lines_formed (length (board_of draft).masters) (lines_read (record { sheet = draft; owner = Nobody; lines = [] }) number lines)
+    (all_sound (record { sheet = draft; owner = Nobody; lines = [] }) number lines (each (Some draft) refl))
+board_formed number lines (Err fault) each = tt
+
+parts_formed : (past : ℕ) (parts : Option (List (List ℕ) × List (List ℕ))) → IsFormedMade (by_parts past parts)
+parts_formed past None = tt
+parts_formed past (Some parts) = board_formed (length parts.0 + 3) parts.1 (read_lines None 1 parts.0) (λ end is. lines-sound None 1 parts.0 end tt is)
+
+first_formed : (lines : List (List ℕ)) → IsFormedMade (by_first lines)
+first_formed [] = tt
+first_formed (line ∷ lines) =
+    let P : Bool → Type 0 = λ b. IsFormedMade (cond b (by_parts (length lines + 2) (until_devices lines)) (Err (OfLine 1 Misshapen))) in
+    elim (is_line (codes "pcidevices" ∷ codes "1" ∷ []) line) as P [ true ↦ parts_formed (length lines + 2) (until_devices lines) | false ↦ tt ]
+
+formed_in : (reading : Result Made MakeFault) (board : Board) → IsFormedMade reading → board_in reading ≡ Ok board → is_well_formed board ≡ true
+formed_in (Ok made) board formed is = let same : made.board ≡ board = cc in subst (λ b. is_well_formed b ≡ true) same formed
+formed_in (Err fault) board formed is = cc
+
+pub told_formed : (text : List ℕ) (board : Board) → board_in (made_read text) ≡ Ok board → is_well_formed board ≡ true
+told_formed text board is = formed_in (made_read text) board (first_formed (lines_of text)) is

@@ -1,0 +1,7 @@
+pub mod PutLemmas
+pub mod MadeLemmas
+pub mod WordsLemmas
+pub mod FormedLemmas
+pub mod CutLemmas
+pub mod ClearLemmas
+pub mod MakeLemmas

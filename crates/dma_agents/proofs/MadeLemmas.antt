@@ -1,0 +1,123 @@
+-- The flags of a made board are clear, so they deliver.
+use Rattle.std.proofs.Common.{◌≡◌, ℕ, zero, suc, ◌+◌, ◌-◌, ◌≤◌, Bool, true, false, cond, nat_lt, List, [], ◌∷◌, length, drop, Option, Some, None, Result, Ok, Err, refl, sym, ap, subst, ◌∙◌, arith, slice_get, codes}
+use Rattle.pci_command.specs.declared.command.Space.TheVariants.{Mem}
+use Rattle.pci_command.specs.declared.op_id.OpId.{OpId}
+use Rattle.board_model.specs.declared.agents.Master.{Master}
+use Rattle.board_model.specs.declared.board.Board.{Board}
+use Rattle.board_model.specs.declared.op.Op.{Op}
+use Rattle.board_model.specs.declared.op.Op.TheVariants.{Poll}
+use Rattle.std.specs.Option.{option_and_then}
+use Rattle.board_model.specs.Requests.{tries_of, op_of}
+use Rattle.board_model.specs.Valid.{IsValid}
+use Rattle.board_text.specs.Lines.{lines_of}
+use Rattle.board_statements.specs.declared.fault.LineFault.{LineFault}
+use Rattle.board_draft.specs.declared.draft.Draft.{Draft}
+use Rattle.board_draft.specs.Drafts.{board_of}
+use Rattle.board_parser.specs.Boards.{read_lines}
+use Rattle.history_model.specs.declared.event.Event.{Event}
+use Rattle.history_model.specs.Runs.{Run}
+use Rattle.law_delivered.specs.Clear.{is_clear}
+use Rattle.law_delivered.specs.Delivered.{Awaits, Delivers, Delivered}
+use Rattle.dma_agents.specs.declared.fault.MakeFault.{MakeFault}
+use Rattle.dma_agents.specs.declared.making.Making.{Making}
+use Rattle.dma_agents.specs.declared.fault.MakeFault.TheVariants.{Device as OfLine}
+use Rattle.device_faults.specs.declared.DeviceFault.TheVariants.{Misshapen}
+use Rattle.dma_agents.specs.Made.{flag_is_clear, unclear, line_at, Made, by_flags, by_lines, by_board, until_devices, by_parts, is_line, by_first, made_read}
+
+-- no master from one on has a flag that is not clear
+abbrev Clear : Board → ℕ → Type 0
+Clear board first = (lines : List ℕ) × (unclear board (drop first board.masters) lines ≡ None)
+
+abbrev ClearMade : Result Made MakeFault → Type 0
+ClearMade (Ok made) = Clear made.board made.first
+ClearMade (Err fault) = Unit {0}
+
+flags_clear : (board : Board) (first : ℕ) (lines : List ℕ) → ClearMade (by_flags board first (unclear board (drop first board.masters) lines))
+flags_clear board first lines =
+    let found : Option ℕ = unclear board (drop first board.masters) lines in
+    let P : Option ℕ → Type 0 = λ x. found ≡ x → ClearMade (by_flags board first x) in
+    (elim found as P [ None ↦ λ none. (lines, none) | Some line ↦ λ _. tt ]) refl
+
+making_clear : (first : ℕ) (making : Result Making MakeFault) → ClearMade (by_lines first making)
+making_clear first (Ok making) = flags_clear (board_of making.sheet) first making.lines
+making_clear first (Err fault) = tt
+
+draft_clear : (number : ℕ) (lines : List (List ℕ)) (draft : Result (Option Draft) (ℕ × LineFault)) → ClearMade (by_board number lines draft)
+draft_clear number lines (Ok None) = tt
+draft_clear number lines (Ok (Some draft)) = making_clear (length (board_of draft).masters) _
+draft_clear number lines (Err fault) = tt
+
+parts_clear : (past : ℕ) (parts : Option (List (List ℕ) × List (List ℕ))) → ClearMade (by_parts past parts)
+parts_clear past None = tt
+parts_clear past (Some parts) = draft_clear (length parts.0 + 3) parts.1 (read_lines None 1 parts.0)
+
+first_clear : (lines : List (List ℕ)) → ClearMade (by_first lines)
+first_clear [] = tt
+first_clear (line ∷ lines) =
+    let P : Bool → Type 0 = λ b. ClearMade (cond b (by_parts (length lines + 2) (until_devices lines)) (Err (OfLine 1 Misshapen))) in
+    elim (is_line (codes "pcidevices" ∷ codes "1" ∷ []) line) as P [ true ↦ parts_clear (length lines + 2) (until_devices lines) | false ↦ tt ]
+
+-- the flag of each such master
+clear_at : (board : Board) (masters : List Master) (lines : List ℕ) (place : ℕ) (master : Master) → unclear board masters lines ≡ None → slice_get masters place ≡ Some master → flag_is_clear board master.ops ≡ true
+clear_at board [] lines place master none is = cc
+clear_at board (first ∷ masters) lines zero master none is =
+    let one : first ≡ master = cc in
+    let P : Bool → Type 0 = λ b. cond b (unclear board masters (drop 1 lines)) (Some (line_at lines)) ≡ None → b ≡ true in
+    ap (λ (m : Master). flag_is_clear board m.ops) (sym one) ∙ (elim (flag_is_clear board first.ops) as P [ true ↦ λ _. refl | false ↦ λ e. cc ]) none
+clear_at board (first ∷ masters) lines (suc place) master none is =
+    let P : Bool → Type 0 = λ b. cond b (unclear board masters (drop 1 lines)) (Some (line_at lines)) ≡ None → unclear board masters (drop 1 lines) ≡ None in
+    clear_at board masters (drop 1 lines) place master ((elim (flag_is_clear board first.ops) as P [ true ↦ λ e. e | false ↦ λ e. cc ]) none) is
+
+behind_drop : {X : Type 0} (xs : List X) (first place : ℕ) (x : X) → first ≤ place → slice_get xs place ≡ Some x → slice_get (drop first xs) (place - first) ≡ Some x
+behind_drop xs zero place x least is = let same : place - 0 ≡ place = omega arith in ap (slice_get xs) same ∙ is
+behind_drop [] (suc first) place x least is = cc
+behind_drop (y ∷ ys) (suc first) zero x least is = absurd (omega (arith, least))
+behind_drop (y ∷ ys) (suc first) (suc place) x least is =
+    let same : suc place - suc first ≡ place - first = omega arith in
+    ap (slice_get (drop first ys)) same ∙ behind_drop ys first place x (omega (arith, least)) is
+
+first_op : (board : Board) (ops : List Op) (address value tries : ℕ) → slice_get ops 0 ≡ Some (Poll Mem address 0xffff_ffff value tries) → flag_is_clear board ops ≡ true → is_clear board address value ≡ true
+first_op board [] address value tries is clear = cc
+first_op board (op ∷ ops) address value tries is clear =
+    let one : op ≡ Poll Mem address 0xffff_ffff value tries = cc in
+    subst (λ o. flag_is_clear board (o ∷ ops) ≡ true) one clear
+
+-- where an operation stands
+record Stands (board : Board) (o : OpId) (op : Op) : Type 0 where
+  master : Master
+  is_master : slice_get board.masters o.master ≡ Some master
+  there : slice_get master.ops o.index ≡ Some op
+
+stands_at : (board : Board) (o : OpId) (op : Op) → op_of board o ≡ Some op → Stands board o op
+stands_at board o op is =
+    let here : Op → Option Op = λ p. cond (nat_lt o.attempt (tries_of p)) (Some p) None in
+    let P : Option Master → Type 0 = λ found. slice_get board.masters o.master ≡ found → option_and_then here (option_and_then (λ (m : Master). slice_get m.ops o.index) found) ≡ Some op → Stands board o op in
+    (elim (slice_get board.masters o.master) as P [
+      | None ↦ λ _ e. cc
+      | Some master ↦ λ is_master e.
+          let Q : Option Op → Type 0 = λ found. slice_get master.ops o.index ≡ found → option_and_then here found ≡ Some op → Stands board o op in
+          (elim (slice_get master.ops o.index) as Q [
+            | None ↦ λ _ f. cc
+            | Some p ↦ λ there f.
+                let R : Bool → Type 0 = λ b. cond b (Some p) None ≡ Some op → Stands board o op in
+                (elim (nat_lt o.attempt (tries_of p)) as R [
+                  | true ↦ λ g. let one : p ≡ op = cc in record { master = master; is_master = is_master; there = there ∙ ap Some one }
+                  | false ↦ λ g. cc
+                ]) f
+          ]) refl e
+    ]) refl is
+
+-- that clear flags deliver
+abbrev pub Law : Type 0
+Law = (board : Board) (h : List Event) (p : OpId) (address : ℕ) (value : ℕ) → IsValid board → Run board h → is_clear board address value ≡ true → Awaits board p address value → Delivers board h p address value
+
+pub made_delivers : Law → (text : List ℕ) (made : Made) (h : List Event) → made_read text ≡ Ok made → IsValid made.board → Run made.board h → Delivered made.board made.first h
+made_delivers law text made h is valid run p address value least index awaits =
+    let board : Board = made.board in
+    let clear : Clear board made.first = subst ClearMade is (first_clear (lines_of text)) in
+    let op : Op = Poll Mem address 0xffff_ffff value awaits.0 in
+    let stands = stands_at board p op awaits.1 in
+    let at_first : slice_get stands.master.ops 0 ≡ Some op = subst (λ i. slice_get stands.master.ops i ≡ Some op) index stands.there in
+    let behind = behind_drop board.masters made.first p.master stands.master least stands.is_master in
+    let mine = clear_at board (drop made.first board.masters) clear.0 (p.master - made.first) stands.master clear.1 behind in
+    law board h p address value valid run (first_op board stands.master.ops address value awaits.0 at_first mine) awaits

@@ -1,0 +1,6 @@
+pub mod Put
+pub mod DeviceLines
+pub mod Adding
+pub mod Made
+pub mod Parts
+pub mod Worked

@@ -1,0 +1,204 @@
+-- The board of a device text, or its first fault.
+use Rattle.std.specs.Prelude.{◌≡◌, ℕ, Bool, true, false, ◌+◌, List, [], ◌∷◌, ◌++◌, length, drop, Option, Some, None, Result, Ok, Err, codes, ◌&&◌, ◌==◌, nat_lt, if◌then◌else◌}
+use Rattle.std.specs.List.{list_all}
+use Rattle.std.specs.Str.{bytes_eq}
+use Rattle.board_model.specs.declared.agents.Master.{Master}
+use Rattle.board_model.specs.declared.board.Board.{Board}
+use Rattle.board_model.specs.declared.op.Op.{Op}
+use Rattle.board_model.specs.declared.op.Op.TheVariants.{Read, Write, CfgRead, CfgWrite, Poll}
+use Rattle.board_text.specs.declared.reader.BadLine.{BadLine}
+use Rattle.board_text.specs.Lines.{lines_of, line_fault}
+use Rattle.board_text.specs.Tokens.{words_of}
+use Rattle.board_statements.specs.declared.fault.LineFault.{LineFault}
+use Rattle.board_statements.specs.declared.fault.LineFault.TheVariants.{NoFirstLine}
+use Rattle.board_draft.specs.declared.draft.Draft.{Draft}
+use Rattle.board_draft.specs.Drafts.{board_of}
+use Rattle.board_parser.specs.Boards.{read_lines}
+use Rattle.law_delivered.specs.Clear.{is_clear}
+use Rattle.device_faults.specs.declared.DeviceFault.{DeviceFault}
+use Rattle.device_faults.specs.declared.DeviceFault.TheVariants.{Misshapen, NotClear}
+use Rattle.dma_agents.specs.declared.line.DeviceLine.{DeviceLine}
+use Rattle.dma_agents.specs.declared.line.DeviceLine.TheVariants.{Device, Handler, Puts, Gets, Sends, Looks}
+use Rattle.dma_agents.specs.declared.line.Owner.{Owner}
+use Rattle.dma_agents.specs.declared.line.Owner.TheVariants.{Nobody, Device as OfDevice, Handler as OfHandler}
+use Rattle.dma_agents.specs.declared.making.Making.{Making}
+use Rattle.dma_agents.specs.declared.fault.MakeFault.{MakeFault}
+use Rattle.dma_agents.specs.declared.fault.MakeFault.TheVariants.{Board as OfBoard, Device as OfLine, NoMemory}
+use Rattle.dma_agents.specs.DeviceLines.{device_line}
+use Rattle.dma_agents.specs.Adding.{line_added}
+
+-- The marks of a text.
+
+abbrev pub is_faultless : Option BadLine → Bool
+is_faultless None = true
+is_faultless (Some fault) = false
+
+abbrev pub same_words : List (List ℕ) → List (List ℕ) → Bool
+same_words [] [] = true
+same_words [] (word ∷ words) = false
+same_words (word ∷ words) [] = false
+same_words (word ∷ words) (expected ∷ more) = bytes_eq word expected && same_words words more
+
+-- a line that may be read and has just these words
+abbrev pub is_line : List (List ℕ) → List ℕ → Bool
+is_line words line = is_faultless (line_fault line) && same_words (words_of line) words
+
+-- The lines of devices, one after another.
+
+-- whose operations may follow a line
+abbrev pub owner_behind : Owner → DeviceLine → Owner
+owner_behind owner (Device name target bell) = OfDevice
+owner_behind owner (Handler name bus wait) = OfHandler
+owner_behind owner (Puts put) = owner
+owner_behind owner (Gets address) = owner
+owner_behind owner (Sends address message) = owner
+owner_behind owner (Looks address) = owner
+
+-- the lines at which a master began, behind a line of this number
+abbrev pub lines_behind : List ℕ → ℕ → DeviceLine → List ℕ
+lines_behind lines number (Device name target bell) = lines ++ number ∷ []
+lines_behind lines number (Handler name bus wait) = lines ++ number ∷ []
+lines_behind lines number (Puts put) = lines
+lines_behind lines number (Gets address) = lines
+lines_behind lines number (Sends address message) = lines
+lines_behind lines number (Looks address) = lines
+
+abbrev pub with_draft : Making → ℕ → DeviceLine → Result Draft DeviceFault → Result Making DeviceFault
+with_draft making number line (Ok draft) =
+    Ok (record { sheet = draft; owner = owner_behind making.owner line; lines = lines_behind making.lines number line })
+with_draft making number line (Err fault) = Err fault
+
+abbrev pub by_form : Making → ℕ → Result DeviceLine LineFault → Result Making DeviceFault
+by_form making number (Ok line) = with_draft making number line (line_added making.owner making.sheet line)
+by_form making number (Err fault) = Err Misshapen
+
+-- what a line of this number adds, or its first fault; one without words adds nothing
+abbrev pub line_read : Making → ℕ → List ℕ → Result Making DeviceFault
+line_read making number line =
+    if is_faultless (line_fault line)
+    then (if nat_lt 0 (length (words_of line)) then by_form making number (device_line (words_of line)) else Ok making)
+    else Err Misshapen
+
+abbrev pub is_blank : List ℕ → Bool
+is_blank line = length (words_of line) == 0
+
+-- behind the last line with words, which is `end`, a line may only have a fault of the text
+abbrev pub fault_behind : ℕ → List (List ℕ) → Option ℕ
+fault_behind number [] = None
+fault_behind number (line ∷ lines) =
+    if is_faultless (line_fault line) then fault_behind (number + 1) lines else Some number
+
+abbrev pub behind_end : Making → Option ℕ → Result Making MakeFault
+behind_end making None = Ok making
+behind_end making (Some number) = Err (OfLine number Misshapen)
+
+abbrev pub then_lines : Result Making DeviceFault → ℕ → (Making → Result Making MakeFault) → Result Making MakeFault
+then_lines (Ok making) number later = later making
+then_lines (Err fault) number later = Err (OfLine number fault)
+
+-- all lines up to the `end` line, the last with words; where there is none, that is told one past the last
+abbrev pub lines_read : Making → ℕ → List (List ℕ) → Result Making MakeFault
+lines_read making number [] = Err (OfLine number Misshapen)
+lines_read making number (line ∷ lines) =
+    if is_line (codes "end" ∷ []) line && list_all is_blank lines
+    then behind_end making (fault_behind (number + 1) lines)
+    else then_lines (line_read making number line) number (λ next. lines_read next (number + 1) lines)
+
+-- an answer is what the lines read as, unless there was no memory
+abbrev pub TellsMaking : Result Making MakeFault → Result Making MakeFault → Type 0
+TellsMaking (Ok making) reading = reading ≡ Ok making
+TellsMaking (Err (OfBoard line fault)) reading = reading ≡ Err (OfBoard line fault)
+TellsMaking (Err (OfLine line fault)) reading = reading ≡ Err (OfLine line fault)
+TellsMaking (Err NoMemory) reading = Unit {0}
+
+-- The flags, on the whole board.
+
+-- a master of devices waits first, for a flag that is clear
+abbrev pub flag_is_clear : Board → List Op → Bool
+flag_is_clear board [] = false
+flag_is_clear board (Read command address ∷ ops) = false
+flag_is_clear board (Write command address phases ∷ ops) = false
+flag_is_clear board (CfgRead bus device register ∷ ops) = false
+flag_is_clear board (CfgWrite bus device register phase ∷ ops) = false
+flag_is_clear board (Poll space address mask value tries ∷ ops) = is_clear board address value
+
+abbrev pub line_at : List ℕ → ℕ
+line_at [] = 0
+line_at (line ∷ lines) = line
+
+-- the line of the first of these masters whose flag is not clear, beside the lines at which they began
+abbrev pub unclear : Board → List Master → List ℕ → Option ℕ
+unclear board [] lines = None
+unclear board (master ∷ masters) lines =
+    if flag_is_clear board master.ops then unclear board masters (drop 1 lines) else Some (line_at lines)
+
+-- The whole text.
+
+-- a board, and the number of its first master of devices
+pub record Made : Type 0 where
+  pub board : Board
+  pub first : ℕ
+
+abbrev pub by_flags : Board → ℕ → Option ℕ → Result Made MakeFault
+by_flags board first None = Ok (record { board = board; first = first })
+by_flags board first (Some line) = Err (OfLine line NotClear)
+
+abbrev pub by_lines : ℕ → Result Making MakeFault → Result Made MakeFault
+by_lines first (Ok making) =
+    let board = board_of making.sheet in by_flags board first (unclear board (drop first board.masters) making.lines)
+by_lines first (Err fault) = Err fault
+
+-- the lines of devices, the first of which has this number, behind a board that was read; a fault of the board is told
+-- with its line in the whole text
+abbrev pub by_board : ℕ → List (List ℕ) → Result (Option Draft) (ℕ × LineFault) → Result Made MakeFault
+by_board number lines (Ok None) = Err (OfBoard 2 NoFirstLine)
+by_board number lines (Ok (Some draft)) =
+    by_lines (length (board_of draft).masters) (lines_read (record { sheet = draft; owner = Nobody; lines = [] }) number lines)
+by_board number lines (Err fault) = Err (OfBoard (fault.0 + 1) fault.1)
+
+-- the lines before the first line `devices`, and those behind it
+abbrev pub with_before : List ℕ → Option (List (List ℕ) × List (List ℕ)) → Option (List (List ℕ) × List (List ℕ))
+with_before line None = None
+with_before line (Some parts) = Some (line ∷ parts.0, parts.1)
+
+abbrev pub until_devices : List (List ℕ) → Option (List (List ℕ) × List (List ℕ))
+until_devices [] = None
+until_devices (line ∷ lines) =
+    if is_line (codes "devices" ∷ []) line then Some ([], lines) else with_before line (until_devices lines)
+
+abbrev pub by_parts : ℕ → Option (List (List ℕ) × List (List ℕ)) → Result Made MakeFault
+by_parts past None = Err (OfLine past Misshapen)
+by_parts past (Some parts) = by_board (length parts.0 + 3) parts.1 (read_lines None 1 parts.0)
+
+-- the first line is `pcidevices 1`
+abbrev pub by_first : List (List ℕ) → Result Made MakeFault
+by_first [] = Err (OfLine 1 Misshapen)
+by_first (line ∷ lines) =
+    if is_line (codes "pcidevices" ∷ codes "1" ∷ []) line
+    then by_parts (length lines + 2) (until_devices lines)
+    else Err (OfLine 1 Misshapen)
+
+-- the board of a device text, or its first fault
+abbrev pub made_read : List ℕ → Result Made MakeFault
+made_read text = by_first (lines_of text)
+
+-- the board alone
+abbrev pub board_in : Result Made MakeFault → Result Board MakeFault
+board_in (Ok made) = Ok made.board
+board_in (Err fault) = Err fault
+
+-- an answer is what the text reads as, unless there was no memory
+abbrev pub Tells : Result Board MakeFault → Result Made MakeFault → Type 0
+Tells (Ok board) reading = board_in reading ≡ Ok board
+Tells (Err (OfBoard line fault)) reading = reading ≡ Err (OfBoard line fault)
+Tells (Err (OfLine line fault)) reading = reading ≡ Err (OfLine line fault)
+Tells (Err NoMemory) reading = Unit {0}
+
+-- a board is that of the text, and the number of its first master of devices
+abbrev pub IsMade : Board → Result Made MakeFault → Type 0
+IsMade board (Ok made) = made.board ≡ board
+IsMade board (Err fault) = ⊥
+
+abbrev pub first_of : Result Made MakeFault → ℕ
+first_of (Ok made) = made.first
+first_of (Err fault) = 0

@@ -1,0 +1,222 @@
+//! What a line of devices adds to the sheet of a board.
+
+ghost use Rattle.std.specs.Prelude.{◌≡◌, Ok, Err, ◌∷◌, [], Result};
+ghost use Rattle.board_draft.specs.declared.draft.Draft.{Draft};
+ghost use Rattle.board_draft.specs.Drafts.{board_of};
+ghost use Rattle.board_draft.specs.Masters.{add_master};
+ghost use Rattle.board_draft.specs.Steps.{Answers};
+ghost use Rattle.board_statements.specs.declared.fault.LineFault.{LineFault};
+ghost use Rattle.dma_agents.specs.Put.{cut};
+ghost use Rattle.dma_agents.specs.Adding.{Adds, stands, is_placed, poll_of, read_of, message_to, limited, add_one, add_ops, begins, bus_of, bus_there, added, line_added};
+
+use crate::{DeviceLine, Flag, Owner, Put, cut};
+use board_draft::{AddFault, Sheet};
+use board_model::{Name, Op};
+use board_statements::Statement;
+use device_faults::DeviceFault;
+use pci_command::{Command, NoMemory, Phase, Phases, Space};
+use std::alloc::Global;
+
+/// Why a line adds nothing.
+#[derive(Clone, Copy, Debug, PartialEq, Eq)]
+pub enum LineError {
+    /// Its first fault.
+    Fault(DeviceFault),
+    NoMemory,
+}
+
+impl From<NoMemory> for LineError {
+    ghost use Rattle.std.specs.Prelude.{◌≡◌};
+    ghost use Rattle.dma_agents.specs.declared.add.LineError.TheVariants.{NoMemory};
+
+    ghost from_gives = { λ _ given. given ≡ NoMemory };
+
+    fn from(_refused: NoMemory) -> LineError {
+        LineError::NoMemory
+    }
+}
+
+/// The sheet behind a line, or its first fault.
+pub(crate) fn line_added(
+    alloc: Global,
+    owner: Owner,
+    sheet: Sheet,
+    line: DeviceLine,
+) -> Result<Sheet, LineError>
+    ensures { Adds result (line_added owner sheet line) }
+{
+    if !stands(owner, &line) {
+        return Err(LineError::Fault(DeviceFault::Misshapen));
+    }
+    if !is_placed(&line) {
+        return Err(LineError::Fault(DeviceFault::Misplaced));
+    }
+    added(alloc, sheet, line)
+}
+
+fn stands(owner: Owner, line: &DeviceLine) -> bool
+    ensures { result ≡ stands owner line.now }
+{
+    match line {
+        DeviceLine::Device { .. } | DeviceLine::Handler { .. } => true,
+        DeviceLine::Puts(_) | DeviceLine::Gets(_) | DeviceLine::Sends { .. } => {
+            matches!(owner, Owner::Device)
+        }
+        DeviceLine::Looks(_) => matches!(owner, Owner::Handler),
+    }
+}
+
+fn is_placed(line: &DeviceLine) -> bool
+    ensures { result ≡ is_placed line.now }
+{
+    match line {
+        DeviceLine::Device { bell: flag, .. } | DeviceLine::Handler { wait: flag, .. } => {
+            flag.address % 4 == 0
+        }
+        DeviceLine::Puts(put) => { u64::from(put.address) + u64::from(put.length) <= 0x1_0000_0000 }
+        DeviceLine::Gets(address) | DeviceLine::Looks(address) => *address % 4 == 0,
+        DeviceLine::Sends { address, .. } => *address % 4 == 0,
+    }
+}
+
+fn added(alloc: Global, sheet: Sheet, line: DeviceLine) -> Result<Sheet, LineError>
+    ensures { Adds result (added sheet line) }
+{
+    match line {
+        DeviceLine::Device { name, target, bell } => {
+            let bus = bus_of(&sheet, target);
+            begins(alloc, sheet, name, bus, poll_of(bell))
+        }
+        DeviceLine::Handler { name, bus, wait } => {
+            let bus = bus_there(&sheet, bus);
+            begins(alloc, sheet, name, bus, poll_of(wait))
+        }
+        DeviceLine::Puts(put) => add_put(alloc, sheet, put),
+        DeviceLine::Gets(address) | DeviceLine::Looks(address) => {
+            add_one(alloc, sheet, read_of(address))
+        }
+        DeviceLine::Sends { address, message } => {
+            add_one(alloc, sheet, message_to(address, message))
+        }
+    }
+}
+
+fn bus_of(sheet: &Sheet, target: Option<Name>) -> Option<u8>
+    ensures { result ≡ bus_of (board_of sheet.now) target }
+{
+    match target {
+        None => None,
+        Some(name) => sheet.bus_of_target(&name),
+    }
+}
+
+fn bus_there(sheet: &Sheet, bus: u8) -> Option<u8>
+    ensures { result ≡ bus_there (board_of sheet.now) bus }
+{
+    if sheet.has_bus(bus) { Some(bus) } else { None }
+}
+
+// A master of this name on this bus, with its first operation.
+fn begins(
+    alloc: Global,
+    sheet: Sheet,
+    name: Option<Name>,
+    bus: Option<u8>,
+    poll: Op,
+) -> Result<Sheet, LineError>
+    ensures { Adds result (begins sheet name bus poll) }
+{
+    let Some(name) = name else {
+        return Err(LineError::Fault(DeviceFault::NameUsed));
+    };
+    if sheet.has_name(&name) {
+        return Err(LineError::Fault(DeviceFault::NameUsed));
+    }
+    let Some(bus) = bus else {
+        return Err(LineError::Fault(DeviceFault::NotThere));
+    };
+    let sheet = add_master(alloc, sheet, name, bus)?;
+    add_one(alloc, sheet, poll)
+}
+
+fn add_master(alloc: Global, sheet: Sheet, name: Name, bus: u8) -> Result<Sheet, LineError>
+    ensures { Adds result (limited (add_master sheet.wide (board_of sheet) name bus)) }
+{
+    limited(sheet.add(alloc, Statement::NewMaster { name, bus }))
+}
+
+fn add_one(alloc: Global, sheet: Sheet, op: Op) -> Result<Sheet, LineError>
+    ensures { Adds result (add_one sheet op) }
+{
+    limited(sheet.add(
+        alloc,
+        Statement::Does {
+            op,
+            too_many: false,
+        },
+    ))
+}
+
+// A limit of the board is the only fault that is left.
+fn limited(added: Result<Sheet, AddFault>) -> Result<Sheet, LineError>
+    ensures { (expected : Result Draft LineFault) → Answers added expected → Adds result (limited expected) }
+{
+    match added {
+        Ok(sheet) => Ok(sheet),
+        Err(AddFault::Fault(_)) => Err(LineError::Fault(DeviceFault::OverLimit)),
+        Err(AddFault::NoMemory) => Err(LineError::NoMemory),
+    }
+}
+
+fn add_put(alloc: Global, sheet: Sheet, put: Put) -> Result<Sheet, LineError>
+    ensures { Adds result (add_ops sheet (cut put)) }
+{
+    let ops = cut(alloc, put)?;
+    add_ops(alloc, sheet, ops.into_vec())
+}
+
+fn add_ops(alloc: Global, mut sheet: Sheet, mut ops: Vec<Op>) -> Result<Sheet, LineError>
+    ensures { Adds result (add_ops sheet ops.items) }
+{
+    while !ops.is_empty() {
+        let op = ops.remove(0);
+        sheet = add_one(alloc, sheet, op)?;
+    }
+    Ok(sheet)
+}
+
+fn poll_of(flag: Flag) -> Op
+    ensures { result ≡ poll_of flag }
+{
+    Op::Poll {
+        space: Space::Mem,
+        address: u64::from(flag.address),
+        mask: 0xffff_ffff,
+        value: flag.value,
+        tries: flag.tries,
+    }
+}
+
+fn read_of(address: u32) -> Op
+    ensures { result ≡ read_of address }
+{
+    Op::Read {
+        command: Command::MemRead,
+        address: u64::from(address),
+    }
+}
+
+fn message_to(address: u32, message: u32) -> Op
+    ensures { result ≡ message_to address message }
+{
+    let mut phases = Phases::new();
+    phases.push(Phase {
+        value: message,
+        enables: 15,
+    });
+    Op::Write {
+        command: Command::MemWrite,
+        address: u64::from(address),
+        phases,
+    }
+}

@@ -1,0 +1,27 @@
+use board_statements::LineFault;
+use device_faults::DeviceFault;
+use thiserror::Error;
+
+/// Why a text was not read as devices on a board. Lines are numbered from 1, in the whole text.
+#[derive(Clone, Copy, Debug, PartialEq, Eq, Error)]
+pub enum MakeFault {
+    /// The first fault of the board.
+    #[error("line {line}: {fault}")]
+    Board { line: u32, fault: LineFault },
+    /// The first fault of the lines of devices, or of the text as a whole.
+    #[error("line {line}: {fault}")]
+    Device { line: u32, fault: DeviceFault },
+    #[error("no memory")]
+    NoMemory,
+}
+
+impl From<pci_command::NoMemory> for MakeFault {
+    ghost use Rattle.std.specs.Prelude.{◌≡◌};
+    ghost use Rattle.dma_agents.specs.declared.fault.MakeFault.TheVariants.{NoMemory};
+
+    ghost from_gives = { λ _ given. given ≡ NoMemory };
+
+    fn from(_refused: pci_command::NoMemory) -> MakeFault {
+        MakeFault::NoMemory
+    }
+}

@@ -1,0 +1,52 @@
+ghost use Rattle.std.specs.Prelude.{◌≡◌, ◌≤◌, ◌<◌, ◌+◌, ◌^◌, ℕ, [], ◌∷◌, flat_map, List, true};
+ghost use Rattle.std.specs.List.{list_all};
+ghost use Rattle.pci_command.specs.declared.command.Command.TheVariants.{MemWrite};
+ghost use Rattle.pci_command.specs.declared.phases.Phase.{Phase};
+ghost use Rattle.board_model.specs.declared.op.Op.TheVariants.{Write};
+ghost use Rattle.board_model.specs.declared.board.Board.{Board};
+ghost use Rattle.board_model.specs.WellFormed.{is_well_formed, is_well_formed_op};
+ghost use Rattle.std.specs.Prelude.{Ok, Err};
+ghost use Rattle.board_model.specs.Valid.{IsValid};
+ghost use Rattle.history_model.specs.declared.event.Event.{Event};
+ghost use Rattle.history_model.specs.Runs.{Run, Complete, history_of};
+ghost use Rattle.law_delivered.specs.Delivered.{Delivered};
+ghost use Rattle.dma_agents.specs.Worked.{worked_text, twice_text, worked_made, worked_board, worked_events};
+ghost use Rattle.device_faults.specs.declared.DeviceFault.TheVariants.{NotClear};
+ghost use Rattle.dma_agents.specs.Made.{Made, board_in, made_read};
+ghost use Rattle.dma_agents.specs.declared.put.Put.{Put};
+ghost use Rattle.dma_agents.specs.Put.{cut, bytes_of, bytes_put};
+
+use crate::MakeFault;
+use law_delivered::clear_flags_deliver;
+
+/// The enabled bytes of the writes of a put are its bytes, each once and in order; and each of the
+/// writes can stand in a program.
+pub fn put_is_written_once()
+    ensures bytes { (p : Put) → 1 ≤ p.length → flat_map bytes_of (cut p) ≡ bytes_put p }
+    ensures formed { (p : Put) → 1 ≤ p.length → list_all is_well_formed_op (cut p) ≡ true }
+{}
+
+/// Six bytes from 10000003 on.
+pub fn worked()
+    ensures { cut (record { address = 0x1000_0003; length = 6; seed = 0xa0 }) ≡ Write MemWrite 0x1000_0000 (record { value = 0xa000_0000; enables = 8 } ∷ record { value = 0xa4a3_a2a1; enables = 15 } ∷ record { value = 0xa5; enables = 1 } ∷ []) ∷ [] }
+{}
+
+/// The board of a device text is well formed.
+pub fn made_boards_are_well_formed()
+    ensures { (text : List ℕ) (board : Board) → board_in (made_read text) ≡ Ok board → is_well_formed board ≡ true }
+{}
+
+/// Every run of the valid board of a device text delivers.
+pub fn made_boards_deliver()
+    ensures { (text : List ℕ) (made : Made) (h : List Event) → made_read text ≡ Ok made → IsValid made.board → Run made.board h → Delivered made.board made.first h }
+{
+    clear_flags_deliver();
+}
+
+/// A doorbell, a put and a message on one bus.
+pub fn worked_devices()
+    ensures made { made_read worked_text ≡ Ok worked_made }
+    ensures run { Run worked_board (history_of worked_events) }
+    ensures complete { Complete worked_board (history_of worked_events) }
+    ensures twice { made_read twice_text ≡ Err (MakeFault.Device 11 NotClear) }
+{}

@@ -1,0 +1,25 @@
+//! Devices that write in memory by themselves, ring doorbells and interrupt by messages: a text of
+//! such devices on a board is read as the board with their masters, and every run of it delivers.
+#![tactic(auto)]
+
+mod add;
+mod clear;
+mod delivery;
+mod fault;
+mod forms;
+mod laws;
+mod line;
+mod making;
+mod marks;
+mod parts;
+mod put;
+mod text;
+
+pub use delivery::delivered;
+pub use fault::MakeFault;
+pub use laws::{
+    made_boards_are_well_formed, made_boards_deliver, put_is_written_once, worked, worked_devices,
+};
+pub use line::{DeviceLine, Flag, Owner};
+pub use put::{Put, cut};
+pub use text::make;

@@ -1,0 +1,179 @@
+//! The lines of devices, one after another.
+
+ghost use Rattle.std.specs.Prelude.{◌≡◌, ◌+◌, ◌<◌, ◌≤◌, ◌^◌, ◌∷◌, [], ◌++◌, length, drop, codes, IfOk};
+ghost use Rattle.std.specs.List.{list_all};
+ghost use Rattle.board_text.specs.Lines.{lines_of};
+ghost use Rattle.dma_agents.specs.Adding.{Adds, line_added};
+ghost use Rattle.dma_agents.specs.Made.{TellsMaking, owner_behind, lines_behind, is_line, is_blank, fault_behind, with_draft, line_read, lines_read};
+
+use crate::add::{LineError, line_added};
+use crate::forms::device_line;
+use crate::marks::{is_faultless, is_one_word};
+use crate::{DeviceLine, MakeFault, Owner};
+use board_draft::Sheet;
+use board_statements::has_words;
+use board_text::next_line;
+use device_faults::DeviceFault;
+use pci_command::{List, NoMemory};
+use std::alloc::Global;
+
+/// What was read so far.
+#[derive(Drop)]
+pub struct Making {
+    pub sheet: Sheet,
+    /// Whose operations may follow.
+    pub owner: Owner,
+    /// The lines at which masters began.
+    pub lines: List<u32>,
+}
+
+/// What is made behind all lines from this place on, the first of which has this number.
+pub(crate) fn lines_read(
+    alloc: Global,
+    making: Making,
+    bytes: &[u8],
+    from: usize,
+    first: u32,
+) -> Result<Making, MakeFault>
+    requires short { length bytes.now < 2 ^ 31 }
+    requires within { from ≤ length bytes.now + 1 }
+    requires counted { first ≤ from + 1 }
+    ensures { TellsMaking result (lines_read making first (lines_of (drop from bytes.now))) }
+{
+    let mut making = making;
+    let mut number = first;
+    let mut at = from;
+    while let Some((line, next)) = next_line(bytes, at) {
+        if is_end(line) && is_blank_from(bytes, next) {
+            return match fault_behind(bytes, next, number + 1) {
+                None => Ok(making),
+                Some(line) => Err(misshapen(line)),
+            };
+        }
+        match line_read(alloc, making, number, line) {
+            Ok(read) => making = read,
+            Err(LineError::Fault(fault)) => {
+                return Err(MakeFault::Device {
+                    line: number,
+                    fault,
+                });
+            }
+            Err(LineError::NoMemory) => return Err(MakeFault::NoMemory),
+        }
+        number += 1;
+        at = next;
+    }
+    Err(misshapen(number))
+}
+
+ghost use Rattle.device_faults.specs.declared.DeviceFault.TheVariants.{Misshapen};
+ghost use Rattle.dma_agents.specs.declared.fault.MakeFault.{MakeFault as Fault};
+
+/// The line is none of its place.
+pub(crate) fn misshapen(line: u32) -> MakeFault
+    ensures { result ≡ Fault.Device line Misshapen }
+{
+    MakeFault::Device {
+        line,
+        fault: DeviceFault::Misshapen,
+    }
+}
+
+fn line_read(alloc: Global, making: Making, number: u32, line: &[u8]) -> Result<Making, LineError>
+    ensures { Adds result (line_read making number line.now) }
+{
+    if !is_faultless(line) {
+        return Err(LineError::Fault(DeviceFault::Misshapen));
+    }
+    if !has_words(line) {
+        return Ok(making);
+    }
+    match device_line(line) {
+        Err(_) => Err(LineError::Fault(DeviceFault::Misshapen)),
+        Ok(said) => with_line(alloc, making, number, said),
+    }
+}
+
+fn with_line(
+    alloc: Global,
+    making: Making,
+    number: u32,
+    line: DeviceLine,
+) -> Result<Making, LineError>
+    ensures { Adds result (with_draft making number line (line_added making.owner making.sheet line)) }
+{
+    let Making {
+        sheet,
+        owner,
+        lines,
+    } = making;
+    let behind = owner_behind(owner, &line);
+    let lines = lines_behind(lines, number, &line)?;
+    let sheet = line_added(alloc, owner, sheet, line)?;
+    Ok(Making {
+        sheet,
+        owner: behind,
+        lines,
+    })
+}
+
+fn owner_behind(owner: Owner, line: &DeviceLine) -> Owner
+    ensures { result ≡ owner_behind owner line.now }
+{
+    match line {
+        DeviceLine::Device { .. } => Owner::Device,
+        DeviceLine::Handler { .. } => Owner::Handler,
+        _ => owner,
+    }
+}
+
+fn lines_behind(lines: List<u32>, number: u32, line: &DeviceLine) -> Result<List<u32>, NoMemory>
+    ensures { IfOk result (λ behind. behind ≡ lines_behind lines number line.now) }
+{
+    match line {
+        DeviceLine::Device { .. } | DeviceLine::Handler { .. } => {
+            let mut items = lines.into_vec();
+            items.push(number)?;
+            Ok(List::from_vec(items))
+        }
+        _ => Ok(lines),
+    }
+}
+
+fn is_end(line: &[u8]) -> bool
+    ensures { result ≡ is_line (codes "end" ∷ []) line.now }
+{
+    is_one_word(line, b"end")
+}
+
+fn is_blank_from(bytes: &[u8], from: usize) -> bool
+    requires within { from ≤ length bytes.now + 1 }
+    ensures { result ≡ list_all is_blank (lines_of (drop from bytes.now)) }
+{
+    let mut at = from;
+    while let Some((line, next)) = next_line(bytes, at) {
+        if has_words(line) {
+            return false;
+        }
+        at = next;
+    }
+    true
+}
+
+fn fault_behind(bytes: &[u8], from: usize, first: u32) -> Option<u32>
+    requires short { length bytes.now < 2 ^ 31 }
+    requires within { from ≤ length bytes.now + 1 }
+    requires counted { first ≤ from + 1 }
+    ensures { result ≡ fault_behind first (lines_of (drop from bytes.now)) }
+{
+    let mut number = first;
+    let mut at = from;
+    while let Some((line, next)) = next_line(bytes, at) {
+        if !is_faultless(line) {
+            return Some(number);
+        }
+        number += 1;
+        at = next;
+    }
+    None
+}

@@ -1,0 +1,140 @@
+ghost use Rattle.std.specs.Prelude.{◌≡◌, ◌<◌, ◌≤◌, ◌^◌, [], length, drop, IfOk, IsTrue};
+ghost use Rattle.board_model.specs.declared.agents.Master.{Master as MasterAgent};
+ghost use Rattle.board_model.specs.WellFormed.{is_well_formed};
+ghost use Rattle.board_draft.specs.Drafts.{board_of};
+ghost use Rattle.board_parser.specs.Boards.{sheet_read};
+ghost use Rattle.dma_agents.specs.Made.{made_read, by_lines, flag_is_clear, line_at, unclear, Tells};
+ghost use Rattle.dma_agents.specs.Parts.{TellsSheet};
+ghost use Rattle.std.specs.Prelude.{Ok};
+
+use crate::clear::is_clear;
+use crate::laws::made_boards_are_well_formed;
+use crate::making::{Making, lines_read, misshapen};
+use crate::parts::{behind_first_line, find_devices};
+use crate::{MakeFault, Owner};
+use board_draft::Sheet;
+use board_model::{Board, Master, Op};
+use board_parser::{ParseFault, parse_sheet};
+use device_faults::DeviceFault;
+use pci_command::List;
+use std::alloc::Global;
+
+/// The board of a device text: that of its board part, with the masters of its devices and handlers;
+/// or the first fault of the text. A text has fewer than 2^31 bytes.
+pub fn make(alloc: Global, bytes: &[u8]) -> Result<Board, MakeFault>
+    requires { length bytes.now < 2 ^ 31 }
+    ensures made { Tells result (made_read bytes.now) }
+    ensures formed { IfOk result (λ board. IsTrue (is_well_formed board)) }
+{
+    made_boards_are_well_formed();
+    read_made(alloc, bytes)
+}
+
+#[tactic(auto, using(crate::proofs::MakeLemmas::by_parts_found, crate::proofs::MakeLemmas::without_devices, crate::proofs::MakeLemmas::sheet_refused, crate::proofs::MakeLemmas::sheet_given))]
+fn read_made(alloc: Global, bytes: &[u8]) -> Result<Board, MakeFault>
+    requires { length bytes.now < 2 ^ 31 }
+    ensures { Tells result (made_read bytes.now) }
+{
+    let Some(at) = behind_first_line(bytes) else {
+        return Err(misshapen(1));
+    };
+    let found = match find_devices(bytes, at) {
+        Ok(found) => found,
+        Err(past) => return Err(misshapen(past)),
+    };
+    let sheet = read_sheet(alloc, &bytes[at..found.start])?;
+    let first = sheet.master_count();
+    let making = Making {
+        sheet,
+        owner: Owner::Nobody,
+        lines: List::from_vec(Vec::new(alloc)),
+    };
+    let making = lines_read(alloc, making, bytes, found.behind, found.number)?;
+    with_clear_flags(alloc, making, first)
+}
+
+/// The sheet of this part of a text, in which it begins at the second line.
+fn read_sheet(alloc: Global, part: &[u8]) -> Result<Sheet, MakeFault>
+    requires { length part.now < 2 ^ 31 }
+    ensures { TellsSheet result (sheet_read part.now) }
+{
+    match parse_sheet(alloc, part) {
+        Ok(sheet) => Ok(sheet),
+        Err(ParseFault::Fault { line, fault }) => Err(MakeFault::Board {
+            line: line + 1,
+            fault,
+        }),
+        Err(ParseFault::NoMemory) => Err(MakeFault::NoMemory),
+    }
+}
+
+/// The board, where the flags of its masters from this one on are clear.
+fn with_clear_flags(alloc: Global, making: Making, first: usize) -> Result<Board, MakeFault>
+    ensures { Tells result (by_lines first (Ok making)) }
+{
+    let Making {
+        sheet,
+        owner: _,
+        lines,
+    } = making;
+    let board = sheet.into_board(alloc)?;
+    match first_unclear(&board, first, lines.as_slice()) {
+        None => Ok(board),
+        Some(line) => Err(MakeFault::Device {
+            line,
+            fault: DeviceFault::NotClear,
+        }),
+    }
+}
+
+fn first_unclear(board: &Board, first: usize, lines: &[u32]) -> Option<u32>
+    ensures { result ≡ unclear board.now (drop first board.now.masters) lines.now }
+{
+    let masters = board.masters.as_slice();
+    if first > masters.len() {
+        return None;
+    }
+    unclear(board, &masters[first..], lines)
+}
+
+fn unclear(board: &Board, masters: &[Master], lines: &[u32]) -> Option<u32>
+    ensures { result ≡ unclear board.now masters.now lines.now }
+{
+    match masters {
+        [] => None,
+        [master, rest @ ..] => {
+            if flag_is_clear(board, master.ops.as_slice()) {
+                unclear(board, rest, behind_first(lines))
+            } else {
+                Some(line_at(lines))
+            }
+        }
+    }
+}
+
+fn behind_first(lines: &[u32]) -> &[u32]
+    ensures { result.now ≡ drop 1 lines.now }
+{
+    match lines {
+        [] => lines,
+        [_, rest @ ..] => rest,
+    }
+}
+
+fn line_at(lines: &[u32]) -> u32
+    ensures { result ≡ line_at lines.now }
+{
+    match lines {
+        [] => 0,
+        [line, ..] => *line,
+    }
+}
+
+fn flag_is_clear(board: &Board, ops: &[Op]) -> bool
+    ensures { result ≡ flag_is_clear board.now ops.now }
+{
+    match ops {
+        [Op::Poll { address, value, .. }, ..] => is_clear(board, *address, *value),
+        _ => false,
+    }
+}

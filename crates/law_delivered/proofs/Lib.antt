@@ -1,0 +1,9 @@
+pub mod EndLemmas
+pub mod WholeLemmas
+pub mod NamedLemmas
+pub mod ValueLemmas
+pub mod FlagLemmas
+pub mod RaisedLemmas
+pub mod SeenLemmas
+pub mod DeliverLemmas
+pub mod Laws
