@@ -2,8 +2,9 @@
 use Rattle.std.proofs.Common.{◌≡◌, ◌+◌, not, cond, List, [], ◌∷◌, map, refl, ap}
 use Rattle.std.specs.List.{position, position_or_len}
 use Rattle.std.proofs.lemmas.List.{length-map}
-use Rattle.pcitree.specs.declared.words.Part.{Part}
-use Rattle.pcitree.specs.Words.{shape_of, is_file}
+use Rattle.program_words.specs.declared.Part.{Part}
+use Rattle.pcitree.specs.Words.{is_file}
+use Rattle.program_words.specs.Shapes.{shape_of}
 
 place_of_file : (parts : List Part) → position_or_len (λ part. is_file (shape_of part)) parts ≡ position_or_len is_file (map shape_of parts)
 place_of_file [] = refl

@@ -6,16 +6,17 @@ use Rattle.std.proofs.lemmas.Option.{none-some}
 use Rattle.command_generate.specs.Answers.{names_rounds}
 use Rattle.command_generate.proofs.ServedLemmas.{names_short}
 use Rattle.program_status.specs.declared.status.Status.{Status}
-use Rattle.pcitree.specs.declared.words.Form.{Form}
-use Rattle.pcitree.specs.declared.words.Form.TheVariants as forms
-use Rattle.pcitree.specs.declared.words.TheConstants.{FORMS}
-use Rattle.pcitree.specs.Words.{Shape, fits, is_of, is_number, form_of, command_of}
-use Rattle.pcitree.specs.Words.Shape.{Word, Rounds}
+use Rattle.program_words.specs.declared.Form.{Form}
+use Rattle.program_words.specs.declared.Form.TheVariants as forms
+use Rattle.program_words.specs.declared.TheConstants.{FORMS}
+use Rattle.pcitree.specs.Words.{fits, is_of, is_number, form_of}
+use Rattle.program_words.specs.Shapes.Shape.{Word, Rounds}
 use Rattle.pcitree.specs.Given.{number_in, number_of, given_by, left_by, given, left, IsGiven, reads_file}
 use Rattle.pcitree.specs.Answers.{limit_of, AnswersTo, Refuses}
 use Rattle.pcitree.specs.Ends.{ReadsInput, AnswersInput}
 use Rattle.pcitree.specs.Stops.{StopsAnswering}
 use Rattle.pcitree.proofs.StopLemmas.{refused_answer}
+use Rattle.program_words.specs.Shapes.{Shape, input_limit, parts_of}
 
 pub find_passes : {X : Type 0} (test : X → Bool) (xs : List X) (x : X) → find test xs ≡ Some x → test x ≡ true
 find_passes test [] x found = cc
@@ -32,7 +33,7 @@ given_file forms.Generate input reads = absurd cc
 given_file form input reads = tt
 
 -- the words of `generate N`
-rounds_given : (words : List (List ℕ)) (number : List ℕ) → is_of (command_of forms.Generate).parts words ≡ true → number_of forms.Generate words ≡ Some number → names_rounds number ≡ true
+rounds_given : (words : List (List ℕ)) (number : List ℕ) → is_of (parts_of forms.Generate) words ≡ true → number_of forms.Generate words ≡ Some number → names_rounds number ≡ true
 rounds_given [] number are found = cc
 rounds_given (word ∷ []) number are found = cc
 rounds_given (word ∷ other ∷ words) number are found =
@@ -42,7 +43,7 @@ rounds_given (word ∷ other ∷ words) number are found =
     subst (λ n. names_rounds n ≡ true) same more.0
 
 -- a number among words of a form is given to it
-pub given_number : (form : Form) (words : List (List ℕ)) (number : List ℕ) → is_of (command_of form).parts words ≡ true → number_of form words ≡ Some number → IsGiven form number
+pub given_number : (form : Form) (words : List (List ℕ)) (number : List ℕ) → is_of (parts_of form) words ≡ true → number_of form words ≡ Some number → IsGiven form number
 given_number forms.Generate words number are found = rounds_given words number are found
 given_number form words number are found = tt
 
@@ -56,24 +57,24 @@ no_numbers (part ∷ parts) (word ∷ words) all =
     (elim (is_number part) as P [ true ↦ λ e. absurd cc | false ↦ λ e. no_numbers parts words both.1 ]) both.0
 
 -- and a number is short
-pub number_short : (form : Form) (words : List (List ℕ)) (number : List ℕ) → is_of (command_of form).parts words ≡ true → number_of form words ≡ Some number → length number ≤ limit_of form
+pub number_short : (form : Form) (words : List (List ℕ)) (number : List ℕ) → is_of (parts_of form) words ≡ true → number_of form words ≡ Some number → length number ≤ limit_of form
 number_short forms.Generate words number are found = names_short number (rounds_given words number are found)
-number_short form words number are found = absurd (none-some number (sym (no_numbers (command_of form).parts words refl) ∙ found))
+number_short form words number are found = absurd (none-some number (sym (no_numbers (parts_of form) words refl) ∙ found))
 
 -- words of a form that has no number among them name a file
-no_number : (words : List (List ℕ)) → is_of (command_of forms.Generate).parts words ≡ true → number_of forms.Generate words ≡ None → ⊥
+no_number : (words : List (List ℕ)) → is_of (parts_of forms.Generate) words ≡ true → number_of forms.Generate words ≡ None → ⊥
 no_number [] are none = cc
 no_number (word ∷ []) are none =
     let parts = and_parts (fits (Word (codes "generate")) word) false are in cc
 no_number (word ∷ other ∷ words) are none = cc
 
-pub reads_by : (form : Form) (words : List (List ℕ)) → is_of (command_of form).parts words ≡ true → number_of form words ≡ None → reads_file form ≡ true
+pub reads_by : (form : Form) (words : List (List ℕ)) → is_of (parts_of form) words ≡ true → number_of form words ≡ None → reads_file form ≡ true
 reads_by forms.Generate words are none = absurd (no_number words are none)
 reads_by form words are none = refl
 
 -- the words are of the form that is found
-pub form_is_of : (words : List (List ℕ)) (form : Form) → form_of words ≡ Some form → is_of (command_of form).parts words ≡ true
-form_is_of words form found = find_passes (λ f. is_of (command_of f).parts words) FORMS form found
+pub form_is_of : (words : List (List ℕ)) (form : Form) → form_of words ≡ Some form → is_of (parts_of form) words ≡ true
+form_is_of words form found = find_passes (λ f. is_of (parts_of f) words) FORMS form found
 
 -- what holds where one form has a number holds where the other has one: it is the same
 pub same_form : (P : Type 0) (known : Option Form) (form other : Form) (words : List (List ℕ)) → known ≡ Some form → known ≡ Some other → (IsSome (number_of form words) → P) → IsSome (number_of other words) → P
@@ -90,12 +91,12 @@ number_answers form number text short answers = record { input = number; reads =
 
 -- What is answered, or refused, of a number among the words, and else of what the source holds.
 
-pub number_answered : (form : Form) (words : List (List ℕ)) (held rest : Option (List ℕ)) (number text : List ℕ) → is_of (command_of form).parts words ≡ true → number_of form words ≡ Some number → AnswersTo form number text
+pub number_answered : (form : Form) (words : List (List ℕ)) (held rest : Option (List ℕ)) (number text : List ℕ) → is_of (parts_of form) words ≡ true → number_of form words ≡ Some number → AnswersTo form number text
     → AnswersInput form (given form words held) (left form words rest) text
 number_answered form words held rest number text are found answers =
     subst (λ n. AnswersInput form (given_by n held) (left_by n rest) text) (sym found) (number_answers form number text (number_short form words number are found) answers)
 
-pub number_refused : (form : Form) (words : List (List ℕ)) (held rest : Option (List ℕ)) (before now : ℕ) (number : List ℕ) (status : Status) → is_of (command_of form).parts words ≡ true → number_of form words ≡ Some number → Refuses form number status
+pub number_refused : (form : Form) (words : List (List ℕ)) (held rest : Option (List ℕ)) (before now : ℕ) (number : List ℕ) (status : Status) → is_of (parts_of form) words ≡ true → number_of form words ≡ Some number → Refuses form number status
     → StopsAnswering form (given form words held) (left form words rest) before now status
 number_refused form words held rest before now number status are found refuses =
     subst (λ n. StopsAnswering form (given_by n held) (left_by n rest) before now status) (sym found)
@@ -108,7 +109,7 @@ pub file_refused : (form : Form) (words : List (List ℕ)) (held rest : Option (
     → StopsAnswering form (given form words held) (left form words rest) before now status
 file_refused form words held rest before now status none stops = subst (λ n. StopsAnswering form (given_by n held) (left_by n rest) before now status) (sym none) stops
 
-pub short_enough : (form : Form) (words : List (List ℕ)) (number : List ℕ) → (command_of form).limit < 2 ^ 31 → is_of (command_of form).parts words ≡ true → number_of form words ≡ Some number → length number < 2 ^ 31
+pub short_enough : (form : Form) (words : List (List ℕ)) (number : List ℕ) → input_limit form < 2 ^ 31 → is_of (parts_of form) words ≡ true → number_of form words ≡ Some number → length number < 2 ^ 31
 short_enough form words number small are found = let short = number_short form words number are found in omega (arith, small, short)
 
 abbrev none_of : Option (List ℕ)

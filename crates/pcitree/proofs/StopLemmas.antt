@@ -14,8 +14,8 @@ use Rattle.command_audit.proofs.ServedLemmas.{audit_refusing}
 use Rattle.command_report.proofs.ServedLemmas.{report_refusing}
 use Rattle.command_generate.proofs.ServedLemmas.{generate_refusing}
 use Rattle.command_devices.proofs.ServedLemmas.{devices_refusing}
-use Rattle.pcitree.specs.declared.words.Form.{Form}
-use Rattle.pcitree.specs.declared.words.Form.TheVariants as forms
+use Rattle.program_words.specs.declared.Form.{Form}
+use Rattle.program_words.specs.declared.Form.TheVariants as forms
 use Rattle.pcitree.specs.Words.{command_of}
 use Rattle.pcitree.specs.Answers.{limit_of, AnswersTo, Refuses, IsServed, IsAnswered, CausesBy, Causes}
 use Rattle.pcitree.specs.Given.{given, left}

@@ -4,8 +4,8 @@ use Rattle.command_run.specs.Answers.{AnswersRun}
 use Rattle.program_input.specs.Traces.{IsCompleteTrace}
 use Rattle.command_finish.specs.Answers.{AnswersFinish}
 use Rattle.command_devices.specs.Answers.{AnswersDevices}
-use Rattle.pcitree.specs.declared.words.Form.{Form}
-use Rattle.pcitree.specs.declared.words.Form.TheVariants as forms
+use Rattle.program_words.specs.declared.Form.{Form}
+use Rattle.program_words.specs.declared.Form.TheVariants as forms
 use Rattle.pcitree.specs.Answers.{AnswersTo}
 use Rattle.pcitree.specs.Given.{given, left}
 use Rattle.pcitree.specs.Ends.{Finishes, writes_run, WritesRun}

@@ -1,13 +1,14 @@
 -- How an input is answered for each form of the words, and the cause of each answer.
 use Rattle.std.specs.Prelude.{ℕ, ◌≤◌, ◌<◌, List, length}
 use Rattle.program_status.specs.declared.status.Status.{Status}
-use Rattle.pcitree.specs.declared.words.Form.{Form}
+use Rattle.program_words.specs.declared.Form.{Form}
 use Rattle.pcitree.specs.Words.{command_of}
 use Rattle.program_status.specs.Subjects.{Subject, subject_of}
 use Rattle.program_status.specs.Subjects.Subject.{Success, Memory, Words, Reading, Writing, Length, Input}
+use Rattle.program_words.specs.Shapes.{input_limit}
 
 abbrev pub limit_of : Form → ℕ
-limit_of form = (command_of form).limit
+limit_of form = input_limit form
 
 -- the text that answers an input
 abbrev pub AnswersTo : Form → List ℕ → List ℕ → Type 0

@@ -3,7 +3,7 @@ use Rattle.std.specs.Prelude.{ℕ, Bool, ◌≤◌, ◌<◌, List, length, Optio
 use Rattle.std.specs.Io.KnownBytes.{Consumes, IsAtEnd, Appends}
 use Rattle.program_status.specs.declared.status.Status.{Status}
 use Rattle.program_input.specs.Traces.{IsCompleteTrace}
-use Rattle.pcitree.specs.declared.words.Form.{Form}
+use Rattle.program_words.specs.declared.Form.{Form}
 use Rattle.pcitree.specs.Words.{command_of}
 use Rattle.pcitree.specs.Answers.{limit_of, AnswersTo, Refuses}
 use Rattle.pcitree.specs.Writing.{WritesFront}

@@ -1,9 +1,10 @@
 -- What a call reads: the source, or in its place the number among the words.
 use Rattle.std.specs.Prelude.{◌≡◌, ℕ, Bool, true, false, List, [], ◌∷◌, Option, Some, None, if◌then◌else◌}
-use Rattle.pcitree.specs.declared.words.Form.{Form}
-use Rattle.pcitree.specs.declared.words.Form.TheVariants as forms
-use Rattle.pcitree.specs.Words.{Shape, is_number, command_of}
+use Rattle.program_words.specs.declared.Form.{Form}
+use Rattle.program_words.specs.declared.Form.TheVariants as forms
+use Rattle.pcitree.specs.Words.{is_number}
 use Rattle.command_generate.specs.Answers.{names_rounds}
+use Rattle.program_words.specs.Shapes.{Shape, parts_of}
 
 -- the number among words of this form, if the form has one
 abbrev pub number_in : List Shape → List (List ℕ) → Option (List ℕ)
@@ -12,7 +13,7 @@ number_in (part ∷ parts) [] = None
 number_in (part ∷ parts) (word ∷ words) = if is_number part then Some word else number_in parts words
 
 abbrev pub number_of : Form → List (List ℕ) → Option (List ℕ)
-number_of form words = number_in (command_of form).parts words
+number_of form words = number_in (parts_of form) words
 
 abbrev pub given_by : Option (List ℕ) → Option (List ℕ) → Option (List ℕ)
 given_by None held = held

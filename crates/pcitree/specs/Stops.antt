@@ -2,7 +2,7 @@
 use Rattle.std.specs.Prelude.{ℕ, ◌≡◌, List, Option, Some, None, ◌⊎◌}
 use Rattle.io_ports.specs.Faults.{Rose}
 use Rattle.program_status.specs.declared.status.Status.{Status}
-use Rattle.pcitree.specs.declared.words.Form.{Form}
+use Rattle.program_words.specs.declared.Form.{Form}
 use Rattle.program_status.specs.Subjects.{Subject, subject_of}
 use Rattle.program_status.specs.Subjects.Subject.{Success, Memory, Words, Reading, Writing, Length, Input}
 use Rattle.pcitree.specs.Given.{number_of, given_by, left_by}

@@ -15,118 +15,77 @@ use Rattle.command_combine.specs.Answers.{AnswersCombine}
 use Rattle.command_generate.specs.Answers.{names_rounds, AnswersGenerate, RefusesGenerate, NamesRounds}
 use Rattle.command_devices.specs.Answers.{AnswersDevices}
 use Rattle.command_devices.specs.Refusals.{RefusesDevices, IsDeviceText}
-use Rattle.pcitree.specs.declared.words.Part.{Part}
-use Rattle.pcitree.specs.declared.words.Part.TheVariants as parts
-use Rattle.pcitree.specs.declared.words.Form.{Form}
-use Rattle.pcitree.specs.declared.words.Form.TheVariants as forms
-use Rattle.pcitree.specs.declared.words.TheConstants.{FORMS}
+use Rattle.program_words.specs.declared.Form.{Form}
+use Rattle.program_words.specs.declared.Form.TheVariants as forms
+use Rattle.program_words.specs.declared.TheConstants.{FORMS}
+use Rattle.program_words.specs.Shapes.{Shape, parts_of, input_limit}
+use Rattle.program_words.specs.Shapes.Shape.{Word, File, Rounds}
 
--- what a word has to be: just this word; the name of a file, which is not empty and does not begin with `-`; or a number
--- of rounds
-pub data Shape : Type 0 where
-  Word : List ℕ → Shape
-  File : Shape
-  Rounds : Shape
-
-abbrev pub shape_of : Part → Shape
-shape_of (parts.Word text) = Word text.now
-shape_of parts.File = File
-shape_of parts.Rounds = Rounds
-
--- how such a word is shown in the help
-abbrev pub shown_as : Shape → List ℕ
-shown_as (Word text) = text
-shown_as File = codes "FILE"
-shown_as Rounds = codes "N"
-
--- a form of words: what each has to be; how many bytes the input may have, 1 MiB for a board text, 64 MiB for a trace
--- text and 10 for a number; the text that answers an input; the status that refuses one; the inputs that have no fault; and whether
--- it writes the trace of a complete run
+-- what a form of words owes: the text that answers an input; the status that refuses one; the inputs that have no fault;
+-- and whether it writes the trace of a complete run
 pub record Command : Type 1 where
-  pub parts : List Shape
-  pub limit : ℕ
   pub Answers : List ℕ → List ℕ → Type 0
   pub Refuses : List ℕ → Status → Type 0
   pub IsFaultless : List ℕ → Type 0
   pub writes_run : Bool
 
--- the table of words
+-- of each form
 abbrev pub command_of : Form → Command
 command_of forms.Run = record {
-  parts = Word (codes "run") ∷ File ∷ [];
-  limit = 2 ^ 20;
   Answers = AnswersRun;
   Refuses = RefusesBoard;
   IsFaultless = IsBoardText;
   writes_run = true;
 }
 command_of forms.RunSteady = record {
-  parts = Word (codes "run") ∷ Word (codes "--steady") ∷ File ∷ [];
-  limit = 2 ^ 20;
   Answers = AnswersRun;
   Refuses = RefusesBoard;
   IsFaultless = IsBoardText;
   writes_run = true;
 }
 command_of forms.Headers = record {
-  parts = Word (codes "headers") ∷ File ∷ [];
-  limit = 2 ^ 20;
   Answers = AnswersHeaders;
   Refuses = RefusesBoard;
   IsFaultless = IsBoardText;
   writes_run = false;
 }
 command_of forms.Check = record {
-  parts = Word (codes "check") ∷ File ∷ [];
-  limit = 2 ^ 26;
   Answers = AnswersCheck;
   Refuses = RefusesCheck;
   IsFaultless = IsCompleteTrace;
   writes_run = false;
 }
 command_of forms.Finish = record {
-  parts = Word (codes "finish") ∷ File ∷ [];
-  limit = 2 ^ 26;
   Answers = AnswersFinish;
   Refuses = RefusesFinish;
   IsFaultless = IsRunTrace;
   writes_run = true;
 }
 command_of forms.Audit = record {
-  parts = Word (codes "audit") ∷ File ∷ [];
-  limit = 2 ^ 26;
   Answers = AnswersAudit;
   Refuses = RefusesAudit;
   IsFaultless = IsRunTrace;
   writes_run = false;
 }
 command_of forms.Report = record {
-  parts = Word (codes "report") ∷ File ∷ [];
-  limit = 2 ^ 26;
   Answers = AnswersReport;
   Refuses = RefusesReport;
   IsFaultless = IsRunTrace;
   writes_run = false;
 }
 command_of forms.Combine = record {
-  parts = Word (codes "combine") ∷ File ∷ [];
-  limit = 2 ^ 20;
   Answers = AnswersCombine;
   Refuses = RefusesBoard;
   IsFaultless = IsBoardText;
   writes_run = false;
 }
 command_of forms.Generate = record {
-  parts = Word (codes "generate") ∷ Rounds ∷ [];
-  limit = 10;
   Answers = AnswersGenerate;
   Refuses = RefusesGenerate;
   IsFaultless = NamesRounds;
   writes_run = false;
 }
 command_of forms.Devices = record {
-  parts = Word (codes "devices") ∷ File ∷ [];
-  limit = 2 ^ 20;
   Answers = AnswersDevices;
   Refuses = RefusesDevices;
   IsFaultless = IsDeviceText;
@@ -158,12 +117,12 @@ is_of (part ∷ parts) (word ∷ words) = fits part word && is_of parts words
 
 -- the form that the words are of
 abbrev pub form_of : List (List ℕ) → Option Form
-form_of words = find (λ form. is_of (command_of form).parts words) FORMS
+form_of words = find (λ form. is_of (parts_of form) words) FORMS
 
 -- the place, from 0, of the first word that fits no form, or the number of words where one is
 -- missing: the longest front of the words that some form begins with
 abbrev pub misfit : List (List ℕ) → ℕ
-misfit words = fold (λ longest form. max longest (fitting (command_of form).parts words)) 0 FORMS
+misfit words = fold (λ longest form. max longest (fitting (parts_of form) words)) 0 FORMS
 
 -- the word that names the file
 abbrev pub is_file : Shape → Bool
@@ -183,9 +142,9 @@ file_in parts = position is_file parts
 
 -- the place, from 0, of the word that names the file
 abbrev pub file_place : List (List ℕ) → Option ℕ
-file_place words = option_and_then (λ form. file_in (command_of form).parts) (form_of words)
+file_place words = option_and_then (λ form. file_in (parts_of form)) (form_of words)
 
 -- how many bytes the input may have; of no form the words ask for none
 abbrev pub limit_by : Option Form → ℕ
 limit_by None = 0
-limit_by (Some form) = (command_of form).limit
+limit_by (Some form) = input_limit form

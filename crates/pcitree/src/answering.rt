@@ -2,8 +2,8 @@ ghost use Rattle.std.specs.Prelude.{◌<◌, ◌^◌, IfOk, IfErr, length};
 ghost use Rattle.pcitree.specs.Answers.{AnswersTo, Refuses};
 ghost use Rattle.pcitree.specs.Given.{IsGiven};
 
-use crate::words::Form;
 use program_status::Status;
+use program_words::Form;
 use std::alloc::Global;
 
 /// The text that answers an input.

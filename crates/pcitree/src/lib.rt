@@ -11,4 +11,4 @@ mod writing;
 pub use program::pcitree;
 pub use program_status::{BoardFault, Status};
 pub use surely::pcitree_surely;
-pub use words::{FORMS, Form, Part, Row, file_word, input_limit};
+pub use words::{file_word, input_limit};

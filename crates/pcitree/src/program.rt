@@ -1,22 +1,24 @@
 ghost use Rattle.std.specs.Prelude.{◌≡◌, ◌≤◌, ◌↔◌, ℕ, true, List, [], length, Some, None, map, string_bytes, IsSome, OnOk, IfOk, IfErr, IfSome};
 ghost use Rattle.io_ports.specs.Faults.{Rose};
-ghost use Rattle.pcitree.specs.declared.words.Form.{Form as WordForm};
-ghost use Rattle.pcitree.specs.Words.{command_of, is_of, form_of, misfit};
+ghost use Rattle.program_words.specs.declared.Form.{Form as WordForm};
+ghost use Rattle.pcitree.specs.Words.{is_of, form_of, misfit};
 ghost use Rattle.pcitree.specs.Given.{number_of, given, left, IsGiven, reads_file};
 ghost use Rattle.program_status.specs.Subjects.{IsUsage, IsRefusal, IsBeforeWriting, Serves};
 ghost use Rattle.pcitree.specs.Answers.{IsServed, Causes};
 ghost use Rattle.pcitree.specs.Ends.{ReadsInput, AnswersInput, RefusesInput, Finishes, StopsInText, WritesRun, writes_run};
 ghost use Rattle.pcitree.specs.Stops.{StopsAnswering, StopsServing, StopsRunning};
+ghost use Rattle.program_words.specs.Shapes.{parts_of};
 
 use crate::answering::answer;
 use crate::reading::{ReadError, read_all};
-use crate::words::{Form, form_of, misfit, number_of};
+use crate::words::{form_of, misfit, number_of};
 use crate::writing::write_all;
 use command_devices::written_devices_are_complete;
 use command_finish::finished_traces_are_complete;
 use command_run::written_runs_are_complete;
 use io_ports::{Sink, Source};
 use program_status::Status;
+use program_words::Form;
 use std::alloc::Global;
 
 /// Does what the words say: reads the source to its end, or takes the number among the words in its
@@ -109,7 +111,7 @@ fn serve<S: Source, K: Sink>(
     source: &mut S,
     sink: &mut K,
 ) -> Result<(), Status>
-    requires { is_of (command_of form).parts (map string_bytes words.now) ≡ true }
+    requires { is_of (parts_of form) (map string_bytes words.now) ≡ true }
     ensures done { OnOk result (Finishes form
         (given form (map string_bytes words.now) (S.held source.old)) (left form (map string_bytes words.now) (S.held source.new)) (K.taken sink.old) (K.taken sink.new)) }
     ensures stopped { IfErr result (StopsServing S K S.held S.faults K.taken K.faults
@@ -130,7 +132,7 @@ fn text_of<S: Source>(
     words: &[String],
     source: &mut S,
 ) -> Result<Vec<u8>, Status>
-    requires { is_of (command_of form).parts (map string_bytes words.now) ≡ true }
+    requires { is_of (parts_of form) (map string_bytes words.now) ≡ true }
     ensures ok { IfOk result (λ text. AnswersInput form (given form (map string_bytes words.now) (S.held source.old)) (left form (map string_bytes words.now) (S.held source.new)) text.items) }
     ensures stopped { IfErr result (StopsAnswering form (given form (map string_bytes words.now) (S.held source.old)) (left form (map string_bytes words.now) (S.held source.new)) (S.faults source.old) (S.faults source.new)) }
     ensures unasked { IsSome (number_of form (map string_bytes words.now)) → source.new ≡ source.old }

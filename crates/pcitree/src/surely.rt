@@ -1,5 +1,5 @@
 ghost use Rattle.std.specs.Prelude.{◌≡◌, ◌≢◌, ℕ, List, Some, map, string_bytes, ◌⊎◌};
-ghost use Rattle.pcitree.specs.declared.words.Form.{Form as WordForm};
+ghost use Rattle.program_words.specs.declared.Form.{Form as WordForm};
 ghost use Rattle.pcitree.specs.Words.{form_of};
 ghost use Rattle.pcitree.specs.Given.{given};
 ghost use Rattle.pcitree.specs.Answers.{IsServed, Causes};

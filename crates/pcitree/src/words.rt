@@ -1,213 +1,35 @@
 ghost use Rattle.std.specs.Prelude.{◌≡◌, ◌≤◌, ◌<◌, ◌^◌, IfSome, map, length, position, string_bytes};
 ghost use Rattle.std.specs.Option.{option_map};
-ghost use Rattle.pcitree.specs.Words.{names_file, fits, fitting, is_of, form_of, misfit, is_file, is_number, file_in, file_place, limit_by, shape_of, shown_as, command_of};
+ghost use Rattle.program_words.specs.Shapes.{shape_of, input_limit};
+ghost use Rattle.pcitree.specs.Words.{names_file, fits, fitting, is_of, form_of, misfit, is_file, is_number, file_in, file_place, limit_by};
 ghost use Rattle.pcitree.specs.Given.{number_in, number_of};
 
 use command_generate::names_rounds;
+use program_words::{FORMS, Form, Part};
 
-/// What a word has to be.
-#[derive(Clone, Copy, Debug, PartialEq, Eq)]
-pub enum Part {
-    /// Just this word.
-    Word(&'static str),
-    /// A word that is not empty and does not begin with `-`: it names the file.
-    File,
-    /// A number of rounds: a decimal of 1 to 10 digits, from 1 to 300. No file is read.
-    Rounds,
-}
-
-/// What the words ask for.
-#[derive(Clone, Copy, Debug, PartialEq, Eq)]
-pub enum Form {
-    Run,
-    RunSteady,
-    Headers,
-    Check,
-    Finish,
-    Audit,
-    Report,
-    Combine,
-    Generate,
-    Devices,
-}
-
-/// A row of the table of words.
-#[derive(Clone, Copy, Debug)]
-pub struct Row {
-    /// The words, one by one.
-    pub parts: &'static [Part],
-    /// How many bytes the input may have.
-    pub limit: usize,
-    /// What is done, in one line.
-    pub line: &'static str,
-    /// What there is more to say of it.
-    pub more: &'static str,
-}
-
-/// A board text may have 1 MiB.
-const BOARD: usize = 0x10_0000;
-
-/// A trace text may have 64 MiB.
-const TRACE: usize = 0x400_0000;
-
-/// A number may have 10 digits.
-const NUMBER: usize = 10;
-
-/// All forms, in the order in which they are told.
-pub const FORMS: [Form; 10] = [
-    Form::Run,
-    Form::RunSteady,
-    Form::Headers,
-    Form::Check,
-    Form::Finish,
-    Form::Audit,
-    Form::Report,
-    Form::Combine,
-    Form::Generate,
-    Form::Devices,
-];
-
-const RUN: Row = Row {
-    parts: &[Part::Word("run"), Part::File],
-    limit: BOARD,
-    line: "runs a board to the end of all programs and writes its trace",
-    more: "Every valid board is served. What is written is a complete run, which `check` takes.",
-};
-
-const RUN_STEADY: Row = Row {
-    parts: &[Part::Word("run"), Part::Word("--steady"), Part::File],
-    limit: BOARD,
-    line: "the same, with one and the same schedule each time",
-    more: "For now there is no other schedule, so that `run` alone writes the same trace.",
-};
-
-const HEADERS: Row = Row {
-    parts: &[Part::Word("headers"), Part::File],
-    limit: BOARD,
-    line: "writes the configuration headers of a board's bridges",
-    more: "For each bridge, in the order of the board, a line `bridge B` and the 64 bytes of its header\n\
-        (PCI-to-PCI Bridge Architecture 1.1, section 3.2, from memory).",
-};
-
-const CHECK: Row = Row {
-    parts: &[Part::Word("check"), Part::File],
-    limit: TRACE,
-    line: "says whether a trace is a complete run of its board",
-    more: "Writes the number of events and the bound of the board, or refuses the trace: its text (6, 7), the\n\
-        first event that is not allowed (8), or that the run has not ended (9).",
-};
-
-const FINISH: Row = Row {
-    parts: &[Part::Word("finish"), Part::File],
-    limit: TRACE,
-    line: "takes the events of a trace to the end of all programs",
-    more: "The trace may have no events: then its board is run. What is written is a complete run, which\n\
-        `check` takes.",
-};
-
-const AUDIT: Row = Row {
-    parts: &[Part::Word("audit"), Part::File],
-    limit: TRACE,
-    line: "says of each read of a trace which write it knew of, and how",
-    more: "The trace is of a run, complete or not. For each read that ended and knew of a write of its word\n\
-        there is a line: the last such write to land, and the chain of reads and writes that told of it.",
-};
-
-const REPORT: Row = Row {
-    parts: &[Part::Word("report"), Part::File],
-    limit: TRACE,
-    line: "counts the events of a trace by bus and kind",
-    more: "The trace is of a run, complete or not. Writes how many buses, masters, operations and events there\n\
-        are, the bound of the board, and for each bus its events by kind; a part of a burst is a land.",
-};
-
-const COMBINE: Row = Row {
-    parts: &[Part::Word("combine"), Part::File],
-    limit: BOARD,
-    line: "writes a board with neighbouring memory writes joined",
-    more: "As a bridge in front of the bus may join them: combined, or merged in prefetchable memory\n\
-        (PCI Local Bus 2.2, section 3.2.6, from memory).",
-};
-
-const GENERATE: Row = Row {
-    parts: &[Part::Word("generate"), Part::Rounds],
-    limit: NUMBER,
-    line: "runs a board made from a number, 1 to 300, and reports the run",
-    more: "Three masters write and read across four bridges, in N rounds of three operations each, at addresses\n\
-        and of values drawn from N; each round adds 97 events. What is written is the report of the run.",
-};
-
-const DEVICES: Row = Row {
-    parts: &[Part::Word("devices"), Part::File],
-    limit: BOARD,
-    line: "runs a board with devices that wait, write and interrupt",
-    more: "Each device is a master that waits for its doorbell and then puts bytes, reads and sends messages\n\
-        (PCI Local Bus 2.2, section 6.8, from memory); each handler waits for a message. What is written is\n\
-        the trace of the run, as `run` writes it.",
-};
-
-impl Form {
-    /// The table of words: the row of each form.
-    pub fn row(self) -> Row
-        ensures parts { map shape_of result.parts.now ≡ (command_of self).parts }
-        ensures few { length result.parts.now ≤ 3 }
-        ensures limit { result.limit ≡ (command_of self).limit }
-        ensures small { result.limit < 2 ^ 31 }
-
-        // Each form has a help line, and more that is told of it.
-        ensures line { 0 < length result.line.now }
-        ensures more { 0 < length result.more.now }
-    {
-        match self {
-            Form::Run => RUN,
-            Form::RunSteady => RUN_STEADY,
-            Form::Headers => HEADERS,
-            Form::Check => CHECK,
-            Form::Finish => FINISH,
-            Form::Audit => AUDIT,
-            Form::Report => REPORT,
-            Form::Combine => COMBINE,
-            Form::Generate => GENERATE,
-            Form::Devices => DEVICES,
-        }
+/// Whether the word is as the part has it.
+fn fits(part: Part, word: &str) -> bool
+    ensures { result ≡ fits (shape_of part) word.now }
+{
+    match part {
+        Part::Word(text) => word == text,
+        Part::File => names_file(word.as_bytes()),
+        Part::Rounds => names_rounds(word.as_bytes()),
     }
 }
 
-impl Part {
-    /// How a word that has to be so is shown: as it is, or by what it names.
-    pub fn shown(self) -> &'static str
-        ensures { result.now ≡ shown_as (shape_of self) }
-    {
-        match self {
-            Part::Word(text) => text,
-            Part::File => "FILE",
-            Part::Rounds => "N",
-        }
-    }
+/// Whether the word names the file.
+fn is_file(part: Part) -> bool
+    ensures { result ≡ is_file (shape_of part) }
+{
+    matches!(part, Part::File)
+}
 
-    fn fits(self, word: &str) -> bool
-        ensures { result ≡ fits (shape_of self) word.now }
-    {
-        match self {
-            Part::Word(text) => word == text,
-            Part::File => names_file(word.as_bytes()),
-            Part::Rounds => names_rounds(word.as_bytes()),
-        }
-    }
-
-    /// Whether the word names the file.
-    fn is_file(self) -> bool
-        ensures { result ≡ is_file (shape_of self) }
-    {
-        matches!(self, Part::File)
-    }
-
-    /// Whether the word is a number.
-    fn is_number(self) -> bool
-        ensures { result ≡ is_number (shape_of self) }
-    {
-        matches!(self, Part::Rounds)
-    }
+/// Whether the word is a number.
+fn is_number(part: Part) -> bool
+    ensures { result ≡ is_number (shape_of part) }
+{
+    matches!(part, Part::Rounds)
 }
 
 fn names_file(word: &[u8]) -> bool
@@ -227,7 +49,7 @@ fn fitting(parts: &[Part], words: &[String]) -> u32
     match parts {
         [] => 0,
         [part, parts @ ..] => match words {
-            [word, words @ ..] if part.fits(word.as_str()) => 1 + fitting(parts, words),
+            [word, words @ ..] if fits(*part, word.as_str()) => 1 + fitting(parts, words),
             _ => 0,
         },
     }
@@ -240,7 +62,7 @@ fn is_of(parts: &[Part], words: &[String]) -> bool
         [] => words.is_empty(),
         [part, parts @ ..] => match words {
             [] => false,
-            [word, words @ ..] => part.fits(word.as_str()) && is_of(parts, words),
+            [word, words @ ..] => fits(*part, word.as_str()) && is_of(parts, words),
         },
     }
 }
@@ -248,7 +70,7 @@ fn is_of(parts: &[Part], words: &[String]) -> bool
 /// The number among words of this form, if the form has one.
 pub(crate) fn number_of(form: Form, words: &[String]) -> Option<&str>
     ensures value { option_map (λ number. number.now) result ≡ number_of form (map string_bytes words.now) }
-    ensures small { (command_of form).limit < 2 ^ 31 }
+    ensures small { input_limit form < 2 ^ 31 }
 {
     number_in(form.row().parts, words)
 }
@@ -261,7 +83,7 @@ fn number_in<'a>(parts: &[Part], words: &'a [String]) -> Option<&'a str>
         [] => None,
         [part, parts @ ..] => match words {
             [] => None,
-            [word, _words @ ..] if part.is_number() => Some(word.as_str()),
+            [word, _words @ ..] if is_number(*part) => Some(word.as_str()),
             [_word, words @ ..] => number_in(parts, words),
         },
     }
@@ -311,7 +133,7 @@ fn first_file(parts: &[Part]) -> Option<usize>
     ensures first { result ≡ position (λ part. is_file (shape_of part)) parts.now }
     ensures within { IfSome result (λ place. place < length parts.now) }
 {
-    parts.iter().position(|part| part.is_file())
+    parts.iter().position(|part| is_file(*part))
 }
 
 /// How many bytes the input may have that the words ask for. 0 where they are of no form.

@@ -1,9 +1,9 @@
 -- The words that the program may be called with first.
 use Rattle.std.specs.Prelude.{ℕ, Bool, false, List, [], ◌∷◌}
 use Rattle.std.specs.Str.{bytes_eq}
-use Rattle.pcitree.specs.Words.{Shape}
-use Rattle.pcitree.specs.Words.Shape.{Word, File, Rounds}
+use Rattle.program_words.specs.Shapes.Shape.{Word, File, Rounds}
 use Rattle.program_help.specs.declared.own.OwnWord.{OwnWord}
+use Rattle.program_words.specs.Shapes.{Shape}
 
 -- a form of words begins with just this word
 abbrev pub begins : List ℕ → List Shape → Bool

@@ -1,5 +1,5 @@
 use crate::OwnWord;
-use pcitree::{Part, Row};
+use program_words::{Part, Row};
 use std::fmt;
 
 /// Where the help lines begin.

@@ -1,6 +1,6 @@
 use crate::OWN_WORDS;
 use crate::call::Call;
-use pcitree::FORMS;
+use program_words::FORMS;
 use std::fmt;
 
 /// The version of the program, and of the kit that it is proved with.

@@ -1,12 +1,12 @@
 ghost use Rattle.std.specs.Prelude.{◌≡◌, map, IsSome, IsTrue};
 ghost use Rattle.std.specs.List.{list_any};
-ghost use Rattle.pcitree.specs.declared.words.TheConstants.{FORMS};
-ghost use Rattle.pcitree.specs.Words.{command_of, shape_of};
+ghost use Rattle.program_words.specs.declared.TheConstants.{FORMS};
 ghost use Rattle.program_help.specs.Words.{begins, is_own};
+ghost use Rattle.program_words.specs.Shapes.{parts_of, shape_of};
 
 use crate::call::Call;
 use crate::{OWN_WORDS, OwnWord};
-use pcitree::{FORMS, Part};
+use program_words::{FORMS, Part};
 use std::fmt;
 
 /// What the program says of a word that it may be called with first.
@@ -17,7 +17,7 @@ pub struct WordHelp<'a> {
 
 /// The help of a word, if it is one of the program's.
 pub fn word_help(word: &str) -> Option<WordHelp<'_>>
-    ensures forms { IsTrue (list_any (λ form. begins word.now (command_of form).parts) FORMS) → IsSome result }
+    ensures forms { IsTrue (list_any (λ form. begins word.now (parts_of form)) FORMS) → IsSome result }
 {
     if begins_form(word) || is_one_of(&OWN_WORDS, word) {
         Some(WordHelp { word })
@@ -28,7 +28,7 @@ pub fn word_help(word: &str) -> Option<WordHelp<'_>>
 
 /// Whether a form of words begins with this one.
 fn begins_form(word: &str) -> bool
-    ensures { result ≡ list_any (λ form. begins word.now (command_of form).parts) FORMS }
+    ensures { result ≡ list_any (λ form. begins word.now (parts_of form)) FORMS }
 {
     FORMS.iter().any(|form| begins(form.row().parts, word))
 }

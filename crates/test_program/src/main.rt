@@ -5,6 +5,8 @@
 #[cfg(test)]
 mod command_combine_tests;
 #[cfg(test)]
+mod command_devices_tests;
+#[cfg(test)]
 mod command_generate_tests;
 #[cfg(test)]
 mod failing_ports_tests;

@@ -1,5 +1,5 @@
-use pcitree::FORMS;
 use program_help::{Help, OWN_WORDS, word_help};
+use program_words::FORMS;
 use std::test::Fail;
 
 #[test]

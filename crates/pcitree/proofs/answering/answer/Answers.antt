@@ -1,5 +1,5 @@
 use Rattle.std.proofs.Common.{IfOk, sym, subst}
-use Rattle.pcitree.specs.declared.words.Form.{Form}
+use Rattle.program_words.specs.declared.Form.{Form}
 use Rattle.pcitree.specs.Answers.{AnswersTo}
 use Rattle.pcitree.specs.Given.{IsGiven}
 use Rattle.pcitree.proofs.answering.answer.Goals as goal

@@ -1,0 +1,50 @@
+-- The table of words: what each word of a form has to be, and how many bytes its input may have.
+use Rattle.std.specs.Prelude.{ℕ, ◌^◌, List, [], ◌∷◌, codes}
+use Rattle.program_words.specs.declared.Part.{Part}
+use Rattle.program_words.specs.declared.Part.TheVariants as parts
+use Rattle.program_words.specs.declared.Form.{Form}
+use Rattle.program_words.specs.declared.Form.TheVariants as forms
+
+-- what a word has to be: just this word; the name of a file, which is not empty and does not begin with `-`; or a number
+-- of rounds
+pub data Shape : Type 0 where
+  Word : List ℕ → Shape
+  File : Shape
+  Rounds : Shape
+
+abbrev pub shape_of : Part → Shape
+shape_of (parts.Word text) = Word text.now
+shape_of parts.File = File
+shape_of parts.Rounds = Rounds
+
+-- how such a word is shown in the help
+abbrev pub shown_as : Shape → List ℕ
+shown_as (Word text) = text
+shown_as File = codes "FILE"
+shown_as Rounds = codes "N"
+
+-- the words of each form
+abbrev pub parts_of : Form → List Shape
+parts_of forms.Run = Word (codes "run") ∷ File ∷ []
+parts_of forms.RunSteady = Word (codes "run") ∷ Word (codes "--steady") ∷ File ∷ []
+parts_of forms.Headers = Word (codes "headers") ∷ File ∷ []
+parts_of forms.Check = Word (codes "check") ∷ File ∷ []
+parts_of forms.Finish = Word (codes "finish") ∷ File ∷ []
+parts_of forms.Audit = Word (codes "audit") ∷ File ∷ []
+parts_of forms.Report = Word (codes "report") ∷ File ∷ []
+parts_of forms.Combine = Word (codes "combine") ∷ File ∷ []
+parts_of forms.Generate = Word (codes "generate") ∷ Rounds ∷ []
+parts_of forms.Devices = Word (codes "devices") ∷ File ∷ []
+
+-- how many bytes the input may have: 1 MiB for a board text, 64 MiB for a trace text, and 10 for a number
+abbrev pub input_limit : Form → ℕ
+input_limit forms.Run = 2 ^ 20
+input_limit forms.RunSteady = 2 ^ 20
+input_limit forms.Headers = 2 ^ 20
+input_limit forms.Check = 2 ^ 26
+input_limit forms.Finish = 2 ^ 26
+input_limit forms.Audit = 2 ^ 26
+input_limit forms.Report = 2 ^ 26
+input_limit forms.Combine = 2 ^ 20
+input_limit forms.Generate = 10
+input_limit forms.Devices = 2 ^ 20

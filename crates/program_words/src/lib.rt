@@ -1,0 +1,186 @@
+//! The table of words: each form in which the program is called, how long its input may be, and what the help says of it.
+#![tactic(auto)]
+
+ghost use Rattle.std.specs.Prelude.{◌≡◌, ◌≤◌, ◌<◌, ◌^◌, map, length};
+ghost use Rattle.program_words.specs.Shapes.{shape_of, shown_as, parts_of, input_limit};
+
+/// What a word has to be.
+#[derive(Clone, Copy, Debug, PartialEq, Eq)]
+pub enum Part {
+    /// Just this word.
+    Word(&'static str),
+    /// A word that is not empty and does not begin with `-`: it names the file.
+    File,
+    /// A number of rounds: a decimal of 1 to 10 digits, from 1 to 300. No file is read.
+    Rounds,
+}
+
+/// What the words ask for.
+#[derive(Clone, Copy, Debug, PartialEq, Eq)]
+pub enum Form {
+    Run,
+    RunSteady,
+    Headers,
+    Check,
+    Finish,
+    Audit,
+    Report,
+    Combine,
+    Generate,
+    Devices,
+}
+
+/// A row of the table of words.
+#[derive(Clone, Copy, Debug)]
+pub struct Row {
+    /// The words, one by one.
+    pub parts: &'static [Part],
+    /// How many bytes the input may have.
+    pub limit: usize,
+    /// What is done, in one line.
+    pub line: &'static str,
+    /// What there is more to say of it.
+    pub more: &'static str,
+}
+
+/// A board text may have 1 MiB.
+const BOARD: usize = 0x10_0000;
+
+/// A trace text may have 64 MiB.
+const TRACE: usize = 0x400_0000;
+
+/// A number may have 10 digits.
+const NUMBER: usize = 10;
+
+/// All forms, in the order in which they are told.
+pub const FORMS: [Form; 10] = [
+    Form::Run,
+    Form::RunSteady,
+    Form::Headers,
+    Form::Check,
+    Form::Finish,
+    Form::Audit,
+    Form::Report,
+    Form::Combine,
+    Form::Generate,
+    Form::Devices,
+];
+
+const RUN: Row = Row {
+    parts: &[Part::Word("run"), Part::File],
+    limit: BOARD,
+    line: "runs a board to the end of all programs and writes its trace",
+    more: "Every valid board is served. What is written is a complete run, which `check` takes.",
+};
+
+const RUN_STEADY: Row = Row {
+    parts: &[Part::Word("run"), Part::Word("--steady"), Part::File],
+    limit: BOARD,
+    line: "the same, with one and the same schedule each time",
+    more: "For now there is no other schedule, so that `run` alone writes the same trace.",
+};
+
+const HEADERS: Row = Row {
+    parts: &[Part::Word("headers"), Part::File],
+    limit: BOARD,
+    line: "writes the configuration headers of a board's bridges",
+    more: "For each bridge, in the order of the board, a line `bridge B` and the 64 bytes of its header\n\
+        (PCI-to-PCI Bridge Architecture 1.1, section 3.2, from memory).",
+};
+
+const CHECK: Row = Row {
+    parts: &[Part::Word("check"), Part::File],
+    limit: TRACE,
+    line: "says whether a trace is a complete run of its board",
+    more: "Writes the number of events and the bound of the board, or refuses the trace: its text (6, 7), the\n\
+        first event that is not allowed (8), or that the run has not ended (9).",
+};
+
+const FINISH: Row = Row {
+    parts: &[Part::Word("finish"), Part::File],
+    limit: TRACE,
+    line: "takes the events of a trace to the end of all programs",
+    more: "The trace may have no events: then its board is run. What is written is a complete run, which\n\
+        `check` takes.",
+};
+
+const AUDIT: Row = Row {
+    parts: &[Part::Word("audit"), Part::File],
+    limit: TRACE,
+    line: "says of each read of a trace which write it knew of, and how",
+    more: "The trace is of a run, complete or not. For each read that ended and knew of a write of its word\n\
+        there is a line: the last such write to land, and the chain of reads and writes that told of it.",
+};
+
+const REPORT: Row = Row {
+    parts: &[Part::Word("report"), Part::File],
+    limit: TRACE,
+    line: "counts the events of a trace by bus and kind",
+    more: "The trace is of a run, complete or not. Writes how many buses, masters, operations and events there\n\
+        are, the bound of the board, and for each bus its events by kind; a part of a burst is a land.",
+};
+
+const COMBINE: Row = Row {
+    parts: &[Part::Word("combine"), Part::File],
+    limit: BOARD,
+    line: "writes a board with neighbouring memory writes joined",
+    more: "As a bridge in front of the bus may join them: combined, or merged in prefetchable memory\n\
+        (PCI Local Bus 2.2, section 3.2.6, from memory).",
+};
+
+const GENERATE: Row = Row {
+    parts: &[Part::Word("generate"), Part::Rounds],
+    limit: NUMBER,
+    line: "runs a board made from a number, 1 to 300, and reports the run",
+    more: "Three masters write and read across four bridges, in N rounds of three operations each, at addresses\n\
+        and of values drawn from N; each round adds 97 events. What is written is the report of the run.",
+};
+
+const DEVICES: Row = Row {
+    parts: &[Part::Word("devices"), Part::File],
+    limit: BOARD,
+    line: "runs a board with devices that wait, write and interrupt",
+    more: "Each device is a master that waits for its doorbell and then puts bytes, reads and sends messages\n\
+        (PCI Local Bus 2.2, section 6.8, from memory); each handler waits for a message. What is written is\n\
+        the trace of the run, as `run` writes it.",
+};
+
+impl Form {
+    /// The table of words: the row of each form.
+    pub fn row(self) -> Row
+        ensures parts { map shape_of result.parts.now ≡ parts_of self }
+        ensures few { length result.parts.now ≤ 3 }
+        ensures limit { result.limit ≡ input_limit self }
+        ensures small { result.limit < 2 ^ 31 }
+
+        // Each form has a help line, and more that is told of it.
+        ensures line { 0 < length result.line.now }
+        ensures more { 0 < length result.more.now }
+    {
+        match self {
+            Form::Run => RUN,
+            Form::RunSteady => RUN_STEADY,
+            Form::Headers => HEADERS,
+            Form::Check => CHECK,
+            Form::Finish => FINISH,
+            Form::Audit => AUDIT,
+            Form::Report => REPORT,
+            Form::Combine => COMBINE,
+            Form::Generate => GENERATE,
+            Form::Devices => DEVICES,
+        }
+    }
+}
+
+impl Part {
+    /// How a word that has to be so is shown: as it is, or by what it names.
+    pub fn shown(self) -> &'static str
+        ensures { result.now ≡ shown_as (shape_of self) }
+    {
+        match self {
+            Part::Word(text) => text,
+            Part::File => "FILE",
+            Part::Rounds => "N",
+        }
+    }
+}
