@@ -21,6 +21,7 @@ pub(crate) fn answer(alloc: Global, form: Form, input: &[u8]) -> Result<Vec<u8>,
         Form::Finish => command_finish::answer_finish(alloc, input),
         Form::Audit => command_audit::answer_audit(alloc, input),
         Form::Report => command_report::answer_report(alloc, input),
+        Form::Waves => command_waves::answer_waves(alloc, input),
         Form::Combine => command_combine::answer_combine(alloc, input),
         Form::Generate => command_generate::answer_generate(alloc, input),
     }
