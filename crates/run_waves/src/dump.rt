@@ -30,7 +30,7 @@ fn print_dump(
     text: &mut String,
     tree: &Tree,
     events: &[Event],
-) -> Result<(), AllocError> {
+) -> Result<(), NoMemory> {
     let board = tree.board();
     print_head(alloc, text, board)?;
     let signals = signals_of(alloc, board)?;
@@ -47,7 +47,16 @@ fn print_dump(
     }
     let from = watch.scene();
     watch.rest();
-    print_moment(text, board, events.len() + 1, &signals, &mut shown, from, &watch)
+    print_moment(
+        text,
+        board,
+        events.len() + 1,
+        &signals,
+        &mut shown,
+        from,
+        &watch,
+    )?;
+    Ok(())
 }
 
 /// What each signal reads.
@@ -118,7 +127,9 @@ fn print_bus(
     from: Option<Scene>,
     to: Option<Scene>,
 ) -> Result<(), AllocError> {
-    if let Some(scene) = &to && scene.bus(board) == bus {
+    if let Some(scene) = &to
+        && scene.bus(board) == bus
+    {
         return print_part(text, board, number, part, scene);
     }
     match &from {

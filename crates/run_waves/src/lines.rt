@@ -153,7 +153,10 @@ fn has_no_op(scene: &Scene) -> bool {
     match scene.event {
         Event::Act { .. } => false,
         Event::Arrive { .. } => {
-            matches!(scene.item, Some(Carried::Room) | Some(Carried::Gone { .. }) | None)
+            matches!(
+                scene.item,
+                Some(Carried::Room) | Some(Carried::Gone { .. }) | None
+            )
         }
     }
 }

@@ -36,29 +36,15 @@ pub enum LaneCount {
 #[derive(Clone, Copy, Debug, PartialEq, Eq)]
 pub enum Signal {
     /// What happens on a bus.
-    Bus {
-        bus: u8,
-        part: BusPart,
-    },
+    Bus { bus: u8, part: BusPart },
     /// A count of a lane.
-    Lane {
-        lane: Lane,
-        count: LaneCount,
-    },
+    Lane { lane: Lane, count: LaneCount },
     /// The place of the operation that is a master's turn.
-    Index {
-        master: u16,
-    },
+    Index { master: u16 },
     /// The try of it.
-    Try {
-        master: u16,
-    },
+    Try { master: u16 },
     /// Whether the master presented it before.
-    Waits {
-        master: u16,
-    },
+    Waits { master: u16 },
     /// The stall tokens that are left of a target.
-    Stall {
-        target: u16,
-    },
+    Stall { target: u16 },
 }

@@ -23,11 +23,7 @@ pub(crate) fn signals_of(alloc: Global, board: &Board) -> Result<Vec<Signal>, Al
 }
 
 /// The signals of one bus, behind others.
-pub(crate) fn add_bus(
-    signals: &mut Vec<Signal>,
-    board: &Board,
-    bus: u8,
-) -> Result<(), AllocError>
+pub(crate) fn add_bus(signals: &mut Vec<Signal>, board: &Board, bus: u8) -> Result<(), AllocError>
     ensures { OnOk result (signals.new.items ≡ signals.old.items ++ signals_on board.now bus) }
 {
     add_happenings(signals, bus)?;

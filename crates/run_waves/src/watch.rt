@@ -6,7 +6,8 @@ use bus_tree::Tree;
 use history_model::{By, Carried, Event};
 use kept_state::Kept;
 use lane_replay::LaneTables;
-use std::alloc::{AllocError, Global};
+use pci_command::NoMemory;
+use std::alloc::Global;
 
 /// A run as it goes on: what it leaves, which masters presented their turn before, and what happens now.
 #[derive(Drop)]
@@ -18,7 +19,7 @@ pub(crate) struct Watch {
 
 impl Watch {
     /// Before the first event.
-    pub(crate) fn new(alloc: Global, tree: &Tree) -> Result<Watch, AllocError> {
+    pub(crate) fn new(alloc: Global, tree: &Tree) -> Result<Watch, NoMemory> {
         let mut waits = Vec::new(alloc);
         for _master in tree.board().masters.as_slice() {
             waits.push(false)?;
@@ -89,9 +90,10 @@ impl Watch {
                 Some(op) => u64::from(op.attempt),
                 None => 0,
             }),
-            Signal::Waits { master } => Reading::Level(
-                matches!(self.waits.get(usize::from(master)), Some(true)),
-            ),
+            Signal::Waits { master } => Reading::Level(matches!(
+                self.waits.get(usize::from(master)),
+                Some(true)
+            )),
             Signal::Stall { target } => Reading::Number(u64::from(self.kept.tokens(target))),
         }
     }
