@@ -16,7 +16,7 @@ use Rattle.run_waves.specs.declared.signal.LaneCount.TheVariants.{Owed, Held, Fl
 use Rattle.run_waves.specs.declared.signal.Signal.{Signal}
 use Rattle.run_waves.specs.declared.signal.Signal.TheVariants.{Bus, Lane, Index, Try, Waits, Stall}
 use Rattle.run_waves.specs.Signals.{signals_on, signals_of}
-use Rattle.run_waves.specs.Shown.{Moment, past, Shown, Text, Level, Number, Nothing, is_event_on, shown}
+use Rattle.run_waves.specs.Shown.{Moment, beginning, next, ending, Shown, Text, Level, Number, Nothing, is_event_on, shown}
 
 -- A signal is known by a code: its number in base 94, the lowest digit first, the digit d as the byte 33 + d.
 
@@ -156,11 +156,13 @@ same_shown Nothing Nothing = true
 abbrev pub is_written : Board → Moment → Moment → Signal → Bool
 is_written board from to signal = is_of_event board to.event signal || not (same_shown (shown board from signal) (shown board to signal))
 
+abbrev pub change_line : Board → Moment → Moment → ℕ → Signal → List Line
+change_line board from to k signal = if is_written board from to signal then value_line k (shown board to signal) ∷ [] else []
+
+-- of signals with numbers from k on
 abbrev pub change_lines : Board → Moment → Moment → ℕ → List Signal → List Line
 change_lines board from to k [] = []
-change_lines board from to k (signal ∷ signals) =
-    (if is_written board from to signal then value_line k (shown board to signal) ∷ [] else [])
-    ++ change_lines board from to (k + 1) signals
+change_lines board from to k (signal ∷ signals) = change_line board from to k signal ++ change_lines board from to (k + 1) signals
 
 -- `#N`
 abbrev pub time_line : ℕ → Line
@@ -172,14 +174,8 @@ moment_lines board n from to = time_line n ∷ change_lines board from to 0 (sig
 
 -- the moments from number n on: one for each of these events, and the last
 abbrev pub moments : Board → ℕ → Moment → List Event → List Line
-moments board n from [] = moment_lines board n from (record { before = past from; event = None })
-moments board n from (e ∷ events) =
-    let to : Moment = record { before = past from; event = Some e } in
-    moment_lines board n from to ++ moments board (n + 1) to events
-
--- before the first event
-abbrev pub beginning : Moment
-beginning = record { before = []; event = None }
+moments board n from [] = moment_lines board n from (ending from)
+moments board n from (e ∷ events) = moment_lines board n from (next from e) ++ moments board (n + 1) (next from e) events
 
 abbrev pub dump_lines : Board → List Event → List Line
 dump_lines board events =

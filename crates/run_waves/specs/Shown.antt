@@ -46,6 +46,18 @@ events_by before (Some e) = e ∷ before
 abbrev pub past : Moment → List Event
 past m = events_by m.before m.event
 
+-- before the first event
+abbrev pub beginning : Moment
+beginning = record { before = []; event = None }
+
+-- the moment of the event that happens next
+abbrev pub next : Moment → Event → Moment
+next m e = record { before = past m; event = Some e }
+
+-- behind the last event
+abbrev pub ending : Moment → Moment
+ending m = record { before = past m; event = None }
+
 -- a signal shows a text, is up or down, shows a number, or nothing
 pub data Shown : Type 0 where
   Text : List ℕ → Shown
@@ -55,7 +67,7 @@ pub data Shown : Type 0 where
 
 -- What happens on a bus.
 
--- the item that arrives: the oldest in flight
+-- the oldest item of those in flight
 abbrev pub first_of : List Carried → Option Carried
 first_of [] = None
 first_of (item ∷ rest) = Some item
@@ -101,25 +113,43 @@ step_value steps.Stall = Nothing
 step_value steps.MasterAbort = Nothing
 step_value steps.TargetAbort = Nothing
 
--- a transaction, with its words as a trace has them
-abbrev pub act_part : Board → BusPart → By → OpId → Step → Place → Shown
-act_part board parts.Event by o step place = Text (step_word step)
-act_part board parts.By by o step place = Text (by_word by)
-act_part board parts.Op by o step place = Text (op_word board o)
-act_part board parts.To by o step place = Text (concat (place_words board place))
-act_part board parts.Value by o step place = step_value step
+-- the kind of an event: the word of a transaction, with the words that a trace has; of an arrival that of its mark
+abbrev pub kind_word : Event → List ℕ
+kind_word (Act on by o step place) = step_word step
+kind_word (Arrive lane mark) = arrival_word mark
 
--- an arrival, and what arrives
-abbrev pub arrival_part : Board → BusPart → List ℕ → Mark → Option Carried → Shown
-arrival_part board parts.Event lane mark item = Text (arrival_word mark)
-arrival_part board parts.By lane mark item = Text lane
-arrival_part board parts.Op lane mark item = Text (option_map_or (item_op board) item [])
-arrival_part board parts.To lane mark item = Text (option_map_or item_word item [])
-arrival_part board parts.Value lane mark item = Nothing
+-- who presents the transaction; the lane of an arrival
+abbrev pub initiator_word : Event → List ℕ
+initiator_word (Act on by o step place) = by_word by
+initiator_word (Arrive lane mark) = lane_word lane
 
-abbrev pub event_part : Board → BusPart → List Event → Event → Shown
-event_part board part before (Act on by o step place) = act_part board part by o step place
-event_part board part before (Arrive lane mark) = arrival_part board part (lane_word lane) mark (first_of (world_of board before lane).flight)
+-- the operation; of an arrival that of what arrives
+abbrev pub op_shown : Board → Event → Option Carried → List ℕ
+op_shown board (Act on by o step place) item = op_word board o
+op_shown board (Arrive lane mark) item = option_map_or (item_op board) item []
+
+-- who claims the transaction; of an arrival what arrives
+abbrev pub to_shown : Board → Event → Option Carried → List ℕ
+to_shown board (Act on by o step place) item = concat (place_words board place)
+to_shown board (Arrive lane mark) item = option_map_or item_word item []
+
+-- the value that is read
+abbrev pub value_shown : Event → Shown
+value_shown (Act on by o step place) = step_value step
+value_shown (Arrive lane mark) = Nothing
+
+-- an event, with the item that arrives by it
+abbrev pub event_part : Board → BusPart → Event → Option Carried → Shown
+event_part board parts.Event e item = Text (kind_word e)
+event_part board parts.By e item = Text (initiator_word e)
+event_part board parts.Op e item = Text (op_shown board e item)
+event_part board parts.To e item = Text (to_shown board e item)
+event_part board parts.Value e item = value_shown e
+
+-- the item that arrives by an event after these: the oldest in flight on its lane; nothing arrives by a transaction
+abbrev pub item_by : Board → List Event → Event → Option Carried
+item_by board before (Act on by o step place) = None
+item_by board before (Arrive lane mark) = first_of (world_of board before lane).flight
 
 -- where nothing happens: empty texts, and no value
 abbrev pub idle_part : BusPart → Shown
@@ -136,7 +166,7 @@ is_event_on board bus (Some e) = bus_of board e == bus
 
 abbrev pub part_of : Board → BusPart → List Event → Option Event → Shown
 part_of board part before None = idle_part part
-part_of board part before (Some e) = event_part board part before e
+part_of board part before (Some e) = event_part board part e (item_by board before e)
 
 -- Lanes, masters and targets.
 

@@ -2,7 +2,7 @@ use std::fmt;
 
 /// The code of the signal of this number: its digits in base 94, the lowest first, each as a printing character.
 #[derive(Clone, Copy, Debug, PartialEq, Eq)]
-pub(crate) struct Code(pub(crate) u32);
+pub(crate) struct Code(pub(crate) usize);
 
 impl fmt::Display for Code {
     ghost use Rattle.std.specs.Prelude.{Some};
@@ -25,6 +25,6 @@ impl fmt::Display for Code {
 }
 
 /// The lowest digit.
-fn glyph(number: u32) -> char {
+fn glyph(number: usize) -> char {
     char::from((33 + number % 94) as u8)
 }

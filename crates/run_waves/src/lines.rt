@@ -1,7 +1,11 @@
-ghost use Rattle.std.specs.Prelude.{◌≡◌, ◌++◌, OnOk, string_bytes};
+ghost use Rattle.std.specs.Prelude.{◌≡◌, ◌++◌, [], OnOk, string_bytes};
+ghost use Rattle.std.specs.List.{concat};
+ghost use Rattle.board_model.specs.declared.board.Board.{Board};
 ghost use Rattle.board_printer.specs.Lines.{line_text};
-ghost use Rattle.run_waves.specs.Shown.{idle_part, arrival_word, step_value};
-ghost use Rattle.run_waves.specs.Scenes.{scene_part, shown_of};
+ghost use Rattle.trace_text.specs.Words.{place_words};
+ghost use Rattle.run_waves.specs.Shown.Shown.{Text};
+ghost use Rattle.run_waves.specs.Shown.{idle_part, kind_word, op_shown, to_shown, value_shown, item_word};
+ghost use Rattle.run_waves.specs.Scenes.{scene_part, shown_of, value_in};
 ghost use Rattle.run_waves.specs.Dump.{value_line, same_shown};
 
 use crate::code::Code;
@@ -17,7 +21,7 @@ use trace_text::{ByWord, LaneWord, print_operation, step_word, target_name};
 /// What the signal of this number reads.
 pub(crate) fn print_reading(
     text: &mut String,
-    number: u32,
+    number: usize,
     reading: Reading,
 ) -> Result<(), AllocError>
     ensures { OnOk result (string_bytes text.new ≡ string_bytes text.old ++ line_text (value_line number (shown_of reading))) }
@@ -30,7 +34,7 @@ pub(crate) fn print_reading(
 }
 
 /// That nothing happens on its bus.
-pub(crate) fn print_idle(text: &mut String, number: u32, part: BusPart) -> Result<(), AllocError>
+pub(crate) fn print_idle(text: &mut String, number: usize, part: BusPart) -> Result<(), AllocError>
     ensures { OnOk result (string_bytes text.new ≡ string_bytes text.old ++ line_text (value_line number (idle_part part))) }
 {
     match part {
@@ -45,7 +49,7 @@ pub(crate) fn print_idle(text: &mut String, number: u32, part: BusPart) -> Resul
 pub(crate) fn print_part(
     text: &mut String,
     board: &Board,
-    number: u32,
+    number: usize,
     part: BusPart,
     scene: &Scene,
 ) -> Result<(), AllocError>
@@ -74,7 +78,9 @@ pub(crate) fn print_part(
     }
 }
 
-fn kind_of(event: &Event) -> &'static str {
+fn kind_of(event: &Event) -> &'static str
+    ensures { result.now ≡ kind_word event.now }
+{
     match event {
         Event::Act { step, .. } => step_word(*step),
         Event::Arrive { mark, .. } => match mark {
@@ -85,7 +91,9 @@ fn kind_of(event: &Event) -> &'static str {
     }
 }
 
-fn print_op(text: &mut String, board: &Board, scene: &Scene) -> Result<(), AllocError> {
+fn print_op(text: &mut String, board: &Board, scene: &Scene) -> Result<(), AllocError>
+    ensures { OnOk result (string_bytes text.new ≡ string_bytes text.old ++ op_shown board.now scene.now.event scene.now.item) }
+{
     match scene.event {
         Event::Act { op, .. } => print_operation(text, board, &op),
         Event::Arrive { .. } => match scene.item {
@@ -97,7 +105,9 @@ fn print_op(text: &mut String, board: &Board, scene: &Scene) -> Result<(), Alloc
     }
 }
 
-fn print_to(text: &mut String, board: &Board, scene: &Scene) -> Result<(), AllocError> {
+fn print_to(text: &mut String, board: &Board, scene: &Scene) -> Result<(), AllocError>
+    ensures { OnOk result (string_bytes text.new ≡ string_bytes text.old ++ to_shown board.now scene.now.event scene.now.item) }
+{
     match scene.event {
         Event::Act { place, .. } => print_place(text, board, place),
         Event::Arrive { .. } => match scene.item {
@@ -107,7 +117,9 @@ fn print_to(text: &mut String, board: &Board, scene: &Scene) -> Result<(), Alloc
     }
 }
 
-fn print_place(text: &mut String, board: &Board, place: Place) -> Result<(), AllocError> {
+fn print_place(text: &mut String, board: &Board, place: Place) -> Result<(), AllocError>
+    ensures { OnOk result (string_bytes text.new ≡ string_bytes text.old ++ concat (place_words board.now place)) }
+{
     match place {
         Place::Target(target) => text.push_str(target_name(board, target)),
         Place::Header(bus) => write!(text, "={bus}"),
@@ -116,7 +128,9 @@ fn print_place(text: &mut String, board: &Board, place: Place) -> Result<(), All
     }
 }
 
-fn item_word(item: Carried) -> &'static str {
+fn item_word(item: Carried) -> &'static str
+    ensures { result.now ≡ item_word item }
+{
     match item {
         Carried::Post { .. } => "post",
         Carried::Ask { .. } => "request",
@@ -126,7 +140,9 @@ fn item_word(item: Carried) -> &'static str {
     }
 }
 
-fn value_of(event: &Event) -> Option<u32> {
+fn value_of(event: &Event) -> Option<u32>
+    ensures { value_shown event.now ≡ value_in result }
+{
     match event {
         Event::Act { step, .. } => match step {
             Step::Read(value) => Some(*value),
@@ -149,7 +165,9 @@ pub(crate) fn is_idle(board: &Board, part: BusPart, scene: &Scene) -> bool
     }
 }
 
-fn has_no_op(scene: &Scene) -> bool {
+fn has_no_op(scene: &Scene) -> bool
+    ensures { (board : Board) → result ≡ same_shown (Text (op_shown board scene.now.event scene.now.item)) (Text []) }
+{
     match scene.event {
         Event::Act { .. } => false,
         Event::Arrive { .. } => {
@@ -161,7 +179,9 @@ fn has_no_op(scene: &Scene) -> bool {
     }
 }
 
-fn goes_nowhere(board: &Board, scene: &Scene) -> bool {
+fn goes_nowhere(board: &Board, scene: &Scene) -> bool
+    ensures { result ≡ same_shown (Text (to_shown board.now scene.now.event scene.now.item)) (Text []) }
+{
     match scene.event {
         Event::Act { place, .. } => match place {
             Place::Target(target) => target_name(board, target).is_empty(),

@@ -1,29 +1,16 @@
-ghost use Rattle.std.specs.Prelude.{◌≡◌, ◌++◌, map, IfOk, OnOk};
+ghost use Rattle.std.specs.Prelude.{◌≡◌, ◌++◌, map, OnOk, IsTrue};
 ghost use Rattle.std.specs.List.{flat_map};
-ghost use Rattle.board_model.specs.declared.bridge.Lane.{Lane as BridgeLane};
+ghost use Rattle.board_model.specs.WellFormed.{is_well_formed};
 ghost use Rattle.run_waves.specs.declared.signal.Signal.TheVariants.{Stall};
-ghost use Rattle.run_waves.specs.Signals.{signals_on, signals_of, happenings, lane_counts, lanes_on, progress, masters_on, targets_on};
+ghost use Rattle.run_waves.specs.Signals.{signals_on, happenings, lane_counts, lanes_on, progress, masters_on, targets_on};
 
 use crate::signal::{BusPart, LaneCount, Signal};
-use board_model::{Board, Lane, is_bus};
-use std::alloc::{AllocError, Global};
-
-/// All signals of a board, bus by bus.
-pub(crate) fn signals_of(alloc: Global, board: &Board) -> Result<Vec<Signal>, AllocError>
-    ensures { IfOk result (λ signals. signals.items ≡ signals_of board.now) }
-{
-    let mut signals = Vec::new(alloc);
-    for bus in 0..256u16 {
-        let bus = bus as u8;
-        if is_bus(board, bus) {
-            add_bus(&mut signals, board, bus)?;
-        }
-    }
-    Ok(signals)
-}
+use board_model::{Board, Lane};
+use std::alloc::AllocError;
 
 /// The signals of one bus, behind others.
 pub(crate) fn add_bus(signals: &mut Vec<Signal>, board: &Board, bus: u8) -> Result<(), AllocError>
+    requires { IsTrue (is_well_formed board.now) }
     ensures { OnOk result (signals.new.items ≡ signals.old.items ++ signals_on board.now bus) }
 {
     add_happenings(signals, bus)?;
@@ -70,10 +57,13 @@ fn add_lane(signals: &mut Vec<Signal>, lane: Lane) -> Result<(), AllocError>
 }
 
 fn add_masters(signals: &mut Vec<Signal>, board: &Board, bus: u8) -> Result<(), AllocError>
+    requires { IsTrue (is_well_formed board.now) }
     ensures { OnOk result (signals.new.items ≡ signals.old.items ++ flat_map progress (masters_on board.now bus)) }
 {
     for (master, agent) in board.masters.as_slice().iter().enumerate() {
-        if agent.bus == bus {
+        // It is one of 256 buses, with eight masters at most on each.
+        let on = agent.bus;
+        if on == bus {
             add_progress(signals, master as u16)?;
         }
     }
@@ -91,10 +81,13 @@ fn add_progress(signals: &mut Vec<Signal>, master: u16) -> Result<(), AllocError
 }
 
 fn add_targets(signals: &mut Vec<Signal>, board: &Board, bus: u8) -> Result<(), AllocError>
+    requires { IsTrue (is_well_formed board.now) }
     ensures { OnOk result (signals.new.items ≡ signals.old.items ++ map (λ target. Stall target) (targets_on board.now bus)) }
 {
     for (target, agent) in board.targets.as_slice().iter().enumerate() {
-        if agent.bus == bus {
+        // It is one of 256 buses, with eight targets at most on each.
+        let on = agent.bus;
+        if on == bus {
             signals.push(Signal::Stall {
                 target: target as u16,
             })?;
