@@ -1,6 +1,6 @@
 -- The signals of a board, in the order in which they are declared: bus by bus, and on each bus what happens there, its
 -- lanes, its masters and its targets.
-use Rattle.std.specs.Prelude.{ℕ, Bool, true, false, List, [], ◌∷◌, ◌++◌, length, map, Option, Some, None, ◌==◌, if◌then◌else◌, slice_get}
+use Rattle.std.specs.Prelude.{ℕ, Bool, true, false, List, [], ◌∷◌, ◌++◌, length, Option, Some, None, ◌==◌, if◌then◌else◌, slice_get}
 use Rattle.std.specs.List.{filter, flat_map, range_with_len}
 use Rattle.board_model.specs.declared.agents.Target.{Target as TargetAgent}
 use Rattle.board_model.specs.declared.bridge.Lane.{Lane as BridgeLane}
@@ -30,6 +30,10 @@ lanes_on bus = if bus == 0 then [] else lane_counts (record { bus = bus; up = fa
 abbrev pub progress : ℕ → List Signal
 progress master = Index master ∷ Try master ∷ Waits master ∷ []
 
+-- the stall tokens that a target has left
+abbrev pub tokens_left : ℕ → List Signal
+tokens_left target = Stall target ∷ []
+
 -- the masters of a bus, by their places in the board
 abbrev pub masters_on : Board → ℕ → List ℕ
 masters_on board bus = filter (λ master. is_on bus (slice_get board.masters master)) (range_with_len 0 (length board.masters))
@@ -46,7 +50,7 @@ targets_on board bus = filter (λ target. is_target_on bus (slice_get board.targ
 -- all signals of a bus
 abbrev pub signals_on : Board → ℕ → List Signal
 signals_on board bus =
-    happenings bus ++ (lanes_on bus ++ (flat_map progress (masters_on board bus) ++ map Stall (targets_on board bus)))
+    happenings bus ++ (lanes_on bus ++ (flat_map progress (masters_on board bus) ++ flat_map tokens_left (targets_on board bus)))
 
 -- all signals of a board
 abbrev pub signals_of : Board → List Signal

@@ -1,3 +1,5 @@
+ghost use Rattle.std.specs.Prelude.{◌≡◌, ◌+◌, ◌%◌};
+
 use std::fmt;
 
 /// The code of the signal of this number: its digits in base 94, the lowest first, each as a printing character.
@@ -25,6 +27,8 @@ impl fmt::Display for Code {
 }
 
 /// The lowest digit.
-fn glyph(number: usize) -> char {
+fn glyph(number: usize) -> char
+    ensures { result ≡ 33 + number % 94 }
+{
     char::from((33 + number % 94) as u8)
 }

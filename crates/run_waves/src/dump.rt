@@ -83,11 +83,7 @@ fn readings_of(
 }
 
 /// Every signal, before the first event.
-fn print_values(
-    text: &mut String,
-    signals: &[Signal],
-    shown: &[Reading],
-) -> Result<(), AllocError>
+fn print_values(text: &mut String, signals: &[Signal], shown: &[Reading]) -> Result<(), AllocError>
     requires { length signals.now ≡ length shown.now }
     ensures { (board : Board) → ReadsFrom board beginning signals.now shown.now 0
         → OnOk result (string_bytes text.new ≡ string_bytes text.old ++ text_of (value_lines board beginning 0 signals.now)) }

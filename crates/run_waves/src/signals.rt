@@ -1,8 +1,7 @@
-ghost use Rattle.std.specs.Prelude.{◌≡◌, ◌++◌, map, OnOk, IsTrue};
+ghost use Rattle.std.specs.Prelude.{◌≡◌, ◌++◌, OnOk, IsTrue};
 ghost use Rattle.std.specs.List.{flat_map};
 ghost use Rattle.board_model.specs.WellFormed.{is_well_formed};
-ghost use Rattle.run_waves.specs.declared.signal.Signal.TheVariants.{Stall};
-ghost use Rattle.run_waves.specs.Signals.{signals_on, happenings, lane_counts, lanes_on, progress, masters_on, targets_on};
+ghost use Rattle.run_waves.specs.Signals.{signals_on, happenings, lane_counts, lanes_on, progress, tokens_left, masters_on, targets_on};
 
 use crate::signal::{BusPart, LaneCount, Signal};
 use board_model::{Board, Lane};
@@ -45,15 +44,32 @@ fn add_lanes(signals: &mut Vec<Signal>, bus: u8) -> Result<(), AllocError>
 fn add_lane(signals: &mut Vec<Signal>, lane: Lane) -> Result<(), AllocError>
     ensures { OnOk result (signals.new.items ≡ signals.old.items ++ lane_counts lane) }
 {
-    let counts = [
-        LaneCount::Owed,
-        LaneCount::Held,
-        LaneCount::Flight,
-        LaneCount::Posts,
-        LaneCount::Requests,
-        LaneCount::Completions,
-    ];
-    signals.extend_from_slice(&counts.map(|count| Signal::Lane { lane, count }))
+    signals.extend_from_slice(&[
+        Signal::Lane {
+            lane,
+            count: LaneCount::Owed,
+        },
+        Signal::Lane {
+            lane,
+            count: LaneCount::Held,
+        },
+        Signal::Lane {
+            lane,
+            count: LaneCount::Flight,
+        },
+        Signal::Lane {
+            lane,
+            count: LaneCount::Posts,
+        },
+        Signal::Lane {
+            lane,
+            count: LaneCount::Requests,
+        },
+        Signal::Lane {
+            lane,
+            count: LaneCount::Completions,
+        },
+    ])
 }
 
 fn add_masters(signals: &mut Vec<Signal>, board: &Board, bus: u8) -> Result<(), AllocError>
@@ -82,7 +98,7 @@ fn add_progress(signals: &mut Vec<Signal>, master: u16) -> Result<(), AllocError
 
 fn add_targets(signals: &mut Vec<Signal>, board: &Board, bus: u8) -> Result<(), AllocError>
     requires { IsTrue (is_well_formed board.now) }
-    ensures { OnOk result (signals.new.items ≡ signals.old.items ++ map (λ target. Stall target) (targets_on board.now bus)) }
+    ensures { OnOk result (signals.new.items ≡ signals.old.items ++ flat_map tokens_left (targets_on board.now bus)) }
 {
     for (target, agent) in board.targets.as_slice().iter().enumerate() {
         // It is one of 256 buses, with eight targets at most on each.
