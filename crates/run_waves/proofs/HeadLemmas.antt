@@ -43,18 +43,19 @@ pub scope_none : (board : Board) (n : ℕ) (old text : List ℕ) → is_bus boar
     → text ≡ old ++ text_of (scopes board 0 (buses_to board n)) → text ≡ old ++ text_of (scopes board 0 (buses_to board (n + 1)))
 scope_none board n old text fails so = so ∙ ap (λ (l : List ℕ). old ++ text_of (scopes board 0 l)) (sym (passing_none (is_bus board) n fails))
 
--- a signal more
-pub vars_more : (board : Board) (signals : List Signal) (n : ℕ) (d : Signal) (text longer whole : List ℕ) → n < length signals
-    → text ++ text_of (var_lines board n (drop n signals)) ≡ whole → longer ≡ text ++ line_text (var_line board n (get_or signals n d))
-    → longer ++ text_of (var_lines board (n + 1) (drop (n + 1) signals)) ≡ whole
-vars_more board signals n d text longer whole within so is =
-    let here : List ℕ = line_text (var_line board n (get_or signals n d)) in
-    let next : suc n ≡ n + 1 = omega arith in
-    let rest : List ℕ = text_of (var_lines board (n + 1) (drop (n + 1) signals)) in
-    let split : text_of (var_lines board n (drop n signals)) ≡ here ++ rest =
-    ap (λ (l : List Signal). text_of (var_lines board n l)) (drop-cons signals n d within) ∙ ap (λ (m : ℕ). here ++ text_of (var_lines board (n + 1) (drop m signals))) next in
-    ap (λ (t : List ℕ). t ++ rest) is ∙ append_assoc text here rest ∙ ap (λ (t : List ℕ). text ++ t) (sym split) ∙ so
+-- the title of a bus, its signals and the end
+pub scope_text : (title : Line) (vars : List Line) (last : Line) (old t1 t2 t3 : List ℕ) → t1 ≡ old ++ line_text title → t2 ≡ t1 ++ text_of vars → t3 ≡ t2 ++ line_text last
+    → t3 ≡ old ++ text_of (title ∷ (vars ++ last ∷ []))
+scope_text title vars last old t1 t2 t3 one two three =
+    let end : List ℕ = line_text last in
+    let behind : text_of (vars ++ last ∷ []) ≡ text_of vars ++ end = text_of-append vars (last ∷ []) ∙ ap (λ (t : List ℕ). text_of vars ++ t) (append-nil end) in
+    three ∙ ap (λ (t : List ℕ). t ++ end) two ∙ append_assoc t1 (text_of vars) end ∙ ap (λ (t : List ℕ). t ++ (text_of vars ++ end)) one
+    ∙ append_assoc old (line_text title) (text_of vars ++ end) ∙ ap (λ (t : List ℕ). old ++ (line_text title ++ t)) (sym behind)
 
-pub vars_all : (board : Board) (signals : List Signal) (n : ℕ) (text whole : List ℕ) → length signals ≤ n → text ++ text_of (var_lines board n (drop n signals)) ≡ whole → text ≡ whole
-vars_all board signals n text whole past so =
-    sym (append-nil text) ∙ ap (λ (l : List Signal). text ++ text_of (var_lines board n l)) (sym (drop_all signals n past)) ∙ so
+-- what stands behind the first signals
+pub drop_front : (xs ys all : List Signal) (n : ℕ) → n ≡ length xs → all ≡ xs ++ ys → drop n all ≡ ys
+drop_front xs ys all n is all_is = ap (λ (m : ℕ). drop m all) is ∙ ap (drop (length xs)) all_is ∙ front xs
+  where
+    front : (zs : List Signal) → drop (length zs) (zs ++ ys) ≡ ys
+    front [] = refl
+    front (z ∷ zs) = front zs

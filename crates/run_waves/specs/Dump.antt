@@ -89,10 +89,14 @@ abbrev pub var_lines : Board → ℕ → List Signal → List Line
 var_lines board k [] = []
 var_lines board k (signal ∷ signals) = var_line board k signal ∷ var_lines board (k + 1) signals
 
--- the signals of a bus
+-- `$scope module busB $end`
+abbrev pub scope_title : ℕ → Line
+scope_title bus = codes "$scope" ∷ codes "module" ∷ (codes "bus" ++ decimal bus) ∷ codes "$end" ∷ []
+
+-- the signals of a bus, with numbers from k on
 abbrev pub scope_lines : Board → ℕ → ℕ → List Line
 scope_lines board k bus =
-    (codes "$scope" ∷ codes "module" ∷ (codes "bus" ++ decimal bus) ∷ codes "$end" ∷ [])
+    scope_title bus
     ∷ (var_lines board k (signals_on board bus) ++ (codes "$upscope" ∷ codes "$end" ∷ []) ∷ [])
 
 -- bus by bus, with numbers from k on
@@ -100,11 +104,15 @@ abbrev pub scopes : Board → ℕ → List ℕ → List Line
 scopes board k [] = []
 scopes board k (bus ∷ buses) = scope_lines board k bus ++ scopes board (k + length (signals_on board bus)) buses
 
+unfoldable pub all_scopes : Board → List Line
+all_scopes board = scopes board 0 (buses_of board)
+
+-- all declarations
 abbrev pub head_lines : Board → List Line
 head_lines board =
     (codes "$version" ∷ codes "pcitree" ∷ codes "$end" ∷ [])
     ∷ (codes "$timescale" ∷ codes "1" ∷ codes "ns" ∷ codes "$end" ∷ [])
-    ∷ (scopes board 0 (buses_of board) ++ (codes "$enddefinitions" ∷ codes "$end" ∷ []) ∷ [])
+    ∷ (all_scopes board ++ (codes "$enddefinitions" ∷ codes "$end" ∷ []) ∷ [])
 
 -- The values.
 

@@ -53,5 +53,5 @@ signals_on board bus =
     happenings bus ++ (lanes_on bus ++ (flat_map progress (masters_on board bus) ++ flat_map tokens_left (targets_on board bus)))
 
 -- all signals of a board
-abbrev pub signals_of : Board → List Signal
+unfoldable pub signals_of : Board → List Signal
 signals_of board = flat_map (signals_on board) (buses_of board)

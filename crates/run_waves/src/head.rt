@@ -1,9 +1,8 @@
 ghost use Rattle.std.specs.Prelude.{◌≡◌, ◌≤◌, [], ◌∷◌, ◌++◌, drop, length, IsTrue, IfOk, OnOk, string_bytes};
 ghost use Rattle.board_model.specs.WellFormed.{is_well_formed};
 ghost use Rattle.board_printer.specs.Lines.{spaced, line_text, text_of};
-ghost use Rattle.run_report.specs.Report.{buses_of};
 ghost use Rattle.run_waves.specs.Signals.{signals_on, signals_of};
-ghost use Rattle.run_waves.specs.Dump.{kind_of, part_word, count_word, name_of, var_line, var_lines, scope_lines, scopes, head_lines};
+ghost use Rattle.run_waves.specs.Dump.{kind_of, part_word, count_word, name_of, var_line, var_lines, scope_title, scope_lines, all_scopes, head_lines};
 
 use crate::code::Code;
 use crate::signal::{BusPart, LaneCount, Signal};
@@ -38,7 +37,7 @@ fn print_scopes(
 ) -> Result<(), AllocError>
     requires formed { IsTrue (is_well_formed board.now) }
     requires none { signals.old.items ≡ [] }
-    ensures text { OnOk result (string_bytes text.new ≡ string_bytes text.old ++ text_of (scopes board.now 0 (buses_of board.now))) }
+    ensures text { OnOk result (string_bytes text.new ≡ string_bytes text.old ++ text_of (all_scopes board.now)) }
     ensures signals { OnOk result (signals.new.items ≡ signals_of board.now) }
 {
     for bus in 0..256u16 {
@@ -63,9 +62,15 @@ fn print_scope(
 {
     let first = signals.len();
     add_bus(signals, board, bus)?;
-    writeln!(text, "$scope module bus{bus} $end")?;
+    print_title(text, bus)?;
     print_vars(text, board, signals.as_slice(), first)?;
     writeln!(text, "$upscope $end")
+}
+
+fn print_title(text: &mut String, bus: u8) -> Result<(), AllocError>
+    ensures { OnOk result (string_bytes text.new ≡ string_bytes text.old ++ line_text (scope_title bus)) }
+{
+    writeln!(text, "$scope module bus{bus} $end")
 }
 
 /// The signals from this number on.
