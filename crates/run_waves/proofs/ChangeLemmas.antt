@@ -54,45 +54,6 @@ change_bus board k bus part from to before after from_is to_is =
     subst (λ (x : Option Scene). bus_change board k bus part x to ≡ change_line board before after k (Bus bus part)) (sym from_is)
     (subst (λ (x : Option Scene). bus_change board k bus part f x ≡ change_line board before after k (Bus bus part)) (sym to_is) moments)
 
--- any other signal
-new_same : (k : ℕ) (old now was is : Shown) → old ≡ was → now ≡ is → new_line k old now ≡ cond (not (same_shown was is)) (value_line k is ∷ []) []
-new_same k old now was is e f = ap (λ (s : Shown). new_line k s now) e ∙ ap (λ (s : Shown). new_line k was s) f
-
--- a signal that is of no bus
-abbrev pub IsNoBus : Signal → Type 0
-IsNoBus (Bus bus part) = ⊥
-IsNoBus (Lane lane count) = Unit {0}
-IsNoBus (Index master) = Unit {0}
-IsNoBus (Try master) = Unit {0}
-IsNoBus (Waits master) = Unit {0}
-IsNoBus (Stall target) = Unit {0}
-
-pub no_bus : (signal : Signal) → ((bus : ℕ) (part : BusPart) → signal ≡ Bus bus part → ⊥) → IsNoBus signal
-no_bus (Bus bus part) not_it = not_it bus part refl
-no_bus (Lane lane count) not_it = tt
-no_bus (Index master) not_it = tt
-no_bus (Try master) not_it = tt
-no_bus (Waits master) not_it = tt
-no_bus (Stall target) not_it = tt
-
-pub change_other : (board : Board) (k : ℕ) (signal : Signal) (old now : Reading) (before after : Moment) → IsNoBus signal → Reads board before signal old → Reads board after signal now
-    → new_line k (shown_of old) (shown_of now) ≡ change_line board before after k signal
-change_other board k (Bus bus part) old now before after other was is = absurd other
-change_other board k (Lane lane count) old now before after other was is = new_same k (shown_of old) (shown_of now) (shown board before (Lane lane count)) (shown board after (Lane lane count)) was is
-change_other board k (Index master) old now before after other was is = new_same k (shown_of old) (shown_of now) (shown board before (Index master)) (shown board after (Index master)) was is
-change_other board k (Try master) old now before after other was is = new_same k (shown_of old) (shown_of now) (shown board before (Try master)) (shown board after (Try master)) was is
-change_other board k (Waits master) old now before after other was is = new_same k (shown_of old) (shown_of now) (shown board before (Waits master)) (shown board after (Waits master)) was is
-change_other board k (Stall target) old now before after other was is = new_same k (shown_of old) (shown_of now) (shown board before (Stall target)) (shown board after (Stall target)) was is
-
--- before the first event
-pub first_other : (board : Board) (k : ℕ) (signal : Signal) (reading : Reading) → IsNoBus signal → Reads board beginning signal reading → value_line k (shown_of reading) ≡ value_line k (shown board beginning signal)
-first_other board k (Bus bus part) reading other is = absurd other
-first_other board k (Lane lane count) reading other is = ap (value_line k) is
-first_other board k (Index master) reading other is = ap (value_line k) is
-first_other board k (Try master) reading other is = ap (value_line k) is
-first_other board k (Waits master) reading other is = ap (value_line k) is
-first_other board k (Stall target) reading other is = ap (value_line k) is
-
 -- signal by signal
 
 pub values_more : (board : Board) (signals : List Signal) (n : ℕ) (d : Signal) (text longer whole : List ℕ) → n < length signals
@@ -108,7 +69,7 @@ values_more board signals n d text longer whole within so is =
 
 pub values_all : (board : Board) (signals : List Signal) (n : ℕ) (text whole : List ℕ) → length signals ≤ n → text ++ text_of (value_lines board beginning n (drop n signals)) ≡ whole → text ≡ whole
 values_all board signals n text whole past so =
-    sym (append-nil text) ∙ ap (λ (l : List Signal). text ++ text_of (value_lines board beginning n l)) (sym (drop_all signals n past)) ∙ so
+    sym (append-nil text) ∙ ap (λ (l : List Signal). text ++ text_of (value_lines board beginning n l)) (sym (drop_all n signals past)) ∙ so
 
 pub changes_more : (board : Board) (before after : Moment) (signals : List Signal) (n : ℕ) (d : Signal) (text longer whole : List ℕ) → n < length signals
     → text ++ text_of (change_lines board before after n (drop n signals)) ≡ whole → longer ≡ text ++ text_of (change_line board before after n (get_or signals n d))
@@ -125,4 +86,4 @@ changes_more board before after signals n d text longer whole within so is =
 
 pub changes_all : (board : Board) (before after : Moment) (signals : List Signal) (n : ℕ) (text whole : List ℕ) → length signals ≤ n → text ++ text_of (change_lines board before after n (drop n signals)) ≡ whole → text ≡ whole
 changes_all board before after signals n text whole past so =
-    sym (append-nil text) ∙ ap (λ (l : List Signal). text ++ text_of (change_lines board before after n l)) (sym (drop_all signals n past)) ∙ so
+    sym (append-nil text) ∙ ap (λ (l : List Signal). text ++ text_of (change_lines board before after n l)) (sym (drop_all n signals past)) ∙ so

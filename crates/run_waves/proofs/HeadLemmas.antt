@@ -52,6 +52,13 @@ scope_text title vars last old t1 t2 t3 one two three =
     three ∙ ap (λ (t : List ℕ). t ++ end) two ∙ append_assoc t1 (text_of vars) end ∙ ap (λ (t : List ℕ). t ++ (text_of vars ++ end)) one
     ∙ append_assoc old (line_text title) (text_of vars ++ end) ∙ ap (λ (t : List ℕ). old ++ (line_text title ++ t)) (sym behind)
 
+-- two titles, and the end
+pub head_text : (first second : Line) (lines : List Line) (last : Line) (old t1 t2 t3 t4 : List ℕ) → t1 ≡ old ++ line_text first → t2 ≡ t1 ++ line_text second → t3 ≡ t2 ++ text_of lines → t4 ≡ t3 ++ line_text last
+    → t4 ≡ old ++ text_of (first ∷ second ∷ (lines ++ last ∷ []))
+head_text first second lines last old t1 t2 t3 t4 one two three four =
+    let rest : List ℕ = text_of (second ∷ (lines ++ last ∷ [])) in
+    scope_text second lines last t1 t2 t3 t4 two three four ∙ ap (λ (t : List ℕ). t ++ rest) one ∙ append_assoc old (line_text first) rest
+
 -- what stands behind the first signals
 pub drop_front : (xs ys all : List Signal) (n : ℕ) → n ≡ length xs → all ≡ xs ++ ys → drop n all ≡ ys
 drop_front xs ys all n is all_is = ap (λ (m : ℕ). drop m all) is ∙ ap (drop (length xs)) all_is ∙ front xs

@@ -4,3 +4,4 @@ pub mod WaitLemmas
 pub mod WatchLemmas
 pub mod ReadLemmas
 pub mod ChangeLemmas
+pub mod DumpLemmas

@@ -14,10 +14,11 @@ returns-clause-text c =
     let first = c.len-first.result in
     let before = c.args.signals.now.items in
     let on = signals_on board bus in
+    let count = c.len-first.ensures ∙ c.args.signals.now.ok.0 in
     let all = c.as_slice.ensures.value ∙ c.in_ok-add_bus.ensures in
-    let rest = drop_front before on c.as_slice.result.now first c.len-first.ensures all in
+    let rest = drop_front before on c.as_slice.result.now first count all in
     let vars = ap (λ (l : List Signal). string_bytes c.print_title.new.text ++ text_of (var_lines board first l)) rest in
-    let number = ap (λ n. string_bytes c.print_title.new.text ++ text_of (var_lines board n on)) c.len-first.ensures in
+    let number = ap (λ n. string_bytes c.print_title.new.text ++ text_of (var_lines board n on)) count in
     IfOk-weaker _ _ _
     (λ _ ended. scope_text (scope_title bus) (var_lines board (length before) on) (codes "$upscope" ∷ codes "$end" ∷ []) (string_bytes c.args.text.now) (string_bytes c.print_title.new.text) (string_bytes c.print_vars.new.text) (string_bytes c.writeln.new.self)
     c.in_ok-print_title.ensures (c.in_ok-print_vars.ensures ∙ vars ∙ number) ended)
