@@ -1,5 +1,5 @@
 -- What is written of a run so far.
-use Rattle.std.proofs.Common.{◌≡◌, ℕ, ◌+◌, ◌<◌, ◌≤◌, suc, Bool, List, [], ◌∷◌, ◌++◌, length, take, drop, get_or, reverse, Option, Some, None, refl, sym, ap, subst, ◌∙◌, arith, append_assoc, append-nil}
+use Rattle.std.proofs.Common.{codes, ◌≡◌, ℕ, ◌+◌, ◌<◌, ◌≤◌, suc, Bool, List, [], ◌∷◌, ◌++◌, length, take, drop, get_or, reverse, Option, Some, None, refl, sym, ap, subst, ◌∙◌, arith, append_assoc, append-nil}
 use Rattle.std.proofs.lemmas.List.{drop_all, take-append-drop, reverse-append}
 use Rattle.std.proofs.Math.Seq.{drop-cons}
 use Rattle.board_model.specs.declared.board.Board.{Board}
@@ -15,7 +15,7 @@ use Rattle.run_waves.specs.declared.reading.Reading.{Reading}
 use Rattle.run_waves.specs.declared.signal.Signal.{Signal}
 use Rattle.run_waves.specs.Signals.{signals_of}
 use Rattle.run_waves.specs.Shown.{Moment, past, beginning, next, ending}
-use Rattle.run_waves.specs.Scenes.{IsAt, ReadsFrom}
+use Rattle.run_waves.specs.Scenes.{IsAt, ReadsFrom, scene_of}
 use Rattle.run_waves.specs.Dump.{time_line, head_lines, value_lines, change_lines, moment_lines, moments, dump_lines}
 
 -- after so many events
@@ -40,7 +40,7 @@ first_text head zero vars values end rest old t1 t2 t3 t4 t5 one two three four 
     ∙ ap (λ (t : List ℕ). t ++ r3) two ∙ append_assoc t1 (line_text zero) r3
     ∙ ap (λ (t : List ℕ). t ++ r2) one ∙ append_assoc old (text_of head) r2 ∙ ap (λ (t : List ℕ). old ++ t) (sym (text_of-append head (zero ∷ vars ∷ (values ++ (end ∷ rest)))))
 
-pub so_far_first : (given board : Board) (events : List Event) (signals : List Signal) (vars end : Line) (old t1 t2 t3 t4 t5 : List ℕ) (shown : List Reading) (kept : KeptState) (waiting : List Bool) (scene : Option Scene) → given ≡ board
+so_far_first : (given board : Board) (events : List Event) (signals : List Signal) (vars end : Line) (old t1 t2 t3 t4 t5 : List ℕ) (shown : List Reading) (kept : KeptState) (waiting : List Bool) (scene : Option Scene) → given ≡ board
     → signals ≡ signals_of given → IsAt board beginning kept waiting scene → ((m : Moment) → IsAt given m kept waiting scene → ReadsFrom given m signals shown 0)
     → t1 ≡ old ++ text_of (head_lines given) → t2 ≡ t1 ++ line_text (time_line 0) → t3 ≡ t2 ++ line_text vars
     → ((b : Board) → ReadsFrom b beginning signals shown 0 → t4 ≡ t3 ++ text_of (value_lines b beginning 0 signals)) → t5 ≡ t4 ++ line_text end
@@ -67,7 +67,7 @@ allowed_next board events i d before run within is =
     subst (λ (h : List Event). Allowed board h e) (sym is) both.0
 
 -- one event more
-pub so_far_next : (board : Board) (events : List Event) (signals : List Signal) (old text longer : List ℕ) (shown changed : List Reading) (kept after : KeptState) (waiting later : List Bool) (scene now : Option Scene) (i : ℕ) (d : Event)
+so_far_next : (board : Board) (events : List Event) (signals : List Signal) (old text longer : List ℕ) (shown changed : List Reading) (kept after : KeptState) (waiting later : List Bool) (scene now : Option Scene) (i : ℕ) (d : Event)
     → (so : SoFar board events signals old text shown kept waiting scene i) → i < length events → signals ≡ signals_of board
     → IsAt board (next so.moment (get_or events i d)) after later now → ReadsFrom board (next so.moment (get_or events i d)) signals changed 0
     → longer ≡ text ++ text_of (time_line (i + 1) ∷ change_lines board so.moment (next so.moment (get_or events i d)) 0 signals)
@@ -98,7 +98,7 @@ at_rest board m kept after waiting later scene now at kept_is waits_are none =
     subst (λ (k : KeptState). IsAt board (ending m) k later now) (sym kept_is) (subst (λ (l : List Bool). IsAt board (ending m) kept l now) (sym waits_are) there)
 
 -- all of it
-pub so_far_all : (board : Board) (events : List Event) (signals : List Signal) (old text longer : List ℕ) (shown : List Reading) (kept : KeptState) (waiting : List Bool) (scene : Option Scene) (i : ℕ)
+so_far_all : (board : Board) (events : List Event) (signals : List Signal) (old text longer : List ℕ) (shown : List Reading) (kept : KeptState) (waiting : List Bool) (scene : Option Scene) (i : ℕ)
     → (so : SoFar board events signals old text shown kept waiting scene i) → length events ≡ i → signals ≡ signals_of board
     → longer ≡ text ++ text_of (time_line (i + 1) ∷ change_lines board so.moment (ending so.moment) 0 signals) → longer ≡ old ++ text_of (dump_lines board events)
 so_far_all board events signals old text longer shown kept waiting scene i so all signals_are is =
@@ -106,3 +106,52 @@ so_far_all board events signals old text longer shown kept waiting scene i so al
     let none : drop i events ≡ [] = drop_all i events (omega arith) in
     is ∙ ap (λ (l : List Signal). text ++ text_of (time_line (i + 1) ∷ change_lines board m (ending m) 0 l)) signals_are
     ∙ ap (λ (l : List Event). text ++ text_of (moments board (i + 1) m l)) (sym none) ∙ so.so_far
+
+-- the same, of what the program has of them: its board, its signals and its readings
+
+pub first_so_far : (given board : Board) (events : List Event) (signals s1 s2 : List Signal) (shown s3 : List Reading) (old t1 t2 t3 t4 t5 : List ℕ) (kept : KeptState) (waiting : List Bool) (scene : Option Scene) → given ≡ board
+    → s1 ≡ signals → s2 ≡ signals → s3 ≡ shown → signals ≡ signals_of given → IsAt board beginning kept waiting scene → ((m : Moment) → IsAt given m kept waiting scene → ReadsFrom given m s1 shown 0)
+    → t1 ≡ old ++ text_of (head_lines given) → t2 ≡ t1 ++ line_text (time_line 0) → t3 ≡ t2 ++ line_text (codes "$dumpvars" ∷ [])
+    → ((b : Board) → ReadsFrom b beginning s2 s3 0 → t4 ≡ t3 ++ text_of (value_lines b beginning 0 s2)) → t5 ≡ t4 ++ line_text (codes "$end" ∷ []) → SoFar board events signals old t5 shown kept waiting scene 0
+first_so_far given board events signals s1 s2 shown s3 old t1 t2 t3 t4 t5 kept waiting scene same s1_is s2_is s3_is signals_are at reads one two three four five =
+    let there : IsAt given beginning kept waiting scene = subst (λ (b : Board). IsAt b beginning kept waiting scene) (sym same) at in
+    let all : (m : Moment) → IsAt given m kept waiting scene → ReadsFrom given m signals shown 0 = λ m at_m. subst (λ (l : List Signal). ReadsFrom given m l shown 0) s1_is (reads m at_m) in
+    let values : (b : Board) → ReadsFrom b beginning signals shown 0 → t4 ≡ t3 ++ text_of (value_lines b beginning 0 signals) = λ b r.
+    four b (subst (λ (l : List Signal). ReadsFrom b beginning l s3 0) (sym s2_is) (subst (λ (l : List Reading). ReadsFrom b beginning signals l 0) (sym s3_is) r)) ∙ ap (λ (l : List Signal). t3 ++ text_of (value_lines b beginning 0 l)) s2_is in
+    record {
+      moment = beginning;
+      past_is = refl;
+      at = at;
+      reads = subst (λ (b : Board). ReadsFrom b beginning signals shown 0) same (all beginning there);
+      so_far = so_far_first given board events signals (codes "$dumpvars" ∷ []) (codes "$end" ∷ []) old t1 t2 t3 t4 t5 shown kept waiting scene same signals_are at all one two three values five;
+    }
+
+-- what a moment writes
+abbrev Writes : Board → List Signal → Option Scene → List Reading → KeptState → List Bool → Option Scene → ℕ → List ℕ → List ℕ → Type 0
+Writes board signals from shown kept waiting scene n text longer =
+    (before after : Moment) → from ≡ scene_of board before → ReadsFrom board before signals shown 0 → IsAt board after kept waiting scene → longer ≡ text ++ text_of (time_line n ∷ change_lines board before after 0 signals)
+
+abbrev Tells : Board → List Signal → List Reading → KeptState → List Bool → Option Scene → Type 0
+Tells board signals changed kept waiting scene = (after : Moment) → IsAt board after kept waiting scene → ReadsFrom board after signals changed 0
+
+pub next_so_far : (given board : Board) (events : List Event) (signals s1 : List Signal) (old text longer : List ℕ) (shown changed : List Reading) (kept after : KeptState) (waiting later : List Bool) (scene from now : Option Scene) (i : ℕ) (d : Event)
+    → (so : SoFar board events signals old text shown kept waiting scene i) → i < length events → given ≡ board → s1 ≡ signals → signals ≡ signals_of given → from ≡ scene
+    → IsAt board (next so.moment (get_or events i d)) after later now → Writes given s1 from shown after later now (i + 1) text longer → Tells given s1 changed after later now
+    → SoFar board events signals old longer changed after later now (i + 1)
+next_so_far given board events signals s1 old text longer shown changed kept after waiting later scene from now i d so within same s1_is signals_are from_is at writes tells =
+    let to : Moment = next so.moment (get_or events i d) in
+    let w1 : Writes board s1 from shown after later now (i + 1) text longer = subst (λ (b : Board). Writes b s1 from shown after later now (i + 1) text longer) same writes in
+    let w2 : Writes board signals from shown after later now (i + 1) text longer = subst (λ (l : List Signal). Writes board l from shown after later now (i + 1) text longer) s1_is w1 in
+    let r1 : Tells board s1 changed after later now = subst (λ (b : Board). Tells b s1 changed after later now) same tells in
+    let r2 : Tells board signals changed after later now = subst (λ (l : List Signal). Tells board l changed after later now) s1_is r1 in
+    so_far_next board events signals old text longer shown changed kept after waiting later scene now i d so within (signals_are ∙ ap signals_of same) at (r2 to at) (w2 so.moment to (from_is ∙ so.at.scene_is) so.reads at)
+
+pub all_so_far : (given board : Board) (events : List Event) (signals s1 : List Signal) (old text longer : List ℕ) (shown : List Reading) (kept after : KeptState) (waiting later : List Bool) (scene from now : Option Scene) (i n : ℕ)
+    → (so : SoFar board events signals old text shown kept waiting scene i) → length events ≡ i → n ≡ i + 1 → given ≡ board → s1 ≡ signals → signals ≡ signals_of given → from ≡ scene → after ≡ kept → later ≡ waiting → now ≡ None
+    → Writes given s1 from shown after later now n text longer → longer ≡ old ++ text_of (dump_lines board events)
+all_so_far given board events signals s1 old text longer shown kept after waiting later scene from now i n so all number same s1_is signals_are from_is kept_is waits_are none writes =
+    let at : IsAt board (ending so.moment) after later now = at_rest board so.moment kept after waiting later scene now so.at kept_is waits_are none in
+    let w1 : Writes board s1 from shown after later now n text longer = subst (λ (b : Board). Writes b s1 from shown after later now n text longer) same writes in
+    let w2 : Writes board signals from shown after later now n text longer = subst (λ (l : List Signal). Writes board l from shown after later now n text longer) s1_is w1 in
+    so_far_all board events signals old text longer shown kept waiting scene i so all (signals_are ∙ ap signals_of same)
+    (w2 so.moment (ending so.moment) (from_is ∙ so.at.scene_is) so.reads at ∙ ap (λ (k : ℕ). text ++ text_of (time_line k ∷ change_lines board so.moment (ending so.moment) 0 signals)) number)

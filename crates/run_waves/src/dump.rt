@@ -42,7 +42,7 @@ fn print_dump(
     let signals = print_head(alloc, text, board)?;
     let mut watch = Watch::new(alloc, tree)?;
     let mut shown = readings_of(alloc, board, &watch, &signals)?;
-    writeln!(text, "#0")?;
+    print_time(text, 0)?;
     writeln!(text, "$dumpvars")?;
     print_values(text, &signals, &shown)?;
     writeln!(text, "$end")?;
@@ -63,6 +63,12 @@ fn print_dump(
         &watch,
     )?;
     Ok(())
+}
+
+fn print_time(text: &mut String, number: usize) -> Result<(), AllocError>
+    ensures { OnOk result (string_bytes text.new ≡ string_bytes text.old ++ line_text (time_line number)) }
+{
+    writeln!(text, "#{number}")
 }
 
 /// What each signal reads.
@@ -128,7 +134,7 @@ fn print_moment(
     ensures reads { (after : Moment) → IsAt board.now after watch.now.kept watch.now.waits.items watch.now.scene
         → OnOk result (ReadsFrom board.now after signals.now shown.new.items 0) }
 {
-    writeln!(text, "#{number}")?;
+    print_time(text, number)?;
     print_changes(text, board, signals, shown.as_mut_slice(), from, watch)
 }
 
