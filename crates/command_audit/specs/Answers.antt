@@ -7,9 +7,7 @@ use Rattle.history_model.specs.Runs.{Run, history_of}
 use Rattle.history_model.specs.Knowledge.{Fresh}
 use Rattle.audit_model.specs.Audit.{findings}
 use Rattle.audit_text.specs.Lines.{audit_of}
-use Rattle.program_status.specs.declared.status.Status.{Status}
-use Rattle.program_status.specs.declared.status.Status.TheVariants.{NotRun}
-use Rattle.program_input.specs.Traces.{ReadsTrace, RefusesTrace, IsNoRun}
+use Rattle.program_input.specs.Traces.{ReadsTrace}
 
 -- a run of a board, which is fresh: each read that was told of a write reads its words after it has landed; and the
 -- text of its audit
@@ -25,8 +23,3 @@ pub record AnswersAudit (input text : List ℕ) : Type 0 where
   pub reads : ReadsTrace input board events
   pub valid : IsValid board
   pub audits : Audits board events text
-
--- refused: as no run, or as no trace text
-abbrev pub RefusesAudit : List ℕ → Status → Type 0
-RefusesAudit input (NotRun event why) = IsNoRun input event why
-RefusesAudit input status = RefusesTrace input status

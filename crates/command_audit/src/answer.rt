@@ -1,30 +1,26 @@
 ghost use Rattle.std.specs.Prelude.{◌<◌, ◌^◌, length, IfOk, IfErr};
 ghost use Rattle.history_model.specs.Runs.{Run, history_of};
-ghost use Rattle.command_audit.specs.Answers.{AnswersAudit, RefusesAudit, Audits};
+ghost use Rattle.program_input.specs.Traces.{RefusesRun};
+ghost use Rattle.command_audit.specs.Answers.{AnswersAudit, Audits};
 
 use audit_text::audit_text;
 use bus_tree::Tree;
 use history_model::Event;
 use law_fresh::runs_are_fresh;
 use pci_command::{List, NoMemory};
-use program_input::{TreeTrace, read_tree_trace};
+use program_input::{TreeTrace, read_run};
 use program_status::Status;
 use std::alloc::Global;
-use trace_check::first_refused;
 
 /// The audit of a run, complete or not, for its trace text.
 pub fn answer_audit(alloc: Global, input: &[u8]) -> Result<Vec<u8>, Status>
     requires { length input.now < 2 ^ 31 }
     ensures ok { IfOk result (λ text. AnswersAudit input.now text.items) }
-    ensures err { IfErr result (RefusesAudit input.now) }
+    ensures err { IfErr result (RefusesRun input.now) }
 {
-    let TreeTrace { tree, events } = read_tree_trace(alloc, input)?;
-    match first_refused(alloc, &tree, events.as_slice()) {
-        Ok(Some((event, why))) => Err(Status::NotRun { event, why }),
-        Ok(None) => match text_of_run(alloc, &tree, events.as_slice()) {
-            Ok(text) => Ok(text.into_vec()),
-            Err(_) => Err(Status::NoMemory),
-        },
+    let TreeTrace { tree, events } = read_run(alloc, input)?;
+    match text_of_run(alloc, &tree, events.as_slice()) {
+        Ok(text) => Ok(text.into_vec()),
         Err(_) => Err(Status::NoMemory),
     }
 }

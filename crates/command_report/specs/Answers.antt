@@ -8,9 +8,7 @@ use Rattle.history_model.specs.Knowledge.{Fresh}
 use Rattle.run_report.specs.Report.{report_of}
 use Rattle.law_counts.specs.Plain.{IsSteady}
 use Rattle.law_counts.specs.WayCounts.{way_report}
-use Rattle.program_status.specs.declared.status.Status.{Status}
-use Rattle.program_status.specs.declared.status.Status.TheVariants.{NotRun}
-use Rattle.program_input.specs.Traces.{ReadsTrace, RefusesTrace, IsNoRun}
+use Rattle.program_input.specs.Traces.{ReadsTrace}
 
 -- a run of a board, which is fresh: each read that was told of a write reads its words after it has landed; and the
 -- text of its report
@@ -29,8 +27,3 @@ pub record AnswersReport (input text : List ℕ) : Type 0 where
   pub reads : ReadsTrace input board events
   pub valid : IsValid board
   pub reports : Reports board events text
-
--- refused: as no run, or as no trace text
-abbrev pub RefusesReport : List ℕ → Status → Type 0
-RefusesReport input (NotRun event why) = IsNoRun input event why
-RefusesReport input status = RefusesTrace input status

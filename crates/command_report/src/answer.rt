@@ -1,31 +1,27 @@
 ghost use Rattle.std.specs.Prelude.{◌<◌, ◌^◌, length, IfOk, IfErr};
 ghost use Rattle.history_model.specs.Runs.{Run, history_of};
-ghost use Rattle.command_report.specs.Answers.{AnswersReport, RefusesReport, Reports};
+ghost use Rattle.program_input.specs.Traces.{RefusesRun};
+ghost use Rattle.command_report.specs.Answers.{AnswersReport, Reports};
 
 use bus_tree::Tree;
 use history_model::Event;
 use law_counts::complete_runs_have_the_way_counts;
 use law_fresh::runs_are_fresh;
 use pci_command::{List, NoMemory};
-use program_input::{TreeTrace, read_tree_trace};
+use program_input::{TreeTrace, read_run};
 use program_status::Status;
 use run_report::report;
 use std::alloc::Global;
-use trace_check::first_refused;
 
 /// The report of a run, complete or not, for its trace text.
 pub fn answer_report(alloc: Global, input: &[u8]) -> Result<Vec<u8>, Status>
     requires { length input.now < 2 ^ 31 }
     ensures ok { IfOk result (λ text. AnswersReport input.now text.items) }
-    ensures err { IfErr result (RefusesReport input.now) }
+    ensures err { IfErr result (RefusesRun input.now) }
 {
-    let TreeTrace { tree, events } = read_tree_trace(alloc, input)?;
-    match first_refused(alloc, &tree, events.as_slice()) {
-        Ok(Some((event, why))) => Err(Status::NotRun { event, why }),
-        Ok(None) => match text_of_run(alloc, &tree, events.as_slice()) {
-            Ok(text) => Ok(text.into_vec()),
-            Err(_) => Err(Status::NoMemory),
-        },
+    let TreeTrace { tree, events } = read_run(alloc, input)?;
+    match text_of_run(alloc, &tree, events.as_slice()) {
+        Ok(text) => Ok(text.into_vec()),
         Err(_) => Err(Status::NoMemory),
     }
 }

@@ -10,8 +10,7 @@ use Rattle.program_input.specs.Refusals.{IsRefusing}
 use Rattle.program_input.proofs.RefusalLemmas.{board_refusing}
 use Rattle.command_check.proofs.ServedLemmas.{check_refusing}
 use Rattle.command_finish.proofs.ServedLemmas.{finish_refusing}
-use Rattle.command_audit.proofs.ServedLemmas.{audit_refusing}
-use Rattle.command_report.proofs.ServedLemmas.{report_refusing}
+use Rattle.program_input.proofs.RunLemmas.{run_refusing}
 use Rattle.command_generate.proofs.ServedLemmas.{generate_refusing}
 use Rattle.command_devices.proofs.ServedLemmas.{devices_refusing}
 use Rattle.program_words.specs.declared.Form.{Form}
@@ -67,8 +66,9 @@ refusing forms.RunSteady = board_refusing
 refusing forms.Headers = board_refusing
 refusing forms.Check = check_refusing
 refusing forms.Finish = finish_refusing
-refusing forms.Audit = audit_refusing
-refusing forms.Report = report_refusing
+refusing forms.Audit = run_refusing
+refusing forms.Report = run_refusing
+refusing forms.Waves = run_refusing
 refusing forms.Combine = board_refusing
 refusing forms.Generate = generate_refusing
 refusing forms.Devices = devices_refusing

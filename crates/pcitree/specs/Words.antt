@@ -4,13 +4,14 @@ use Rattle.std.specs.Option.{option_and_then}
 use Rattle.std.specs.Cmp.Lexicographic.{pointwise}
 use Rattle.program_status.specs.declared.status.Status.{Status}
 use Rattle.program_input.specs.Boards.{RefusesBoard, IsBoardText}
-use Rattle.program_input.specs.Traces.{IsCompleteTrace, IsRunTrace}
+use Rattle.program_input.specs.Traces.{IsCompleteTrace, IsRunTrace, RefusesRun}
 use Rattle.command_run.specs.Answers.{AnswersRun}
 use Rattle.command_headers.specs.Answers.{AnswersHeaders}
 use Rattle.command_check.specs.Answers.{AnswersCheck, RefusesCheck}
 use Rattle.command_finish.specs.Answers.{AnswersFinish, RefusesFinish}
-use Rattle.command_audit.specs.Answers.{AnswersAudit, RefusesAudit}
-use Rattle.command_report.specs.Answers.{AnswersReport, RefusesReport}
+use Rattle.command_audit.specs.Answers.{AnswersAudit}
+use Rattle.command_report.specs.Answers.{AnswersReport}
+use Rattle.command_waves.specs.Answers.{AnswersWaves}
 use Rattle.command_combine.specs.Answers.{AnswersCombine}
 use Rattle.command_generate.specs.Answers.{names_rounds, AnswersGenerate, RefusesGenerate, NamesRounds}
 use Rattle.command_devices.specs.Answers.{AnswersDevices}
@@ -63,13 +64,21 @@ command_of forms.Finish = record {
 }
 command_of forms.Audit = record {
   Answers = AnswersAudit;
-  Refuses = RefusesAudit;
+  Refuses = RefusesRun;
   IsFaultless = IsRunTrace;
   writes_run = false;
 }
 command_of forms.Report = record {
   Answers = AnswersReport;
-  Refuses = RefusesReport;
+  Refuses = RefusesRun;
+  IsFaultless = IsRunTrace;
+  writes_run = false;
+}
+command_of forms.Waves = record {
+  parts = Word (codes "waves") ∷ File ∷ [];
+  limit = 2 ^ 26;
+  Answers = AnswersWaves;
+  Refuses = RefusesRun;
   IsFaultless = IsRunTrace;
   writes_run = false;
 }

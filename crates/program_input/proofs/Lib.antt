@@ -1,3 +1,4 @@
 pub mod RefusalLemmas
 pub mod TraceLemmas
 pub mod TreeLemmas
+pub mod RunLemmas

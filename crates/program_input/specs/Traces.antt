@@ -8,6 +8,7 @@ use Rattle.history_model.specs.Runs.{Run, Complete, history_of}
 use Rattle.trace_reader.specs.Traces.{trace_read}
 use Rattle.trace_check.specs.Verdicts.{FirstRefused}
 use Rattle.program_status.specs.declared.status.Status.{Status}
+use Rattle.program_status.specs.declared.status.Status.TheVariants.{NotRun}
 use Rattle.program_input.specs.Refusals.{tree_fault, trace_refusal, RefusesBy}
 use Rattle.program_input.specs.declared.trace.TreeTrace.{TreeTrace}
 
@@ -48,3 +49,14 @@ pub record ReadsTree (input : List ℕ) (read : TreeTrace) : Type 0 where
   pub reads : ReadsTrace input read.tree read.events
   pub valid : IsValid read.tree
   pub few : length read.events < 2 ^ 32
+
+-- what was read of the text of a run, complete or not
+pub record ReadsRun (input : List ℕ) (read : TreeTrace) : Type 0 where
+  pub reads : ReadsTrace input read.tree read.events
+  pub valid : IsValid read.tree
+  pub run : Run read.tree (history_of read.events)
+
+-- it is no text of a run: refused as no run, or as no trace text
+abbrev pub RefusesRun : List ℕ → Status → Type 0
+RefusesRun input (NotRun event why) = IsNoRun input event why
+RefusesRun input status = RefusesTrace input status

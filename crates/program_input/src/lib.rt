@@ -3,7 +3,9 @@
 #![tactic(auto)]
 
 mod board;
+mod run;
 mod trace;
 
 pub use board::{read_tree, tree_of};
+pub use run::read_run;
 pub use trace::{TreeTrace, read_tree_trace};

@@ -25,6 +25,7 @@ pub enum Form {
     Finish,
     Audit,
     Report,
+    Waves,
     Combine,
     Generate,
     Devices,
@@ -53,7 +54,7 @@ const TRACE: usize = 0x400_0000;
 const NUMBER: usize = 10;
 
 /// All forms, in the order in which they are told.
-pub const FORMS: [Form; 10] = [
+pub const FORMS: [Form; 11] = [
     Form::Run,
     Form::RunSteady,
     Form::Headers,
@@ -61,6 +62,7 @@ pub const FORMS: [Form; 10] = [
     Form::Finish,
     Form::Audit,
     Form::Report,
+    Form::Waves,
     Form::Combine,
     Form::Generate,
     Form::Devices,
@@ -120,6 +122,14 @@ const REPORT: Row = Row {
         are, the bound of the board, and for each bus its events by kind; a part of a burst is a land.",
 };
 
+const WAVES: Row = Row {
+    parts: &[Part::Word("waves"), Part::File],
+    limit: TRACE,
+    line: "writes a trace as waves, for a viewer such as GTKWave",
+    more: "The trace is of a run, complete or not. Writes a value change dump: what happens on each bus, what is\n\
+        on each lane, how far each master is and which stalls are left. Time is the number of the event.",
+};
+
 const COMBINE: Row = Row {
     parts: &[Part::Word("combine"), Part::File],
     limit: BOARD,
@@ -165,6 +175,7 @@ impl Form {
             Form::Finish => FINISH,
             Form::Audit => AUDIT,
             Form::Report => REPORT,
+            Form::Waves => WAVES,
             Form::Combine => COMBINE,
             Form::Generate => GENERATE,
             Form::Devices => DEVICES,

@@ -71,7 +71,8 @@ pub fn print_operation(text: &mut String, board: &Board, op: &OpId) -> Result<()
     }
 }
 
-fn master_name(board: &Board, index: u16) -> &str
+/// The name of the master at this place of the board, empty where there is none.
+pub fn master_name(board: &Board, index: u16) -> &str
     ensures { result.now ≡ master_name board.now index }
 {
     let masters = board.masters.as_slice();
@@ -81,7 +82,8 @@ fn master_name(board: &Board, index: u16) -> &str
     }
 }
 
-fn target_name(board: &Board, index: u16) -> &str
+/// The name of the target at this place of the board, empty where there is none.
+pub fn target_name(board: &Board, index: u16) -> &str
     ensures { result.now ≡ target_name board.now index }
 {
     let targets = board.targets.as_slice();
@@ -102,7 +104,8 @@ fn names_poll(board: &Board, op: &OpId) -> bool
     matches!(ops.get(usize::from(op.index)), Some(Op::Poll { .. }))
 }
 
-fn step_word(step: Step) -> &'static str
+/// The word of a step in a trace.
+pub fn step_word(step: Step) -> &'static str
     ensures { result.now ≡ step_word step }
 {
     match step {

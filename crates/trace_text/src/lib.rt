@@ -6,6 +6,7 @@ mod lines;
 mod trace;
 mod words;
 
-pub use events::print_operation;
+pub use events::{master_name, print_operation, step_word, target_name};
 pub use lines::has_line;
 pub use trace::print_trace;
+pub use words::{ByWord, LaneWord};

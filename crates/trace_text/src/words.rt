@@ -6,11 +6,11 @@ use std::fmt;
 
 /// A lane in a line: the secondary bus of its bridge, and `u` for up or `d` for down.
 #[derive(Clone, Copy, Debug, PartialEq, Eq)]
-pub(crate) struct LaneWord(pub(crate) Lane);
+pub struct LaneWord(pub Lane);
 
 /// An initiator in a line: `m` for the operation's own master, otherwise the lane.
 #[derive(Clone, Copy, Debug, PartialEq, Eq)]
-pub(crate) struct ByWord(pub(crate) By);
+pub struct ByWord(pub By);
 
 /// How an operation ended, in a line: its value in eight hexadecimal digits, `ok` or `abort`.
 #[derive(Clone, Copy, Debug, PartialEq, Eq)]

@@ -1,0 +1,17 @@
+-- waves: what is written for a trace text.
+use Rattle.std.specs.Prelude.{◌≡◌, ℕ, List}
+use Rattle.board_model.specs.declared.board.Board.{Board}
+use Rattle.board_model.specs.Valid.{IsValid}
+use Rattle.history_model.specs.declared.event.Event.{Event}
+use Rattle.history_model.specs.Runs.{Run, history_of}
+use Rattle.run_waves.specs.Dump.{dump_of}
+use Rattle.program_input.specs.Traces.{ReadsTrace}
+
+-- the input is the text of a valid board and of a run of it, complete or not, and its value change dump is written
+pub record AnswersWaves (input text : List ℕ) : Type 0 where
+  pub board : Board
+  pub events : List Event
+  pub reads : ReadsTrace input board events
+  pub valid : IsValid board
+  pub run : Run board (history_of events)
+  pub written : text ≡ dump_of board events

@@ -1,0 +1,4 @@
+pub mod Signals
+pub mod Shown
+pub mod Dump
+pub mod Scenes

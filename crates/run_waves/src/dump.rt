@@ -1,0 +1,255 @@
+ghost use Rattle.std.specs.Prelude.{◌≡◌, ◌∷◌, ◌++◌, length, not, string_bytes, IfOk, OnOk};
+ghost use Rattle.board_model.specs.declared.board.Board.{Board};
+ghost use Rattle.board_printer.specs.Lines.{line_text, text_of};
+ghost use Rattle.history_model.specs.Runs.{Run, history_of};
+ghost use Rattle.run_waves.specs.declared.signal.Signal.TheVariants.{Bus};
+ghost use Rattle.run_waves.specs.Shown.{Moment, beginning, idle_part, shown};
+ghost use Rattle.run_waves.specs.Scenes.{IsAt, Reads, ReadsFrom, shown_of, scene_of, shown_on, new_line, bus_change};
+ghost use Rattle.run_waves.specs.Dump.{same_shown, value_line, value_lines, time_line, change_line, change_lines, dump_lines, dump_of};
+
+use crate::head::print_head;
+use crate::lines::{is_idle, print_idle, print_part, print_reading};
+use crate::reading::{Reading, is_same};
+use crate::scene::Scene;
+use crate::signal::{BusPart, Signal};
+use crate::watch::Watch;
+use board_model::Board;
+use bus_tree::Tree;
+use history_model::Event;
+use pci_command::{List, NoMemory};
+use std::alloc::{AllocError, Global};
+
+/// The value change dump of a run, complete or not, from its events, the oldest first.
+pub fn waves(alloc: Global, tree: &Tree, events: &[Event]) -> Result<List<u8>, NoMemory>
+    requires { Run tree.now (history_of events.now) }
+    ensures { IfOk result (λ text. text ≡ dump_of tree.now events.now) }
+{
+    let mut text = String::new(alloc);
+    print_dump(alloc, &mut text, tree, events)?;
+    Ok(List::from_vec(text.into_bytes()))
+}
+
+fn print_dump(
+    alloc: Global,
+    text: &mut String,
+    tree: &Tree,
+    events: &[Event],
+) -> Result<(), NoMemory>
+    requires { Run tree.now (history_of events.now) }
+    ensures { OnOk result (string_bytes text.new ≡ string_bytes text.old ++ text_of (dump_lines tree.now events.now)) }
+{
+    let board = tree.board();
+    let signals = print_head(alloc, text, board)?;
+    let mut watch = Watch::new(alloc, tree)?;
+    let mut shown = readings_of(alloc, board, &watch, &signals)?;
+    print_time(text, 0)?;
+    writeln!(text, "$dumpvars")?;
+    print_values(text, &signals, &shown)?;
+    writeln!(text, "$end")?;
+    for (number, event) in events.iter().enumerate() {
+        let from = watch.scene();
+        watch.happen(tree, event);
+        print_moment(text, board, number + 1, &signals, &mut shown, from, &watch)?;
+    }
+    let from = watch.scene();
+    watch.rest();
+    print_moment(
+        text,
+        board,
+        events.len() + 1,
+        &signals,
+        &mut shown,
+        from,
+        &watch,
+    )?;
+    Ok(())
+}
+
+fn print_time(text: &mut String, number: usize) -> Result<(), AllocError>
+    ensures { OnOk result (string_bytes text.new ≡ string_bytes text.old ++ line_text (time_line number)) }
+{
+    writeln!(text, "#{number}")
+}
+
+/// What each signal reads.
+fn readings_of(
+    alloc: Global,
+    board: &Board,
+    watch: &Watch,
+    signals: &[Signal],
+) -> Result<Vec<Reading>, AllocError>
+    ensures each { IfOk result (λ readings. length readings.items ≡ length signals.now) }
+    ensures reads { IfOk result (λ readings. (m : Moment) → IsAt board.now m watch.now.kept watch.now.waits.items watch.now.scene → ReadsFrom board.now m signals.now readings.items 0) }
+{
+    let mut readings = Vec::new(alloc);
+    for signal in signals {
+        readings.push(watch.reading(board, *signal))?;
+    }
+    Ok(readings)
+}
+
+/// Every signal, before the first event.
+fn print_values(text: &mut String, signals: &[Signal], shown: &[Reading]) -> Result<(), AllocError>
+    requires { length signals.now ≡ length shown.now }
+    ensures { (board : Board) → ReadsFrom board beginning signals.now shown.now 0
+        → OnOk result (string_bytes text.new ≡ string_bytes text.old ++ text_of (value_lines board beginning 0 signals.now)) }
+{
+    for number in 0..signals.len() {
+        print_value(text, number, signals[number], shown[number])?;
+    }
+    Ok(())
+}
+
+/// A signal, before the first event.
+fn print_value(
+    text: &mut String,
+    number: usize,
+    signal: Signal,
+    reading: Reading,
+) -> Result<(), AllocError>
+    ensures { (board : Board) → Reads board beginning signal reading
+        → OnOk result (string_bytes text.new ≡ string_bytes text.old ++ line_text (value_line number (shown board beginning signal))) }
+{
+    match signal {
+        Signal::Bus { part, .. } => print_idle(text, number, part),
+        _ => print_reading(text, number, reading),
+    }
+}
+
+/// What changes at a moment.
+fn print_moment(
+    text: &mut String,
+    board: &Board,
+    number: usize,
+    signals: &[Signal],
+    shown: &mut Vec<Reading>,
+    from: Option<Scene>,
+    watch: &Watch,
+) -> Result<(), AllocError>
+    requires { length signals.now ≡ length shown.old.items }
+    ensures each { OnOk result (length shown.new.items ≡ length shown.old.items) }
+    ensures text { (before after : Moment) → from ≡ scene_of board.now before → ReadsFrom board.now before signals.now shown.old.items 0
+        → IsAt board.now after watch.now.kept watch.now.waits.items watch.now.scene
+        → OnOk result (string_bytes text.new ≡ string_bytes text.old ++ text_of (time_line number ∷ change_lines board.now before after 0 signals.now)) }
+    ensures reads { (after : Moment) → IsAt board.now after watch.now.kept watch.now.waits.items watch.now.scene
+        → OnOk result (ReadsFrom board.now after signals.now shown.new.items 0) }
+{
+    print_time(text, number)?;
+    print_changes(text, board, signals, shown.as_mut_slice(), from, watch)
+}
+
+/// The signals that change.
+fn print_changes(
+    text: &mut String,
+    board: &Board,
+    signals: &[Signal],
+    shown: &mut [Reading],
+    from: Option<Scene>,
+    watch: &Watch,
+) -> Result<(), AllocError>
+    requires { length signals.now ≡ length shown.old }
+    ensures text { (before after : Moment) → from ≡ scene_of board.now before → ReadsFrom board.now before signals.now shown.old 0
+        → IsAt board.now after watch.now.kept watch.now.waits.items watch.now.scene
+        → OnOk result (string_bytes text.new ≡ string_bytes text.old ++ text_of (change_lines board.now before after 0 signals.now)) }
+    ensures reads { (after : Moment) → IsAt board.now after watch.now.kept watch.now.waits.items watch.now.scene
+        → OnOk result (ReadsFrom board.now after signals.now shown.new 0) }
+{
+    for number in 0..signals.len() {
+        let old = shown[number];
+        shown[number] = print_change(text, board, number, signals[number], old, from, watch)?;
+    }
+    Ok(())
+}
+
+/// A signal, if it changes. Tells what it reads now.
+fn print_change(
+    text: &mut String,
+    board: &Board,
+    number: usize,
+    signal: Signal,
+    old: Reading,
+    from: Option<Scene>,
+    watch: &Watch,
+) -> Result<Reading, AllocError>
+    ensures text { (before after : Moment) → from ≡ scene_of board.now before → Reads board.now before signal old
+        → IsAt board.now after watch.now.kept watch.now.waits.items watch.now.scene
+        → OnOk result (string_bytes text.new ≡ string_bytes text.old ++ text_of (change_line board.now before after number signal)) }
+    ensures reads { (after : Moment) → IsAt board.now after watch.now.kept watch.now.waits.items watch.now.scene
+        → IfOk result (λ reading. Reads board.now after signal reading) }
+{
+    let reading = watch.reading(board, signal);
+    match signal {
+        Signal::Bus { bus, part } => {
+            print_bus(text, board, number, bus, part, from, watch.scene())?
+        }
+        _ => print_new(text, number, old, reading)?,
+    }
+    Ok(reading)
+}
+
+/// What a signal of a lane, a master or a target reads, if that is new.
+fn print_new(
+    text: &mut String,
+    number: usize,
+    old: Reading,
+    reading: Reading,
+) -> Result<(), AllocError>
+    ensures { OnOk result (string_bytes text.new ≡ string_bytes text.old ++ text_of (new_line number (shown_of old) (shown_of reading))) }
+{
+    if is_same(old, reading) {
+        return Ok(());
+    }
+    print_reading(text, number, reading)
+}
+
+/// A part of what happens on a bus, where something happens there, or did a moment before.
+fn print_bus(
+    text: &mut String,
+    board: &Board,
+    number: usize,
+    bus: u8,
+    part: BusPart,
+    from: Option<Scene>,
+    to: Option<Scene>,
+) -> Result<(), AllocError>
+    ensures { OnOk result (string_bytes text.new ≡ string_bytes text.old ++ text_of (bus_change board.now number bus part from to)) }
+{
+    match to {
+        Some(scene) => {
+            if scene.bus(board) == bus {
+                print_part(text, board, number, part, &scene)
+            } else {
+                print_gone(text, board, number, bus, part, from)
+            }
+        }
+        None => print_gone(text, board, number, bus, part, from),
+    }
+}
+
+/// That nothing happens any more on a bus, where something showed a moment before.
+fn print_gone(
+    text: &mut String,
+    board: &Board,
+    number: usize,
+    bus: u8,
+    part: BusPart,
+    from: Option<Scene>,
+) -> Result<(), AllocError>
+    ensures { OnOk result (string_bytes text.new ≡ string_bytes text.old ++ text_of (new_line number (shown_on board.now bus part from) (idle_part part))) }
+{
+    if has_shown(board, bus, part, from) {
+        print_idle(text, number, part)
+    } else {
+        Ok(())
+    }
+}
+
+/// Whether something showed there.
+fn has_shown(board: &Board, bus: u8, part: BusPart, from: Option<Scene>) -> bool
+    ensures { result ≡ not (same_shown (shown_on board.now bus part from) (idle_part part)) }
+{
+    match from {
+        Some(scene) => scene.bus(board) == bus && !is_idle(board, part, &scene),
+        None => false,
+    }
+}

@@ -1,0 +1,16 @@
+//! The waves of a run: a value change dump of what each bus does, what is on each lane, and how far each master is, for
+//! a viewer such as GTKWave. Time is the number of the event.
+#![tactic(auto)]
+
+mod code;
+mod dump;
+mod head;
+mod lines;
+mod reading;
+mod scene;
+mod signal;
+mod signals;
+mod watch;
+
+pub use dump::waves;
+pub use signal::{BusPart, LaneCount, Signal};
