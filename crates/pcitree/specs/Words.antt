@@ -75,8 +75,6 @@ command_of forms.Report = record {
   writes_run = false;
 }
 command_of forms.Waves = record {
-  parts = Word (codes "waves") ∷ File ∷ [];
-  limit = 2 ^ 26;
   Answers = AnswersWaves;
   Refuses = RefusesRun;
   IsFaultless = IsRunTrace;
