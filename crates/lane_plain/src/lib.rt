@@ -2,8 +2,10 @@
 //! crosses at its end.
 #![tactic(auto)]
 
+mod laws;
 mod plain_end;
 #[cfg(test)]
 mod tests;
 
+pub use laws::got_in_order;
 pub use plain_end::PlainEnd;

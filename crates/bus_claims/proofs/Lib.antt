@@ -1,0 +1,3 @@
+pub mod PickedLemmas
+pub mod FitsLemmas
+pub mod ClaimedLemmas

@@ -1,0 +1,4 @@
+pub mod MoveLemmas
+pub mod SideLemmas
+pub mod RoomLemmas
+pub mod Laws
