@@ -1,7 +1,6 @@
 -- What is picked of a list: place by place, how many, and what is found in it.
-use Rattle.std.proofs.Common.{◌≡◌, ℕ, zero, suc, ◌+◌, ◌<◌, ◌≤◌, Bool, true, false, cond, ◌&&◌, List, [], ◌∷◌, ◌++◌, length, take, get_or, Option, Some, None, refl, sym, ap, subst, ◌∙◌, arith, add-one}
+use Rattle.std.proofs.Common.{◌≡◌, ℕ, zero, suc, ◌+◌, ◌<◌, ◌≤◌, Bool, true, false, cond, ◌&&◌, List, [], ◌∷◌, ◌++◌, length, take, get_or, refl, sym, ap, ◌∙◌, arith, add-one}
 use Rattle.std.proofs.lemmas.List.{append-nil}
-use Rattle.std.specs.List.{find, position_from}
 use Rattle.bus_claims.specs.Kept.{picked}
 
 module _ {X Y : Type 0} (test : X → Bool) (make : ℕ → X → Y) where
@@ -24,35 +23,30 @@ module _ {X Y : Type 0} (test : X → Bool) (make : ℕ → X → Y) where
       ≡ cond b (make first x ∷ picked test make (first + 1) (take i xs)) (picked test make (first + 1) (take i xs)) ++ cond (test y) (make (first + suc i) y ∷ []) [] in
       elim (test x) as P [ true ↦ ap (λ (l : List Y). make first x ∷ l) same | false ↦ same ]
 
-  -- of one that passes, and of one that does not
-  pub picked_more : (first i : ℕ) (xs : List X) (x : X) → i < length xs → x ≡ get_or xs i x → test x ≡ true
-      → picked test make first (take (i + 1) xs) ≡ picked test make first (take i xs) ++ make (first + i) x ∷ []
-  picked_more first i xs x within is passes =
+  -- of one that passes
+  pub picked_more : (first i : ℕ) (xs : List X) (d : X) → i < length xs → test (get_or xs i d) ≡ true
+      → picked test make first (take (i + 1) xs) ≡ picked test make first (take i xs) ++ make (first + i) (get_or xs i d) ∷ []
+  picked_more first i xs d within passes =
       rw add-one
-      (next_picked first i xs x within
-      ∙ ap (λ (y : X). picked test make first (take i xs) ++ cond (test y) (make (first + i) y ∷ []) []) (sym is)
-      ∙ ap (λ (b : Bool). picked test make first (take i xs) ++ cond b (make (first + i) x ∷ []) []) passes)
+      (next_picked first i xs d within ∙ ap (λ (b : Bool). picked test make first (take i xs) ++ cond b (make (first + i) (get_or xs i d) ∷ []) []) passes)
 
-  pub picked_same : (first i : ℕ) (xs : List X) (x : X) → i < length xs → x ≡ get_or xs i x → test x ≡ false
-      → picked test make first (take (i + 1) xs) ≡ picked test make first (take i xs)
-  picked_same first i xs x within is fails =
+  -- and of one that does not
+  pub picked_same : (first i : ℕ) (xs : List X) (d : X) → i < length xs → test (get_or xs i d) ≡ false → picked test make first (take (i + 1) xs) ≡ picked test make first (take i xs)
+  picked_same first i xs d within fails =
       rw add-one
-      (next_picked first i xs x within
-      ∙ ap (λ (y : X). picked test make first (take i xs) ++ cond (test y) (make (first + i) y ∷ []) []) (sym is)
-      ∙ ap (λ (b : Bool). picked test make first (take i xs) ++ cond b (make (first + i) x ∷ []) []) fails
+      (next_picked first i xs d within
+      ∙ ap (λ (b : Bool). picked test make first (take i xs) ++ cond b (make (first + i) (get_or xs i d) ∷ []) []) fails
       ∙ append-nil (picked test make first (take i xs)))
 
   -- before one that passes fewer are picked than in all
-  pub picked_fewer : (first i : ℕ) (xs : List X) (x : X) → i < length xs → x ≡ get_or xs i x → test x ≡ true
-      → length (picked test make first (take i xs)) < length (picked test make first xs)
-  picked_fewer first i [] x within is passes = absurd (omega arith)
-  picked_fewer first zero (y ∷ ys) x within is passes =
-      let here : test y ≡ true = ap test (sym is) ∙ passes in
+  pub picked_fewer : (first i : ℕ) (xs : List X) (d : X) → i < length xs → test (get_or xs i d) ≡ true → length (picked test make first (take i xs)) < length (picked test make first xs)
+  picked_fewer first i [] d within passes = absurd (omega arith)
+  picked_fewer first zero (y ∷ ys) d within passes =
       let all : length (picked test make first (y ∷ ys)) ≡ suc (length (picked test make (first + 1) ys)) =
-      ap (λ (b : Bool). length (cond b (make first y ∷ picked test make (first + 1) ys) (picked test make (first + 1) ys))) here in
+      ap (λ (b : Bool). length (cond b (make first y ∷ picked test make (first + 1) ys) (picked test make (first + 1) ys))) passes in
       omega (arith, all)
-  picked_fewer first (suc i) (y ∷ ys) x within is passes =
-      let later = picked_fewer (first + 1) i ys x (omega arith) is passes in
+  picked_fewer first (suc i) (y ∷ ys) d within passes =
+      let later = picked_fewer (first + 1) i ys d (omega arith) passes in
       let P : Bool → Type 0 = λ b.
       length (cond b (make first y ∷ picked test make (first + 1) (take i ys)) (picked test make (first + 1) (take i ys)))
       < length (cond b (make first y ∷ picked test make (first + 1) ys) (picked test make (first + 1) ys)) in

@@ -1,11 +1,11 @@
-ghost use Rattle.std.specs.Prelude.{◌≡◌, ℕ, ◌==◌};
+ghost use Rattle.std.specs.Prelude.{◌≡◌, ℕ, false};
 ghost use Rattle.std.specs.Option.{option_copied};
 ghost use Rattle.board_model.specs.declared.board.Board.{Board};
 ghost use Rattle.board_model.specs.Claims.{claim, device_in, bus_in};
 ghost use Rattle.bus_claims.specs.Kept.{kept_of, FitsTables};
-ghost use Rattle.bus_claims.specs.Claimed.{target_or, header_or_nobody, up_or_nobody, target_holding, child_holding, target_with, child_with, child_towards, claimed_by_address, claimed_in_configuration, claimed_in};
+ghost use Rattle.bus_claims.specs.Claimed.{target_or, header_or_nobody, target_holding, child_holding, target_with, child_with, child_towards, claimed_by_address, claimed_in_configuration, claimed_in};
 
-use crate::child::{Child, windows_hold};
+use crate::child::{Child, up_or_nobody, windows_hold};
 use crate::keeping::{children_of, own_windows, targets_on};
 use crate::target_claim::TargetClaim;
 use arrayvec::ArrayVec;
@@ -80,7 +80,7 @@ impl BusClaims {
         }
         match self.child_holding(space, address) {
             Some(child) => down_to(&child),
-            None => self.claim_upwards(space, address),
+            None => up_or_nobody(self.own, self.bus, space, address),
         }
     }
 
@@ -99,18 +99,6 @@ impl BusClaims {
             .iter()
             .copied()
             .find(|child| windows_hold(&child.windows, space, address))
-    }
-
-    fn claim_upwards(&self, space: Space, address: u64) -> Place
-        ensures { result ≡ up_or_nobody self.now.bus space address self.now.own }
-    {
-        match self.own {
-            Some(own) if !windows_hold(&own, space, address) => Place::Lane(Lane {
-                bus: self.bus,
-                up: true,
-            }),
-            Some(_) | None => Place::Nobody,
-        }
     }
 
     /// Type 0: a target, or else the header of a bridge, with the device number. Type 1: the bridge

@@ -24,6 +24,21 @@ impl Model for TargetClaim {
     ghost view = { λ target. record { place = target.place; device = target.device; ranges = target.ranges.items } };
 }
 
+impl Default for TargetClaim {
+    ghost use Rattle.std.specs.Prelude.{◌≡◌, []};
+
+    ghost is_default = { λ target. target ≡ record { place = 0; device = 0; ranges = [] } };
+
+    /// A target with no ranges.
+    fn default() -> TargetClaim {
+        TargetClaim {
+            place: 0,
+            device: 0,
+            ranges: ArrayVec::new(),
+        }
+    }
+}
+
 impl TargetClaim {
     /// The target that stands at this place.
     pub fn new(place: u16, target: &Target) -> TargetClaim
