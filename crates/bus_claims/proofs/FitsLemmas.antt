@@ -1,5 +1,5 @@
 -- What a bus keeps of a valid board has room in its tables.
-use Rattle.std.proofs.Common.{◌≡◌, ℕ, ◌+◌, ◌≤◌, Bool, true, false, cond, ◌==◌, nat_le, nat_lt, List, [], ◌∷◌, length, count_by, ◌⊎◌, inl, inr, refl, sym, ap, subst, arith, ◌^◌, All}
+use Rattle.std.proofs.Common.{◌≡◌, ℕ, ◌+◌, ◌≤◌, Bool, true, false, cond, ◌==◌, nat_le, nat_lt, List, [], ◌∷◌, length, count_by, ◌⊎◌, inl, inr, refl, subst, arith, ◌^◌, All}
 use Rattle.std.specs.List.{list_all}
 use Rattle.std.proofs.lemmas.Bool.{and_parts, leb-true, eqb-true}
 use Rattle.std.proofs.lemmas.List.Elements.{All-cons}
@@ -7,13 +7,11 @@ use Rattle.std.proofs.lemmas.List.Recursion.{is_count_by}
 use Rattle.list_facts.specs.Lists.{total}
 use Rattle.board_model.specs.declared.agents.Range.{Range}
 use Rattle.board_model.specs.declared.agents.Target.{Target}
-use Rattle.board_model.specs.declared.agents.Master.{Master}
 use Rattle.board_model.specs.declared.bridge.Bridge.{Bridge}
 use Rattle.board_model.specs.declared.board.Board.{Board}
 use Rattle.board_model.specs.WellFormed.{registers_of, is_well_formed_target, children_on, agents_on}
 use Rattle.board_model.specs.Valid.{IsValid}
 use Rattle.board_model.proofs.Laws.{WellFormed-parts, Target-parts}
-use Rattle.bus_tree.specs.Decodable.{IsDecodable}
 use Rattle.bus_tree.proofs.DecodableLemmas.{IsDecodable-valid}
 use Rattle.bus_claims.specs.Kept.{picked, is_target_on, target_at, targets_on, is_child_of, child_at, children_of, FitsTables}
 

@@ -1,6 +1,6 @@
 -- What one bus keeps of a board, to know who claims there: its targets, the bridges below it and the one above it, each
 -- bridge by what its header says (PCI-to-PCI Bridge Architecture Specification 1.1, section 3.2, from memory).
-use Rattle.std.specs.Prelude.{◌≡◌, ℕ, Bool, ◌+◌, ◌≤◌, List, [], ◌∷◌, Option, Some, None, length, ◌==◌, if◌then◌else◌, All}
+use Rattle.std.specs.Prelude.{ℕ, Bool, ◌+◌, ◌≤◌, List, [], ◌∷◌, Option, Some, None, length, ◌==◌, if◌then◌else◌, All}
 use Rattle.std.specs.List.{find}
 use Rattle.board_model.specs.declared.agents.Range.{Range}
 use Rattle.board_model.specs.declared.agents.Target.{Target}

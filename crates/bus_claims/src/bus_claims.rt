@@ -79,7 +79,7 @@ impl BusClaims {
             return Place::Target(target.place());
         }
         match self.child_holding(space, address) {
-            Some(child) => down_to(&child),
+            Some(child) => down_to(child),
             None => up_or_nobody(self.own, self.bus, space, address),
         }
     }
@@ -91,13 +91,12 @@ impl BusClaims {
         targets.iter().find(|target| target.holds(space, address))
     }
 
-    fn child_holding(&self, space: Space, address: u64) -> Option<Child>
-        ensures { result ≡ child_holding self.now space address }
+    fn child_holding(&self, space: Space, address: u64) -> Option<&Child>
+        ensures { option_copied result ≡ child_holding self.now space address }
     {
         let children = self.children.as_slice();
         children
             .iter()
-            .copied()
             .find(|child| windows_hold(&child.windows, space, address))
     }
 
@@ -110,7 +109,7 @@ impl BusClaims {
             return self.claim_by_device(device_in(address));
         }
         match self.child_towards(bus_in(address)) {
-            Some(child) => down_to(&child),
+            Some(child) => down_to(child),
             None => Place::Nobody,
         }
     }
@@ -134,21 +133,19 @@ impl BusClaims {
         targets.iter().find(|target| target.device() == device)
     }
 
-    fn child_with(&self, device: u8) -> Option<Child>
-        ensures { result ≡ child_with self.now device }
+    fn child_with(&self, device: u8) -> Option<&Child>
+        ensures { option_copied result ≡ child_with self.now device }
     {
         let children = self.children.as_slice();
-        children.iter().copied().find(|child| child.device == device)
+        children.iter().find(|child| child.device == device)
     }
 
-    fn child_towards(&self, named: u8) -> Option<Child>
-        ensures { result ≡ child_towards self.now named }
+    fn child_towards(&self, named: u8) -> Option<&Child>
+        ensures { option_copied result ≡ child_towards self.now named }
     {
         let children = self.children.as_slice();
-        children
-            .iter()
-            .copied()
-            .find(|child| child.windows.secondary <= named && named <= child.windows.subordinate)
+        children.iter().find(|child| child.windows.secondary <= named
+            && named <= child.windows.subordinate)
     }
 }
 

@@ -6,7 +6,6 @@ use Rattle.list_facts.proofs.TotalLemmas.{found, total-append, total-push, total
 use Rattle.list_facts.proofs.FindLemmas.{length-less}
 use Rattle.pci_command.specs.declared.op_id.OpId.{OpId}
 use Rattle.pci_command.specs.declared.op_id.Outcome.{Outcome}
-use Rattle.board_model.specs.declared.bridge.Bridge.{Bridge}
 use Rattle.board_model.specs.declared.bridge.Lane.{Lane as BridgeLane}
 use Rattle.board_model.specs.declared.board.Board.{Board}
 use Rattle.history_model.specs.declared.event.By.{By}
@@ -18,7 +17,7 @@ use Rattle.history_model.specs.declared.event.Step.TheVariants.{Land, Part, Read
 use Rattle.history_model.specs.declared.item.Carried.{Carried}
 use Rattle.history_model.specs.declared.item.Carried.TheVariants.{Post, Ask, Done, Room, Gone}
 use Rattle.history_model.specs.declared.item.Slot.{Slot}
-use Rattle.history_model.specs.Lanes.{LaneState, Both, is_of, is_done_for, has_number, lowest_free, post_enters, ask_enters, reply_to, item_ends, slot_taken, effect_of, takes_effect, came_off, arrives_first}
+use Rattle.history_model.specs.Lanes.{Both, is_of, is_done_for, has_number, lowest_free, post_enters, ask_enters, reply_to, item_ends, slot_taken, effect_of, takes_effect, came_off, arrives_first}
 use Rattle.history_model.specs.World.{World, slot_found, enters, both}
 use Rattle.history_facts.proofs.AnswerLemmas.{AtLaneIn}
 use Rattle.history_facts.proofs.BridgeLemmas.{flip}

@@ -1,5 +1,5 @@
 -- At most 32 items are left on each lane of a bridge of which each bus kept its side.
-use Rattle.std.proofs.Common.{◌≡◌, ◌≢◌, ℕ, ◌+◌, ◌*◌, ◌-◌, ◌≤◌, Bool, true, false, cond, eqb, ◌==◌, List, [], ◌∷◌, ◌++◌, length, take, drop, Option, Some, refl, sym, ap, subst, ◌∙◌, arith, append_assoc, length-append, take-append-drop}
+use Rattle.std.proofs.Common.{◌≡◌, ◌≢◌, ℕ, ◌+◌, ◌*◌, ◌-◌, ◌≤◌, Bool, true, false, cond, ◌==◌, List, [], ◌∷◌, ◌++◌, length, Some, refl, sym, ap, subst, ◌∙◌, arith, append_assoc, length-append, take-append-drop}
 use Rattle.std.proofs.lemmas.Bool.Decides.{nat_tests}
 use Rattle.std.proofs.lemmas.Bool.{eqb-true}
 use Rattle.list_facts.specs.Lists.{total}
@@ -18,14 +18,13 @@ use Rattle.history_model.specs.Lanes.{Both}
 use Rattle.history_model.specs.World.{World, both}
 use Rattle.history_facts.proofs.BridgeLemmas.{flip, both_back, lane_back_back}
 use Rattle.law_slots.specs.Credits.{post_count, room_count}
-use Rattle.law_slots.specs.Depths.{DepthsToEight}
 use Rattle.law_slots.proofs.Laws.{WellFormed-depths}
 use Rattle.law_local.specs.Known.{coming_to}
 use Rattle.law_local.proofs.Laws.{IsFit-valid, start_back, end_back}
 use Rattle.lane_items.specs.declared.item.Item.{Item}
 use Rattle.lane_items.specs.Lane.{passed_on, kept_back, GotInOrder, left_count}
-use Rattle.law_room.specs.Sides.{ask_count, done_count, answer_count, Side, HasDepths}
-use Rattle.law_room.specs.Room.{lanes_at, put_on, came_on, BothRan, HasRoom}
+use Rattle.law_room.specs.Sides.{ask_count, answer_count, Side, HasDepths}
+use Rattle.law_room.specs.Room.{lanes_at, came_on, BothRan, HasRoom}
 use Rattle.law_room.proofs.SideLemmas.{run_keeps}
 
 -- each item is of one of four kinds

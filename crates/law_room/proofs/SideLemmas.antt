@@ -1,5 +1,5 @@
 -- A local run keeps the bus's side of each of its bridges.
-use Rattle.std.proofs.Common.{◌≡◌, ◌≢◌, ℕ, Bool, true, ◌==◌, List, [], ◌∷◌, Option, Some, None, refl, sym, ap, subst, ◌∙◌, arith}
+use Rattle.std.proofs.Common.{◌≡◌, ◌≢◌, ℕ, true, ◌==◌, List, [], ◌∷◌, Option, Some, None, refl, sym, ap, subst, ◌∙◌, arith}
 use Rattle.std.proofs.lemmas.Bool.{eqb-true, and_parts}
 use Rattle.list_facts.specs.Lists.{total}
 use Rattle.pci_command.specs.declared.op_id.OpId.{OpId}
@@ -23,7 +23,7 @@ use Rattle.history_model.specs.Answers.{presents, wants_in, answer_in}
 use Rattle.history_model.specs.Local.{bus_of, local_world, AllowedLocally, LocalRun}
 use Rattle.history_facts.proofs.AnswerLemmas.{answered_in}
 use Rattle.history_facts.proofs.BridgeLemmas.{flip, both_back, moved_keeps}
-use Rattle.law_local.proofs.Laws.{IsFit, place_apart, start_back, end_back}
+use Rattle.law_local.proofs.Laws.{IsFit, place_apart, end_back}
 use Rattle.law_slots.specs.Credits.{post_count, room_count}
 use Rattle.law_room.specs.Sides.{ask_count, answer_count, Side, HasDepths}
 use Rattle.law_room.proofs.MoveLemmas.{ends_side, arrives_side, enters_side}

@@ -1,4 +1,4 @@
-use Rattle.std.proofs.Common.{◌≡◌, ◌<◌, List, [], ◌∷◌, ◌++◌, length, get_or, lit<, false, None, ap, subst, sym, ◌∙◌}
+use Rattle.std.proofs.Common.{◌≡◌, ◌<◌, List, [], ◌∷◌, ◌++◌, length, get_or, lit<, false, None, ap, subst, ◌∙◌}
 use Rattle.board_model.specs.declared.bridge.Bridge.{Bridge}
 use Rattle.bridge_header.specs.Windows.{windows_in}
 use Rattle.bus_claims.proofs.LoopLemmas.{child_room, child_more, child_same}

@@ -1,5 +1,4 @@
-use Rattle.std.proofs.Common.{sym, ◌∙◌, ap}
-use Rattle.std.specs.List.{find}
+use Rattle.std.proofs.Common.{sym, ◌∙◌}
 use Rattle.bus_tree.specs.Decodable.{IsReadBack}
 use Rattle.bus_tree.proofs.FoundLemmas.{found_is}
 use Rattle.bus_claims.proofs.keeping.own_windows.Goals as goal

@@ -1,4 +1,4 @@
-use Rattle.std.proofs.Common.{◌≡◌, ◌<◌, List, [], ◌∷◌, ◌++◌, length, get_or, lit<, ap, subst, sym, ◌∙◌}
+use Rattle.std.proofs.Common.{◌≡◌, ◌<◌, List, length, get_or, lit<, ap, subst, ◌∙◌}
 use Rattle.board_model.specs.declared.agents.Target.{Target}
 use Rattle.bus_claims.proofs.LoopLemmas.{target_room, target_more, target_same}
 use Rattle.bus_claims.proofs.keeping.targets_on.Goals as goal
