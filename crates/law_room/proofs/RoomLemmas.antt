@@ -19,7 +19,6 @@ use Rattle.history_model.specs.World.{World, both}
 use Rattle.history_facts.proofs.BridgeLemmas.{flip, both_back, lane_back_back}
 use Rattle.law_slots.specs.Credits.{post_count, room_count}
 use Rattle.law_slots.proofs.Laws.{WellFormed-depths}
-use Rattle.law_local.specs.Known.{coming_to}
 use Rattle.law_local.proofs.Laws.{IsFit-valid, start_back, end_back}
 use Rattle.lane_items.specs.declared.item.Item.{Item}
 use Rattle.lane_items.specs.Lane.{passed_on, kept_back, GotInOrder, left_count}
@@ -53,39 +52,28 @@ sides_fit posted delayed came came_back left left_back x y one other here back =
     omega (arith, put answer_count, put_back ask_count, one.answers, other.asks, other.few_held) in
     omega (arith, each_counted left, each_counted y.back.flight, posts, rooms, asks, answers)
 
--- what comes to a bus
-comes : (board : Board) (came : BridgeLane → List Carried) (lane : BridgeLane) (bus : ℕ) → end_of board lane ≡ bus → coming_to board bus came lane ≡ came lane
-comes board came lane bus ends =
-    let here : (end_of board lane == bus) ≡ true = grind (arith, nat_tests) in ap (λ (b : Bool). cond b (came lane) []) here
-
-none_comes : (board : Board) (came : BridgeLane → List Carried) (lane : BridgeLane) (bus : ℕ) → end_of board lane ≢ bus → coming_to board bus came lane ≡ []
-none_comes board came lane bus apart =
-    let P : Bool → Type 0 = λ b. (end_of board lane == bus) ≡ b → cond b (came lane) [] ≡ [] in
-    (elim (end_of board lane == bus) as P [ true ↦ λ same. absurd (apart (eqb-true (end_of board lane) bus same)) | false ↦ λ _. refl ]) refl
-
 -- the side of the bus where the lane begins
-pub near_side : (board : Board) (came : BridgeLane → List Carried) (part : ℕ → List Event) (lane : BridgeLane) (left left_back : List Carried) (posted delayed : ℕ)
+near_side : (board : Board) (came : ℕ → BridgeLane → List Carried) (part : ℕ → List Event) (lane : BridgeLane) (left left_back : List Carried) (posted delayed : ℕ)
     → IsValid board → HasDepths board lane posted delayed → BothRan board came part lane left left_back
-    → Side posted delayed (came (lane_back lane)) (both (lanes_at board came part (start_of board lane)) lane)
+    → Side posted delayed (came (start_of board lane) (lane_back lane)) (both (lanes_at board came part (start_of board lane)) lane)
 near_side board came part lane left left_back posted delayed valid depths ran =
     let bus : ℕ = start_of board lane in
-    let side = run_keeps board (IsFit-valid board valid) bus posted delayed (coming_to board bus came) (part bus) ran.near lane depths refl ran.apart (none_comes board came lane bus ran.apart) in
-    subst (λ (all : List Carried). Side posted delayed all (both (lanes_at board came part bus) lane)) (comes board came (lane_back lane) bus (end_back board lane)) side
+    run_keeps board (IsFit-valid board valid) bus posted delayed (came bus) (part bus) ran.near lane depths refl ran.apart ran.none_near
 
 -- and that of the bus where it ends, with the lane as the lane back
-pub far_side : (board : Board) (came : BridgeLane → List Carried) (part : ℕ → List Event) (lane : BridgeLane) (left left_back : List Carried) (posted delayed : ℕ)
+far_side : (board : Board) (came : ℕ → BridgeLane → List Carried) (part : ℕ → List Event) (lane : BridgeLane) (left left_back : List Carried) (posted delayed : ℕ)
     → IsValid board → HasDepths board lane posted delayed → BothRan board came part lane left left_back
-    → Side posted delayed (came lane) (flip (both (lanes_at board came part (end_of board lane)) lane))
+    → Side posted delayed (came (end_of board lane) lane) (flip (both (lanes_at board came part (end_of board lane)) lane))
 far_side board came part lane left left_back posted delayed valid depths ran =
     let bus : ℕ = end_of board lane in
     let back : BridgeLane = lane_back lane in
     let w : World = lanes_at board came part bus in
     let apart : end_of board back ≢ bus = λ same. ran.apart (sym same ∙ end_back board lane) in
-    let side = run_keeps board (IsFit-valid board valid) bus posted delayed (coming_to board bus came) (part bus) ran.far back depths (start_back board lane) apart (none_comes board came back bus apart) in
-    let twice : coming_to board bus came (lane_back back) ≡ came lane = ap (coming_to board bus came) (lane_back_back lane) ∙ comes board came lane bus refl in
-    subst (Side posted delayed (came lane)) (both_back w lane) (subst (λ (all : List Carried). Side posted delayed all (both w back)) twice side)
+    let side = run_keeps board (IsFit-valid board valid) bus posted delayed (came bus) (part bus) ran.far back depths (start_back board lane) apart ran.none_far in
+    let twice : came bus (lane_back back) ≡ came bus lane = ap (came bus) (lane_back_back lane) in
+    subst (Side posted delayed (came bus lane)) (both_back w lane) (subst (λ (all : List Carried). Side posted delayed all (both w back)) twice side)
 
-pub both_fit : (board : Board) (came : BridgeLane → List Carried) (part : ℕ → List Event) (lane : BridgeLane) (left left_back : List Carried) (posted delayed : ℕ)
+pub both_fit : (board : Board) (came : ℕ → BridgeLane → List Carried) (part : ℕ → List Event) (lane : BridgeLane) (left left_back : List Carried) (posted delayed : ℕ)
     → IsValid board → HasDepths board lane posted delayed → BothRan board came part lane left left_back
     → HasRoom (2 * posted + 2 * delayed) board came part lane left left_back
 both_fit board came part lane left left_back posted delayed valid depths ran =
@@ -96,9 +84,9 @@ both_fit board came part lane left left_back posted delayed valid depths ran =
     let y : Both = flip (both (lanes_at board came part to) lane) in
     let one = near_side board came part lane left left_back posted delayed valid depths ran in
     let other = far_side board came part lane left left_back posted delayed valid depths ran in
-    let put_back : came back ++ left_back ≡ y.here.flight = ran.back ∙ ap (λ (bus : ℕ). (lanes_at board came part bus back).flight) (start_back board lane) in
-    let there = sides_fit posted delayed (came lane) (came back) left left_back x y one other ran.here put_back in
-    let here_back = sides_fit posted delayed (came back) (came lane) left_back left y x other one put_back ran.here in
+    let put_back : came from back ++ left_back ≡ y.here.flight = ran.back ∙ ap (λ (bus : ℕ). (lanes_at board came part bus back).flight) (start_back board lane) in
+    let there = sides_fit posted delayed (came to lane) (came from back) left left_back x y one other ran.here put_back in
+    let here_back = sides_fit posted delayed (came from back) (came to lane) left_back left y x other one put_back ran.here in
     let arrives : came_on board came part back ≡ x.back.flight = ap (λ (bus : ℕ). (lanes_at board came part bus back).flight) (end_back board lane) in
     record { here = there; back = omega (arith, here_back, ap length arrives) }
 

@@ -30,9 +30,9 @@ pub fn buses_keep_their_side()
 /// Of two buses that each kept its side of their bridge at most 32 items are left on each of its
 /// lanes: twice as many as it takes posted writes and delayed requests each way.
 pub fn lanes_have_room()
-    ensures to_32 { (board : Board) (came : BridgeLane → List Carried) (part : ℕ → List Event) (lane : BridgeLane) (left left_back : List Carried) →
+    ensures to_32 { (board : Board) (came : ℕ → BridgeLane → List Carried) (part : ℕ → List Event) (lane : BridgeLane) (left left_back : List Carried) →
         IsValid board → BothRan board came part lane left left_back → HasRoom 32 board came part lane left left_back }
-    ensures of_bridge { (board : Board) (came : BridgeLane → List Carried) (part : ℕ → List Event) (lane : BridgeLane) (left left_back : List Carried) (bridge : Bridge) →
+    ensures of_bridge { (board : Board) (came : ℕ → BridgeLane → List Carried) (part : ℕ → List Event) (lane : BridgeLane) (left left_back : List Carried) (bridge : Bridge) →
         IsValid board → bridge_to board lane.bus ≡ Some bridge → BothRan board came part lane left left_back →
         HasRoom (2 * bridge.posted + 2 * bridge.delayed) board came part lane left left_back }
 {}
