@@ -6,3 +6,5 @@ pub use Rattle.law_room.proofs.SideLemmas.{run_keeps}
 pub use Rattle.law_room.proofs.RoomLemmas.{sides_fit, both_fit, to_eight, of_bridge}
 -- what was not got of what came in order is as long as what is left
 pub use Rattle.law_room.proofs.RoomLemmas.{what_is_left}
+-- a bus that puts one more item on a lane finds fewer than 32 left there
+pub use Rattle.law_room.proofs.FullLemmas.{not_full}

@@ -1,4 +1,5 @@
 pub mod MoveLemmas
 pub mod SideLemmas
 pub mod RoomLemmas
+pub mod FullLemmas
 pub mod Laws

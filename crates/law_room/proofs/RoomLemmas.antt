@@ -61,7 +61,7 @@ near_side board came part lane left left_back posted delayed valid depths ran =
     run_keeps board (IsFit-valid board valid) bus posted delayed (came bus) (part bus) ran.near lane depths refl ran.apart ran.none_near
 
 -- and that of the bus where it ends, with the lane as the lane back
-far_side : (board : Board) (came : ℕ → BridgeLane → List Carried) (part : ℕ → List Event) (lane : BridgeLane) (left left_back : List Carried) (posted delayed : ℕ)
+pub far_side : (board : Board) (came : ℕ → BridgeLane → List Carried) (part : ℕ → List Event) (lane : BridgeLane) (left left_back : List Carried) (posted delayed : ℕ)
     → IsValid board → HasDepths board lane posted delayed → BothRan board came part lane left left_back
     → Side posted delayed (came (end_of board lane) lane) (flip (both (lanes_at board came part (end_of board lane)) lane))
 far_side board came part lane left left_back posted delayed valid depths ran =

@@ -1,12 +1,12 @@
 -- How much is left on the two lanes of a bridge, by what its two buses did and what came to each, whenever it came.
-use Rattle.std.specs.Prelude.{◌≡◌, ◌≢◌, ℕ, ◌+◌, ◌≤◌, List, [], ◌++◌, length}
+use Rattle.std.specs.Prelude.{◌≡◌, ◌≢◌, ℕ, ◌+◌, ◌<◌, ◌≤◌, List, [], ◌∷◌, ◌++◌, length}
 use Rattle.board_model.specs.declared.bridge.Lane.{Lane as BridgeLane}
 use Rattle.board_model.specs.declared.board.Board.{Board}
 use Rattle.board_model.specs.Ways.{start_of, end_of, lane_back}
 use Rattle.history_model.specs.declared.event.Event.{Event}
 use Rattle.history_model.specs.declared.item.Carried.{Carried}
 use Rattle.history_model.specs.World.{World}
-use Rattle.history_model.specs.Local.{local_world, LocalRun}
+use Rattle.history_model.specs.Local.{bus_of, local_world, AllowedLocally, LocalRun}
 
 -- `came` is what came to each bus so far, on each lane that ends there, and `part` what each bus did so far, newest event
 -- first.
@@ -40,3 +40,9 @@ pub record BothRan (board : Board) (came : ℕ → BridgeLane → List Carried) 
 pub record HasRoom (most : ℕ) (board : Board) (came : ℕ → BridgeLane → List Carried) (part : ℕ → List Event) (lane : BridgeLane) (left left_back : List Carried) : Type 0 where
   pub here : length (came_on board came part lane) + length left ≤ most
   pub back : length (came_on board came part (lane_back lane)) + length left_back ≤ most
+
+-- the event may be the next of the bus where the lane begins, by what that bus knows, and puts more on the lane
+pub record Puts (board : Board) (came : ℕ → BridgeLane → List Carried) (part : ℕ → List Event) (lane : BridgeLane) (e : Event) : Type 0 where
+  pub here : bus_of board e ≡ start_of board lane
+  pub allowed : AllowedLocally board (came (start_of board lane)) (part (start_of board lane)) e
+  pub more : length (put_on board came part lane) < length (local_world board (came (start_of board lane)) (e ∷ part (start_of board lane)) lane).flight

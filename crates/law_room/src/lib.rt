@@ -3,7 +3,7 @@
 //! their events. Each law is the contract of a function that does nothing.
 #![tactic(auto)]
 
-ghost use Rattle.std.specs.Prelude.{◌≡◌, ◌≢◌, ℕ, ◌+◌, ◌*◌, List, [], ◌++◌, length, Some};
+ghost use Rattle.std.specs.Prelude.{◌≡◌, ◌≢◌, ℕ, ◌+◌, ◌*◌, ◌<◌, List, [], ◌++◌, length, Some};
 ghost use Rattle.board_model.specs.declared.board.Board.{Board};
 ghost use Rattle.board_model.specs.declared.bridge.Bridge.{Bridge};
 ghost use Rattle.board_model.specs.declared.bridge.Lane.{Lane as BridgeLane};
@@ -17,7 +17,7 @@ ghost use Rattle.history_model.specs.Local.{local_world, LocalRun};
 ghost use Rattle.lane_items.specs.declared.item.Item.{Item};
 ghost use Rattle.lane_items.specs.Lane.{GotInOrder, left_count};
 ghost use Rattle.law_room.specs.Sides.{Side, HasDepths};
-ghost use Rattle.law_room.specs.Room.{BothRan, HasRoom};
+ghost use Rattle.law_room.specs.Room.{BothRan, HasRoom, Puts};
 
 /// By what a bus did and what came to it, it has put on a lane that begins there no more than its
 /// credits, its slots and what came on the lane back allow.
@@ -35,6 +35,13 @@ pub fn lanes_have_room()
     ensures of_bridge { (board : Board) (came : ℕ → BridgeLane → List Carried) (part : ℕ → List Event) (lane : BridgeLane) (left left_back : List Carried) (bridge : Bridge) →
         IsValid board → bridge_to board lane.bus ≡ Some bridge → BothRan board came part lane left left_back →
         HasRoom (2 * bridge.posted + 2 * bridge.delayed) board came part lane left left_back }
+{}
+
+/// A bus whose next event would put one more item on a lane finds fewer than 32 left there. So it need
+/// not look whether there is room.
+pub fn full_lanes_take_no_more()
+    ensures { (board : Board) (came : ℕ → BridgeLane → List Carried) (part : ℕ → List Event) (lane : BridgeLane) (left left_back : List Carried) (e : Event) →
+        IsValid board → BothRan board came part lane left left_back → Puts board came part lane e → length left < 32 }
 {}
 
 /// Where an end got its items in the order of their sending, what it did not get of those that it had
