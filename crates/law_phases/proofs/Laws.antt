@@ -1,0 +1,12 @@
+-- What the laws of phases state, and what other crates rest on besides.
+
+-- what all buses did up to now is a run
+pub use Rattle.law_phases.proofs.PastLemmas.{pasts_run}
+-- the next item that comes to a bus is one that it takes
+pub use Rattle.law_phases.proofs.TakenLemmas.{next_taken}
+-- what a lane presents is not claimed by its lane back
+pub use Rattle.law_phases.proofs.ClaimedLemmas.{nothing_back}
+-- facts on the definitions of this crate
+
+-- a bus does nothing on a lane of no bridge
+pub use Rattle.law_phases.proofs.BridgeLemmas.{untouched}

@@ -1,0 +1,5 @@
+pub mod BridgeLemmas
+pub mod PastLemmas
+pub mod TakenLemmas
+pub mod ClaimedLemmas
+pub mod Laws
