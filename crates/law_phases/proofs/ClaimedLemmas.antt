@@ -1,5 +1,5 @@
 -- What a lane carries was claimed by it where it begins, and so is not claimed by its lane back where it ends.
-use Rattle.std.proofs.Common.{◌≡◌, ◌≢◌, ℕ, zero, suc, ◌+◌, ◌<◌, ◌≤◌, ◌==◌, eqb, Bool, true, false, cond, List, [], ◌∷◌, ◌++◌, length, Option, Some, None, refl, sym, ap, subst, ◌∙◌, arith}
+use Rattle.std.proofs.Common.{◌≡◌, ℕ, ◌+◌, ◌≤◌, ◌==◌, eqb, Bool, true, false, cond, List, [], ◌∷◌, length, Option, Some, None, refl, sym, subst, ◌∙◌, arith}
 use Rattle.std.specs.List.{find, AllByRecursion}
 use Rattle.std.proofs.lemmas.Bool.{and_parts}
 use Rattle.list_facts.specs.Lists.{before}
@@ -12,7 +12,7 @@ use Rattle.board_model.specs.declared.bridge.Lane.{Lane as BridgeLane}
 use Rattle.board_model.specs.declared.bridge.Place.TheVariants.{Lane}
 use Rattle.board_model.specs.declared.op.Op.{Op}
 use Rattle.board_model.specs.declared.board.Board.{Board}
-use Rattle.board_model.specs.Requests.{op_of, phases_of, request_on, request_of, is_posted}
+use Rattle.board_model.specs.Requests.{op_of, request_on, request_of, is_posted}
 use Rattle.board_model.specs.Claims.{claim}
 use Rattle.board_model.specs.Valid.{IsValid}
 use Rattle.board_model.specs.Ways.{end_of, lane_back}
@@ -22,14 +22,13 @@ use Rattle.history_model.specs.declared.event.By.{By}
 use Rattle.history_model.specs.declared.event.By.TheVariants.{Lane as ByLane}
 use Rattle.history_model.specs.declared.event.Event.{Event}
 use Rattle.history_model.specs.declared.event.Mark.{Mark}
-use Rattle.history_model.specs.declared.event.Mark.TheVariants.{Plain, Discard, Drop}
 use Rattle.history_model.specs.declared.event.Step.TheVariants.{Accept, Latch}
 use Rattle.history_model.specs.declared.item.Carried.{Carried}
 use Rattle.history_model.specs.declared.item.Carried.TheVariants.{Post, Ask, Done, Room, Gone}
 use Rattle.history_model.specs.Lanes.{Both, is_of, is_done_for, lowest_free, reply_to, post_enters, ask_enters, Effect, Stands, Credits, Frees, Drops, effect_of, takes_effect, came_off, arrives_first}
 use Rattle.history_model.specs.World.{both, world_of}
 use Rattle.history_model.specs.Words.{parted_by, through, without}
-use Rattle.history_model.specs.Answers.{presents_item, presents, wants_in}
+use Rattle.history_model.specs.Answers.{presents_item, presents}
 use Rattle.history_model.specs.Runs.{Run}
 use Rattle.history_model.specs.Local.{bus_of}
 use Rattle.history_facts.proofs.AnswerLemmas.{AtLane}

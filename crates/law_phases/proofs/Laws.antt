@@ -6,7 +6,11 @@ pub use Rattle.law_phases.proofs.PastLemmas.{pasts_run}
 pub use Rattle.law_phases.proofs.TakenLemmas.{next_taken}
 -- what a lane presents is not claimed by its lane back
 pub use Rattle.law_phases.proofs.ClaimedLemmas.{nothing_back}
+-- where no bus of the board has anything more to do, the run is complete
+pub use Rattle.law_phases.proofs.QuietLemmas.{buses_complete}
 -- facts on the definitions of this crate
 
 -- a bus does nothing on a lane of no bridge
 pub use Rattle.law_phases.proofs.BridgeLemmas.{untouched}
+-- a lane of a bridge begins and ends on a bus of the board
+pub use Rattle.law_phases.proofs.BusLemmas.{start_is_bus, end_is_bus}

@@ -1,5 +1,5 @@
 -- The next item that comes to a bus is one that it takes.
-use Rattle.std.proofs.Common.{◌≡◌, ℕ, Bool, true, false, List, ◌∷◌, Some, refl, sym, subst, ◌∙◌}
+use Rattle.std.proofs.Common.{◌≡◌, ℕ, Bool, true, false, List, ◌∷◌, refl, sym, subst, ◌∙◌}
 use Rattle.std.specs.List.{AllByRecursion}
 use Rattle.pci_command.specs.declared.op_id.OpId.{OpId}
 use Rattle.board_model.specs.declared.bridge.Lane.{Lane as BridgeLane}
@@ -13,7 +13,6 @@ use Rattle.history_model.specs.World.{world_of}
 use Rattle.history_model.specs.Local.{is_lawful_on}
 use Rattle.law_slots.specs.Kinds.{NamesOp, RightKind}
 use Rattle.law_slots.proofs.Laws.{Lawful-run, RightKind-run}
-use Rattle.law_local.specs.Known.{known}
 use Rattle.law_local.proofs.Laws.{lawful_known}
 use Rattle.law_phases.specs.Pasts.{RunSoFar}
 use Rattle.law_phases.specs.Taken.{HasRequest, HasItsKind, NextIsTaken}

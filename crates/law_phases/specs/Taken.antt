@@ -1,4 +1,5 @@
--- What a bus never meets in a run: an item that it may not take, and a request that goes back through its bridge.
+-- What a bus never meets in a run: an item that it may not take, and a request that goes back through its bridge. And
+-- when no bus has anything more to do.
 use Rattle.std.specs.Prelude.{◌≡◌, ◌≢◌, ℕ, Bool, true, false, List, ◌∷◌, Some}
 use Rattle.pci_command.specs.declared.request.Request.{Request}
 use Rattle.pci_command.specs.declared.op_id.OpId.{OpId}
@@ -8,6 +9,7 @@ use Rattle.board_model.specs.declared.board.Board.{Board}
 use Rattle.board_model.specs.Requests.{request_of, is_posted}
 use Rattle.board_model.specs.Claims.{claim}
 use Rattle.board_model.specs.Ways.{end_of, lane_back}
+use Rattle.board_model.specs.Valid.{is_bus}
 use Rattle.history_model.specs.declared.event.By.TheVariants.{Lane as ByLane}
 use Rattle.history_model.specs.declared.event.Event.{Event}
 use Rattle.history_model.specs.declared.item.Carried.{Carried}
@@ -17,6 +19,7 @@ use Rattle.history_model.specs.Words.{through, without}
 use Rattle.history_model.specs.Answers.{wants_in}
 use Rattle.history_model.specs.Local.{is_lawful_on}
 use Rattle.law_local.specs.Known.{events_on, known}
+use Rattle.law_local.specs.Quiet.{IsQuiet}
 
 -- the operation is there, and its request on the bus is posted, or delayed
 pub record HasRequest (board : Board) (bus : ℕ) (posted : Bool) (o : OpId) : Type 0 where
@@ -48,3 +51,9 @@ NeverBack board world p lane =
 abbrev pub NothingTurnsBack : Board → (BridgeLane → List Carried) → List Event → Type 0
 NothingTurnsBack board sent h =
     (lane : BridgeLane) → NeverBack board (known board sent (end_of board lane) h) (events_on board (end_of board lane) h) lane
+
+-- Complete.
+
+-- on each bus of the board nothing more comes, and whatever is presented there gets a Retry, by what the bus knows
+abbrev pub BusesAreQuiet : Board → (BridgeLane → List Carried) → List Event → Type 0
+BusesAreQuiet board sent h = (bus : ℕ) → is_bus board bus ≡ true → IsQuiet board bus (known board sent bus h) (events_on board bus h)

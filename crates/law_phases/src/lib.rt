@@ -14,7 +14,8 @@ ghost use Rattle.history_model.specs.declared.item.Carried.{Carried};
 ghost use Rattle.law_local.specs.Known.{JointRun};
 ghost use Rattle.law_local.specs.Stamps.{events_of, IsMerged};
 ghost use Rattle.law_phases.specs.Pasts.{AllPasts, RunSoFar};
-ghost use Rattle.law_phases.specs.Taken.{NextIsTaken, NothingTurnsBack};
+ghost use Rattle.history_model.specs.Runs.{Complete};
+ghost use Rattle.law_phases.specs.Taken.{NextIsTaken, NothingTurnsBack, BusesAreQuiet};
 
 /// What all buses did up to now, in the order of the stamps, is a run; and of what was put on each
 /// lane just that is in flight which did not arrive.
@@ -31,4 +32,9 @@ pub fn next_items_are_taken()
 /// What a lane presents to a bus is not claimed there by its own bridge.
 pub fn nothing_turns_back()
     ensures { (board : Board) (sent : BridgeLane → List Carried) (h : List Event) → IsValid board → JointRun board sent h → NothingTurnsBack board sent h }
+{}
+
+/// Where no bus of the board has anything more to do, the run is complete.
+pub fn quiet_buses_make_a_complete_run()
+    ensures { (board : Board) (sent : BridgeLane → List Carried) (h : List Event) → IsValid board → RunSoFar board sent h → BusesAreQuiet board sent h → Complete board h }
 {}

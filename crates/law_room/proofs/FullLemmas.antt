@@ -1,5 +1,5 @@
 -- A bus puts one more item on a lane only where fewer than 32 are left.
-use Rattle.std.proofs.Common.{◌≡◌, ◌≢◌, ℕ, ◌+◌, ◌<◌, ◌≤◌, Bool, true, false, cond, eqb, ◌==◌, List, [], ◌∷◌, ◌++◌, length, refl, sym, ap, subst, ◌∙◌, arith, append-nil, append_assoc, length-append}
+use Rattle.std.proofs.Common.{◌≡◌, ◌≢◌, ℕ, ◌<◌, Bool, true, false, ◌==◌, List, [], ◌∷◌, ◌++◌, length, refl, sym, ap, subst, ◌∙◌, arith, append-nil, append_assoc, length-append}
 use Rattle.std.proofs.lemmas.Bool.{eqb-true, eqb-false}
 use Rattle.board_model.specs.declared.bridge.Lane.{Lane as BridgeLane}
 use Rattle.board_model.specs.declared.board.Board.{Board}
@@ -7,14 +7,13 @@ use Rattle.board_model.specs.Valid.{IsValid}
 use Rattle.board_model.specs.Ways.{start_of, end_of, lane_back}
 use Rattle.history_model.specs.declared.event.Event.{Event}
 use Rattle.history_model.specs.declared.event.Event.TheVariants.{Act, Arrive}
-use Rattle.history_model.specs.declared.event.Mark.{Mark}
 use Rattle.history_model.specs.declared.item.Carried.{Carried}
-use Rattle.history_model.specs.Lanes.{LaneState, Both, arrives}
+use Rattle.history_model.specs.Lanes.{Both, arrives}
 use Rattle.history_model.specs.World.{World, same_lane, both, moved}
 use Rattle.history_model.specs.Local.{bus_of, local_world, AllowedLocally, LocalRun}
 use Rattle.history_facts.proofs.BridgeLemmas.{flip, same_lane_true}
 use Rattle.law_local.proofs.Laws.{IsFit-valid, start_back, end_back, moved_other, Grows, event_grows}
-use Rattle.law_room.specs.Room.{lanes_at, put_on, came_on, BothRan, HasRoom, Puts}
+use Rattle.law_room.specs.Room.{lanes_at, put_on, BothRan, Puts}
 use Rattle.law_room.proofs.RoomLemmas.{sides_fit, far_side, to_eight}
 use Rattle.law_room.proofs.SideLemmas.{run_keeps}
 
