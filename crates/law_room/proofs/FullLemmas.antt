@@ -13,7 +13,7 @@ use Rattle.history_model.specs.World.{World, same_lane, both, moved}
 use Rattle.history_model.specs.Local.{bus_of, local_world, AllowedLocally, LocalRun}
 use Rattle.history_facts.proofs.BridgeLemmas.{flip, same_lane_true}
 use Rattle.law_local.proofs.Laws.{IsFit-valid, start_back, end_back, moved_other, Grows, event_grows}
-use Rattle.law_room.specs.Room.{lanes_at, put_on, BothRan, Puts}
+use Rattle.law_room.specs.Room.{lanes_at, put_on, Leaves, Puts}
 use Rattle.law_room.proofs.RoomLemmas.{sides_fit, far_side, to_eight}
 use Rattle.law_room.proofs.SideLemmas.{run_keeps}
 
@@ -42,18 +42,18 @@ grows board came p lane (Arrive on mark) valid apart here allowed =
     ]) refl
 
 pub not_full : (board : Board) (came : ℕ → BridgeLane → List Carried) (part : ℕ → List Event) (lane : BridgeLane) (left left_back : List Carried) (e : Event)
-    → IsValid board → BothRan board came part lane left left_back → Puts board came part lane e → length left < 32
+    → IsValid board → Leaves board came part lane left left_back → Puts board came part lane e → length left < 32
 not_full board came part lane left left_back e valid ran puts =
     let from : ℕ = start_of board lane in
     let to : ℕ = end_of board lane in
     let back : BridgeLane = lane_back lane in
     let p : List Event = part from in
-    let run : LocalRun board from (came from) (e ∷ p) = (puts.here, puts.allowed, ran.near) in
+    let run : LocalRun board from (came from) (e ∷ p) = (puts.here, puts.allowed, ran.runs.near) in
     let x : Both = both (local_world board (came from) (e ∷ p)) lane in
     let y : Both = flip (both (lanes_at board came part to) lane) in
-    let one = run_keeps board (IsFit-valid board valid) from 8 8 (came from) (e ∷ p) run lane (to_eight board lane valid) refl ran.apart ran.none_near in
+    let one = run_keeps board (IsFit-valid board valid) from 8 8 (came from) (e ∷ p) run lane (to_eight board lane valid) refl ran.runs.apart ran.runs.none_near in
     let other = far_side board came part lane left left_back 8 8 valid (to_eight board lane valid) ran in
-    let more = grows board (came from) p lane e valid ran.apart puts.here puts.allowed in
+    let more = grows board (came from) p lane e valid ran.runs.apart puts.here puts.allowed in
     let there : came to lane ++ (left ++ more.items) ≡ x.here.flight =
     sym (append_assoc (came to lane) left more.items) ∙ (ap (λ (l : List Carried). l ++ more.items) ran.here ∙ sym more.grown) in
     let there_back : came from back ++ left_back ≡ y.here.flight = ran.back ∙ ap (λ (bus : ℕ). (lanes_at board came part bus back).flight) (start_back board lane) in

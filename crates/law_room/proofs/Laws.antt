@@ -8,3 +8,5 @@ pub use Rattle.law_room.proofs.RoomLemmas.{sides_fit, both_fit, to_eight, of_bri
 pub use Rattle.law_room.proofs.RoomLemmas.{what_is_left}
 -- a bus that puts one more item on a lane finds fewer than 32 left there
 pub use Rattle.law_room.proofs.FullLemmas.{not_full}
+-- two ends may be settled, by what their own two buses did
+pub use Rattle.law_room.proofs.SettleLemmas.{may_settle}

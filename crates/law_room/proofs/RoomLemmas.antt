@@ -21,7 +21,7 @@ use Rattle.law_local.proofs.Laws.{IsFit-valid, start_back, end_back}
 use Rattle.lane_items.specs.declared.item.Item.{Item}
 use Rattle.lane_items.specs.Lane.{passed_on, kept_back, GotInOrder, left_count}
 use Rattle.law_room.specs.Sides.{ask_count, answer_count, Side, HasDepths}
-use Rattle.law_room.specs.Room.{lanes_at, came_on, BothRan, HasRoom}
+use Rattle.law_room.specs.Room.{lanes_at, came_on, Leaves, HasRoom}
 use Rattle.law_room.proofs.SideLemmas.{run_keeps}
 
 -- each item is of one of four kinds
@@ -52,27 +52,27 @@ sides_fit posted delayed came came_back left left_back x y one other here back =
 
 -- the side of the bus where the lane begins
 near_side : (board : Board) (came : ℕ → BridgeLane → List Carried) (part : ℕ → List Event) (lane : BridgeLane) (left left_back : List Carried) (posted delayed : ℕ)
-    → IsValid board → HasDepths board lane posted delayed → BothRan board came part lane left left_back
+    → IsValid board → HasDepths board lane posted delayed → Leaves board came part lane left left_back
     → Side posted delayed (came (start_of board lane) (lane_back lane)) (both (lanes_at board came part (start_of board lane)) lane)
 near_side board came part lane left left_back posted delayed valid depths ran =
     let bus : ℕ = start_of board lane in
-    run_keeps board (IsFit-valid board valid) bus posted delayed (came bus) (part bus) ran.near lane depths refl ran.apart ran.none_near
+    run_keeps board (IsFit-valid board valid) bus posted delayed (came bus) (part bus) ran.runs.near lane depths refl ran.runs.apart ran.runs.none_near
 
 -- and that of the bus where it ends, with the lane as the lane back
 pub far_side : (board : Board) (came : ℕ → BridgeLane → List Carried) (part : ℕ → List Event) (lane : BridgeLane) (left left_back : List Carried) (posted delayed : ℕ)
-    → IsValid board → HasDepths board lane posted delayed → BothRan board came part lane left left_back
+    → IsValid board → HasDepths board lane posted delayed → Leaves board came part lane left left_back
     → Side posted delayed (came (end_of board lane) lane) (flip (both (lanes_at board came part (end_of board lane)) lane))
 far_side board came part lane left left_back posted delayed valid depths ran =
     let bus : ℕ = end_of board lane in
     let back : BridgeLane = lane_back lane in
     let w : World = lanes_at board came part bus in
-    let apart : end_of board back ≢ bus = λ same. ran.apart (sym same ∙ end_back board lane) in
-    let side = run_keeps board (IsFit-valid board valid) bus posted delayed (came bus) (part bus) ran.far back depths (start_back board lane) apart ran.none_far in
+    let apart : end_of board back ≢ bus = λ same. ran.runs.apart (sym same ∙ end_back board lane) in
+    let side = run_keeps board (IsFit-valid board valid) bus posted delayed (came bus) (part bus) ran.runs.far back depths (start_back board lane) apart ran.runs.none_far in
     let twice : came bus (lane_back back) ≡ came bus lane = ap (came bus) (lane_back_back lane) in
     subst (Side posted delayed (came bus lane)) (both_back w lane) (subst (λ (all : List Carried). Side posted delayed all (both w back)) twice side)
 
 pub both_fit : (board : Board) (came : ℕ → BridgeLane → List Carried) (part : ℕ → List Event) (lane : BridgeLane) (left left_back : List Carried) (posted delayed : ℕ)
-    → IsValid board → HasDepths board lane posted delayed → BothRan board came part lane left left_back
+    → IsValid board → HasDepths board lane posted delayed → Leaves board came part lane left left_back
     → HasRoom (2 * posted + 2 * delayed) board came part lane left left_back
 both_fit board came part lane left left_back posted delayed valid depths ran =
     let from : ℕ = start_of board lane in

@@ -3,7 +3,7 @@
 //! their events. Each law is the contract of a function that does nothing.
 #![tactic(auto)]
 
-ghost use Rattle.std.specs.Prelude.{◌≡◌, ◌≢◌, ℕ, ◌+◌, ◌*◌, ◌<◌, List, [], ◌++◌, length, Some};
+ghost use Rattle.std.specs.Prelude.{◌≡◌, ◌≢◌, ℕ, ◌+◌, ◌*◌, ◌<◌, ◌≤◌, List, [], ◌++◌, length, Some};
 ghost use Rattle.board_model.specs.declared.board.Board.{Board};
 ghost use Rattle.board_model.specs.declared.bridge.Bridge.{Bridge};
 ghost use Rattle.board_model.specs.declared.bridge.Lane.{Lane as BridgeLane};
@@ -17,7 +17,7 @@ ghost use Rattle.history_model.specs.Local.{local_world, LocalRun};
 ghost use Rattle.lane_items.specs.declared.item.Item.{Item};
 ghost use Rattle.lane_items.specs.Lane.{GotInOrder, left_count};
 ghost use Rattle.law_room.specs.Sides.{Side, HasDepths};
-ghost use Rattle.law_room.specs.Room.{BothRan, HasRoom, Puts};
+ghost use Rattle.law_room.specs.Room.{TwoRuns, Leaves, HasRoom, Puts, LaneInPhase};
 
 /// By what a bus did and what came to it, it has put on a lane that begins there no more than its
 /// credits, its slots and what came on the lane back allow.
@@ -31,9 +31,9 @@ pub fn buses_keep_their_side()
 /// lanes: twice as many as it takes posted writes and delayed requests each way.
 pub fn lanes_have_room()
     ensures to_32 { (board : Board) (came : ℕ → BridgeLane → List Carried) (part : ℕ → List Event) (lane : BridgeLane) (left left_back : List Carried) →
-        IsValid board → BothRan board came part lane left left_back → HasRoom 32 board came part lane left left_back }
+        IsValid board → Leaves board came part lane left left_back → HasRoom 32 board came part lane left left_back }
     ensures of_bridge { (board : Board) (came : ℕ → BridgeLane → List Carried) (part : ℕ → List Event) (lane : BridgeLane) (left left_back : List Carried) (bridge : Bridge) →
-        IsValid board → bridge_to board lane.bus ≡ Some bridge → BothRan board came part lane left left_back →
+        IsValid board → bridge_to board lane.bus ≡ Some bridge → Leaves board came part lane left left_back →
         HasRoom (2 * bridge.posted + 2 * bridge.delayed) board came part lane left left_back }
 {}
 
@@ -41,7 +41,18 @@ pub fn lanes_have_room()
 /// not look whether there is room.
 pub fn full_lanes_take_no_more()
     ensures { (board : Board) (came : ℕ → BridgeLane → List Carried) (part : ℕ → List Event) (lane : BridgeLane) (left left_back : List Carried) (e : Event) →
-        IsValid board → BothRan board came part lane left left_back → Puts board came part lane e → length left < 32 }
+        IsValid board → Leaves board came part lane left left_back → Puts board came part lane e → length left < 32 }
+{}
+
+/// So two ends of a bridge may be settled, by what their own two buses did: if on both lanes the items
+/// were got in the order of their sending, at most 32 are left on each.
+pub fn settle_has_room()
+    ensures { (carries : Item → Carried) (board : Board) (came : ℕ → BridgeLane → List Carried) (part : ℕ → List Event) (lane : BridgeLane)
+        (before had got sent before_back had_back got_back sent_back : List Item) (kept kept_back : ℕ) →
+        IsValid board → TwoRuns board came part lane →
+        LaneInPhase carries board came part lane before had got sent → LaneInPhase carries board came part (lane_back lane) before_back had_back got_back sent_back →
+        GotInOrder had got sent kept → GotInOrder had_back got_back sent_back kept_back →
+        (left_count had got sent ≤ 32) × (left_count had_back got_back sent_back ≤ 32) }
 {}
 
 /// Where an end got its items in the order of their sending, what it did not get of those that it had
