@@ -4,4 +4,5 @@ pub mod PastLemmas
 pub mod TakenLemmas
 pub mod ClaimedLemmas
 pub mod QuietLemmas
+pub mod EngineLemmas
 pub mod Laws

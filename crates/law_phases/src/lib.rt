@@ -4,17 +4,23 @@
 //! function that does nothing.
 #![tactic(auto)]
 
-ghost use Rattle.std.specs.Prelude.{ℕ, List};
+ghost use Rattle.std.specs.Prelude.{◌≡◌, ℕ, ◌≤◌, List, [], ◌++◌, map, Some};
 ghost use Rattle.board_model.specs.declared.board.Board.{Board};
 ghost use Rattle.board_model.specs.declared.bridge.Lane.{Lane as BridgeLane};
+ghost use Rattle.board_model.specs.declared.bridge.Bridge.{Bridge};
 ghost use Rattle.board_model.specs.Valid.{IsValid};
+ghost use Rattle.board_model.specs.Ways.{lane_back};
 ghost use Rattle.history_model.specs.declared.event.Event.{Event};
 ghost use Rattle.history_model.specs.declared.event.Stamped.{Stamped};
 ghost use Rattle.history_model.specs.declared.item.Carried.{Carried};
 ghost use Rattle.law_local.specs.Known.{JointRun};
 ghost use Rattle.law_local.specs.Stamps.{events_of, IsMerged};
 ghost use Rattle.law_phases.specs.Pasts.{AllPasts, RunSoFar};
+ghost use Rattle.history_model.specs.Answers.{bridge_to};
 ghost use Rattle.history_model.specs.Runs.{Complete};
+ghost use Rattle.lane_items.specs.declared.item.Item.{Item};
+ghost use Rattle.lane_items.specs.Lane.{GotInOrder, left_count, Crosses};
+ghost use Rattle.law_phases.specs.Engine.{NoneElsewhere, Engine, Worked, TookAll, put_in};
 ghost use Rattle.law_phases.specs.Taken.{NextIsTaken, NothingTurnsBack, BusesAreQuiet};
 
 /// What all buses did up to now, in the order of the stamps, is a run; and of what was put on each
@@ -37,4 +43,36 @@ pub fn nothing_turns_back()
 /// Where no bus of the board has anything more to do, the run is complete.
 pub fn quiet_buses_make_a_complete_run()
     ensures { (board : Board) (sent : BridgeLane → List Carried) (h : List Event) → IsValid board → RunSoFar board sent h → BusesAreQuiet board sent h → Complete board h }
+{}
+
+/// What holds of all buses between two phases of an engine holds before the first phase, when no bus
+/// did anything.
+pub fn engines_begin()
+    ensures { (carries : Item → Carried) (stamp_of : Item → ℕ) (board : Board) → IsValid board → Engine carries stamp_of board (λ lane. []) (λ lane. []) (λ bus. []) }
+{}
+
+/// When the buses did their turns of a phase, any two ends of a bridge may be settled, by what its own
+/// two buses did.
+pub fn phases_have_room()
+    ensures { (carries : Item → Carried) (stamp_of : Item → ℕ) (board : Board) (received hand got sent : BridgeLane → List Item) (part : ℕ → List Stamped) (lane : BridgeLane) (bridge : Bridge) (kept kept_back : ℕ) →
+        IsValid board → Worked carries stamp_of board received hand got sent part → bridge_to board lane.bus ≡ Some bridge →
+        GotInOrder (hand lane) (got lane) (sent lane) kept → GotInOrder (hand (lane_back lane)) (got (lane_back lane)) (sent (lane_back lane)) kept_back →
+        (left_count (hand lane) (got lane) (sent lane) ≤ 32) × (left_count (hand (lane_back lane)) (got (lane_back lane)) (sent (lane_back lane)) ≤ 32) }
+{}
+
+/// When all lanes brought their items in order, what all buses did up to now is a run, also where some
+/// of them stopped.
+pub fn phases_are_a_run()
+    ensures { (carries : Item → Carried) (stamp_of : Item → ℕ) (board : Board) (received hand got sent : BridgeLane → List Item) (kept : BridgeLane → ℕ) (part : ℕ → List Stamped) (all : List Stamped) →
+        IsValid board → Worked carries stamp_of board received hand got sent part →
+        ((lane : BridgeLane) (bridge : Bridge) → bridge_to board lane.bus ≡ Some bridge → GotInOrder (hand lane) (got lane) (sent lane) (kept lane)) →
+        IsMerged board part all → RunSoFar board (put_in carries received hand sent) (events_of all) }
+{}
+
+/// When all ends were settled and no bus stopped, it holds again what holds between two phases.
+pub fn phases_follow()
+    ensures { (carries : Item → Carried) (stamp_of : Item → ℕ) (board : Board) (received hand got sent next : BridgeLane → List Item) (kept : BridgeLane → ℕ) (part : ℕ → List Stamped) →
+        (worked : Worked carries stamp_of board received hand got sent part) → TookAll board worked →
+        ((lane : BridgeLane) (bridge : Bridge) → bridge_to board lane.bus ≡ Some bridge → Crosses (hand lane) (got lane) (sent lane) (kept lane) (next lane)) →
+        NoneElsewhere board next → Engine carries stamp_of board (λ lane. received lane ++ got lane) next part }
 {}

@@ -1,0 +1,204 @@
+-- An engine at first, in a phase, and in the next one.
+use Rattle.std.proofs.Common.{◌≡◌, ◌≢◌, ℕ, ◌≤◌, ◌==◌, Bool, true, false, cond, List, [], ◌∷◌, ◌++◌, map, Option, Some, None, refl, sym, ap, subst, ◌∙◌, append-nil, append_assoc, eq-eqb}
+use Rattle.std.proofs.lemmas.Bool.{eqb-true}
+use Rattle.std.proofs.lemmas.List.{map-append}
+use Rattle.board_model.specs.declared.bridge.Bridge.{Bridge}
+use Rattle.board_model.specs.declared.bridge.Lane.{Lane as BridgeLane}
+use Rattle.board_model.specs.declared.board.Board.{Board}
+use Rattle.board_model.specs.Valid.{is_bus, IsValid}
+use Rattle.board_model.specs.Ways.{start_of, end_of, lane_back}
+use Rattle.history_model.specs.declared.event.Event.{Event}
+use Rattle.history_model.specs.declared.event.Stamped.{Stamped}
+use Rattle.history_model.specs.declared.item.Carried.{Carried}
+use Rattle.history_model.specs.Answers.{bridge_to}
+use Rattle.history_model.specs.Local.{local_world}
+use Rattle.law_local.specs.Known.{coming_to}
+use Rattle.law_local.specs.Stamps.{events_of, put_stamps, IsMerged}
+use Rattle.law_local.proofs.Laws.{IsFit-valid, lane_apart, start_back, end_back}
+use Rattle.lane_items.specs.declared.item.Item.{Item}
+use Rattle.lane_items.specs.Lane.{GotInOrder, left_count, Crosses}
+use Rattle.law_room.specs.Room.{put_on, TwoRuns, LaneInPhase}
+use Rattle.law_room.proofs.Laws.{what_is_left, may_settle}
+use Rattle.law_phases.specs.Pasts.{BusPast, AllPasts, RunSoFar}
+use Rattle.law_phases.specs.Engine.{GoesOn, ItemPast, Stands, NoneElsewhere, Engine, Worked, TookAll, put_in}
+use Rattle.law_phases.proofs.BusLemmas.{start_is_bus, end_is_bus}
+use Rattle.law_phases.proofs.PastLemmas.{pasts_run}
+
+-- of the items of all lanes, those of the lanes that end on the bus
+abbrev ending_on : Board → ℕ → (BridgeLane → List Item) → BridgeLane → List Item
+ending_on board bus items lane = cond (end_of board lane == bus) (items lane) []
+
+ending_here : (board : Board) (bus : ℕ) (items : BridgeLane → List Item) (lane : BridgeLane) → end_of board lane ≡ bus → ending_on board bus items lane ≡ items lane
+ending_here board bus items lane ends = let same = eq-eqb (end_of board lane) bus ends in ap (λ (b : Bool). cond b (items lane) []) same
+
+ending_elsewhere : (board : Board) (bus : ℕ) (items : BridgeLane → List Item) (lane : BridgeLane) → end_of board lane ≢ bus → ending_on board bus items lane ≡ []
+ending_elsewhere board bus items lane apart =
+    let P : Bool → Type 0 = λ b. (end_of board lane == bus) ≡ b → cond b (items lane) [] ≡ [] in
+    (elim (end_of board lane == bus) as P [ true ↦ λ same. absurd (apart (eqb-true (end_of board lane) bus same)) | false ↦ λ _. refl ]) refl
+
+-- the same with what the items carry
+ending_carried : (carries : Item → Carried) (board : Board) (bus : ℕ) (items : BridgeLane → List Item) (lane : BridgeLane) → map carries (ending_on board bus items lane) ≡ coming_to board bus (λ l. map carries (items l)) lane
+ending_carried carries board bus items lane =
+    let P : Bool → Type 0 = λ b. map carries (cond b (items lane) []) ≡ cond b (map carries (items lane)) [] in
+    elim (end_of board lane == bus) as P [ true ↦ refl | false ↦ refl ]
+
+-- before the first phase
+pub engine_first : (carries : Item → Carried) (stamp_of : Item → ℕ) (board : Board) → IsValid board → Engine carries stamp_of board (λ lane. []) (λ lane. []) (λ bus. [])
+engine_first carries stamp_of board valid = record {
+  each = λ bus there. record {
+    past = λ came goes. record {
+      run = tt;
+      in_time = tt;
+      puts = λ lane bridge some starts.
+          let apart : end_of board lane ≢ bus = λ ends. lane_apart board lane bridge (IsFit-valid board valid).tree some (ends ∙ sym starts) in
+          ap (map carries) (goes.nothing_else lane apart);
+      stamped = λ lane bridge some starts. refl;
+    };
+  };
+  no_other = λ bus lacks. refl;
+  received_there = λ lane missing. refl;
+  hand_there = λ lane missing. refl;
+}
+
+module _ (carries : Item → Carried) (stamp_of : Item → ℕ) (board : Board) (received hand got sent : BridgeLane → List Item) (part : ℕ → List Stamped) (worked : Worked carries stamp_of board received hand got sent part) where
+  -- what came to each bus, and all that was put
+  abbrev Came : BridgeLane → List Item
+  Came lane = received lane ++ worked.taken lane
+
+  abbrev Put : BridgeLane → List Item
+  Put lane = received lane ++ (hand lane ++ sent lane)
+
+  -- just what came to it comes to a bus
+  came_alone : (bus : ℕ) → GoesOn board bus Came (ending_on board bus Came)
+  came_alone bus = record {
+    later = λ lane ends. ([], ending_here board bus Came lane ends ∙ sym (append-nil (Came lane)));
+    nothing_else = ending_elsewhere board bus Came;
+  }
+
+  -- a bus by what came to it alone
+  past_at : (bus : ℕ) → is_bus board bus ≡ true → ItemPast carries stamp_of board bus (ending_on board bus Came) Put (part bus)
+  past_at bus there = (worked.each bus there).past (ending_on board bus Came) (came_alone bus)
+
+  abbrev CameTo : ℕ → BridgeLane → List Carried
+  CameTo bus lane = map carries (ending_on board bus Came lane)
+
+  abbrev Did : ℕ → List Event
+  Did bus = events_of (part bus)
+
+  lane_in_phase : IsValid board → (lane : BridgeLane) (bridge : Bridge) → bridge_to board lane.bus ≡ Some bridge
+      → LaneInPhase carries board CameTo Did lane (received lane) (hand lane) (got lane) (sent lane)
+  lane_in_phase valid lane bridge some = record {
+    not_taken = map carries (worked.not_taken lane);
+    came_is =
+        ap (λ (l : List Item). map carries l ++ map carries (worked.not_taken lane)) (ending_here board (end_of board lane) Came lane refl)
+        ∙ (sym (map-append carries (Came lane) (worked.not_taken lane))
+        ∙ ap (map carries) (append_assoc (received lane) (worked.taken lane) (worked.not_taken lane) ∙ ap (λ (l : List Item). received lane ++ l) (sym (worked.got_is lane))));
+    put_is = (past_at (start_of board lane) (start_is_bus board valid.buses lane bridge some)).puts lane bridge some refl;
+  }
+
+  two_runs : IsValid board → (lane : BridgeLane) (bridge : Bridge) → bridge_to board lane.bus ≡ Some bridge → TwoRuns board CameTo Did lane
+  two_runs valid lane bridge some =
+      let apart = lane_apart board lane bridge (IsFit-valid board valid).tree some in
+      let apart_back : end_of board (lane_back lane) ≢ end_of board lane = λ same. apart (sym same ∙ end_back board lane) in
+      record {
+        apart = apart;
+        near = (past_at (start_of board lane) (start_is_bus board valid.buses lane bridge some)).run;
+        far = (past_at (end_of board lane) (end_is_bus board valid.buses lane bridge some)).run;
+        none_near = ap (map carries) (ending_elsewhere board (start_of board lane) Came lane apart);
+        none_far = ap (map carries) (ending_elsewhere board (end_of board lane) Came (lane_back lane) apart_back);
+      }
+
+  pub phase_room : IsValid board → (lane : BridgeLane) (bridge : Bridge) (kept kept_back : ℕ) → bridge_to board lane.bus ≡ Some bridge
+      → GotInOrder (hand lane) (got lane) (sent lane) kept → GotInOrder (hand (lane_back lane)) (got (lane_back lane)) (sent (lane_back lane)) kept_back
+      → (left_count (hand lane) (got lane) (sent lane) ≤ 32) × (left_count (hand (lane_back lane)) (got (lane_back lane)) (sent (lane_back lane)) ≤ 32)
+  phase_room valid lane bridge kept kept_back some order order_back =
+      let back : BridgeLane = lane_back lane in
+      may_settle carries board CameTo Did lane (received lane) (hand lane) (got lane) (sent lane) (received back) (hand back) (got back) (sent back) kept kept_back valid
+      (two_runs valid lane bridge some) (lane_in_phase valid lane bridge some) (lane_in_phase valid back bridge some) order order_back
+
+  -- on a lane of no bridge there is nothing
+  none_put : (lane : BridgeLane) → bridge_to board lane.bus ≡ None → Put lane ≡ []
+  none_put lane missing =
+      ap (λ (l : List Item). l ++ (hand lane ++ sent lane)) (worked.received_there lane missing)
+      ∙ (ap (λ (l : List Item). l ++ sent lane) (worked.hand_there lane missing) ∙ worked.sent_there lane missing)
+
+  -- all that was put comes to each bus, now or later
+  module _ (kept : BridgeLane → ℕ) (ordered : (lane : BridgeLane) (bridge : Bridge) → bridge_to board lane.bus ≡ Some bridge → GotInOrder (hand lane) (got lane) (sent lane) (kept lane)) where
+    rest_of : (lane : BridgeLane) → (rest : List Item) × (Put lane ≡ Came lane ++ rest)
+    rest_of lane =
+        let Goal : Type 0 = (rest : List Item) × (Put lane ≡ Came lane ++ rest) in
+        let P : Option Bridge → Type 0 = λ found. bridge_to board lane.bus ≡ found → Goal in
+        (elim (bridge_to board lane.bus) as P [
+          | None ↦ λ missing.
+              let none : worked.taken lane ++ worked.not_taken lane ≡ [] = sym (worked.got_is lane) ∙ worked.got_there lane missing in
+              let front : Came lane ≡ [] = ap (λ (l : List Item). l ++ worked.taken lane) (worked.received_there lane missing) ∙ front_of_none (worked.taken lane) (worked.not_taken lane) none in
+              ([], none_put lane missing ∙ (sym front ∙ sym (append-nil (Came lane))))
+          | Some bridge ↦ λ some.
+              let left = what_is_left (hand lane) (got lane) (sent lane) (kept lane) (ordered lane bridge some) in
+              let taken = worked.taken lane in
+              let more = worked.not_taken lane in
+              let whole : hand lane ++ sent lane ≡ taken ++ (more ++ left.0) = sym left.1 ∙ (ap (λ (l : List Item). l ++ left.0) (worked.got_is lane) ∙ append_assoc taken more left.0) in
+              (more ++ left.0, ap (λ (l : List Item). received lane ++ l) whole ∙ sym (append_assoc (received lane) taken (more ++ left.0)))
+        ]) refl
+      where
+        front_of_none : (xs ys : List Item) → xs ++ ys ≡ [] → xs ≡ []
+        front_of_none [] ys is = refl
+        front_of_none (x ∷ xs) ys is = cc
+
+    bus_past : (bus : ℕ) → is_bus board bus ≡ true → BusPast board bus (put_in carries received hand sent) (λ lane. map stamp_of (Put lane)) (part bus)
+    bus_past bus there =
+        let came : BridgeLane → List Item = ending_on board bus Put in
+        let goes : GoesOn board bus Came came = record {
+          later = λ lane ends. let rest = rest_of lane in (rest.0, ending_here board bus Put lane ends ∙ rest.1);
+          nothing_else = ending_elsewhere board bus Put;
+        } in
+        let past = (worked.each bus there).past came goes in
+        record {
+          came = λ lane. map carries (came lane);
+          comes = ending_carried carries board bus Put;
+          times = λ lane. map stamp_of (came lane);
+          timed = λ lane ends. ap (map stamp_of) (ending_here board bus Put lane ends);
+          run = past.run;
+          in_time = past.in_time;
+          puts = past.puts;
+          stamped = past.stamped;
+        }
+
+    pub worked_run : IsValid board → (all : List Stamped) → IsMerged board part all → RunSoFar board (put_in carries received hand sent) (events_of all)
+    worked_run valid all merged =
+        let pasts : AllPasts board (put_in carries received hand sent) (λ lane. map stamp_of (Put lane)) part = record {
+          each = bus_past;
+          no_other = worked.no_other;
+          bridges_alone = λ lane missing. (ap (map carries) (none_put lane missing), ap (map stamp_of) (none_put lane missing));
+        } in
+        pasts_run board valid (put_in carries received hand sent) (λ lane. map stamp_of (Put lane)) part pasts all merged
+
+  -- the next phase begins
+  pub next_engine : (next : BridgeLane → List Item) (kept : BridgeLane → ℕ) → TookAll board worked
+      → ((lane : BridgeLane) (bridge : Bridge) → bridge_to board lane.bus ≡ Some bridge → Crosses (hand lane) (got lane) (sent lane) (kept lane) (next lane))
+      → NoneElsewhere board next → Engine carries stamp_of board (λ lane. received lane ++ got lane) next part
+  next_engine next kept took crosses none = record {
+    each = λ bus there. record {
+      past = λ came goes.
+          let all_taken : (lane : BridgeLane) → got lane ≡ worked.taken lane =
+          λ lane. worked.got_is lane ∙ (ap (λ (l : List Item). worked.taken lane ++ l) (took lane) ∙ append-nil (worked.taken lane)) in
+          let before : GoesOn board bus Came came = record {
+            later = λ lane ends.
+                let rest = goes.later lane ends in
+                (rest.0, rest.1 ∙ ap (λ (l : List Item). (received lane ++ l) ++ rest.0) (all_taken lane));
+            nothing_else = goes.nothing_else;
+          } in
+          let past = (worked.each bus there).past came before in
+          let same : (lane : BridgeLane) (bridge : Bridge) → bridge_to board lane.bus ≡ Some bridge → Put lane ≡ (received lane ++ got lane) ++ next lane =
+          λ lane bridge some. ap (λ (l : List Item). received lane ++ l) (sym (crosses lane bridge some).in_order) ∙ sym (append_assoc (received lane) (got lane) (next lane)) in
+          record {
+            run = past.run;
+            in_time = past.in_time;
+            puts = λ lane bridge some starts. past.puts lane bridge some starts ∙ ap (map carries) (same lane bridge some);
+            stamped = λ lane bridge some starts. past.stamped lane bridge some starts ∙ ap (map stamp_of) (same lane bridge some);
+          };
+    };
+    no_other = worked.no_other;
+    received_there = λ lane missing. ap (λ (l : List Item). l ++ got lane) (worked.received_there lane missing) ∙ worked.got_there lane missing;
+    hand_there = none;
+  }
