@@ -45,14 +45,21 @@ pub fn full_lanes_take_no_more()
 {}
 
 /// So two ends of a bridge may be settled, by what their own two buses did: if on both lanes the items
-/// were got in the order of their sending, at most 32 are left on each.
+/// were got in the order of their sending, at most 32 are left on each, and fewer than 32 where the bus
+/// could put one more there.
 pub fn settle_has_room()
-    ensures { (carries : Item → Carried) (board : Board) (came : ℕ → BridgeLane → List Carried) (part : ℕ → List Event) (lane : BridgeLane)
+    ensures at_most { (carries : Item → Carried) (board : Board) (came : ℕ → BridgeLane → List Carried) (part : ℕ → List Event) (lane : BridgeLane)
         (before had got sent before_back had_back got_back sent_back : List Item) (kept kept_back : ℕ) →
         IsValid board → TwoRuns board came part lane →
         LaneInPhase carries board came part lane before had got sent → LaneInPhase carries board came part (lane_back lane) before_back had_back got_back sent_back →
         GotInOrder had got sent kept → GotInOrder had_back got_back sent_back kept_back →
         (left_count had got sent ≤ 32) × (left_count had_back got_back sent_back ≤ 32) }
+    ensures fewer { (carries : Item → Carried) (board : Board) (came : ℕ → BridgeLane → List Carried) (part : ℕ → List Event) (lane : BridgeLane)
+        (before had got sent before_back had_back got_back sent_back : List Item) (kept kept_back : ℕ) (e : Event) →
+        IsValid board → TwoRuns board came part lane →
+        LaneInPhase carries board came part lane before had got sent → LaneInPhase carries board came part (lane_back lane) before_back had_back got_back sent_back →
+        GotInOrder had got sent kept → GotInOrder had_back got_back sent_back kept_back →
+        Puts board came part lane e → left_count had got sent < 32 }
 {}
 
 /// Where an end got its items in the order of their sending, what it did not get of those that it had
