@@ -1,7 +1,8 @@
 -- An engine at first, in a phase, and in the next one.
-use Rattle.std.proofs.Common.{◌≡◌, ◌≢◌, ℕ, ◌≤◌, ◌==◌, Bool, true, false, cond, List, [], ◌∷◌, ◌++◌, map, Option, Some, None, refl, sym, ap, subst, ◌∙◌, append-nil, append_assoc, eq-eqb}
+use Rattle.std.proofs.Common.{◌≡◌, ◌≢◌, ℕ, ◌-◌, ◌<◌, ◌≤◌, ◌==◌, Bool, true, false, cond, List, [], ◌∷◌, ◌++◌, map, Option, Some, None, refl, sym, ap, ◌∙◌, append-nil, append_assoc, length, length-append, arith, eq-eqb}
 use Rattle.std.proofs.lemmas.Bool.{eqb-true}
-use Rattle.std.proofs.lemmas.List.{map-append}
+use Rattle.std.proofs.lemmas.List.{map-append, length-take-le}
+use Rattle.std.proofs.Math.Path.{fun_ext}
 use Rattle.board_model.specs.declared.bridge.Bridge.{Bridge}
 use Rattle.board_model.specs.declared.bridge.Lane.{Lane as BridgeLane}
 use Rattle.board_model.specs.declared.board.Board.{Board}
@@ -12,22 +13,19 @@ use Rattle.history_model.specs.declared.event.Stamped.{Stamped}
 use Rattle.history_model.specs.declared.item.Carried.{Carried}
 use Rattle.history_model.specs.Answers.{bridge_to}
 use Rattle.history_model.specs.Local.{local_world}
-use Rattle.law_local.specs.Known.{coming_to}
-use Rattle.law_local.specs.Stamps.{events_of, put_stamps, IsMerged}
-use Rattle.law_local.proofs.Laws.{IsFit-valid, lane_apart, start_back, end_back}
+use Rattle.law_local.specs.Known.{events_on, coming_to, known}
+use Rattle.law_local.specs.Stamps.{events_of, IsMerged}
+use Rattle.law_local.proofs.Laws.{IsFit-valid, lane_apart, end_back, stamped_events}
 use Rattle.lane_items.specs.declared.item.Item.{Item}
-use Rattle.lane_items.specs.Lane.{GotInOrder, left_count, Crosses}
-use Rattle.law_room.specs.Room.{put_on, TwoRuns, LaneInPhase}
-use Rattle.law_room.proofs.Laws.{what_is_left, may_settle}
+use Rattle.lane_items.specs.Lane.{passed_on, GotInOrder, left_count, Crosses}
+use Rattle.law_room.specs.Room.{TwoRuns, Puts, LaneInPhase}
+use Rattle.law_room.proofs.Laws.{what_is_left, may_settle, fewer_left}
 use Rattle.law_phases.specs.Pasts.{BusPast, AllPasts, RunSoFar}
-use Rattle.law_phases.specs.Engine.{GoesOn, ItemPast, Stands, NoneElsewhere, Engine, Worked, TookAll, put_in}
+use Rattle.law_phases.specs.Engine.{ending_on, carried_to, GoesOn, ItemPast, NoneElsewhere, Engine, Worked, TookAll, put_up_to, put_in, did_by, known_at_end}
 use Rattle.law_phases.proofs.BusLemmas.{start_is_bus, end_is_bus}
 use Rattle.law_phases.proofs.PastLemmas.{pasts_run}
 
--- of the items of all lanes, those of the lanes that end on the bus
-abbrev ending_on : Board → ℕ → (BridgeLane → List Item) → BridgeLane → List Item
-ending_on board bus items lane = cond (end_of board lane == bus) (items lane) []
-
+-- where a lane ends on the bus, and where it does not
 ending_here : (board : Board) (bus : ℕ) (items : BridgeLane → List Item) (lane : BridgeLane) → end_of board lane ≡ bus → ending_on board bus items lane ≡ items lane
 ending_here board bus items lane ends = let same = eq-eqb (end_of board lane) bus ends in ap (λ (b : Bool). cond b (items lane) []) same
 
@@ -66,7 +64,7 @@ module _ (carries : Item → Carried) (stamp_of : Item → ℕ) (board : Board) 
   Came lane = received lane ++ worked.taken lane
 
   abbrev Put : BridgeLane → List Item
-  Put lane = received lane ++ (hand lane ++ sent lane)
+  Put = put_up_to received hand sent
 
   -- just what came to it comes to a bus
   came_alone : (bus : ℕ) → GoesOn board bus Came (ending_on board bus Came)
@@ -80,10 +78,10 @@ module _ (carries : Item → Carried) (stamp_of : Item → ℕ) (board : Board) 
   past_at bus there = (worked.each bus there).past (ending_on board bus Came) (came_alone bus)
 
   abbrev CameTo : ℕ → BridgeLane → List Carried
-  CameTo bus lane = map carries (ending_on board bus Came lane)
+  CameTo = carried_to carries board Came
 
   abbrev Did : ℕ → List Event
-  Did bus = events_of (part bus)
+  Did = did_by part
 
   lane_in_phase : IsValid board → (lane : BridgeLane) (bridge : Bridge) → bridge_to board lane.bus ≡ Some bridge
       → LaneInPhase carries board CameTo Did lane (received lane) (hand lane) (got lane) (sent lane)
@@ -115,6 +113,18 @@ module _ (carries : Item → Carried) (stamp_of : Item → ℕ) (board : Board) 
       let back : BridgeLane = lane_back lane in
       may_settle carries board CameTo Did lane (received lane) (hand lane) (got lane) (sent lane) (received back) (hand back) (got back) (sent back) kept kept_back valid
       (two_runs valid lane bridge some) (lane_in_phase valid lane bridge some) (lane_in_phase valid back bridge some) order order_back
+
+  -- of what is left on a lane the end where it begins keeps some
+  pub phase_fewer : IsValid board → (lane : BridgeLane) (bridge : Bridge) (kept kept_back : ℕ) (e : Event) → bridge_to board lane.bus ≡ Some bridge → kept ≤ length (sent lane)
+      → GotInOrder (hand lane) (got lane) (sent lane) kept → GotInOrder (hand (lane_back lane)) (got (lane_back lane)) (sent (lane_back lane)) kept_back
+      → Puts board CameTo Did lane e → kept < 32
+  phase_fewer valid lane bridge kept kept_back e some were_sent order order_back puts =
+      let back : BridgeLane = lane_back lane in
+      let few =
+      fewer_left carries board CameTo Did lane (received lane) (hand lane) (got lane) (sent lane) (received back) (hand back) (got back) (sent back) kept kept_back valid
+      (two_runs valid lane bridge some) (lane_in_phase valid lane bridge some) (lane_in_phase valid back bridge some) order order_back e puts in
+      let passed : length (passed_on (sent lane) kept) ≡ length (sent lane) - kept = length-take-le (length (sent lane) - kept) (sent lane) (omega arith) in
+      omega (arith, few, were_sent, passed, ap length order.1, length-append (got lane) order.0, length-append (hand lane) (passed_on (sent lane) kept))
 
   -- on a lane of no bridge there is nothing
   none_put : (lane : BridgeLane) → bridge_to board lane.bus ≡ None → Put lane ≡ []
@@ -202,3 +212,16 @@ module _ (carries : Item → Carried) (stamp_of : Item → ℕ) (board : Board) 
     received_there = λ lane missing. ap (λ (l : List Item). l ++ got lane) (worked.received_there lane missing) ∙ worked.got_there lane missing;
     hand_there = none;
   }
+
+-- each bus's part of the whole is what it did
+pub did_is : (board : Board) (part : ℕ → List Stamped) (all : List Stamped) (bus : ℕ) → IsMerged board part all → events_on board bus (events_of all) ≡ did_by part bus
+did_is board part all bus merged = stamped_events board bus all ∙ ap events_of (merged.has_part bus)
+
+-- and what is known there is what it knows
+pub knows_is : (carries : Item → Carried) (board : Board) (received hand sent : BridgeLane → List Item) (part : ℕ → List Stamped) (all : List Stamped) (bus : ℕ) → IsMerged board part all
+    → known board (put_in carries received hand sent) bus (events_of all) ≡ known_at_end carries board received hand sent part bus
+knows_is carries board received hand sent part all bus merged =
+    let same : coming_to board bus (put_in carries received hand sent) ≡ carried_to carries board (put_up_to received hand sent) bus =
+    fun_ext (λ lane. sym (ending_carried carries board bus (put_up_to received hand sent) lane)) in
+    ap (λ (p : List Event). local_world board (coming_to board bus (put_in carries received hand sent)) p) (did_is board part all bus merged)
+    ∙ ap (λ (c : BridgeLane → List Carried). local_world board c (did_by part bus)) same

@@ -3,18 +3,27 @@
 -- hand there when the phase began, `got` what was got in the phase and `sent` what was sent, all oldest first; `part` is
 -- what each bus did so far, newest first. `carries` says what an item carries, `stamp_of` its stamp: that of the event that
 -- put it on the lane.
-use Rattle.std.specs.Prelude.{◌≡◌, ◌≢◌, ℕ, true, false, List, [], ◌++◌, map, Some, None}
+use Rattle.std.specs.Prelude.{◌≡◌, ◌≢◌, ℕ, true, false, List, [], ◌++◌, map, Some, None, ◌==◌, if◌then◌else◌}
 use Rattle.board_model.specs.declared.bridge.Bridge.{Bridge}
 use Rattle.board_model.specs.declared.bridge.Lane.{Lane as BridgeLane}
 use Rattle.board_model.specs.declared.board.Board.{Board}
 use Rattle.board_model.specs.Valid.{is_bus}
 use Rattle.board_model.specs.Ways.{start_of, end_of}
+use Rattle.history_model.specs.declared.event.Event.{Event}
 use Rattle.history_model.specs.declared.event.Stamped.{Stamped}
 use Rattle.history_model.specs.declared.item.Carried.{Carried}
 use Rattle.history_model.specs.Answers.{bridge_to}
+use Rattle.history_model.specs.World.{World}
 use Rattle.history_model.specs.Local.{local_world, LocalRun}
 use Rattle.law_local.specs.Stamps.{events_of, put_stamps, AllInTime}
 use Rattle.lane_items.specs.declared.item.Item.{Item}
+
+-- of the items of all lanes, those of the lanes that end on the bus, and what these carry
+abbrev pub ending_on : Board → ℕ → (BridgeLane → List Item) → BridgeLane → List Item
+ending_on board bus items lane = if end_of board lane == bus then items lane else []
+
+abbrev pub carried_to : (Item → Carried) → Board → (BridgeLane → List Item) → ℕ → BridgeLane → List Carried
+carried_to carries board items bus lane = map carries (ending_on board bus items lane)
 
 -- One bus.
 
@@ -68,6 +77,17 @@ abbrev pub TookAll : {carries : Item → Carried} {stamp_of : Item → ℕ} (boa
     → Worked carries stamp_of board received hand got sent part → Type 0
 TookAll board worked = (lane : BridgeLane) → worked.not_taken lane ≡ []
 
--- all that was put on a lane up to the end of the phase
+-- all that was put on each lane up to the end of the phase, and what that carries
+abbrev pub put_up_to : (BridgeLane → List Item) → (BridgeLane → List Item) → (BridgeLane → List Item) → BridgeLane → List Item
+put_up_to received hand sent lane = received lane ++ (hand lane ++ sent lane)
+
 abbrev pub put_in : (Item → Carried) → (BridgeLane → List Item) → (BridgeLane → List Item) → (BridgeLane → List Item) → BridgeLane → List Carried
-put_in carries received hand sent lane = map carries (received lane ++ (hand lane ++ sent lane))
+put_in carries received hand sent lane = map carries (put_up_to received hand sent lane)
+
+-- the events of a bus
+abbrev pub did_by : (ℕ → List Stamped) → ℕ → List Event
+did_by part bus = events_of (part bus)
+
+-- the lanes as a bus knows them at the end of the phase, where all that was put comes to it
+abbrev pub known_at_end : (Item → Carried) → Board → (BridgeLane → List Item) → (BridgeLane → List Item) → (BridgeLane → List Item) → (ℕ → List Stamped) → ℕ → World
+known_at_end carries board received hand sent part bus = local_world board (carried_to carries board (put_up_to received hand sent) bus) (events_of (part bus))

@@ -4,7 +4,7 @@
 //! function that does nothing.
 #![tactic(auto)]
 
-ghost use Rattle.std.specs.Prelude.{◌≡◌, ℕ, ◌≤◌, List, [], ◌++◌, map, Some};
+ghost use Rattle.std.specs.Prelude.{◌≡◌, ℕ, ◌<◌, ◌≤◌, List, [], ◌++◌, length, Some};
 ghost use Rattle.board_model.specs.declared.board.Board.{Board};
 ghost use Rattle.board_model.specs.declared.bridge.Lane.{Lane as BridgeLane};
 ghost use Rattle.board_model.specs.declared.bridge.Bridge.{Bridge};
@@ -13,14 +13,15 @@ ghost use Rattle.board_model.specs.Ways.{lane_back};
 ghost use Rattle.history_model.specs.declared.event.Event.{Event};
 ghost use Rattle.history_model.specs.declared.event.Stamped.{Stamped};
 ghost use Rattle.history_model.specs.declared.item.Carried.{Carried};
-ghost use Rattle.law_local.specs.Known.{JointRun};
+ghost use Rattle.law_local.specs.Known.{events_on, known, JointRun};
 ghost use Rattle.law_local.specs.Stamps.{events_of, IsMerged};
 ghost use Rattle.law_phases.specs.Pasts.{AllPasts, RunSoFar};
 ghost use Rattle.history_model.specs.Answers.{bridge_to};
 ghost use Rattle.history_model.specs.Runs.{Complete};
 ghost use Rattle.lane_items.specs.declared.item.Item.{Item};
 ghost use Rattle.lane_items.specs.Lane.{GotInOrder, left_count, Crosses};
-ghost use Rattle.law_phases.specs.Engine.{NoneElsewhere, Engine, Worked, TookAll, put_in};
+ghost use Rattle.law_phases.specs.Engine.{NoneElsewhere, Engine, Worked, TookAll, carried_to, put_in, did_by, known_at_end};
+ghost use Rattle.law_room.specs.Room.{Puts};
 ghost use Rattle.law_phases.specs.Taken.{NextIsTaken, NothingTurnsBack, BusesAreQuiet};
 
 /// What all buses did up to now, in the order of the stamps, is a run; and of what was put on each
@@ -52,21 +53,29 @@ pub fn engines_begin()
 {}
 
 /// When the buses did their turns of a phase, any two ends of a bridge may be settled, by what its own
-/// two buses did.
+/// two buses did. And an end keeps fewer than 32 items where its bus could put one more on the lane, by
+/// what came to it so far.
 pub fn phases_have_room()
-    ensures { (carries : Item → Carried) (stamp_of : Item → ℕ) (board : Board) (received hand got sent : BridgeLane → List Item) (part : ℕ → List Stamped) (lane : BridgeLane) (bridge : Bridge) (kept kept_back : ℕ) →
+    ensures at_most { (carries : Item → Carried) (stamp_of : Item → ℕ) (board : Board) (received hand got sent : BridgeLane → List Item) (part : ℕ → List Stamped) (lane : BridgeLane) (bridge : Bridge) (kept kept_back : ℕ) →
         IsValid board → Worked carries stamp_of board received hand got sent part → bridge_to board lane.bus ≡ Some bridge →
         GotInOrder (hand lane) (got lane) (sent lane) kept → GotInOrder (hand (lane_back lane)) (got (lane_back lane)) (sent (lane_back lane)) kept_back →
         (left_count (hand lane) (got lane) (sent lane) ≤ 32) × (left_count (hand (lane_back lane)) (got (lane_back lane)) (sent (lane_back lane)) ≤ 32) }
+    ensures fewer { (carries : Item → Carried) (stamp_of : Item → ℕ) (board : Board) (received hand got sent : BridgeLane → List Item) (part : ℕ → List Stamped) (lane : BridgeLane) (bridge : Bridge) (kept kept_back : ℕ) (e : Event) →
+        IsValid board → (worked : Worked carries stamp_of board received hand got sent part) → bridge_to board lane.bus ≡ Some bridge → kept ≤ length (sent lane) →
+        GotInOrder (hand lane) (got lane) (sent lane) kept → GotInOrder (hand (lane_back lane)) (got (lane_back lane)) (sent (lane_back lane)) kept_back →
+        Puts board (carried_to carries board (λ l. received l ++ worked.taken l)) (did_by part) lane e → kept < 32 }
 {}
 
 /// When all lanes brought their items in order, what all buses did up to now is a run, also where some
-/// of them stopped.
+/// of them stopped; and each bus's part of it, and what is known there, is what the bus did and knows.
 pub fn phases_are_a_run()
-    ensures { (carries : Item → Carried) (stamp_of : Item → ℕ) (board : Board) (received hand got sent : BridgeLane → List Item) (kept : BridgeLane → ℕ) (part : ℕ → List Stamped) (all : List Stamped) →
+    ensures run { (carries : Item → Carried) (stamp_of : Item → ℕ) (board : Board) (received hand got sent : BridgeLane → List Item) (kept : BridgeLane → ℕ) (part : ℕ → List Stamped) (all : List Stamped) →
         IsValid board → Worked carries stamp_of board received hand got sent part →
         ((lane : BridgeLane) (bridge : Bridge) → bridge_to board lane.bus ≡ Some bridge → GotInOrder (hand lane) (got lane) (sent lane) (kept lane)) →
         IsMerged board part all → RunSoFar board (put_in carries received hand sent) (events_of all) }
+    ensures did { (board : Board) (part : ℕ → List Stamped) (all : List Stamped) (bus : ℕ) → IsMerged board part all → events_on board bus (events_of all) ≡ did_by part bus }
+    ensures knows { (carries : Item → Carried) (board : Board) (received hand sent : BridgeLane → List Item) (part : ℕ → List Stamped) (all : List Stamped) (bus : ℕ) →
+        IsMerged board part all → known board (put_in carries received hand sent) bus (events_of all) ≡ known_at_end carries board received hand sent part bus }
 {}
 
 /// When all ends were settled and no bus stopped, it holds again what holds between two phases.

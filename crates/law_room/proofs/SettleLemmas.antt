@@ -1,16 +1,16 @@
 -- Two ends of a bridge may be settled.
-use Rattle.std.proofs.Common.{◌≡◌, ℕ, ◌+◌, ◌<◌, ◌≤◌, List, ◌++◌, map, length, sym, ap, subst, ◌∙◌, arith, append_assoc, length-append}
+use Rattle.std.proofs.Common.{◌≡◌, ℕ, ◌<◌, ◌≤◌, List, ◌++◌, map, sym, ap, ◌∙◌, arith, append_assoc, length-append}
 use Rattle.std.proofs.lemmas.List.{map-append, length-map}
 use Rattle.board_model.specs.declared.bridge.Lane.{Lane as BridgeLane}
 use Rattle.board_model.specs.declared.board.Board.{Board}
 use Rattle.board_model.specs.Valid.{IsValid}
-use Rattle.board_model.specs.Ways.{start_of, end_of, lane_back}
+use Rattle.board_model.specs.Ways.{end_of, lane_back}
 use Rattle.history_model.specs.declared.event.Event.{Event}
 use Rattle.history_model.specs.declared.item.Carried.{Carried}
 use Rattle.law_local.proofs.Laws.{end_back}
 use Rattle.lane_items.specs.declared.item.Item.{Item}
 use Rattle.lane_items.specs.Lane.{GotInOrder, left_count}
-use Rattle.law_room.specs.Room.{put_on, came_on, TwoRuns, Leaves, HasRoom, Puts, LaneInPhase}
+use Rattle.law_room.specs.Room.{put_on, TwoRuns, Leaves, Puts, LaneInPhase}
 use Rattle.law_room.proofs.RoomLemmas.{both_fit, to_eight, what_is_left}
 use Rattle.law_room.proofs.FullLemmas.{not_full}
 
