@@ -9,4 +9,4 @@ pub use Rattle.law_room.proofs.RoomLemmas.{what_is_left}
 -- a bus that puts one more item on a lane finds fewer than 32 left there
 pub use Rattle.law_room.proofs.FullLemmas.{not_full}
 -- two ends may be settled, by what their own two buses did
-pub use Rattle.law_room.proofs.SettleLemmas.{may_settle, fewer_left}
+pub use Rattle.law_room.proofs.SettleLemmas.{may_settle, fewer_left, settled_in_order}

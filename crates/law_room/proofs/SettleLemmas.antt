@@ -1,6 +1,6 @@
 -- Two ends of a bridge may be settled.
-use Rattle.std.proofs.Common.{◌≡◌, ℕ, ◌<◌, ◌≤◌, List, ◌++◌, map, sym, ap, ◌∙◌, arith, append_assoc, length-append}
-use Rattle.std.proofs.lemmas.List.{map-append, length-map}
+use Rattle.std.proofs.Common.{◌≡◌, ℕ, ◌-◌, ◌<◌, ◌≤◌, List, ◌++◌, length, map, sym, ap, ◌∙◌, arith, append_assoc, length-append, take-append-drop}
+use Rattle.std.proofs.lemmas.List.{map-append, length-map, append_cancel_right}
 use Rattle.board_model.specs.declared.bridge.Lane.{Lane as BridgeLane}
 use Rattle.board_model.specs.declared.board.Board.{Board}
 use Rattle.board_model.specs.Valid.{IsValid}
@@ -9,10 +9,21 @@ use Rattle.history_model.specs.declared.event.Event.{Event}
 use Rattle.history_model.specs.declared.item.Carried.{Carried}
 use Rattle.law_local.proofs.Laws.{end_back}
 use Rattle.lane_items.specs.declared.item.Item.{Item}
-use Rattle.lane_items.specs.Lane.{GotInOrder, left_count}
+use Rattle.lane_items.specs.Lane.{passed_on, kept_back, GotInOrder, left_count, Crosses}
 use Rattle.law_room.specs.Room.{put_on, TwoRuns, Leaves, Puts, LaneInPhase}
 use Rattle.law_room.proofs.RoomLemmas.{both_fit, to_eight, what_is_left}
 use Rattle.law_room.proofs.FullLemmas.{not_full}
+
+-- a lane that is settled brought its items in order
+pub settled_in_order : (had got sent hand : List Item) (kept : ℕ) → Crosses had got sent kept hand → GotInOrder had got sent kept
+settled_in_order had got sent hand kept crosses =
+    let front : List Item = crosses.kept_crossed.0 in
+    let back : List Item = kept_back sent kept in
+    let whole : passed_on sent kept ++ back ≡ sent = take-append-drop (length sent - kept) sent in
+    let same : (got ++ front) ++ back ≡ (had ++ passed_on sent kept) ++ back =
+    append_assoc got front back ∙ (ap (λ (l : List Item). got ++ l) (sym crosses.kept_crossed.1) ∙ (crosses.in_order
+    ∙ (ap (λ (l : List Item). had ++ l) (sym whole) ∙ sym (append_assoc had (passed_on sent kept) back)))) in
+    (front, append_cancel_right (got ++ front) (had ++ passed_on sent kept) back same)
 
 -- what did not come is what was not taken, and then what was not got
 left_in_phase : (carries : Item → Carried) (board : Board) (came : ℕ → BridgeLane → List Carried) (part : ℕ → List Event) (lane : BridgeLane) (before had got sent left : List Item)

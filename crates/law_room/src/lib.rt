@@ -15,7 +15,7 @@ ghost use Rattle.history_model.specs.World.{both};
 ghost use Rattle.history_model.specs.Answers.{bridge_to};
 ghost use Rattle.history_model.specs.Local.{local_world, LocalRun};
 ghost use Rattle.lane_items.specs.declared.item.Item.{Item};
-ghost use Rattle.lane_items.specs.Lane.{GotInOrder, left_count};
+ghost use Rattle.lane_items.specs.Lane.{GotInOrder, left_count, Crosses};
 ghost use Rattle.law_room.specs.Sides.{Side, HasDepths};
 ghost use Rattle.law_room.specs.Room.{TwoRuns, Leaves, HasRoom, Puts, LaneInPhase};
 
@@ -63,8 +63,10 @@ pub fn settle_has_room()
 {}
 
 /// Where an end got its items in the order of their sending, what it did not get of those that it had
-/// or that were sent is one list, and as long as what is left on the lane.
+/// or that were sent is one list, and as long as what is left on the lane. And where a lane is settled,
+/// its items were got in the order of their sending.
 pub fn order_says_what_is_left()
-    ensures { (had got sent : List Item) (kept : ℕ) → GotInOrder had got sent kept →
+    ensures left { (had got sent : List Item) (kept : ℕ) → GotInOrder had got sent kept →
         (left : List Item) × (got ++ left ≡ had ++ sent) × (length left ≡ left_count had got sent) }
+    ensures settled { (had got sent hand : List Item) (kept : ℕ) → Crosses had got sent kept hand → GotInOrder had got sent kept }
 {}
