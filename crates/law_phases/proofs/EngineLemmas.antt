@@ -34,6 +34,15 @@ ending_elsewhere board bus items lane apart =
     let P : Bool → Type 0 = λ b. (end_of board lane == bus) ≡ b → cond b (items lane) [] ≡ [] in
     (elim (end_of board lane == bus) as P [ true ↦ λ same. absurd (apart (eqb-true (end_of board lane) bus same)) | false ↦ λ _. refl ]) refl
 
+ending_nothing : (board : Board) (bus : ℕ) (items : BridgeLane → List Item) (lane : BridgeLane) → items lane ≡ [] → ending_on board bus items lane ≡ []
+ending_nothing board bus items lane none =
+    let P : Bool → Type 0 = λ b. cond b (items lane) [] ≡ [] in elim (end_of board lane == bus) as P [ true ↦ none | false ↦ refl ]
+
+-- the front of nothing is nothing
+front_of_none : (xs ys : List Item) → xs ++ ys ≡ [] → xs ≡ []
+front_of_none [] ys is = refl
+front_of_none (x ∷ xs) ys is = cc
+
 -- the same with what the items carry
 ending_carried : (carries : Item → Carried) (board : Board) (bus : ℕ) (items : BridgeLane → List Item) (lane : BridgeLane) → map carries (ending_on board bus items lane) ≡ coming_to board bus (λ l. map carries (items l)) lane
 ending_carried carries board bus items lane =
@@ -66,11 +75,18 @@ module _ (carries : Item → Carried) (stamp_of : Item → ℕ) (board : Board) 
   abbrev Put : BridgeLane → List Item
   Put = put_up_to received hand sent
 
+  -- nothing came on a lane of no bridge
+  none_came : (lane : BridgeLane) → bridge_to board lane.bus ≡ None → Came lane ≡ []
+  none_came lane missing =
+      let none : worked.taken lane ++ worked.not_taken lane ≡ [] = sym (worked.got_is lane) ∙ worked.got_there lane missing in
+      ap (λ (l : List Item). l ++ worked.taken lane) (worked.received_there lane missing) ∙ front_of_none (worked.taken lane) (worked.not_taken lane) none
+
   -- just what came to it comes to a bus
   came_alone : (bus : ℕ) → GoesOn board bus Came (ending_on board bus Came)
   came_alone bus = record {
     later = λ lane ends. ([], ending_here board bus Came lane ends ∙ sym (append-nil (Came lane)));
     nothing_else = ending_elsewhere board bus Came;
+    bridges_alone = λ lane missing. ending_nothing board bus Came lane (none_came lane missing);
   }
 
   -- a bus by what came to it alone
@@ -140,9 +156,7 @@ module _ (carries : Item → Carried) (stamp_of : Item → ℕ) (board : Board) 
         let P : Option Bridge → Type 0 = λ found. bridge_to board lane.bus ≡ found → Goal in
         (elim (bridge_to board lane.bus) as P [
           | None ↦ λ missing.
-              let none : worked.taken lane ++ worked.not_taken lane ≡ [] = sym (worked.got_is lane) ∙ worked.got_there lane missing in
-              let front : Came lane ≡ [] = ap (λ (l : List Item). l ++ worked.taken lane) (worked.received_there lane missing) ∙ front_of_none (worked.taken lane) (worked.not_taken lane) none in
-              ([], none_put lane missing ∙ (sym front ∙ sym (append-nil (Came lane))))
+              ([], none_put lane missing ∙ (sym (none_came lane missing) ∙ sym (append-nil (Came lane))))
           | Some bridge ↦ λ some.
               let left = what_is_left (hand lane) (got lane) (sent lane) (kept lane) (ordered lane bridge some) in
               let taken = worked.taken lane in
@@ -150,10 +164,6 @@ module _ (carries : Item → Carried) (stamp_of : Item → ℕ) (board : Board) 
               let whole : hand lane ++ sent lane ≡ taken ++ (more ++ left.0) = sym left.1 ∙ (ap (λ (l : List Item). l ++ left.0) (worked.got_is lane) ∙ append_assoc taken more left.0) in
               (more ++ left.0, ap (λ (l : List Item). received lane ++ l) whole ∙ sym (append_assoc (received lane) taken (more ++ left.0)))
         ]) refl
-      where
-        front_of_none : (xs ys : List Item) → xs ++ ys ≡ [] → xs ≡ []
-        front_of_none [] ys is = refl
-        front_of_none (x ∷ xs) ys is = cc
 
     bus_past : (bus : ℕ) → is_bus board bus ≡ true → BusPast board bus (put_in carries received hand sent) (λ lane. map stamp_of (Put lane)) (part bus)
     bus_past bus there =
@@ -161,6 +171,7 @@ module _ (carries : Item → Carried) (stamp_of : Item → ℕ) (board : Board) 
         let goes : GoesOn board bus Came came = record {
           later = λ lane ends. let rest = rest_of lane in (rest.0, ending_here board bus Put lane ends ∙ rest.1);
           nothing_else = ending_elsewhere board bus Put;
+          bridges_alone = λ lane missing. ending_nothing board bus Put lane (none_put lane missing);
         } in
         let past = (worked.each bus there).past came goes in
         record {
@@ -197,6 +208,7 @@ module _ (carries : Item → Carried) (stamp_of : Item → ℕ) (board : Board) 
                 let rest = goes.later lane ends in
                 (rest.0, rest.1 ∙ ap (λ (l : List Item). (received lane ++ l) ++ rest.0) (all_taken lane));
             nothing_else = goes.nothing_else;
+            bridges_alone = goes.bridges_alone;
           } in
           let past = (worked.each bus there).past came before in
           let same : (lane : BridgeLane) (bridge : Bridge) → bridge_to board lane.bus ≡ Some bridge → Put lane ≡ (received lane ++ got lane) ++ next lane =

@@ -27,10 +27,12 @@ carried_to carries board items bus lane = map carries (ending_on board bus items
 
 -- One bus.
 
--- what comes to the bus goes on with what it received, and nothing comes there on lanes that end elsewhere
+-- what comes to the bus goes on with what it received, and nothing comes there on lanes that end elsewhere or are of no
+-- bridge
 pub record GoesOn (board : Board) (bus : ℕ) (received came : BridgeLane → List Item) : Type 0 where
   pub later : (lane : BridgeLane) → end_of board lane ≡ bus → (rest : List Item) × (came lane ≡ received lane ++ rest)
   pub nothing_else : (lane : BridgeLane) → end_of board lane ≢ bus → came lane ≡ []
+  pub bridges_alone : (lane : BridgeLane) → bridge_to board lane.bus ≡ None → came lane ≡ []
 
 -- where this comes to it, the bus did what it may, and put these items on its lanes
 pub record ItemPast (carries : Item → Carried) (stamp_of : Item → ℕ) (board : Board) (bus : ℕ) (came put : BridgeLane → List Item) (p : List Stamped) : Type 0 where
