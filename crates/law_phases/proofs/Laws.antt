@@ -9,7 +9,7 @@ pub use Rattle.law_phases.proofs.ClaimedLemmas.{nothing_back}
 -- where no bus of the board has anything more to do, the run is complete
 pub use Rattle.law_phases.proofs.QuietLemmas.{buses_complete}
 -- an engine at first, in a phase, and in the next one
-pub use Rattle.law_phases.proofs.EngineLemmas.{engine_first, phase_room, phase_fewer, worked_run, next_engine, did_is, knows_is}
+pub use Rattle.law_phases.proofs.EngineLemmas.{engine_first, phase_room, worked_run, did_is, knows_is, refused_taken, never_back, keeps_fewer, next_engine}
 -- facts on the definitions of this crate
 
 -- a bus does nothing on a lane of no bridge

@@ -17,6 +17,7 @@ use Rattle.history_model.specs.World.{World}
 use Rattle.history_model.specs.Local.{local_world, LocalRun}
 use Rattle.law_local.specs.Stamps.{events_of, put_stamps, AllInTime}
 use Rattle.lane_items.specs.declared.item.Item.{Item}
+use Rattle.lane_items.specs.Lane.{GotInOrder}
 
 -- of the items of all lanes, those of the lanes that end on the bus, and what these carry
 abbrev pub ending_on : Board → ℕ → (BridgeLane → List Item) → BridgeLane → List Item
@@ -34,10 +35,12 @@ pub record GoesOn (board : Board) (bus : ℕ) (received came : BridgeLane → Li
   pub nothing_else : (lane : BridgeLane) → end_of board lane ≢ bus → came lane ≡ []
   pub bridges_alone : (lane : BridgeLane) → bridge_to board lane.bus ≡ None → came lane ≡ []
 
--- where this comes to it, the bus did what it may, and put these items on its lanes
-pub record ItemPast (carries : Item → Carried) (stamp_of : Item → ℕ) (board : Board) (bus : ℕ) (came put : BridgeLane → List Item) (p : List Stamped) : Type 0 where
+-- where this comes to it, the bus did what it may, all that it received arrived, and it put these items on its lanes
+pub record ItemPast (carries : Item → Carried) (stamp_of : Item → ℕ) (board : Board) (bus : ℕ) (received came put : BridgeLane → List Item) (p : List Stamped) : Type 0 where
   pub run : LocalRun board bus (λ lane. map carries (came lane)) (events_of p)
   pub in_time : AllInTime (λ lane. map stamp_of (came lane)) board p
+  pub left : (lane : BridgeLane) (bridge : Bridge) (rest : List Item) → bridge_to board lane.bus ≡ Some bridge → end_of board lane ≡ bus → came lane ≡ received lane ++ rest
+      → (local_world board (λ l. map carries (came l)) (events_of p) lane).flight ≡ map carries rest
   pub puts : (lane : BridgeLane) (bridge : Bridge) → bridge_to board lane.bus ≡ Some bridge → start_of board lane ≡ bus
       → (local_world board (λ l. map carries (came l)) (events_of p) lane).flight ≡ map carries (put lane)
   pub stamped : (lane : BridgeLane) (bridge : Bridge) → bridge_to board lane.bus ≡ Some bridge → start_of board lane ≡ bus
@@ -45,7 +48,7 @@ pub record ItemPast (carries : Item → Carried) (stamp_of : Item → ℕ) (boar
 
 -- so it is whatever comes to the bus later, behind what it received
 pub record Stands (carries : Item → Carried) (stamp_of : Item → ℕ) (board : Board) (bus : ℕ) (received put : BridgeLane → List Item) (p : List Stamped) : Type 0 where
-  pub past : (came : BridgeLane → List Item) → GoesOn board bus received came → ItemPast carries stamp_of board bus came put p
+  pub past : (came : BridgeLane → List Item) → GoesOn board bus received came → ItemPast carries stamp_of board bus received came put p
 
 -- All buses.
 
@@ -78,6 +81,10 @@ pub record Worked (carries : Item → Carried) (stamp_of : Item → ℕ) (board 
 abbrev pub TookAll : {carries : Item → Carried} {stamp_of : Item → ℕ} (board : Board) {received hand got sent : BridgeLane → List Item} {part : ℕ → List Stamped}
     → Worked carries stamp_of board received hand got sent part → Type 0
 TookAll board worked = (lane : BridgeLane) → worked.not_taken lane ≡ []
+
+-- each lane of a bridge brought its items in order; `kept` is how many of those sent its near end keeps
+abbrev pub AllInOrder : Board → (BridgeLane → List Item) → (BridgeLane → List Item) → (BridgeLane → List Item) → (BridgeLane → ℕ) → Type 0
+AllInOrder board hand got sent kept = (lane : BridgeLane) (bridge : Bridge) → bridge_to board lane.bus ≡ Some bridge → GotInOrder (hand lane) (got lane) (sent lane) (kept lane)
 
 -- all that was put on each lane up to the end of the phase, and what that carries
 abbrev pub put_up_to : (BridgeLane → List Item) → (BridgeLane → List Item) → (BridgeLane → List Item) → BridgeLane → List Item
