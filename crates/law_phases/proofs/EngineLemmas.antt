@@ -30,7 +30,7 @@ use Rattle.law_phases.proofs.TakenLemmas.{next_taken}
 use Rattle.law_phases.proofs.ClaimedLemmas.{nothing_back}
 
 -- where a lane ends on the bus, and where it does not
-ending_here : (board : Board) (bus : ℕ) (items : BridgeLane → List Item) (lane : BridgeLane) → end_of board lane ≡ bus → ending_on board bus items lane ≡ items lane
+pub ending_here : (board : Board) (bus : ℕ) (items : BridgeLane → List Item) (lane : BridgeLane) → end_of board lane ≡ bus → ending_on board bus items lane ≡ items lane
 ending_here board bus items lane ends = let same = eq-eqb (end_of board lane) bus ends in ap (λ (b : Bool). cond b (items lane) []) same
 
 ending_elsewhere : (board : Board) (bus : ℕ) (items : BridgeLane → List Item) (lane : BridgeLane) → end_of board lane ≢ bus → ending_on board bus items lane ≡ []
@@ -177,7 +177,7 @@ module _ (carries : Item → Carried) (stamp_of : Item → ℕ) (board : Board) 
         ]) refl
 
     -- a bus, where all that was put comes to it
-    all_past : (bus : ℕ) → is_bus board bus ≡ true → ItemPast carries stamp_of board bus Came (ending_on board bus Put) Put (part bus)
+    pub all_past : (bus : ℕ) → is_bus board bus ≡ true → ItemPast carries stamp_of board bus Came (ending_on board bus Put) Put (part bus)
     all_past bus there =
         (worked.each bus there).past (ending_on board bus Put) (record {
           later = λ lane ends. let rest = rest_of lane in (rest.0, ending_here board bus Put lane ends ∙ rest.1);

@@ -10,6 +10,8 @@ pub use Rattle.law_phases.proofs.ClaimedLemmas.{nothing_back}
 pub use Rattle.law_phases.proofs.QuietLemmas.{buses_complete}
 -- an engine at first, in a phase, and in the next one
 pub use Rattle.law_phases.proofs.EngineLemmas.{engine_first, phase_room, worked_run, did_is, knows_is, refused_taken, never_back, keeps_fewer, next_engine}
+-- an engine between two phases is a run, and complete where nothing is left to do
+pub use Rattle.law_phases.proofs.CompleteLemmas.{engine_run, engine_complete}
 -- facts on the definitions of this crate
 
 -- a bus does nothing on a lane of no bridge

@@ -5,4 +5,5 @@ pub mod TakenLemmas
 pub mod ClaimedLemmas
 pub mod QuietLemmas
 pub mod EngineLemmas
+pub mod CompleteLemmas
 pub mod Laws

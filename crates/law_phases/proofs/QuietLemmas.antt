@@ -26,7 +26,7 @@ use Rattle.law_phases.proofs.BusLemmas.{not_there, end_is_bus, master_is_there}
 
 module _ (board : Board) (valid : IsValid board) (sent : BridgeLane → List Carried) (h : List Event) (so_far : RunSoFar board sent h) where
   -- nothing is on a lane of no bridge
-  empty : (lane : BridgeLane) → bridge_to board lane.bus ≡ None → world_of board h lane ≡ empty_lane
+  pub empty : (lane : BridgeLane) → bridge_to board lane.bus ≡ None → world_of board h lane ≡ empty_lane
   empty lane missing = Quiet-empty board h lane (run_no_bridge board lane.bus h missing so_far.joint.run)
 
   -- nothing comes to a bus that the board lacks

@@ -10,16 +10,17 @@ use Rattle.board_model.specs.Requests.{request_of, is_posted}
 use Rattle.board_model.specs.Claims.{claim}
 use Rattle.board_model.specs.Ways.{end_of, lane_back}
 use Rattle.board_model.specs.Valid.{is_bus}
+use Rattle.history_model.specs.declared.event.By.{By}
 use Rattle.history_model.specs.declared.event.By.TheVariants.{Lane as ByLane}
 use Rattle.history_model.specs.declared.event.Event.{Event}
 use Rattle.history_model.specs.declared.item.Carried.{Carried}
 use Rattle.history_model.specs.declared.item.Carried.TheVariants.{Post, Ask, Done, Room, Gone}
 use Rattle.history_model.specs.World.{World}
 use Rattle.history_model.specs.Words.{through, without}
-use Rattle.history_model.specs.Answers.{wants_in}
+use Rattle.history_model.specs.Answers.{wants_in, answer_in}
 use Rattle.history_model.specs.Local.{is_lawful_on}
 use Rattle.law_local.specs.Known.{events_on, known}
-use Rattle.law_local.specs.Quiet.{IsQuiet}
+use Rattle.law_local.specs.Quiet.{IsRetry, IsQuiet}
 
 -- the operation is there, and its request on the bus is posted, or delayed
 pub record HasRequest (board : Board) (bus : ℕ) (posted : Bool) (o : OpId) : Type 0 where
@@ -57,3 +58,7 @@ NothingTurnsBack board sent h =
 -- on each bus of the board nothing more comes, and whatever is presented there gets a Retry, by what the bus knows
 abbrev pub BusesAreQuiet : Board → (BridgeLane → List Carried) → List Event → Type 0
 BusesAreQuiet board sent h = (bus : ℕ) → is_bus board bus ≡ true → IsQuiet board bus (known board sent bus h) (events_on board bus h)
+
+-- with this on the lanes and after these events of the bus, whatever is presented there gets a Retry
+abbrev pub AllGetARetry : Board → World → List Event → ℕ → Type 0
+AllGetARetry board world p bus = (by : By) (o : OpId) → wants_in board world p bus by o ≡ true → IsRetry (answer_in board world p bus by o)

@@ -8,7 +8,7 @@ ghost use Rattle.std.specs.Prelude.{◌≡◌, ℕ, ◌<◌, ◌≤◌, true, Li
 ghost use Rattle.board_model.specs.declared.board.Board.{Board};
 ghost use Rattle.board_model.specs.declared.bridge.Lane.{Lane as BridgeLane};
 ghost use Rattle.board_model.specs.declared.bridge.Bridge.{Bridge};
-ghost use Rattle.board_model.specs.Valid.{IsValid};
+ghost use Rattle.board_model.specs.Valid.{is_bus, IsValid};
 ghost use Rattle.board_model.specs.Ways.{end_of, lane_back};
 ghost use Rattle.history_model.specs.declared.event.Event.{Event};
 ghost use Rattle.history_model.specs.declared.event.Stamped.{Stamped};
@@ -23,7 +23,7 @@ ghost use Rattle.lane_items.specs.declared.item.Item.{Item};
 ghost use Rattle.lane_items.specs.Lane.{GotInOrder, left_count, Crosses};
 ghost use Rattle.law_phases.specs.Engine.{NoneElsewhere, Engine, Worked, TookAll, AllInOrder, carried_to, put_up_to, put_in, did_by, known_at_end};
 ghost use Rattle.law_room.specs.Room.{Puts};
-ghost use Rattle.law_phases.specs.Taken.{HasItsKind, NextIsTaken, NeverBack, NothingTurnsBack, BusesAreQuiet};
+ghost use Rattle.law_phases.specs.Taken.{HasItsKind, NextIsTaken, NeverBack, NothingTurnsBack, BusesAreQuiet, AllGetARetry};
 
 /// What all buses did up to now, in the order of the stamps, is a run; and of what was put on each
 /// lane just that is in flight which did not arrive.
@@ -96,4 +96,15 @@ pub fn phases_follow()
         (worked : Worked carries stamp_of board received hand got sent part) → TookAll board worked →
         ((lane : BridgeLane) (bridge : Bridge) → bridge_to board lane.bus ≡ Some bridge → Crosses (hand lane) (got lane) (sent lane) (kept lane) (next lane)) →
         NoneElsewhere board next → Engine carries stamp_of board (λ lane. received lane ++ got lane) next part }
+{}
+
+/// Between two phases what all buses did is a run. Where nothing is in hand, and whatever is presented
+/// on a bus of the board gets a Retry, it is complete.
+pub fn quiet_engines_are_complete()
+    ensures run { (carries : Item → Carried) (stamp_of : Item → ℕ) (board : Board) (received hand : BridgeLane → List Item) (part : ℕ → List Stamped) (all : List Stamped) →
+        IsValid board → Engine carries stamp_of board received hand part → IsMerged board part all → RunSoFar board (put_in carries received hand (λ lane. [])) (events_of all) }
+    ensures complete { (carries : Item → Carried) (stamp_of : Item → ℕ) (board : Board) (received hand : BridgeLane → List Item) (part : ℕ → List Stamped) (all : List Stamped) →
+        IsValid board → Engine carries stamp_of board received hand part → IsMerged board part all → ((lane : BridgeLane) → hand lane ≡ []) →
+        ((bus : ℕ) → is_bus board bus ≡ true → AllGetARetry board (known_at_end carries board received hand (λ lane. []) part bus) (did_by part bus) bus) →
+        Complete board (events_of all) }
 {}
