@@ -2,6 +2,8 @@
 //! crosses at its end.
 #![tactic(auto)]
 
+mod laws;
 mod plain_end;
 
+pub use laws::got_in_order;
 pub use plain_end::PlainEnd;

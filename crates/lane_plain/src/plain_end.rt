@@ -1,4 +1,4 @@
-ghost use Rattle.std.specs.Prelude.{◌≡◌, ◌↔◌, ℕ, ◌+◌, ◌<◌, ◌≤◌, List, [], ◌∷◌, ◌++◌, length, drop, option_to_list, slice_get, IsNone, IfNone};
+ghost use Rattle.std.specs.Prelude.{◌≡◌, ◌↔◌, ℕ, ◌+◌, ◌<◌, ◌≤◌, List, [], ◌∷◌, ◌++◌, length, drop, option_to_list, slice_get, IsTrue, IsNone, IfNone};
 ghost use Rattle.lane_items.specs.declared.item.Item.{Item};
 ghost use Rattle.lane_items.specs.Lane.{in_hand, KeepsPairs};
 ghost use Rattle.lane_plain.specs.Plain.{PlainState};
@@ -17,12 +17,12 @@ pub struct PlainEnd {
 }
 
 impl Model for PlainEnd {
-    ghost use Rattle.std.specs.Prelude.{◌≤◌, length, take};
+    ghost use Rattle.std.specs.Prelude.{◌≤◌, length, take, drop};
     ghost use Rattle.lane_plain.specs.Plain.{PlainState};
 
     ghost Value = { PlainState };
 
-    ghost view = { λ end. record { had = end.hand.items; got = take end.taken end.hand.items; sent = end.sent.items } };
+    ghost view = { λ end. record { got = take end.taken end.hand.items; hand = drop end.taken end.hand.items; sent = end.sent.items } };
 
     ghost invariant = { λ end. (end.taken ≤ length end.hand.items) × (length end.hand.items ≤ 32) × (length end.sent.items ≤ 32) };
 }
@@ -30,7 +30,7 @@ impl Model for PlainEnd {
 impl PlainEnd {
     /// An end with nothing in hand and nothing sent. Any two are the ends of one bridge.
     pub fn new() -> PlainEnd
-        ensures empty { result ≡ record { had = []; got = []; sent = [] } }
+        ensures empty { result ≡ record { got = []; hand = []; sent = [] } }
         ensures paired { (other : PlainState) → ⟦<PlainEnd as LaneEnd>⟧.paired result other }
     {
         PlainEnd {
@@ -41,9 +41,9 @@ impl PlainEnd {
     }
 
     /// What is in hand, oldest first.
-    fn hand(&self) -> &[Item]
-        ensures hand { result.now ≡ in_hand self.now.had self.now.got }
-        ensures whole { self.now.got ++ result.now ≡ self.now.had }
+    pub fn hand(&self) -> &[Item]
+        ensures hand { result.now ≡ self.now.hand }
+        ensures in_hand { result.now ≡ in_hand (⟦<PlainEnd as LaneEnd>⟧.had self.now) (⟦<PlainEnd as LaneEnd>⟧.got self.now) }
     {
         &self.hand.as_slice()[self.taken..]
     }
@@ -55,18 +55,44 @@ impl PlainEnd {
         self.sent.as_slice()
     }
 
-    /// Begins a phase with these items in hand.
-    fn begin(&mut self, hand: ArrayVec<Item, 32>)
-        ensures { self.new ≡ record { had = hand.items; got = []; sent = [] } }
+    /// Whether nothing was in hand when the phase began, and nothing was sent since.
+    fn is_idle(&self) -> bool
+        ensures { IsTrue result ↔ (self.now ≡ record { got = []; hand = []; sent = [] }) }
     {
-        self.hand = hand;
+        self.hand.is_empty() && self.sent.is_empty()
+    }
+
+    /// Begins a phase: what was got is gone, and these items come behind what is in hand.
+    fn refill(&mut self, items: &[Item])
+        requires { length self.old.hand + length items.now ≤ 32 }
+        ensures { self.new ≡ record self.old { got = []; hand = self.old.hand ++ items.now } }
+    {
+        self.forget_got();
+        append(&mut self.hand, items);
+    }
+
+    /// Only what is still in hand stays in the table.
+    fn forget_got(&mut self)
+        ensures { self.new ≡ record self.old { got = [] } }
+    {
+        if self.taken == self.hand.len() {
+            self.hand.clear();
+        } else if self.taken > 0 {
+            self.hand = table_of(self.hand());
+        }
         self.taken = 0;
+    }
+
+    /// What was sent has crossed.
+    fn forget_sent(&mut self)
+        ensures { self.new ≡ record self.old { sent = [] } }
+    {
         self.sent.clear();
     }
 }
 
 impl Default for PlainEnd {
-    ghost is_default = { λ end. end ≡ record { had = []; got = []; sent = [] } };
+    ghost is_default = { λ end. end ≡ record { got = []; hand = []; sent = [] } };
 
     fn default() -> PlainEnd {
         PlainEnd::new()
@@ -76,8 +102,9 @@ impl Default for PlainEnd {
 impl LaneEnd for PlainEnd {
     ghost use Rattle.std.specs.Prelude.{length, ⊤};
     ghost use Rattle.std.proofs.Common.{rules};
+    ghost use Rattle.lane_plain.specs.Plain.{had_in};
 
-    ghost had = { λ end. end.had };
+    ghost had = { had_in };
 
     ghost sent = { λ end. end.sent };
 
@@ -101,9 +128,9 @@ impl LaneEnd for PlainEnd {
 
     /// The oldest item in hand. What was sent in this phase is not in hand before `settle`.
     fn receive(&mut self) -> Option<Item>
-        ensures item { result ≡ slice_get (in_hand self.old.had self.old.got) 0 }
-        ensures none { IsNone result ↔ (in_hand self.old.had self.old.got ≡ []) }
-        ensures got { self.new ≡ record self.old { got = self.old.got ++ option_to_list result } }
+        ensures item { result ≡ slice_get self.old.hand 0 }
+        ensures none { IsNone result ↔ (self.old.hand ≡ []) }
+        ensures got { self.new ≡ record self.old { got = self.old.got ++ option_to_list result; hand = drop 1 self.old.hand } }
     {
         let item = self.hand.as_slice().get(self.taken).copied()?;
         self.taken += 1;
@@ -111,26 +138,32 @@ impl LaneEnd for PlainEnd {
     }
 
     fn settle(a: &mut PlainEnd, b: &mut PlainEnd) {
-        let left_at_a = a.hand();
-        let left_at_b = b.hand();
-        let hand_of_a = joined(left_at_a, b.sent());
-        let hand_of_b = joined(left_at_b, a.sent());
-        a.begin(hand_of_a);
-        b.begin(hand_of_b);
+        if a.is_idle() && b.is_idle() {
+            return;
+        }
+        a.refill(b.sent());
+        b.refill(a.sent());
+        a.forget_sent();
+        b.forget_sent();
     }
 }
 
-/// The items of both, in order.
-fn joined(front: &[Item], back: &[Item]) -> ArrayVec<Item, 32>
-    requires { length front.now + length back.now ≤ 32 }
-    ensures { result.items ≡ front.now ++ back.now }
+/// The items in a table.
+fn table_of(items: &[Item]) -> ArrayVec<Item, 32>
+    requires { length items.now ≤ 32 }
+    ensures { result.items ≡ items.now }
 {
-    let mut items = ArrayVec::new();
-    for item in front {
-        items.push(*item);
+    let mut table = ArrayVec::new();
+    append(&mut table, items);
+    table
+}
+
+/// Adds the items at the end.
+fn append(table: &mut ArrayVec<Item, 32>, items: &[Item])
+    requires { length table.old.items + length items.now ≤ 32 }
+    ensures { table.new.items ≡ table.old.items ++ items.now }
+{
+    for item in items {
+        table.push(*item);
     }
-    for item in back {
-        items.push(*item);
-    }
-    items
 }

@@ -1,0 +1,4 @@
+pub mod PickedLemmas
+pub mod LoopLemmas
+pub mod FitsLemmas
+pub mod ClaimedLemmas
