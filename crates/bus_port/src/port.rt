@@ -52,12 +52,7 @@ impl Port {
     ghost use Rattle.bus_port.specs.Calls.{PortStandsAtFirst, PortTests, PortArrives, PortReplies, PortOffers, PortEnds};
 
     /// The bridge where this lane of it ends, before the first event.
-    pub fn new(
-        alloc: Global,
-        board: &Board,
-        bridge: &Bridge,
-        lane: Lane,
-    ) -> Result<Port, NoMemory>
+    pub fn new(alloc: Global, board: &Board, bridge: &Bridge, lane: Lane) -> Result<Port, NoMemory>
         requires posted { (1 ≤ bridge.now.posted) × (bridge.now.posted ≤ 8) }
         requires delayed { (1 ≤ bridge.now.delayed) × (bridge.now.delayed ≤ 8) }
         ensures lane { IfOk result (λ port. port.lane ≡ lane) }
