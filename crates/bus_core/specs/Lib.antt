@@ -1,2 +1,4 @@
 pub mod Bus
+pub mod Places
 pub mod Calls
+pub mod Parts

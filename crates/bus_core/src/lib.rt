@@ -1,6 +1,11 @@
-//! One bus: the bridges and agents on it, and what each thing that it does is in the model.
+//! One bus: the bridges, masters and targets on it, and what each thing that the bus does is in the
+//! model. A bus stands for what is on the lanes of its bridges and for what it did so far.
 #![tactic(auto)]
 
+mod bus;
 mod given;
+mod places;
+mod steps;
 
+pub use bus::Bus;
 pub use given::{Given, Sent};

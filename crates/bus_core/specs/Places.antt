@@ -1,0 +1,62 @@
+-- A call on one of the ports, masters or targets of a bus, and what is sent there.
+use Rattle.std.specs.Prelude.{◌≡◌, ◌≢◌, ℕ, List, Option, Some, None, slice_get}
+use Rattle.pci_command.specs.declared.request.Request.{Request}
+use Rattle.pci_command.specs.declared.op_id.OpId.{OpId}
+use Rattle.pci_command.specs.declared.op_id.Outcome.{Outcome}
+use Rattle.board_model.specs.declared.board.Board.{Board}
+use Rattle.lane_items.specs.declared.item.Item.{Item}
+use Rattle.lane_items.specs.declared.item.Item.TheVariants.{Post as PostItem, Ask as AskItem}
+use Rattle.bridge_face.specs.declared.reply.Reply.{Reply}
+use Rattle.bridge_face.specs.declared.reply.Reply.TheVariants.{Accepted, Latched, Taken, Retry}
+use Rattle.bridge_face.specs.declared.offer.Offer.{Offer}
+use Rattle.bus_port.specs.Port.{PortView}
+use Rattle.bus_port.specs.Calls.{PortReplies, PortEnds}
+use Rattle.master_agents.specs.Turns.{MasterView, EndsTurn}
+use Rattle.target_agents.specs.declared.access.Access.{Access}
+use Rattle.target_agents.specs.State.{TargetView, access_by}
+use Rattle.target_agents.specs.Stands.{AnswersAsTarget}
+use Rattle.bus_core.specs.declared.given.Sent.{Sent}
+
+-- what is at the place changed, and nothing else
+pub record OneChanged {X : Type 0} (place : ℕ) (old new : List X) (before after : X) : Type 0 where
+  pub was : slice_get old place ≡ Some before
+  pub is : slice_get new place ≡ Some after
+  pub others : (n : ℕ) → n ≢ place → slice_get new n ≡ slice_get old n
+
+pub record RespondsAt (place : ℕ) (old : List PortView) (line : ℕ) (o : OpId) (request : Request) (reply : Reply) (new : List PortView) : Type 0 where
+  pub before : PortView
+  pub after : PortView
+  pub one : OneChanged place old new before after
+  pub lane : after.lane ≡ before.lane
+  pub arrivals : after.face.arrivals ≡ before.face.arrivals
+  pub replies : PortReplies before line o request reply after
+
+pub record AccessesAt (board : Board) (place : ℕ) (old : List TargetView) (request : Request) (access : Access) (new : List TargetView) : Type 0 where
+  pub before : TargetView
+  pub after : TargetView
+  pub one : OneChanged place old new before after
+  pub target : after.target ≡ before.target
+  pub access_is : access ≡ access_by before request (slice_get board.targets before.target)
+  pub answers : AnswersAsTarget board before request access after
+
+pub record EndsTurnAt (board : Board) (place : ℕ) (old : List MasterView) (outcome : Outcome) (new : List MasterView) : Type 0 where
+  pub before : MasterView
+  pub after : MasterView
+  pub one : OneChanged place old new before after
+  pub master : after.master ≡ before.master
+  pub ends : EndsTurn board before outcome after
+
+pub record EndsAt (place : ℕ) (old : List PortView) (offer : Offer) (outcome : Outcome) (new : List PortView) (back : Item) : Type 0 where
+  pub before : PortView
+  pub after : PortView
+  pub one : OneChanged place old new before after
+  pub lane : after.lane ≡ before.lane
+  pub arrivals : after.face.arrivals ≡ before.face.arrivals
+  pub ends : PortEnds before offer outcome after back
+
+-- what a reply sends over the bridge
+abbrev pub sent_over : ℕ → OpId → ℕ → Reply → Option Sent
+sent_over place o stamp Accepted = Some (record { place = place; item = PostItem o stamp })
+sent_over place o stamp (Latched slot) = Some (record { place = place; item = AskItem o slot stamp })
+sent_over place o stamp (Taken slot outcome) = None
+sent_over place o stamp (Retry cause) = None
