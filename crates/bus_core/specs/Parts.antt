@@ -1,5 +1,5 @@
 -- What a bus answers, by who claims what is left of a request.
-use Rattle.std.specs.Prelude.{◌≡◌, ℕ, true, List, Some, Option}
+use Rattle.std.specs.Prelude.{◌≡◌, ℕ, ◌+◌, ◌*◌, ◌^◌, ◌<◌, true, List, drop, Some, Option}
 use Rattle.pci_command.specs.declared.request.Request.{Request}
 use Rattle.pci_command.specs.declared.op_id.OpId.{OpId}
 use Rattle.board_model.specs.declared.bridge.Place.{Place}
@@ -15,6 +15,13 @@ use Rattle.history_model.specs.Words.{through, without}
 use Rattle.bus_core.specs.declared.given.Sent.{Sent}
 use Rattle.bus_core.specs.Bus.{BusView, BusStands}
 use Rattle.bus_core.specs.Calls.{IsLine, Answered, ClaimedBack}
+
+-- what is left of a request of which so many data phases went through
+pub record IsRest (gone : ℕ) (request rest : Request) : Type 0 where
+  pub command : rest.command ≡ request.command
+  pub phases : rest.phases ≡ drop gone request.phases
+  pub range : request.address < 2 ^ 64
+  pub address : request.address + 4 * gone < 2 ^ 64 → rest.address ≡ request.address + 4 * gone
 
 -- the place claims what is left of the request
 pub record IsClaimed (board : Board) (bus : ℕ) (p : List Event) (o : OpId) (request rest : Request) (place : Place) : Type 0 where

@@ -1,9 +1,15 @@
 -- A call on one of the ports, masters or targets of a bus, and what is sent there.
-use Rattle.std.specs.Prelude.{◌≡◌, ◌≢◌, ℕ, List, Option, Some, None, slice_get}
+use Rattle.std.specs.Prelude.{◌≡◌, ◌≢◌, ℕ, List, ◌∷◌, Option, Some, None, slice_get}
 use Rattle.pci_command.specs.declared.request.Request.{Request}
 use Rattle.pci_command.specs.declared.op_id.OpId.{OpId}
 use Rattle.pci_command.specs.declared.op_id.Outcome.{Outcome}
+use Rattle.board_model.specs.declared.bridge.Place.{Place}
+use Rattle.board_model.specs.declared.op.Op.{Op}
 use Rattle.board_model.specs.declared.board.Board.{Board}
+use Rattle.board_model.specs.Requests.{op_of, tries_of}
+use Rattle.history_model.specs.declared.event.By.{By}
+use Rattle.history_model.specs.declared.event.Event.{Event}
+use Rattle.history_model.specs.declared.event.Event.TheVariants.{Act}
 use Rattle.lane_items.specs.declared.item.Item.{Item}
 use Rattle.lane_items.specs.declared.item.Item.TheVariants.{Post as PostItem, Ask as AskItem}
 use Rattle.bridge_face.specs.declared.reply.Reply.{Reply}
@@ -13,7 +19,9 @@ use Rattle.bus_port.specs.Port.{PortView}
 use Rattle.bus_port.specs.Calls.{PortReplies, PortEnds}
 use Rattle.master_agents.specs.Turns.{MasterView, EndsTurn}
 use Rattle.target_agents.specs.declared.access.Access.{Access}
-use Rattle.target_agents.specs.State.{TargetView, access_by}
+use Rattle.target_agents.specs.declared.access.Access.TheVariants.{Part}
+use Rattle.master_agents.specs.Through.{ThroughStands}
+use Rattle.target_agents.specs.State.{TargetView, access_by, step_of}
 use Rattle.target_agents.specs.Stands.{AnswersAsTarget}
 use Rattle.bus_core.specs.declared.given.Sent.{Sent}
 
@@ -38,6 +46,11 @@ pub record AccessesAt (board : Board) (place : ℕ) (old : List TargetView) (req
   pub target : after.target ≡ before.target
   pub access_is : access ≡ access_by before request (slice_get board.targets before.target)
   pub answers : AnswersAsTarget board before request access after
+
+-- wherever the counts stood for a past, they stand for that past and the answer of a target
+pub record NotesPart (old : List (List ℕ)) (o : OpId) (access : Access) (new : List (List ℕ)) : Type 0 where
+  pub stands : (board : Board) (p : List Event) (on : ℕ) (by : By) (place : Place) (op : Op) → ThroughStands board p old → op_of board o ≡ Some op
+      → ((phases : ℕ) → access ≡ Part phases → tries_of op ≡ 1) → ThroughStands board (Act on by o (step_of access) place ∷ p) new
 
 pub record EndsTurnAt (board : Board) (place : ℕ) (old : List MasterView) (outcome : Outcome) (new : List MasterView) : Type 0 where
   pub before : MasterView

@@ -5,7 +5,7 @@ ghost use Rattle.board_model.specs.declared.bridge.Place.TheVariants.{Target, La
 ghost use Rattle.history_model.specs.Answers.{header_answer, bridge_to};
 ghost use Rattle.board_model.specs.WellFormed.{is_well_formed};
 
-use crate::places::{access_at, port_back, respond_at, target_place};
+use crate::places::{access_at, note_part, port_back, respond_at, target_place};
 use crate::steps::{as_answer, nobody, rest_of, sent_over, step_of};
 use crate::Given;
 use board_claim::claim;
@@ -16,7 +16,7 @@ use history_model::Answer;
 use master_agents::{MasterState, Through};
 use pci_command::{OpId, Request};
 use std::marker::Model;
-use target_agents::{Access, TargetState};
+use target_agents::TargetState;
 
 /// One bus with all that is on it.
 #[derive(Debug, Drop)]
@@ -96,9 +96,7 @@ impl Bus {
             None => nobody(),
             Some(place) => {
                 let access = access_at(self.targets.as_mut_slice(), place, board, rest);
-                if let Access::Part(phases) = access {
-                    self.through.part(op, phases);
-                }
+                note_part(&mut self.through, op, access);
                 Given {
                     answer: Answer::Gives {
                         step: step_of(access),

@@ -1,15 +1,16 @@
-ghost use Rattle.std.specs.Prelude.{◌≡◌, ◌<◌, ◌==◌, length, position};
+ghost use Rattle.std.specs.Prelude.{◌≡◌, ◌+◌, ◌<◌, ◌==◌, length, position};
+ghost use Rattle.history_model.specs.Words.{phases_parted};
+ghost use Rattle.master_agents.specs.Through.{count_in};
+ghost use Rattle.target_agents.specs.State.{step_of};
 ghost use Rattle.history_model.specs.World.{same_lane};
 ghost use Rattle.board_model.specs.Ways.{lane_back};
-ghost use Rattle.bus_port.specs.Port.{PortView};
-ghost use Rattle.target_agents.specs.State.{TargetView};
-ghost use Rattle.bus_core.specs.Places.{RespondsAt, AccessesAt, EndsTurnAt};
+ghost use Rattle.bus_core.specs.Places.{RespondsAt, AccessesAt, NotesPart};
 
 use board_model::{Board, Lane};
 use bridge_face::Reply;
 use bus_port::Port;
-use master_agents::MasterState;
-use pci_command::{OpId, Outcome, Request};
+use master_agents::Through;
+use pci_command::{OpId, Request};
 use target_agents::{Access, TargetState};
 
 /// The place of the port whose lane back this is.
@@ -70,4 +71,14 @@ pub(crate) fn access_at(
 {
     let target = &mut targets[place];
     target.access(board, request)
+}
+
+/// So many data phases of the operation went through as the target took in parts.
+pub(crate) fn note_part(through: &mut Through, op: OpId, access: Access)
+    requires { count_in through.old op + phases_parted (step_of access) < 256 }
+    ensures { NotesPart through.old op access through.new }
+{
+    if let Access::Part(phases) = access {
+        through.part(op, phases);
+    }
 }

@@ -1,4 +1,4 @@
-ghost use Rattle.std.specs.Prelude.{◌≡◌, ◌+◌, ◌*◌, ◌<◌, ◌^◌, drop, None};
+ghost use Rattle.std.specs.Prelude.{◌≡◌, ◌+◌, ◌<◌, drop, length, None};
 ghost use Rattle.board_model.specs.declared.bridge.Place.TheVariants.{Nobody};
 ghost use Rattle.history_model.specs.declared.event.Step.TheVariants.{MasterAbort};
 ghost use Rattle.history_model.specs.declared.item.Answer.TheVariants.{Gives};
@@ -6,6 +6,7 @@ ghost use Rattle.history_model.specs.Program.{master_outcome};
 ghost use Rattle.history_model.specs.World.{lane_outcome, unclaimed, mode_of};
 ghost use Rattle.bridge_face.specs.Replies.{as_answer};
 ghost use Rattle.target_agents.specs.State.{step_of};
+ghost use Rattle.bus_core.specs.Parts.{IsRest};
 ghost use Rattle.bus_core.specs.Places.{sent_over};
 
 use crate::{Given, Sent};
@@ -32,10 +33,10 @@ pub(crate) fn nobody() -> Given
 
 /// What is left of a request of which so many data phases went through.
 pub(crate) fn rest_of(request: &Request, gone: u8) -> Request
-    ensures command { result.command ≡ request.now.command }
-    ensures phases { result.phases ≡ drop gone request.now.phases }
-    ensures address { request.now.address + 4 * gone < 2 ^ 64 → result.address ≡ request.now.address + 4 * gone }
+    ensures rest { IsRest gone request.now result }
+    ensures few { gone + length result.phases < 256 }
 {
+    let _few = request.phases.len();
     Request {
         command: request.command,
         address: request.address.saturating_add(4 * u64::from(gone)),
