@@ -5,3 +5,4 @@ pub mod LaneLemmas
 pub mod NoteLemmas
 pub mod TargetLemmas
 pub mod RequestLemmas
+pub mod TellLemmas

@@ -1,8 +1,12 @@
 -- What went through of a write, after the answer of a target.
-use Rattle.std.proofs.Common.{◌≡◌, ℕ, List, refl}
+use Rattle.std.proofs.Common.{◌≡◌, ℕ, Bool, true, false, List, refl}
 use Rattle.pci_command.specs.declared.op_id.OpId.{OpId}
 use Rattle.history_model.specs.declared.event.Event.TheVariants.{Act}
+use Rattle.pci_command.specs.declared.op_id.Outcome.{Outcome}
 use Rattle.history_model.specs.Words.{phases_parted}
+use Rattle.bridge_face.specs.declared.offer.Offer.{Offer}
+use Rattle.bridge_face.specs.Offers.{answered_with}
+use Rattle.bus_core.specs.Calls.{stamp_of}
 use Rattle.master_agents.specs.Through.{AddsPart}
 use Rattle.master_agents.proofs.ThroughLemmas.{through_stays}
 use Rattle.target_agents.specs.declared.access.Access.{Access}
@@ -25,3 +29,9 @@ none_noted gone o Abort other = still_noted gone o Abort refl
 none_noted gone o (Value value) other = still_noted gone o (Value value) refl
 none_noted gone o (Part phases) other = absurd (other phases refl)
 none_noted gone o Landed other = still_noted gone o Landed refl
+
+-- what goes back for an item has the stamp
+pub answer_stamp : (offer : Offer) (outcome : Outcome) (stamp : ℕ) → stamp_of (answered_with offer outcome stamp) ≡ stamp
+answer_stamp offer outcome stamp =
+    let P : Bool → Type 0 = λ b. stamp_of (answered_with (record offer { ask = b }) outcome stamp) ≡ stamp in
+    elim offer.ask as P [ true ↦ refl | false ↦ refl ]

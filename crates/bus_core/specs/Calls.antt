@@ -20,6 +20,7 @@ use Rattle.history_model.specs.Words.{through, without}
 use Rattle.history_model.specs.Answers.{answer_in}
 use Rattle.law_slots.specs.Latched.{IsAt}
 use Rattle.lane_items.specs.declared.item.Item.{Item}
+use Rattle.lane_items.specs.declared.item.Item.TheVariants.{Post, Ask, Done, Room, Gone}
 use Rattle.bridge_face.specs.Arrivals.{carried}
 use Rattle.bridge_face.specs.Stands.{IsTag}
 use Rattle.bus_port.specs.Calls.{after_answer}
@@ -30,6 +31,19 @@ use Rattle.bus_core.specs.Bus.{BusView, Shape, shape_of, BusStandsAt, BusStands}
 abbrev pub past_after : ℕ → By → OpId → Answer → List Event → List Event
 past_after bus by o (Gives step place) p = Act bus by o step place ∷ p
 past_after bus by o (Retry cause) p = p
+
+-- the stamp of an item: that of the event that sent it
+abbrev pub stamp_of : Item → ℕ
+stamp_of (Post op stamp) = stamp
+stamp_of (Ask op slot stamp) = stamp
+stamp_of (Done op slot outcome stamp) = stamp
+stamp_of (Room stamp) = stamp
+stamp_of (Gone slot stamp) = stamp
+
+-- what is sent, if anything is, has this stamp
+abbrev pub IsStamped : ℕ → Option Sent → Type 0
+IsStamped stamp None = Unit {0}
+IsStamped stamp (Some sent) = stamp_of sent.item ≡ stamp
 
 -- the items sent at a port, where one is sent at some port
 abbrev pub items_at : Option Sent → ℕ → List Item

@@ -2,3 +2,4 @@ pub mod Bus
 pub mod Places
 pub mod Calls
 pub mod Parts
+pub mod Serves

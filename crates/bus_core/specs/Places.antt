@@ -1,5 +1,5 @@
 -- A call on one of the ports, masters or targets of a bus, and what is sent there.
-use Rattle.std.specs.Prelude.{◌≡◌, ◌≢◌, ℕ, List, ◌∷◌, Option, Some, None, slice_get}
+use Rattle.std.specs.Prelude.{◌≡◌, ◌≢◌, ℕ, List, ◌∷◌, map, Option, Some, None, slice_get}
 use Rattle.pci_command.specs.declared.request.Request.{Request}
 use Rattle.pci_command.specs.declared.op_id.OpId.{OpId}
 use Rattle.pci_command.specs.declared.op_id.Outcome.{Outcome}
@@ -8,6 +8,8 @@ use Rattle.board_model.specs.declared.op.Op.{Op}
 use Rattle.board_model.specs.declared.board.Board.{Board}
 use Rattle.board_model.specs.Requests.{op_of, tries_of}
 use Rattle.history_model.specs.declared.event.By.{By}
+use Rattle.history_model.specs.declared.event.By.TheVariants.{Master}
+use Rattle.history_model.specs.declared.event.Step.{Step}
 use Rattle.history_model.specs.declared.event.Event.{Event}
 use Rattle.history_model.specs.declared.event.Event.TheVariants.{Act}
 use Rattle.lane_items.specs.declared.item.Item.{Item}
@@ -17,7 +19,7 @@ use Rattle.bridge_face.specs.declared.reply.Reply.TheVariants.{Accepted, Latched
 use Rattle.bridge_face.specs.declared.offer.Offer.{Offer}
 use Rattle.bus_port.specs.Port.{PortView}
 use Rattle.bus_port.specs.Calls.{PortReplies, PortEnds}
-use Rattle.master_agents.specs.Turns.{MasterView, EndsTurn}
+use Rattle.master_agents.specs.Turns.{MasterView, MasterStands, EndsTurn}
 use Rattle.target_agents.specs.declared.access.Access.{Access}
 use Rattle.target_agents.specs.declared.access.Access.TheVariants.{Part}
 use Rattle.master_agents.specs.Through.{ThroughStands}
@@ -52,12 +54,26 @@ pub record NotesPart (old : List (List ℕ)) (o : OpId) (access : Access) (new :
   pub stands : (board : Board) (p : List Event) (on : ℕ) (by : By) (place : Place) (op : Op) → ThroughStands board p old → op_of board o ≡ Some op
       → ((phases : ℕ) → access ≡ Part phases → tries_of op ≡ 1) → ThroughStands board (Act on by o (step_of access) place ∷ p) new
 
+pub record WantsAt (place : ℕ) (masters : List MasterView) (turn : Option OpId) : Type 0 where
+  pub master : MasterView
+  pub there : slice_get masters place ≡ Some master
+  pub turn_is : master.turn ≡ turn
+
 pub record EndsTurnAt (board : Board) (place : ℕ) (old : List MasterView) (outcome : Outcome) (new : List MasterView) : Type 0 where
   pub before : MasterView
   pub after : MasterView
   pub one : OneChanged place old new before after
   pub master : after.master ≡ before.master
   pub ends : EndsTurn board before outcome after
+
+-- an operation of the master at the place was answered with this step: wherever all masters stood for a past, they stand
+-- for that past and the act; no other has that master's number
+pub record TellsMaster (board : Board) (place : ℕ) (step : Step) (old new : List MasterView) : Type 0 where
+  pub numbers : map (λ (m : MasterView). m.master) new ≡ map (λ (m : MasterView). m.master) old
+  pub tells : (p : List Event) (on : ℕ) (o : OpId) (at : Place) (told : MasterView) → slice_get old place ≡ Some told → told.turn ≡ Some o → o.master ≡ told.master
+      → ((n : ℕ) (m : MasterView) → n ≢ place → slice_get old n ≡ Some m → told.master ≢ m.master)
+      → ((n : ℕ) (m : MasterView) → slice_get old n ≡ Some m → MasterStands board p m)
+      → (n : ℕ) (m : MasterView) → slice_get new n ≡ Some m → MasterStands board (Act on Master o step at ∷ p) m
 
 pub record EndsAt (place : ℕ) (old : List PortView) (offer : Offer) (outcome : Outcome) (new : List PortView) (back : Item) : Type 0 where
   pub before : PortView

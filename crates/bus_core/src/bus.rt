@@ -21,11 +21,11 @@ use target_agents::TargetState;
 /// One bus with all that is on it.
 #[derive(Debug, Drop)]
 pub struct Bus {
-    bus: u8,
-    ports: Vec<Port>,
-    masters: Vec<MasterState>,
-    targets: Vec<TargetState>,
-    through: Through,
+    pub(crate) bus: u8,
+    pub(crate) ports: Vec<Port>,
+    pub(crate) masters: Vec<MasterState>,
+    pub(crate) targets: Vec<TargetState>,
+    pub(crate) through: Through,
 }
 
 impl Model for Bus {
@@ -38,7 +38,7 @@ impl Model for Bus {
 
 impl Bus {
     ghost use Rattle.bus_core.specs.Bus.{shape_of};
-    ghost use Rattle.bus_core.specs.Calls.{BusAnswers, TurnsBack};
+    ghost use Rattle.bus_core.specs.Calls.{IsStamped, BusAnswers, TurnsBack};
     ghost use Rattle.bus_core.specs.Parts.{PlaceAnswers, PlaceTurns, RequestAnswers, RequestTurns};
     ghost use Rattle.master_agents.specs.Through.{count_in};
 
@@ -50,6 +50,7 @@ impl Bus {
         ensures shape { shape_of self.new ≡ shape_of self.old }
         ensures masters { self.new.masters ≡ self.old.masters }
         ensures presenter { slice_get self.new.ports line ≡ slice_get self.old.ports line }
+        ensures stamped { IfSome result (λ given. IsStamped stamp given.over) }
         ensures answers { IfSome result (λ given. BusAnswers board.now self.old line op given.answer given.over self.new) }
         ensures turns { IfNone result (TurnsBack board.now self.old line op) }
     {
@@ -72,6 +73,7 @@ impl Bus {
         ensures shape { shape_of self.new ≡ shape_of self.old }
         ensures masters { self.new.masters ≡ self.old.masters }
         ensures presenter { slice_get self.new.ports line ≡ slice_get self.old.ports line }
+        ensures stamped { IfSome result (λ given. IsStamped stamp given.over) }
         ensures answers { IfSome result (λ given. RequestAnswers board.now self.old line op request.now given.answer given.over self.new) }
         ensures turns { IfNone result (RequestTurns board.now self.old line op request.now) }
     {
@@ -90,6 +92,7 @@ impl Bus {
         ensures shape { shape_of self.new ≡ shape_of self.old }
         ensures masters { self.new.masters ≡ self.old.masters }
         ensures ports { self.new.ports ≡ self.old.ports }
+        ensures none { result.over ≡ None }
         ensures answers { (line : ℕ) (request : RequestOf) → PlaceAnswers board.now self.old (Target target) line op request rest.now result.answer result.over self.new }
     {
         match target_place(self.targets.as_slice(), target) {
@@ -120,6 +123,7 @@ impl Bus {
         ensures shape { shape_of self.new ≡ shape_of self.old }
         ensures masters { self.new.masters ≡ self.old.masters }
         ensures presenter { slice_get self.new.ports line ≡ slice_get self.old.ports line }
+        ensures stamped { IfSome result (λ given. IsStamped stamp given.over) }
         ensures answers { (board : BoardTree) (rest : RequestOf) → IfSome result (λ given. PlaceAnswers board self.old (LaneOf lane) line op request.now rest given.answer given.over self.new) }
         ensures turns { (board : BoardTree) (rest : RequestOf) → IfNone result (PlaceTurns board self.old (LaneOf lane) line op request.now rest) }
     {

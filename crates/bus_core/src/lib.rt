@@ -5,7 +5,8 @@
 mod bus;
 mod given;
 mod places;
+mod serve;
 mod steps;
 
 pub use bus::Bus;
-pub use given::{Given, Sent};
+pub use given::{Acted, Given, Presented, Sent};

@@ -1,16 +1,23 @@
-ghost use Rattle.std.specs.Prelude.{◌≡◌, ◌+◌, ◌<◌, ◌==◌, length, position};
+ghost use Rattle.std.specs.Prelude.{◌≡◌, ◌+◌, ◌<◌, ◌==◌, length, position, slice_get, IfSome, IsTrue};
+ghost use Rattle.std.specs.List.{Contains};
+ghost use Rattle.board_model.specs.WellFormed.{is_well_formed};
+ghost use Rattle.bridge_face.specs.Offers.{offers_of};
+ghost use Rattle.bus_core.specs.Calls.{stamp_of as stamp_in};
 ghost use Rattle.history_model.specs.Words.{phases_parted};
 ghost use Rattle.master_agents.specs.Through.{count_in};
 ghost use Rattle.target_agents.specs.State.{step_of};
 ghost use Rattle.history_model.specs.World.{same_lane};
 ghost use Rattle.board_model.specs.Ways.{lane_back};
-ghost use Rattle.bus_core.specs.Places.{RespondsAt, AccessesAt, NotesPart};
+ghost use Rattle.bus_core.specs.Places.{RespondsAt, AccessesAt, NotesPart, WantsAt, EndsTurnAt, TellsMaster, EndsAt};
 
+use crate::steps::master_outcome;
 use board_model::{Board, Lane};
-use bridge_face::Reply;
+use bridge_face::{Offer, Reply};
 use bus_port::Port;
-use master_agents::Through;
-use pci_command::{OpId, Request};
+use history_model::Step;
+use lane_items::Item;
+use master_agents::{MasterState, Through};
+use pci_command::{OpId, Outcome, Request};
 use target_agents::{Access, TargetState};
 
 /// The place of the port whose lane back this is.
@@ -81,4 +88,50 @@ pub(crate) fn note_part(through: &mut Through, op: OpId, access: Access)
     if let Access::Part(phases) = access {
         through.part(op, phases);
     }
+}
+
+/// What the master at the place presents.
+pub(crate) fn want_at(masters: &[MasterState], place: usize) -> Option<OpId>
+    requires { place < length masters.now }
+    ensures { WantsAt place masters.now result }
+{
+    masters[place].want()
+}
+
+/// The operation of the master at the place was answered with this step.
+pub(crate) fn tell_master(masters: &mut [MasterState], place: usize, board: &Board, step: Step)
+    requires place { place < length masters.old }
+    requires formed { IsTrue (is_well_formed board.now) }
+    ensures { TellsMaster board.now place step masters.old masters.new }
+{
+    if let Some(outcome) = master_outcome(step) {
+        end_turn_at(masters, place, board, outcome);
+    }
+}
+
+/// The operation of the master at the place ended.
+fn end_turn_at(masters: &mut [MasterState], place: usize, board: &Board, outcome: Outcome)
+    requires place { place < length masters.old }
+    requires formed { IsTrue (is_well_formed board.now) }
+    ensures { EndsTurnAt board.now place masters.old outcome masters.new }
+{
+    let master = &mut masters[place];
+    master.ended(board, outcome);
+}
+
+/// An item that the port at the place offers ended.
+pub(crate) fn end_at(
+    ports: &mut [Port],
+    place: usize,
+    offer: &Offer,
+    outcome: Outcome,
+    stamp: u32,
+) -> Item
+    requires place { place < length ports.old }
+    requires offered { IfSome (slice_get ports.old place) (λ port. Contains (offers_of port.face) offer.now) }
+    ensures ends { EndsAt place ports.old offer.now outcome ports.new result }
+    ensures stamped { stamp_in result ≡ stamp }
+{
+    let port = &mut ports[place];
+    port.ended(offer, outcome, stamp)
 }

@@ -47,8 +47,8 @@ pub struct Arrival {
 
 impl Port {
     ghost use Rattle.std.specs.List.{Contains};
-    ghost use Rattle.bridge_face.specs.Arrivals.{is_taken, HasRequest};
-    ghost use Rattle.bridge_face.specs.Offers.{offers_of};
+    ghost use Rattle.bridge_face.specs.Arrivals.{is_taken, HasRequest, sent_back};
+    ghost use Rattle.bridge_face.specs.Offers.{offers_of, answered_with};
     ghost use Rattle.bus_port.specs.Calls.{PortStandsAtFirst, PortTests, PortArrives, PortReplies, PortOffers, PortEnds};
 
     /// The bridge where this lane of it ends, before the first event.
@@ -91,6 +91,7 @@ impl Port {
         requires counts { self.old.face.arrivals + 1 < 2 ^ 64 }
         ensures lane { self.new.lane ≡ self.old.lane }
         ensures arrivals { self.new.face.arrivals ≡ self.old.face.arrivals + 1 }
+        ensures back { result.back ≡ sent_back (carried item) result.mark stamp }
         ensures arrives { (board : BoardTree) → PortArrives board self.old (carried item) request result.mark self.new result.back }
     {
         let mark = self.marks.mark(carried(item));
@@ -122,6 +123,7 @@ impl Port {
         requires { Contains (offers_of self.old.face) offer.now }
         ensures lane { self.new.lane ≡ self.old.lane }
         ensures arrivals { self.new.face.arrivals ≡ self.old.face.arrivals }
+        ensures back { result ≡ answered_with offer.now outcome stamp }
         ensures ends { PortEnds self.old offer.now outcome self.new result }
     {
         self.face.ended(offer, outcome, stamp)
