@@ -6,3 +6,4 @@ pub mod NoteLemmas
 pub mod TargetLemmas
 pub mod RequestLemmas
 pub mod TellLemmas
+pub mod OfferLemmas

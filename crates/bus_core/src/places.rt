@@ -104,8 +104,9 @@ pub(crate) fn tell_master(masters: &mut [MasterState], place: usize, board: &Boa
     requires formed { IsTrue (is_well_formed board.now) }
     ensures { TellsMaster board.now place step masters.old masters.new }
 {
-    if let Some(outcome) = master_outcome(step) {
-        end_turn_at(masters, place, board, outcome);
+    match master_outcome(step) {
+        Some(outcome) => end_turn_at(masters, place, board, outcome),
+        None => {}
     }
 }
 
