@@ -36,7 +36,7 @@ use Rattle.bus_port.specs.Port.{PortView, PortStands}
 use Rattle.bus_port.specs.Calls.{after_answer, Replies}
 use Rattle.bus_port.proofs.MoveLemmas.{moved_apart, other_bridge_leaves}
 use Rattle.bus_core.specs.declared.given.Sent.{Sent}
-use Rattle.bus_core.specs.Bus.{BusView, Shape, shape_of, IsOf, AreLines, BusStandsAt, BusStands}
+use Rattle.bus_core.specs.Bus.{BusView, Shape, shape_of, arrivals_at, IsOf, AreLines, BusStandsAt, BusStands}
 use Rattle.bus_core.specs.Calls.{past_after, items_at, Flights, IsLine, Answered, ClaimedBack}
 use Rattle.bus_core.specs.Parts.{IsClaimed, PlaceAnswers, PlaceTurns}
 use Rattle.bus_core.specs.Places.{OneChanged, RespondsAt, sent_over}
@@ -244,3 +244,6 @@ ports_shape s place line o request reply ports responds =
     let f : PortView → BridgeLane = λ one. one.lane in
     let S : List BridgeLane → Shape = λ l. record { bus = s.bus; lanes = l; masters = (shape_of s).masters; targets = (shape_of s).targets } in
     ap S (one_map f place s.ports ports responds.before responds.after responds.one responds.lane)
+
+pub ports_arrivals : (s : BusView) (place line : ℕ) (o : OpId) (request : Request) (reply : Reply) (ports : List PortView) → RespondsAt place s.ports line o request reply ports → arrivals_at (record s { ports = ports }) ≡ arrivals_at s
+ports_arrivals s place line o request reply ports responds = one_map (λ (one : PortView). one.face.arrivals) place s.ports ports responds.before responds.after responds.one responds.arrivals

@@ -7,3 +7,4 @@ pub mod TargetLemmas
 pub mod RequestLemmas
 pub mod TellLemmas
 pub mod OfferLemmas
+pub mod ComesLemmas

@@ -1,8 +1,10 @@
 -- A lane presents an item that stands.
-use Rattle.std.proofs.Common.{◌≡◌, ◌≢◌, ℕ, Bool, true, false, cond, ◌==◌, ◌&&◌, List, [], ◌∷◌, ◌++◌, map, Option, Some, None, refl, sym, ap, subst, ◌∙◌, slice_get}
+use Rattle.std.proofs.Common.{◌≡◌, ◌≢◌, ℕ, Bool, true, false, cond, ◌==◌, ◌&&◌, List, [], ◌∷◌, ◌++◌, map, length, get_or, Option, Some, None, refl, sym, ap, subst, ◌∙◌, slice_get}
 use Rattle.std.proofs.lemmas.Bool.{eqb-true, eqb-false, eq-eqb}
 use Rattle.std.proofs.lemmas.List.{append-nil, append_assoc, map-append}
-use Rattle.std.specs.List.{list_any, Contains}
+use Rattle.std.proofs.lemmas.Option.{slice_get_read}
+use Rattle.std.proofs.lemmas.Map.Keys.{any_passes_from_place}
+use Rattle.std.specs.List.{Contains}
 use Rattle.pci_command.specs.declared.op_id.OpId.{OpId}
 use Rattle.pci_command.specs.declared.op_id.Outcome.{Outcome}
 use Rattle.board_model.specs.declared.bridge.Lane.{Lane as BridgeLane}
@@ -18,16 +20,23 @@ use Rattle.history_model.specs.declared.item.Answer.TheVariants.{Gives, Retry}
 use Rattle.history_model.specs.declared.item.Cause.{Cause}
 use Rattle.history_model.specs.Lanes.{LaneState, item_ends}
 use Rattle.history_model.specs.World.{World, moved, leaves, lane_outcome, at_initiator}
+use Rattle.history_model.specs.declared.item.Carried.{Carried}
 use Rattle.history_model.specs.Answers.{wants_in}
+use Rattle.history_facts.proofs.RequestLemmas.{same_op_self}
 use Rattle.lane_items.specs.declared.item.Item.{Item}
 use Rattle.bridge_face.specs.declared.offer.Offer.{Offer}
 use Rattle.bridge_face.specs.Arrivals.{carried}
+use Rattle.bridge_face.specs.Offers.{offers_of, is_offer_of}
+use Rattle.bridge_face.proofs.EndLemmas.{offers_on_lanes}
 use Rattle.bus_port.specs.Port.{PortView, PortStands}
-use Rattle.bus_port.specs.Calls.{PortEnds}
+use Rattle.bus_port.specs.Calls.{after_answer}
 use Rattle.bus_port.proofs.MoveLemmas.{moved_apart, other_bridge_leaves}
+use Rattle.bus_port.proofs.ReplyLemmas.{port_offers}
 use Rattle.master_agents.specs.Turns.{MasterView, MasterStands}
+use Rattle.master_agents.specs.Through.{ThroughStands}
+use Rattle.target_agents.specs.State.{TargetView}
 use Rattle.bus_core.specs.declared.given.Sent.{Sent}
-use Rattle.bus_core.specs.Bus.{BusView, Shape, shape_of, IsOf, AreLines, BusStandsAt, BusStands}
+use Rattle.bus_core.specs.Bus.{BusView, Shape, shape_of, IsOf, AreLines, PartsAreOfWrites, BusStands}
 use Rattle.bus_core.specs.Calls.{items_at, Flights, IsLine, Answered, BusAnswers, TurnsBack}
 use Rattle.bus_core.specs.Parts.{TellsLane}
 use Rattle.bus_core.specs.Places.{OneChanged, EndsAt}
@@ -122,3 +131,82 @@ module _ (board : Board) (place : ℕ) (offer : Offer) (step : Step) (outcome : 
                   ]) refl;
             });
       }
+
+-- A lane that presents what is offered.
+offered_wants : (board : Board) (old : BusView) (place : ℕ) (port : PortView) (offer : Offer) → slice_get old.ports place ≡ Some port → Contains (offers_of port.face) offer
+    → (tags : By → OpId → ℕ) (world : World) (p : List Event) → BusStands board tags world p old → wants_in board world p old.bus (ByLane port.lane) offer.op ≡ true
+offered_wants board old place port offer there offered tags world p stands =
+    let offers : List Offer = offers_of port.face in
+    let same : offer ≡ get_or offers offered.0 offer = sym offered.2 in
+    let at : slice_get offers offered.0 ≡ Some offer = slice_get_read offers (length offers) offered.0 offer refl offered.1 same in
+    (port_offers port offers (offers_on_lanes port.face offers refl)).wanted board old.bus tags world p offer.op (stands.ports place port there)
+    ∙ any_passes_from_place (is_offer_of offer.op) offers offered.0 offer at (same_op_self offer.op)
+
+offered_line : (board : Board) (old : BusView) (place : ℕ) (port : PortView) (o : OpId) → slice_get old.ports place ≡ Some port
+    → (tags : By → OpId → ℕ) (world : World) (p : List Event) → BusStands board tags world p old → IsLine board old.bus tags (ByLane port.lane) o place
+offered_line board old place port o there tags world p stands =
+    let line = stands.lines.lanes place port.lane o (get_map (λ (x : PortView). x.lane) old.ports place port there) in
+    record { line_is = line.0; tells = line.1; there = (stands.ports place port there).ends }
+
+pub offer_turns : (board : Board) (old : BusView) (place : ℕ) (port : PortView) (offer : Offer) → slice_get old.ports place ≡ Some port → Contains (offers_of port.face) offer → TurnsBack board old place offer.op → BusTurnsBack board (ByLane port.lane) offer.op old
+offer_turns board old place port offer there offered turns =
+    record {
+      wanted = λ tags world p stands. offered_wants board old place port offer there offered tags world p stands;
+      turns = λ tags world p stands. turns.turns tags world p (ByLane port.lane) (offered_line board old place port offer.op there tags world p stands) stands;
+    }
+
+pub offer_retried : (board : Board) (old new : BusView) (place : ℕ) (port : PortView) (offer : Offer) (cause : Cause) (over : Option Sent) → slice_get old.ports place ≡ Some port → Contains (offers_of port.face) offer
+    → BusAnswers board old place offer.op (Retry cause) over new → BusPresents board (ByLane port.lane) offer.op old (Retry cause) None None new
+offer_retried board old new place port offer cause over there offered answers =
+    record {
+      presents = λ tags world p stands.
+          let done = answers.answers tags world p (ByLane port.lane) (offered_line board old place port offer.op there tags world p stands) stands in
+          record {
+            wanted = offered_wants board old place port offer there offered tags world p stands;
+            answer_is = done.answer_is;
+            stands = done.stands;
+            flights = record { to_bus = λ n lane is. refl; from_bus = λ n lane is. sym (append-nil (world (lane_back lane)).flight) };
+          };
+    }
+
+-- one after the other
+flights_then : (shape : Shape) (a b c : World) (first second : ℕ → List Item) → Flights shape a b first → Flights shape b c second → Flights shape a c (λ n. first n ++ second n)
+flights_then shape a b c first second one two =
+    record {
+      to_bus = λ n l is. two.to_bus n l is ∙ one.to_bus n l is;
+      from_bus = λ n l is.
+          let start : List Carried = (a (lane_back l)).flight in
+          two.from_bus n l is
+          ∙ (ap (λ q. q ++ map carried (second n)) (one.from_bus n l is)
+          ∙ (append_assoc start (map carried (first n)) (map carried (second n))
+          ∙ ap (λ q. start ++ q) (sym (map-append carried (first n) (second n)))));
+    }
+
+pub offer_did : (board : Board) (old mid new : BusView) (place : ℕ) (port : PortView) (offer : Offer) (step : Step) (at : Place) (over back : Option Sent) → slice_get old.ports place ≡ Some port → Contains (offers_of port.face) offer
+    → BusAnswers board old place offer.op (Gives step at) over mid → shape_of mid ≡ shape_of old → mid.masters ≡ old.masters → slice_get mid.ports place ≡ slice_get old.ports place
+    → shape_of new ≡ shape_of mid → TellsLane board place offer step mid back new
+    → BusPresents board (ByLane port.lane) offer.op old (Gives step at) over back new
+offer_did board old mid new place port offer step at over back there offered answers same_shape same_masters same_port new_shape tells =
+    record {
+      presents = λ tags world p stands.
+          let done = answers.answers tags world p (ByLane port.lane) (offered_line board old place port offer.op there tags world p stands) stands in
+          let w : World = after_answer board old.bus (ByLane port.lane) offer.op (Gives step at) world in
+          let here : slice_get mid.ports place ≡ Some port = same_port ∙ there in
+          let bus : new.bus ≡ mid.bus = ap (λ (s : Shape). s.bus) new_shape in
+          let e : Event = Act old.bus (ByLane port.lane) offer.op step at in
+          record {
+            wanted = offered_wants board old place port offer there offered tags world p stands;
+            answer_is = done.answer_is;
+            stands = record {
+              is_of = subst (λ s. IsOf board s) (sym new_shape) done.stands.is_of;
+              lines = subst (λ s. AreLines board tags s) (sym new_shape) done.stands.lines;
+              ports = λ n x is. subst (λ b. PortStands board b tags x (at_initiator board (ByLane port.lane) offer.op step w)) (sym bus) (tells.stands tags w port here done.stands.is_of done.stands.ports n x is);
+              masters = λ n m is. record { turn = (done.stands.masters n m (ap (λ (ms : List MasterView). slice_get ms n) (sym tells.masters) ∙ is)).turn };
+              targets = λ n t is. done.stands.targets n t (ap (λ (ts : List TargetView). slice_get ts n) (sym tells.targets) ∙ is);
+              through = subst (λ gone. ThroughStands board (e ∷ p) gone) (sym tells.through) done.stands.through;
+              parts = subst (λ b. PartsAreOfWrites board b (e ∷ p)) (sym bus) done.stands.parts;
+            };
+            flights = flights_then (shape_of old) world w (at_initiator board (ByLane port.lane) offer.op step w) (items_at over) (items_at back) done.flights
+                (subst (λ s. Flights s w (at_initiator board (ByLane port.lane) offer.op step w) (items_at back)) same_shape (tells.flights tags w port here done.stands.is_of done.stands.ports));
+          };
+    }

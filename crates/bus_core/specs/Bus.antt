@@ -49,6 +49,10 @@ shape_of s =
       targets = map (λ (t : TargetView). t.target) s.targets;
     }
 
+-- how many items arrived at each of its ports
+abbrev pub arrivals_at : BusView → List ℕ
+arrivals_at s = map (λ (port : PortView). port.face.arrivals) s.ports
+
 -- it has a place in the list
 abbrev pub HasPlace : {X : Type 0} → List X → X → Type 0
 HasPlace xs x = (place : ℕ) × (slice_get xs place ≡ Some x)

@@ -1,24 +1,28 @@
 -- A call on one of the ports, masters or targets of a bus, and what is sent there.
-use Rattle.std.specs.Prelude.{◌≡◌, ◌≢◌, ℕ, List, ◌∷◌, map, Option, Some, None, slice_get}
+use Rattle.std.specs.Prelude.{◌≡◌, ◌≢◌, ℕ, ◌+◌, Bool, List, ◌∷◌, map, Option, Some, None, slice_get}
 use Rattle.pci_command.specs.declared.request.Request.{Request}
 use Rattle.pci_command.specs.declared.op_id.OpId.{OpId}
 use Rattle.pci_command.specs.declared.op_id.Outcome.{Outcome}
 use Rattle.board_model.specs.declared.bridge.Place.{Place}
 use Rattle.board_model.specs.declared.op.Op.{Op}
 use Rattle.board_model.specs.declared.board.Board.{Board}
-use Rattle.board_model.specs.Requests.{op_of, tries_of}
+use Rattle.board_model.specs.Requests.{op_of, tries_of, request_of}
 use Rattle.history_model.specs.declared.event.By.{By}
 use Rattle.history_model.specs.declared.event.By.TheVariants.{Master}
 use Rattle.history_model.specs.declared.event.Step.{Step}
 use Rattle.history_model.specs.declared.event.Event.{Event}
+use Rattle.history_model.specs.declared.event.Mark.{Mark}
+use Rattle.history_model.specs.declared.item.Carried.{Carried}
+use Rattle.history_model.specs.declared.item.Carried.TheVariants.{Post, Ask, Done, Room, Gone}
 use Rattle.history_model.specs.declared.event.Event.TheVariants.{Act}
 use Rattle.lane_items.specs.declared.item.Item.{Item}
 use Rattle.lane_items.specs.declared.item.Item.TheVariants.{Post as PostItem, Ask as AskItem}
 use Rattle.bridge_face.specs.declared.reply.Reply.{Reply}
 use Rattle.bridge_face.specs.declared.reply.Reply.TheVariants.{Accepted, Latched, Taken, Retry}
 use Rattle.bridge_face.specs.declared.offer.Offer.{Offer}
+use Rattle.bridge_face.specs.Arrivals.{is_taken}
 use Rattle.bus_port.specs.Port.{PortView}
-use Rattle.bus_port.specs.Calls.{PortReplies, PortEnds}
+use Rattle.bus_port.specs.Calls.{PortTests, PortArrives, PortReplies, PortEnds}
 use Rattle.master_agents.specs.Turns.{MasterView, MasterStands, EndsTurn}
 use Rattle.target_agents.specs.declared.access.Access.{Access}
 use Rattle.target_agents.specs.declared.access.Access.TheVariants.{Part}
@@ -82,6 +86,30 @@ pub record EndsAt (place : ℕ) (old : List PortView) (offer : Offer) (outcome :
   pub lane : after.lane ≡ before.lane
   pub arrivals : after.face.arrivals ≡ before.face.arrivals
   pub ends : PortEnds before offer outcome after back
+
+-- an item arrived at the place
+pub record ComesAt (place : ℕ) (old : List PortView) (item : Carried) (request : Option Request) (mark : Mark) (back : Option Item) (new : List PortView) : Type 0 where
+  pub before : PortView
+  pub after : PortView
+  pub one : OneChanged place old new before after
+  pub lane : after.lane ≡ before.lane
+  pub arrivals : after.face.arrivals ≡ before.face.arrivals + 1
+  pub arrives : (board : Board) → PortArrives board before item request mark after back
+
+-- the port at the place takes the item or not
+pub record TestsAt (place : ℕ) (ports : List PortView) (item : Carried) (taken : Bool) : Type 0 where
+  pub port : PortView
+  pub there : slice_get ports place ≡ Some port
+  pub taken_is : taken ≡ is_taken port.face item
+  pub tests : PortTests port item taken
+
+-- the request of a delayed request, as driven on the bus
+abbrev pub ask_request : Board → ℕ → Carried → Option Request
+ask_request board bus (Post op) = None
+ask_request board bus (Ask op slot) = request_of board op bus
+ask_request board bus (Done op slot outcome) = None
+ask_request board bus Room = None
+ask_request board bus (Gone slot) = None
 
 -- what a reply sends over the bridge
 abbrev pub sent_over : ℕ → OpId → ℕ → Reply → Option Sent

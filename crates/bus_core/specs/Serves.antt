@@ -34,7 +34,7 @@ use Rattle.bus_core.specs.declared.given.Presented.{Presented}
 use Rattle.bus_core.specs.declared.given.Presented.TheVariants.{Nothing, Retried, TurnsBack as Back, Did}
 use Rattle.master_agents.specs.Turns.{MasterView, MasterStands}
 use Rattle.bus_core.specs.Bus.{BusView, shape_of, BusStands}
-use Rattle.bus_core.specs.Calls.{past_after, items_at, IsStamped, Flights, ClaimedBack}
+use Rattle.bus_core.specs.Calls.{past_after, stamp_of, items_at, IsStamped, Flights, ClaimedBack}
 
 -- Acts.
 
@@ -109,6 +109,11 @@ names_its_kind board bus (Gone slot) = true
 -- the bus takes the item as the next on the lane: a lawful peer may have sent it, and it names what it carries
 abbrev pub is_taken_on : Board → ℕ → World → BridgeLane → Carried → Bool
 is_taken_on board bus world lane item = is_lawful_on board world lane item && names_its_kind board bus item
+
+-- what goes back, if anything does, has this stamp
+abbrev pub HasStamp : ℕ → Option Item → Type 0
+HasStamp stamp None = Unit {0}
+HasStamp stamp (Some item) = stamp_of item ≡ stamp
 
 -- an item that is not taken
 pub record BusRefuses (board : Board) (place : ℕ) (old : BusView) (item : Item) : Type 0 where

@@ -37,7 +37,7 @@ impl Model for Bus {
 }
 
 impl Bus {
-    ghost use Rattle.bus_core.specs.Bus.{shape_of};
+    ghost use Rattle.bus_core.specs.Bus.{shape_of, arrivals_at};
     ghost use Rattle.bus_core.specs.Calls.{IsStamped, BusAnswers, TurnsBack};
     ghost use Rattle.bus_core.specs.Parts.{PlaceAnswers, PlaceTurns, RequestAnswers, RequestTurns};
     ghost use Rattle.master_agents.specs.Through.{count_in};
@@ -48,6 +48,7 @@ impl Bus {
     pub fn answer(&mut self, board: &Board, line: u8, op: OpId, stamp: u32) -> Option<Given>
         requires { IsTrue (is_well_formed board.now) }
         ensures shape { shape_of self.new ≡ shape_of self.old }
+        ensures arrivals { arrivals_at self.new ≡ arrivals_at self.old }
         ensures masters { self.new.masters ≡ self.old.masters }
         ensures presenter { slice_get self.new.ports line ≡ slice_get self.old.ports line }
         ensures stamped { IfSome result (λ given. IsStamped stamp given.over) }
@@ -71,6 +72,7 @@ impl Bus {
     ) -> Option<Given>
         requires { IsTrue (is_well_formed board.now) }
         ensures shape { shape_of self.new ≡ shape_of self.old }
+        ensures arrivals { arrivals_at self.new ≡ arrivals_at self.old }
         ensures masters { self.new.masters ≡ self.old.masters }
         ensures presenter { slice_get self.new.ports line ≡ slice_get self.old.ports line }
         ensures stamped { IfSome result (λ given. IsStamped stamp given.over) }
@@ -90,6 +92,7 @@ impl Bus {
     fn target_answer(&mut self, board: &Board, target: u16, op: OpId, rest: &Request) -> Given
         requires { count_in self.old.through op + length rest.now.phases < 256 }
         ensures shape { shape_of self.new ≡ shape_of self.old }
+        ensures arrivals { arrivals_at self.new ≡ arrivals_at self.old }
         ensures masters { self.new.masters ≡ self.old.masters }
         ensures ports { self.new.ports ≡ self.old.ports }
         ensures none { result.over ≡ None }
@@ -121,6 +124,7 @@ impl Bus {
         stamp: u32,
     ) -> Option<Given>
         ensures shape { shape_of self.new ≡ shape_of self.old }
+        ensures arrivals { arrivals_at self.new ≡ arrivals_at self.old }
         ensures masters { self.new.masters ≡ self.old.masters }
         ensures presenter { slice_get self.new.ports line ≡ slice_get self.old.ports line }
         ensures stamped { IfSome result (λ given. IsStamped stamp given.over) }

@@ -2,6 +2,7 @@
 //! model. A bus stands for what is on the lanes of its bridges and for what it did so far.
 #![tactic(auto)]
 
+mod arrive;
 mod bus;
 mod given;
 mod places;

@@ -4,7 +4,7 @@ ghost use Rattle.board_model.specs.WellFormed.{is_well_formed};
 ghost use Rattle.history_model.specs.declared.event.By.TheVariants.{Master, Lane as ByLane};
 ghost use Rattle.bridge_face.specs.Offers.{offers_of};
 ghost use Rattle.master_agents.specs.Turns.{MasterView};
-ghost use Rattle.bus_core.specs.Bus.{shape_of};
+ghost use Rattle.bus_core.specs.Bus.{shape_of, arrivals_at};
 ghost use Rattle.bus_port.specs.Port.{PortView};
 ghost use Rattle.bus_core.specs.Calls.{IsStamped};
 ghost use Rattle.bus_core.specs.Parts.{TellsLane};
@@ -25,6 +25,7 @@ impl Bus {
         requires place { place < length self.old.masters }
         requires few { 9 + place < 256 }
         ensures shape { shape_of self.new ≡ shape_of self.old }
+        ensures arrivals { arrivals_at self.new ≡ arrivals_at self.old }
         ensures stamped { SendsStamped stamp result }
         ensures serves { ServesMaster board.now place self.old result self.new }
     {
@@ -40,6 +41,7 @@ impl Bus {
         requires place { place < length self.old.masters }
         requires few { 9 + place < 256 }
         ensures shape { shape_of self.new ≡ shape_of self.old }
+        ensures arrivals { arrivals_at self.new ≡ arrivals_at self.old }
         ensures stamped { SendsStamped stamp result }
         ensures serves { (master : MasterView) → slice_get self.old.masters place ≡ Some master → master.turn ≡ Some op → Serves board.now Master op self.old result self.new }
     {
@@ -78,6 +80,7 @@ impl Bus {
         requires place { place < length self.old.ports }
         requires offered { IfSome (slice_get self.old.ports place) (λ port. Contains (offers_of port.face) offer.now) }
         ensures shape { shape_of self.new ≡ shape_of self.old }
+        ensures arrivals { arrivals_at self.new ≡ arrivals_at self.old }
         ensures stamped { SendsStamped stamp result }
         ensures serves { (port : PortView) → slice_get self.old.ports place ≡ Some port → Serves board.now (ByLane port.lane) offer.now.op self.old result self.new }
     {
@@ -126,6 +129,7 @@ impl Bus {
         requires place { place < length self.old.ports }
         requires offered { IfSome (slice_get self.old.ports place) (λ port. Contains (offers_of port.face) offer.now) }
         ensures shape { shape_of self.new ≡ shape_of self.old }
+        ensures arrivals { arrivals_at self.new ≡ arrivals_at self.old }
         ensures stamped { IsStamped stamp result }
         ensures tells { TellsLane board.now place offer.now step self.old result self.new }
     {

@@ -9,10 +9,10 @@ use Rattle.bridge_face.specs.Replies.{as_answer}
 use Rattle.bus_port.specs.Port.{PortView}
 use Rattle.bus_core.specs.declared.given.Given.{Given}
 use Rattle.bus_core.specs.declared.given.Sent.{Sent}
-use Rattle.bus_core.specs.Bus.{BusView, shape_of}
+use Rattle.bus_core.specs.Bus.{BusView, shape_of, arrivals_at}
 use Rattle.bus_core.specs.Parts.{PlaceAnswers, PlaceTurns}
 use Rattle.bus_core.specs.Places.{RespondsAt, sent_over}
-use Rattle.bus_core.proofs.LaneLemmas.{lane_nobody, lane_turns, lane_replies, ports_shape}
+use Rattle.bus_core.proofs.LaneLemmas.{lane_nobody, lane_turns, lane_replies, ports_shape, ports_arrivals}
 use Rattle.bus_core.proofs.bus.Bus.lane_answer.Goals as goal
 
 pub returns-in-None-clause-answers : goal.returns-in-None-clause-answers
@@ -40,6 +40,15 @@ returns-in-Some-2-clause-shape c =
     let items = with_items_is c.self.inside.ports c.respond_at-reply.new.ports (omega arith) in
     ap (λ ports. shape_of (new ports)) items
     ∙ (ports_shape was c.in-Some.place c.args.line c.args.op c.args.request.now c.respond_at-reply.result c.respond_at-reply.new.ports responds ∙ ap shape_of c.self.view_is)
+
+pub returns-in-Some-2-clause-arrivals : goal.returns-in-Some-2-clause-arrivals
+returns-in-Some-2-clause-arrivals c =
+    let was : BusView = record { bus = c.self.inside.bus; ports = c.self.inside.ports.items; masters = c.self.inside.masters.items; targets = c.self.inside.targets.items; through = c.self.inside.through } in
+    let responds = subst (λ (old : List PortView). RespondsAt c.in-Some.place old c.args.line c.args.op c.args.request.now c.respond_at-reply.result c.respond_at-reply.new.ports) c.as_mut_slice.ensures.value c.respond_at-reply.ensures in
+    let new : List PortView → BusView = λ ports. record { bus = c.self.inside.bus; ports = ports; masters = c.self.inside.masters.items; targets = c.self.inside.targets.items; through = c.self.inside.through } in
+    let items = with_items_is c.self.inside.ports c.respond_at-reply.new.ports (omega arith) in
+    ap (λ ports. arrivals_at (new ports)) items
+    ∙ (ports_arrivals was c.in-Some.place c.args.line c.args.op c.args.request.now c.respond_at-reply.result c.respond_at-reply.new.ports responds ∙ ap arrivals_at c.self.view_is)
 
 pub returns-in-Some-2-clause-answers : goal.returns-in-Some-2-clause-answers
 returns-in-Some-2-clause-answers c = λ board rest.
