@@ -22,16 +22,16 @@ lists_same {X} (x ∷ xs) (y ∷ ys) same =
 pub one_map : {X Y : Type 0} (f : X → Y) (place : ℕ) (old new : List X) (before after : X) → OneChanged place old new before after → f after ≡ f before → map f new ≡ map f old
 one_map {X} f place old new before after one same =
     lists_same (map f new) (map f old) (λ n.
-        let P : Bool → Type 0 = λ b. (n == place) ≡ b → option_map f (slice_get new n) ≡ option_map f (slice_get old n) in
-        let kept : option_map f (slice_get new n) ≡ option_map f (slice_get old n) = (elim (n == place) as P [
-          | true ↦ λ is.
-              let here : n ≡ place = eqb-true n place is in
-              let now : slice_get new n ≡ Some after = ap (slice_get new) here ∙ one.is in
-              let then : slice_get old n ≡ Some before = ap (slice_get old) here ∙ one.was in
-              ap (option_map f) now ∙ (ap Some same ∙ sym (ap (option_map f) then))
-          | false ↦ λ apart. ap (option_map f) (one.others n (eqb-false n place apart))
-        ]) refl in
-        slice_get-map f new n ∙ (kept ∙ sym (slice_get-map f old n)))
+    let P : Bool → Type 0 = λ b. (n == place) ≡ b → option_map f (slice_get new n) ≡ option_map f (slice_get old n) in
+    let kept : option_map f (slice_get new n) ≡ option_map f (slice_get old n) = (elim (n == place) as P [
+      | true ↦ λ is.
+          let here : n ≡ place = eqb-true n place is in
+          let now : slice_get new n ≡ Some after = ap (slice_get new) here ∙ one.is in
+          let then : slice_get old n ≡ Some before = ap (slice_get old) here ∙ one.was in
+          ap (option_map f) now ∙ (ap Some same ∙ sym (ap (option_map f) then))
+      | false ↦ λ apart. ap (option_map f) (one.others n (eqb-false n place apart))
+    ]) refl in
+    slice_get-map f new n ∙ (kept ∙ sym (slice_get-map f old n)))
 
 -- of each element after the change: it is the changed one, or was there before
 pub one_each : {X : Type 0} (P : ℕ → X → Type 0) (place : ℕ) (old new : List X) (before after : X) → OneChanged place old new before after → P place after

@@ -34,6 +34,7 @@ use Rattle.bus_core.specs.declared.given.Presented.{Presented}
 use Rattle.bus_core.specs.declared.given.Presented.TheVariants.{Nothing, Retried, TurnsBack as Back, Did}
 use Rattle.master_agents.specs.Turns.{MasterView, MasterStands}
 use Rattle.bus_core.specs.Bus.{BusView, shape_of, BusStands}
+use Rattle.bus_core.specs.Places.{TestsAt}
 use Rattle.bus_core.specs.Calls.{past_after, stamp_of, items_at, IsStamped, Flights, ClaimedBack}
 
 -- Acts.
@@ -109,6 +110,12 @@ names_its_kind board bus (Gone slot) = true
 -- the bus takes the item as the next on the lane: a lawful peer may have sent it, and it names what it carries
 abbrev pub is_taken_on : Board → ℕ → World → BridgeLane → Carried → Bool
 is_taken_on board bus world lane item = is_lawful_on board world lane item && names_its_kind board bus item
+
+-- both tests, of which the first is by the tables of the port
+pub record IsTested (board : Board) (place : ℕ) (s : BusView) (item : Carried) (taken : Bool) : Type 0 where
+  pub lawful : Bool
+  pub tests : TestsAt place s.ports item lawful
+  pub taken_is : taken ≡ (lawful && names_its_kind board s.bus item)
 
 -- what goes back, if anything does, has this stamp
 abbrev pub HasStamp : ℕ → Option Item → Type 0

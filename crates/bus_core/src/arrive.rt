@@ -2,7 +2,7 @@ ghost use Rattle.std.specs.Prelude.{◌≡◌, ◌+◌, ◌<◌, ◌^◌, ◌&&�
 ghost use Rattle.bridge_face.specs.Arrivals.{carried, is_taken, HasRequest};
 ghost use Rattle.bus_core.specs.Bus.{shape_of};
 ghost use Rattle.bus_core.specs.Places.{ComesAt, TestsAt, ask_request};
-ghost use Rattle.bus_core.specs.Serves.{is_there_as, names_its_kind, HasStamp, BusRefuses, BusArrives};
+ghost use Rattle.bus_core.specs.Serves.{is_there_as, names_its_kind, HasStamp, IsTested, BusRefuses, BusArrives};
 
 use crate::Bus;
 use board_model::{Board, request_of};
@@ -23,13 +23,21 @@ impl Bus {
         ensures refuses { IfNone result (BusRefuses board.now place self.old item) }
         ensures unchanged { IfNone result (self.new ≡ self.old) }
     {
-        let lawful = lawful_at(self.ports.as_slice(), place, &item);
-        let kind = names_its_kind(board, self.bus, item);
-        if !(lawful && kind) {
+        if !self.takes(board, place, item) {
             return None;
         }
         let request = request_for(board, self.bus, item);
         Some(arrive_at(self.ports.as_mut_slice(), place, item, request, stamp))
+    }
+
+    /// Whether the bus takes the item at the port of this place.
+    fn takes(&self, board: &Board, place: usize, item: Item) -> bool
+        requires { place < length self.now.ports }
+        ensures { IsTested board.now place self.now (carried item) result }
+    {
+        let lawful = lawful_at(self.ports.as_slice(), place, &item);
+        let kind = names_its_kind(board, self.bus, item);
+        lawful && kind
     }
 }
 
@@ -67,7 +75,10 @@ fn names_its_kind(board: &Board, bus: u8, item: Item) -> bool
 {
     match item {
         Item::Post { op, .. } => is_there_as(true, request_of(board, op, bus)),
-        Item::Ask { op, .. } | Item::Done { op, .. } => is_there_as(false, request_of(board, op, bus)),
+        Item::Ask { op, .. } | Item::Done { op, .. } => is_there_as(
+            false,
+            request_of(board, op, bus),
+        ),
         Item::Room { .. } | Item::Gone { .. } => true,
     }
 }

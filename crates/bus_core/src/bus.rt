@@ -5,9 +5,9 @@ ghost use Rattle.board_model.specs.declared.bridge.Place.TheVariants.{Target, La
 ghost use Rattle.history_model.specs.Answers.{header_answer, bridge_to};
 ghost use Rattle.board_model.specs.WellFormed.{is_well_formed};
 
+use crate::Given;
 use crate::places::{access_at, note_part, port_back, respond_at, target_place};
 use crate::steps::{as_answer, nobody, rest_of, sent_over, step_of};
-use crate::Given;
 use board_claim::claim;
 use board_model::{Board, Lane, Place, request_of};
 use bus_port::Port;

@@ -69,13 +69,7 @@ impl Bus {
     }
 
     /// The lane of the port at this place presents what it offers. Its line is its place.
-    pub fn serve_offer(
-        &mut self,
-        board: &Board,
-        place: u8,
-        offer: &Offer,
-        stamp: u32,
-    ) -> Presented
+    pub fn serve_offer(&mut self, board: &Board, place: u8, offer: &Offer, stamp: u32) -> Presented
         requires formed { IsTrue (is_well_formed board.now) }
         requires place { place < length self.old.ports }
         requires offered { IfSome (slice_get self.old.ports place) (λ port. Contains (offers_of port.face) offer.now) }
