@@ -1,1 +1,2 @@
 pub mod GoLemmas
+pub mod ActLemmas

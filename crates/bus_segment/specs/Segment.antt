@@ -13,17 +13,9 @@ use Rattle.history_model.specs.Local.{local_world, LocalRun}
 use Rattle.law_order.specs.Sent.{arrivals}
 use Rattle.law_local.specs.Stamps.{events_of, put_stamps, AllInTime, NeverFall}
 use Rattle.lane_items.specs.declared.item.Item.{Item}
-use Rattle.lane_items.specs.declared.item.Item.TheVariants.{Post, Ask, Done, Room, Gone}
 use Rattle.bridge_face.specs.Arrivals.{carried}
 use Rattle.bus_core.specs.Bus.{BusView, BusStands, shape_of}
-
--- the stamp of an item: that of the event that sent it
-abbrev pub stamp_of : Item → ℕ
-stamp_of (Post op stamp) = stamp
-stamp_of (Ask op slot stamp) = stamp
-stamp_of (Done op slot outcome stamp) = stamp
-stamp_of (Room stamp) = stamp
-stamp_of (Gone slot stamp) = stamp
+use Rattle.bus_core.specs.Calls.{stamp_of}
 
 -- the items of each lane without their stamps, and their stamps
 abbrev pub all_carried : (BridgeLane → List Item) → BridgeLane → List Carried

@@ -1,12 +1,12 @@
 -- A turn of a segment, and when it stops.
-use Rattle.std.specs.Prelude.{◌≡◌, ℕ, ◌^◌, ◌<◌, Bool, true, false, not, ◌&&◌, nat_lt, List, [], ◌∷◌, ◌++◌, length, reverse, Option, Some, None, slice_get, ◌⊎◌}
+use Rattle.std.specs.Prelude.{◌≡◌, ℕ, ◌^◌, ◌<◌, Bool, true, false, ◌&&◌, nat_lt, List, [], ◌∷◌, ◌++◌, length, reverse, Option, Some, None, slice_get, ◌⊎◌}
 use Rattle.pci_command.specs.declared.request.Request.{Request}
 use Rattle.pci_command.specs.declared.op_id.OpId.{OpId}
 use Rattle.board_model.specs.declared.bridge.Lane.{Lane as BridgeLane}
 use Rattle.board_model.specs.declared.bridge.Place.{Place}
 use Rattle.board_model.specs.declared.bridge.Place.TheVariants.{Lane}
 use Rattle.board_model.specs.declared.board.Board.{Board}
-use Rattle.board_model.specs.Requests.{request_of, is_posted}
+use Rattle.board_model.specs.Requests.{request_of}
 use Rattle.board_model.specs.Claims.{claim}
 use Rattle.board_model.specs.Ways.{lane_back}
 use Rattle.history_model.specs.declared.event.By.{By}
@@ -14,41 +14,26 @@ use Rattle.history_model.specs.declared.event.By.TheVariants.{Lane as ByLane}
 use Rattle.history_model.specs.declared.event.Event.{Event}
 use Rattle.history_model.specs.declared.event.Stamped.{Stamped}
 use Rattle.history_model.specs.declared.item.Carried.{Carried}
-use Rattle.history_model.specs.declared.item.Carried.TheVariants.{Post, Ask, Done, Room, Gone}
 use Rattle.history_model.specs.World.{World}
 use Rattle.history_model.specs.Words.{through, without}
 use Rattle.history_model.specs.Answers.{wants_in, answer_in}
-use Rattle.history_model.specs.Local.{bus_of, local_world, is_lawful_on, AllowedLocally}
+use Rattle.history_model.specs.Local.{bus_of, local_world, AllowedLocally}
 use Rattle.law_local.specs.Stamps.{events_of}
 use Rattle.law_local.specs.Quiet.{IsRetry}
 use Rattle.lane_items.specs.declared.item.Item.{Item}
 use Rattle.lane_items.specs.Lane.{in_hand}
 use Rattle.bridge_face.specs.Arrivals.{carried}
 use Rattle.bus_core.specs.Bus.{shape_of}
-use Rattle.bus_segment.specs.Segment.{SegmentView, SegmentPast, SegmentGoes, all_carried, lanes_known, stamp_of}
+use Rattle.bus_core.specs.Calls.{stamp_of}
+use Rattle.bus_core.specs.Serves.{is_taken_on}
+use Rattle.bus_segment.specs.Segment.{SegmentView, SegmentPast, SegmentGoes, all_carried, lanes_known}
 use Rattle.bus_segment.specs.Ends.{EndAfter}
 
 -- Stops.
 
--- the request is there, and is posted or delayed as it should be
-abbrev pub is_there_as : Bool → Option Request → Bool
-is_there_as posted None = false
-is_there_as true (Some request) = is_posted request
-is_there_as false (Some request) = not (is_posted request)
-
--- the operation that the item names is there, and a posted item carries a write in memory, a delayed one any other
-abbrev pub names_its_kind : Board → ℕ → Carried → Bool
-names_its_kind board bus (Post op) = is_there_as true (request_of board op bus)
-names_its_kind board bus (Ask op slot) = is_there_as false (request_of board op bus)
-names_its_kind board bus (Done op slot outcome) = is_there_as false (request_of board op bus)
-names_its_kind board bus Room = true
-names_its_kind board bus (Gone slot) = true
-
--- the bus takes the item as the next on the lane: a lawful peer may have sent it, it names what it carries, and there
--- are stamps above its own
-abbrev pub is_taken_on : Board → ℕ → World → BridgeLane → Item → Bool
-is_taken_on board bus world lane item =
-    is_lawful_on board world lane (carried item) && names_its_kind board bus (carried item) && nat_lt (stamp_of item) (2 ^ 31)
+-- the segment takes the item as the next on the lane: the bus does, and there are stamps above its own
+abbrev pub is_allowed_on : Board → ℕ → World → BridgeLane → Item → Bool
+is_allowed_on board bus world lane item = is_taken_on board bus world lane (carried item) && nat_lt (stamp_of item) (2 ^ 31)
 
 -- what a lane presents is claimed by its lane back
 pub record TurnsBack (board : Board) (bus : ℕ) (world : World) (p : List Event) (lane : BridgeLane) : Type 0 where
@@ -68,7 +53,7 @@ pub record Sends (board : Board) (bus : ℕ) (came : BridgeLane → List Carried
 -- turns back; or the next event would send into an end that keeps as many items as it can.
 abbrev pub Refuses : Board → ℕ → World → BridgeLane → Option Item → Type 0
 Refuses board bus world lane None = ⊥
-Refuses board bus world lane (Some item) = is_taken_on board bus world lane item ≡ false
+Refuses board bus world lane (Some item) = is_allowed_on board bus world lane item ≡ false
 
 abbrev pub HasNoRoom : Board → ℕ → (BridgeLane → List Item) → List Stamped → BridgeLane → ℕ → Type 0
 HasNoRoom board bus came p lane kept = (kept ≡ 32) × ((e : Event) × Sends board bus (all_carried came) (events_of p) lane e)
@@ -97,12 +82,12 @@ pub record Does {End : Type 0} (had sent got : End → List Item) (kept : End �
   pub stops : old.stopped ≡ false → new.stopped ≡ true → (came : BridgeLane → List Item) (p : List Stamped) (rest put : ℕ → List Item) → SegmentPast board came p old (λ n. received n ++ rest n) put
       → (n : ℕ) × (lane : BridgeLane) × (end : End) × (slice_get (shape_of new.bus).lanes n ≡ Some lane) × (slice_get after n ≡ Some end) × StopsAt board new.bus.bus came (later ++ p) lane (refused n) (kept end)
 
--- the segment has nothing more to do for now: nothing is in hand, and whatever is presented gets a Retry
+-- the segment has nothing to do for now: nothing is in hand, and whatever is presented gets a Retry
 pub record HasNothingToDo {End : Type 0} (had got : End → List Item) (board : Board) (s : SegmentView) (ends : List End) : Type 0 where
   pub nothing_in_hand : (n : ℕ) (end : End) → slice_get ends n ≡ Some end → in_hand (had end) (got end) ≡ []
   pub retried : (came : BridgeLane → List Item) (p : List Stamped) (rest put : ℕ → List Item) → SegmentPast board came p s rest put
       → (by : By) (o : OpId) → wants_in board (lanes_known board came p) (events_of p) s.bus.bus by o ≡ true → IsRetry (answer_in board (lanes_known board came p) (events_of p) s.bus.bus by o)
 
--- so it is where a turn did nothing, and the segment did not stop
-abbrev pub IsQuietAtZero : {End : Type 0} → (End → List Item) → (End → List Item) → Board → SegmentView → List End → ℕ → Type 0
-IsQuietAtZero had got board s ends count = count ≡ 0 → s.stopped ≡ false → HasNothingToDo had got board s ends
+-- so it was before a turn that did nothing, if the segment did not stop; nothing is in hand after it either
+abbrev pub IsQuietAtZero : {End : Type 0} → (End → List Item) → (End → List Item) → Board → SegmentView → SegmentView → List End → ℕ → Type 0
+IsQuietAtZero had got board old new after count = count ≡ 0 → new.stopped ≡ false → HasNothingToDo had got board old after
