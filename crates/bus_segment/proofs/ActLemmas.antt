@@ -88,6 +88,7 @@ act_goes board by o step place old new over back stamp presents shape over_stamp
           let bus : old.bus ≡ new.bus = sym (ap (λ (s : Shape). s.bus) shape) in
           record {
             run = subst (λ b. LocalRun board b (all_carried came) (e ∷ events_of p)) bus (refl, (done.wanted, done.answer_is), past.run);
+            bridges = past.bridges;
             never_fall = (past.up_to, past.never_fall);
             up_to = (omega arith, past.up_to);
             in_time = (tt, past.in_time);
@@ -166,6 +167,7 @@ module _ (board : Board) (valid : IsValid board) (place : ℕ) (lane : BridgeLan
             ]) refl in
             record {
               run = subst (λ b. LocalRun board b (all_carried came) (e ∷ events_of p)) bus (ends, done.marked, past.run);
+              bridges = past.bridges;
               never_fall = (Each-weaker (λ (x : Stamped). x.stamp ≤ stamp) (λ (x : Stamped). x.stamp ≤ later) (λ x below. omega (arith, below, rises)) p past.up_to, past.never_fall);
               up_to = (omega arith, Each-weaker (λ (x : Stamped). x.stamp ≤ stamp) (λ (x : Stamped). x.stamp ≤ later) (λ x below. omega (arith, below, rises)) p past.up_to);
               in_time = ((apart, (stamp_of item, at, above)), past.in_time);

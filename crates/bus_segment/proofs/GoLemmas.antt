@@ -13,6 +13,7 @@ pub past_as : (board : Board) (came : BridgeLane → List Item) (p : List Stampe
 past_as board came p s rest left sent put same_rest same_sent past =
     record {
       run = past.run;
+      bridges = past.bridges;
       never_fall = past.never_fall;
       up_to = past.up_to;
       in_time = past.in_time;

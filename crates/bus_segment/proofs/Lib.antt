@@ -1,2 +1,3 @@
 pub mod GoLemmas
 pub mod ActLemmas
+pub mod OtherLemmas

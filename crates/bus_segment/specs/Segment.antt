@@ -1,5 +1,5 @@
 -- What a segment stands for: one bus by itself, with a past that is what it did, whatever comes to it.
-use Rattle.std.specs.Prelude.{◌≡◌, ℕ, ◌≤◌, Bool, false, List, [], ◌∷◌, ◌++◌, map, length, Some, slice_get}
+use Rattle.std.specs.Prelude.{◌≡◌, ℕ, ◌≤◌, Bool, false, List, [], ◌++◌, map, length, Some, None, slice_get}
 use Rattle.std.specs.List.{AllByRecursion}
 use Rattle.pci_command.specs.declared.op_id.OpId.{OpId}
 use Rattle.board_model.specs.declared.bridge.Lane.{Lane as BridgeLane}
@@ -9,6 +9,7 @@ use Rattle.history_model.specs.declared.event.By.{By}
 use Rattle.history_model.specs.declared.event.Stamped.{Stamped}
 use Rattle.history_model.specs.declared.item.Carried.{Carried}
 use Rattle.history_model.specs.World.{World}
+use Rattle.history_model.specs.Answers.{bridge_to}
 use Rattle.history_model.specs.Local.{local_world, LocalRun}
 use Rattle.law_order.specs.Sent.{arrivals}
 use Rattle.law_local.specs.Stamps.{events_of, put_stamps, AllInTime, NeverFall}
@@ -55,6 +56,8 @@ pub record Keeps (board : Board) (world : World) (p : List Stamped) (bus : BusVi
 pub record SegmentPast (board : Board) (came : BridgeLane → List Item) (p : List Stamped) (s : SegmentView) (rest sent : ℕ → List Item) : Type 0 where
   -- each event was allowed by what the bus knew
   pub run : LocalRun board s.bus.bus (all_carried came) (events_of p)
+  -- nothing comes on a lane of no bridge
+  pub bridges : (lane : BridgeLane) → bridge_to board lane.bus ≡ None → came lane ≡ []
   -- no stamp is below an older one, and each arrival's is above that of its item
   pub never_fall : NeverFall p
   pub up_to : AllByRecursion (λ (e : Stamped). e.stamp ≤ s.stamp) p

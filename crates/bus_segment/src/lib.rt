@@ -2,7 +2,7 @@
 //! what it did and what came to it, and stands for that past whatever comes later.
 #![tactic(auto)]
 
-ghost use Rattle.std.specs.Prelude.{◌≡◌, ◌==◌, ◌<◌, ◌≤◌, ℕ, false, List, [], ◌∷◌, ◌++◌, Option, Some, option_to_list, slice_get, if◌then◌else◌};
+ghost use Rattle.std.specs.Prelude.{◌≡◌, ◌==◌, ◌<◌, ◌≤◌, ℕ, false, List, [], ◌∷◌, ◌++◌, Option, Some, None, option_to_list, slice_get, if◌then◌else◌};
 ghost use Rattle.pci_command.specs.declared.op_id.OpId.{OpId};
 ghost use Rattle.board_model.specs.declared.board.Board.{Board};
 ghost use Rattle.board_model.specs.declared.bridge.Lane.{Lane as BridgeLane};
@@ -10,7 +10,12 @@ ghost use Rattle.board_model.specs.Valid.{IsValid};
 ghost use Rattle.board_model.specs.declared.bridge.Place.{Place};
 ghost use Rattle.history_model.specs.declared.event.By.{By};
 ghost use Rattle.history_model.specs.declared.event.Step.{Step};
+ghost use Rattle.history_model.specs.declared.event.Event.{Event};
 ghost use Rattle.history_model.specs.declared.event.Event.TheVariants.{Act, Arrive};
+ghost use Rattle.history_model.specs.declared.item.Carried.{Carried};
+ghost use Rattle.history_model.specs.Lanes.{empty_lane};
+ghost use Rattle.history_model.specs.Answers.{bridge_to};
+ghost use Rattle.history_model.specs.Local.{local_world, LocalRun};
 ghost use Rattle.history_model.specs.declared.event.Mark.{Mark};
 ghost use Rattle.history_model.specs.declared.item.Answer.TheVariants.{Gives};
 ghost use Rattle.history_model.specs.declared.event.Stamped.{Stamped};
@@ -46,4 +51,11 @@ pub fn arrivals_go_on()
         stamp ≤ later → stamp_of item < later → HasStamp later back →
         SegmentGoes board (record { bus = old; stamp = stamp; stopped = false }) (record { bus = new; stamp = later; stopped = false })
         (record { stamp = later; event = Arrive lane mark } ∷ []) (λ n. if place == n then item ∷ [] else []) (λ n. if place == n then option_to_list back else []) }
+{}
+
+/// Where nothing comes on a lane of no bridge, nothing is ever on one by what the bus knows: nothing
+/// is sent there, and nothing stands there to be presented.
+pub fn other_lanes_stay_empty()
+    ensures { (board : Board) (bus : ℕ) (came : BridgeLane → List Carried) → ((lane : BridgeLane) → bridge_to board lane.bus ≡ None → came lane ≡ []) →
+        (p : List Event) → LocalRun board bus came p → (lane : BridgeLane) → bridge_to board lane.bus ≡ None → local_world board came p lane ≡ empty_lane }
 {}
