@@ -8,3 +8,4 @@ pub mod RequestLemmas
 pub mod TellLemmas
 pub mod OfferLemmas
 pub mod ComesLemmas
+pub mod LineLemmas

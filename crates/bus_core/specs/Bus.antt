@@ -1,7 +1,7 @@
 -- One bus: what it keeps of the bridges and agents on it, and the past that this stands for, which is what the bus did
 -- itself. PCI-to-PCI Bridge Architecture Specification 1.1, chapter 5, and PCI Local Bus Specification 2.2, section 3.3
 -- (from memory).
-use Rattle.std.specs.Prelude.{◌≡◌, ◌≢◌, ℕ, ◌+◌, ◌<◌, true, false, List, map, length, Some, slice_get, ◌⊎◌}
+use Rattle.std.specs.Prelude.{◌≡◌, ◌≢◌, ℕ, ◌+◌, ◌<◌, true, false, List, [], map, length, Some, slice_get, ◌⊎◌}
 use Rattle.pci_command.specs.declared.request.Request.{Request}
 use Rattle.pci_command.specs.declared.op_id.OpId.{OpId}
 use Rattle.pci_command.specs.Command.{is_read}
@@ -14,11 +14,14 @@ use Rattle.board_model.specs.Ways.{end_of}
 use Rattle.history_model.specs.declared.event.By.{By}
 use Rattle.history_model.specs.declared.event.By.TheVariants.{Master, Lane as ByLane}
 use Rattle.history_model.specs.declared.event.Event.{Event}
+use Rattle.history_model.specs.declared.item.Carried.{Carried}
 use Rattle.history_model.specs.World.{World}
+use Rattle.history_model.specs.Local.{coming}
 use Rattle.history_model.specs.Words.{through}
 use Rattle.history_model.specs.Answers.{is_on, bridge_to}
 use Rattle.bridge_face.specs.Stands.{IsTag}
 use Rattle.bus_port.specs.Port.{PortView, PortStands}
+use Rattle.bus_port.specs.Calls.{PortStandsAtFirst}
 use Rattle.master_agents.specs.Turns.{MasterView, MasterStands}
 use Rattle.master_agents.specs.Through.{ThroughStands}
 use Rattle.target_agents.specs.State.{TargetView}
@@ -93,3 +96,12 @@ pub record BusStandsAt (board : Board) (tags : By → OpId → ℕ) (world : Wor
 -- of one past
 abbrev pub BusStands : Board → (By → OpId → ℕ) → World → List Event → BusView → Type 0
 BusStands board tags world p s = BusStandsAt board tags world p p s
+
+-- before the first event: who is on the bus of a board, each as it is at first, stands for lanes on which nothing is but
+-- what comes to the bus
+pub record StandsAtFirst (s : BusView) : Type 0 where
+  pub first : (board : Board) (tags : By → OpId → ℕ) (came : BridgeLane → List Carried) → IsOf board (shape_of s) → AreLines board tags (shape_of s)
+      → ((n : ℕ) (port : PortView) → slice_get s.ports n ≡ Some port → PortStandsAtFirst board s.bus port)
+      → ((n : ℕ) (m : MasterView) → slice_get s.masters n ≡ Some m → MasterStands board [] m)
+      → ((n : ℕ) (t : TargetView) → slice_get s.targets n ≡ Some t → TargetStands board [] t)
+      → ThroughStands board [] s.through → BusStands board tags (coming came) [] s

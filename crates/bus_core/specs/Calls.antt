@@ -1,6 +1,6 @@
 -- What a bus does when an initiator presents an operation there, wherever the bus stands for what is on the lanes and for
 -- its past.
-use Rattle.std.specs.Prelude.{◌≡◌, ℕ, ◌==◌, List, [], ◌∷◌, ◌++◌, map, Option, Some, None, slice_get, if◌then◌else◌}
+use Rattle.std.specs.Prelude.{◌≡◌, ◌≢◌, ℕ, ◌==◌, List, [], ◌∷◌, ◌++◌, map, Option, Some, None, slice_get, if◌then◌else◌}
 use Rattle.pci_command.specs.declared.request.Request.{Request}
 use Rattle.pci_command.specs.declared.op_id.OpId.{OpId}
 use Rattle.board_model.specs.declared.bridge.Lane.{Lane as BridgeLane}
@@ -44,6 +44,11 @@ stamp_of (Gone slot stamp) = stamp
 abbrev pub IsStamped : ℕ → Option Sent → Type 0
 IsStamped stamp None = Unit {0}
 IsStamped stamp (Some sent) = stamp_of sent.item ≡ stamp
+
+-- what is sent, if anything is, is sent at another port than that of this line
+abbrev pub IsElsewhere : ℕ → Option Sent → Type 0
+IsElsewhere line None = Unit {0}
+IsElsewhere line (Some sent) = sent.place ≢ line
 
 -- the items sent at a port, where one is sent at some port
 abbrev pub items_at : Option Sent → ℕ → List Item

@@ -1,6 +1,7 @@
 -- What comes of an initiator that is granted the bus, and of an item that comes to a port, wherever the bus stands for what
 -- is on the lanes and for its past.
 use Rattle.std.specs.Prelude.{◌≡◌, ◌≢◌, ℕ, ◌+◌, Bool, true, false, not, ◌&&◌, List, [], ◌∷◌, ◌++◌, map, option_to_list, Option, Some, None, slice_get, ◌==◌, if◌then◌else◌}
+use Rattle.std.specs.List.{list_any}
 use Rattle.pci_command.specs.declared.request.Request.{Request}
 use Rattle.pci_command.specs.declared.op_id.OpId.{OpId}
 use Rattle.board_model.specs.declared.bridge.Lane.{Lane as BridgeLane}
@@ -27,6 +28,7 @@ use Rattle.history_model.specs.Local.{is_lawful_on}
 use Rattle.lane_items.specs.declared.item.Item.{Item}
 use Rattle.bridge_face.specs.declared.offer.Offer.{Offer}
 use Rattle.bridge_face.specs.Arrivals.{carried}
+use Rattle.bridge_face.specs.Offers.{is_offer_of}
 use Rattle.bus_port.specs.Port.{PortView, PortStands}
 use Rattle.bus_core.specs.declared.given.Sent.{Sent}
 use Rattle.bus_core.specs.declared.given.Acted.{Acted}
@@ -80,6 +82,23 @@ SendsStamped stamp Nothing = Unit {0}
 SendsStamped stamp Retried = Unit {0}
 SendsStamped stamp Back = Unit {0}
 SendsStamped stamp (Did acted) = IsStamped stamp acted.over × IsStamped stamp acted.back
+
+-- what is sent, if anything is, is sent at the port of this place
+abbrev pub IsAt : ℕ → Option Sent → Type 0
+IsAt place None = Unit {0}
+IsAt place (Some sent) = sent.place ≡ place
+
+-- what goes back is sent at another port than what goes on
+abbrev pub SendsApart : Presented → Type 0
+SendsApart Nothing = Unit {0}
+SendsApart Retried = Unit {0}
+SendsApart Back = Unit {0}
+SendsApart (Did acted) = (over back : Sent) → acted.over ≡ Some over → acted.back ≡ Some back → over.place ≢ back.place
+
+-- what is offered is what the lane of the port presents
+pub record BusOffers (place : ℕ) (s : BusView) (offers : List Offer) : Type 0 where
+  pub wanted : (board : Board) (tags : By → OpId → ℕ) (world : World) (p : List Event) (lane : BridgeLane) (o : OpId) → slice_get (shape_of s).lanes place ≡ Some lane → BusStands board tags world p s
+      → wants_in board world p s.bus (ByLane lane) o ≡ list_any (is_offer_of o) offers
 
 -- a master presents its turn, if its program did not end
 abbrev pub ServesTurn : Board → Option OpId → BusView → Presented → BusView → Type 0

@@ -6,10 +6,12 @@ ghost use Rattle.history_model.specs.Answers.{header_answer, bridge_to};
 ghost use Rattle.board_model.specs.WellFormed.{is_well_formed};
 
 use crate::Given;
-use crate::places::{access_at, note_part, port_back, respond_at, target_place};
+use crate::places::{access_at, note_part, offers_at, port_back, respond_at, target_place};
 use crate::steps::{as_answer, nobody, rest_of, sent_over, step_of};
+use arrayvec::ArrayVec;
 use board_claim::claim;
 use board_model::{Board, Lane, Place, request_of};
+use bridge_face::Offer;
 use bus_port::Port;
 use history_core::header_answer;
 use history_model::Answer;
@@ -37,10 +39,75 @@ impl Model for Bus {
 }
 
 impl Bus {
-    ghost use Rattle.bus_core.specs.Bus.{shape_of, arrivals_at};
-    ghost use Rattle.bus_core.specs.Calls.{IsStamped, BusAnswers, TurnsBack};
+    ghost use Rattle.bus_core.specs.Bus.{shape_of, arrivals_at, StandsAtFirst};
+    ghost use Rattle.bus_core.specs.Calls.{IsStamped, IsElsewhere, BusAnswers, TurnsBack};
+    ghost use Rattle.bridge_face.specs.Offers.{offers_of};
+    ghost use Rattle.bus_core.specs.Serves.{BusOffers};
     ghost use Rattle.bus_core.specs.Parts.{PlaceAnswers, PlaceTurns, RequestAnswers, RequestTurns};
     ghost use Rattle.master_agents.specs.Through.{count_in};
+
+    /// A bus with these ports, masters and targets on it, before its first event: the bridge to the
+    /// bus itself has the first port. It takes no memory.
+    pub fn new(
+        bus: u8,
+        ports: Vec<Port>,
+        masters: Vec<MasterState>,
+        targets: Vec<TargetState>,
+        through: Through,
+    ) -> Bus
+        ensures kept { result ≡ record { bus = bus; ports = ports.items; masters = masters.items; targets = targets.items; through = through } }
+        ensures first { StandsAtFirst result }
+    {
+        Bus::of(bus, ports, masters, targets, through)
+    }
+
+    fn of(
+        bus: u8,
+        ports: Vec<Port>,
+        masters: Vec<MasterState>,
+        targets: Vec<TargetState>,
+        through: Through,
+    ) -> Bus
+        ensures { result ≡ record { bus = bus; ports = ports.items; masters = masters.items; targets = targets.items; through = through } }
+    {
+        Bus {
+            bus,
+            ports,
+            masters,
+            targets,
+            through,
+        }
+    }
+
+    /// Its number.
+    pub fn number(&self) -> u8
+        ensures { result ≡ self.now.bus }
+    {
+        self.bus
+    }
+
+    /// How many bridges are on it.
+    pub fn ports(&self) -> usize
+        ensures { result ≡ length self.now.ports }
+    {
+        self.ports.len()
+    }
+
+    /// How many masters are on it.
+    pub fn masters(&self) -> usize
+        ensures { result ≡ length self.now.masters }
+    {
+        self.masters.len()
+    }
+
+    /// The items that the lane of the port at this place presents, in the order in which they came.
+    pub fn offers(&self, place: usize) -> ArrayVec<Offer, 16>
+        requires { place < length self.now.ports }
+        ensures kept { IfSome (slice_get self.now.ports place) (λ port. result.items ≡ offers_of port.face) }
+        ensures offers { BusOffers place self.now result.items }
+    {
+        offers_at(self.ports.as_slice(), place)
+    }
 
     /// What the operation is answered that the initiator of this line presents, with what that does
     /// at whoever claims it. What goes over a bridge has the stamp. None, and nothing is done, where
@@ -52,6 +119,7 @@ impl Bus {
         ensures masters { self.new.masters ≡ self.old.masters }
         ensures presenter { slice_get self.new.ports line ≡ slice_get self.old.ports line }
         ensures stamped { IfSome result (λ given. IsStamped stamp given.over) }
+        ensures apart { IfSome result (λ given. IsElsewhere line given.over) }
         ensures answers { IfSome result (λ given. BusAnswers board.now self.old line op given.answer given.over self.new) }
         ensures turns { IfNone result (TurnsBack board.now self.old line op) }
     {
@@ -76,6 +144,7 @@ impl Bus {
         ensures masters { self.new.masters ≡ self.old.masters }
         ensures presenter { slice_get self.new.ports line ≡ slice_get self.old.ports line }
         ensures stamped { IfSome result (λ given. IsStamped stamp given.over) }
+        ensures apart { IfSome result (λ given. IsElsewhere line given.over) }
         ensures answers { IfSome result (λ given. RequestAnswers board.now self.old line op request.now given.answer given.over self.new) }
         ensures turns { IfNone result (RequestTurns board.now self.old line op request.now) }
     {
@@ -128,6 +197,7 @@ impl Bus {
         ensures masters { self.new.masters ≡ self.old.masters }
         ensures presenter { slice_get self.new.ports line ≡ slice_get self.old.ports line }
         ensures stamped { IfSome result (λ given. IsStamped stamp given.over) }
+        ensures apart { IfSome result (λ given. IsElsewhere line given.over) }
         ensures answers { (board : BoardTree) (rest : RequestOf) → IfSome result (λ given. PlaceAnswers board self.old (LaneOf lane) line op request.now rest given.answer given.over self.new) }
         ensures turns { (board : BoardTree) (rest : RequestOf) → IfNone result (PlaceTurns board self.old (LaneOf lane) line op request.now rest) }
     {

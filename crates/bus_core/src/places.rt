@@ -11,6 +11,7 @@ ghost use Rattle.board_model.specs.Ways.{lane_back};
 ghost use Rattle.bus_core.specs.Places.{RespondsAt, AccessesAt, NotesPart, WantsAt, EndsTurnAt, TellsMaster, EndsAt};
 
 use crate::steps::master_outcome;
+use arrayvec::ArrayVec;
 use board_model::{Board, Lane};
 use bridge_face::{Offer, Reply};
 use bus_port::Port;
@@ -135,4 +136,12 @@ pub(crate) fn end_at(
 {
     let port = &mut ports[place];
     port.ended(offer, outcome, stamp)
+}
+
+/// What the lane of the port at the place presents.
+pub(crate) fn offers_at(ports: &[Port], place: usize) -> ArrayVec<Offer, 16>
+    requires { place < length ports.now }
+    ensures { IfSome (slice_get ports.now place) (λ port. result.items ≡ offers_of port.face) }
+{
+    ports[place].offers()
 }

@@ -8,7 +8,7 @@ ghost use Rattle.bus_core.specs.Bus.{shape_of, arrivals_at};
 ghost use Rattle.bus_port.specs.Port.{PortView};
 ghost use Rattle.bus_core.specs.Calls.{IsStamped};
 ghost use Rattle.bus_core.specs.Parts.{TellsLane};
-ghost use Rattle.bus_core.specs.Serves.{Serves, SendsStamped, ServesMaster};
+ghost use Rattle.bus_core.specs.Serves.{Serves, SendsStamped, SendsApart, IsAt, ServesMaster};
 
 use crate::places::{end_at, tell_master, want_at};
 use crate::steps::lane_outcome;
@@ -27,6 +27,7 @@ impl Bus {
         ensures shape { shape_of self.new ≡ shape_of self.old }
         ensures arrivals { arrivals_at self.new ≡ arrivals_at self.old }
         ensures stamped { SendsStamped stamp result }
+        ensures apart { SendsApart result }
         ensures serves { ServesMaster board.now place self.old result self.new }
     {
         match want_at(self.masters.as_slice(), place as usize) {
@@ -43,6 +44,7 @@ impl Bus {
         ensures shape { shape_of self.new ≡ shape_of self.old }
         ensures arrivals { arrivals_at self.new ≡ arrivals_at self.old }
         ensures stamped { SendsStamped stamp result }
+        ensures apart { SendsApart result }
         ensures serves { (master : MasterView) → slice_get self.old.masters place ≡ Some master → master.turn ≡ Some op → Serves board.now Master op self.old result self.new }
     {
         match self.answer(board, 9 + place, op, stamp) {
@@ -76,6 +78,7 @@ impl Bus {
         ensures shape { shape_of self.new ≡ shape_of self.old }
         ensures arrivals { arrivals_at self.new ≡ arrivals_at self.old }
         ensures stamped { SendsStamped stamp result }
+        ensures apart { SendsApart result }
         ensures serves { (port : PortView) → slice_get self.old.ports place ≡ Some port → Serves board.now (ByLane port.lane) offer.now.op self.old result self.new }
     {
         match self.answer(board, place, offer.op, stamp) {
@@ -125,6 +128,7 @@ impl Bus {
         ensures shape { shape_of self.new ≡ shape_of self.old }
         ensures arrivals { arrivals_at self.new ≡ arrivals_at self.old }
         ensures stamped { IsStamped stamp result }
+        ensures placed { IsAt place result }
         ensures tells { TellsLane board.now place offer.now step self.old result self.new }
     {
         let lane = self.lane_of(place);
