@@ -98,31 +98,35 @@ module _ (board : Board) (shape : Shape) (is_of : IsOf board shape) (few_lanes :
       record {
         lanes = λ n lane o there.
             let at = lane_at n lane there in
-            let small : n < 9 = within_lanes n lane there in
-            (ap place_in at, λ other p is_at.
-            let P : By → Type 0 = λ b. same_initiator b p (ByLane lane) o ≡ (line_of shape b p == n) in
-            elim other as P [
-              | Master ↦ apart_test (9 + place_in (position (λ master. master == p.master) shape.masters)) n (λ same. absurd (omega (arith, same, small)))
-              | ByLane l ↦ same_tests (same_lane l lane) (place_in (position (λ k. same_lane k l) shape.lanes) == n)
-                  (λ same. eq-eqb (place_in (position (λ k. same_lane k l) shape.lanes)) n (ap (λ m. place_in (position (λ k. same_lane k m) shape.lanes)) (same_lane_true l lane same) ∙ ap place_in at))
-                  (λ same. same_lane_symm l lane ∙ place_passes (λ k. same_lane k l) shape.lanes n lane (omega arith) there (eqb-true (place_in (position (λ k. same_lane k l) shape.lanes)) n same))
-            ]);
+            let small : n < 9 = within_lanes n lane there in (
+              ap place_in at,
+              λ other p is_at.
+                  let P : By → Type 0 = λ b. same_initiator b p (ByLane lane) o ≡ (line_of shape b p == n) in
+                  elim other as P [
+                    | Master ↦ apart_test (9 + place_in (position (λ master. master == p.master) shape.masters)) n (λ same. absurd (omega (arith, same, small)))
+                    | ByLane l ↦ same_tests (same_lane l lane) (place_in (position (λ k. same_lane k l) shape.lanes) == n)
+                        (λ same. eq-eqb (place_in (position (λ k. same_lane k l) shape.lanes)) n (ap (λ m. place_in (position (λ k. same_lane k m) shape.lanes)) (same_lane_true l lane same) ∙ ap place_in at))
+                        (λ same. same_lane_symm l lane ∙ place_passes (λ k. same_lane k l) shape.lanes n lane (omega arith) there (eqb-true (place_in (position (λ k. same_lane k l) shape.lanes)) n same))
+                  ],
+            );
         masters = λ n o there.
             let at = master_at n o.master there in
-            let small : n < 8 = within_masters n o.master there in
-            (ap (λ found. 9 + place_in found) at, λ other p is_at.
-            let P : By → Type 0 = λ b. same_initiator b p Master o ≡ (line_of shape b p == 9 + n) in
-            elim other as P [
-              | Master ↦ same_tests (p.master == o.master) (9 + place_in (position (λ master. master == p.master) shape.masters) == 9 + n)
-                  (λ same. eq-eqb (9 + place_in (position (λ master. master == p.master) shape.masters)) (9 + n) (ap (λ m. 9 + place_in (position (λ master. master == m) shape.masters)) (eqb-true p.master o.master same) ∙ ap (λ found. 9 + place_in found) at))
-                  (λ same.
-                  let is : 9 + place_in (position (λ master. master == p.master) shape.masters) ≡ 9 + n = eqb-true (9 + place_in (position (λ master. master == p.master) shape.masters)) (9 + n) same in
-                  let place : place_in (position (λ master. master == p.master) shape.masters) ≡ n = omega (arith, is) in
-                  let passes : (o.master == p.master) ≡ true = place_passes (λ master. master == p.master) shape.masters n o.master (omega arith) there place in
-                  eq-eqb p.master o.master (sym (eqb-true o.master p.master passes)))
-              | ByLane l ↦ apart_test (place_in (position (λ k. same_lane k l) shape.lanes)) (9 + n)
-                  (lane_small (position (λ k. same_lane k l) shape.lanes) n small (λ k is. let found = found_at (λ m. same_lane m l) shape.lanes k is in within_lanes k found.0 found.1.0))
-            ]);
+            let small : n < 8 = within_masters n o.master there in (
+              ap (λ found. 9 + place_in found) at,
+              λ other p is_at.
+                  let P : By → Type 0 = λ b. same_initiator b p Master o ≡ (line_of shape b p == 9 + n) in
+                  elim other as P [
+                    | Master ↦ same_tests (p.master == o.master) (9 + place_in (position (λ master. master == p.master) shape.masters) == 9 + n)
+                        (λ same. eq-eqb (9 + place_in (position (λ master. master == p.master) shape.masters)) (9 + n) (ap (λ m. 9 + place_in (position (λ master. master == m) shape.masters)) (eqb-true p.master o.master same) ∙ ap (λ found. 9 + place_in found) at))
+                        (λ same.
+                        let is : 9 + place_in (position (λ master. master == p.master) shape.masters) ≡ 9 + n = eqb-true (9 + place_in (position (λ master. master == p.master) shape.masters)) (9 + n) same in
+                        let place : place_in (position (λ master. master == p.master) shape.masters) ≡ n = omega (arith, is) in
+                        let passes : (o.master == p.master) ≡ true = place_passes (λ master. master == p.master) shape.masters n o.master (omega arith) there place in
+                        eq-eqb p.master o.master (sym (eqb-true o.master p.master passes)))
+                    | ByLane l ↦ apart_test (place_in (position (λ k. same_lane k l) shape.lanes)) (9 + n)
+                        (lane_small (position (λ k. same_lane k l) shape.lanes) n small (λ k is. let found = found_at (λ m. same_lane m l) shape.lanes k is in within_lanes k found.0 found.1.0))
+                  ],
+            );
       }
 
 -- a bus before its first event

@@ -21,6 +21,7 @@ use Rattle.bridge_face.specs.declared.reply.Reply.{Reply}
 use Rattle.bridge_face.specs.declared.reply.Reply.TheVariants.{Accepted, Latched, Taken, Retry}
 use Rattle.bridge_face.specs.declared.offer.Offer.{Offer}
 use Rattle.bridge_face.specs.Arrivals.{is_taken}
+use Rattle.bridge_face.specs.Offers.{offers_of}
 use Rattle.bus_port.specs.Port.{PortView}
 use Rattle.bus_port.specs.Calls.{PortTests, PortArrives, PortReplies, PortEnds}
 use Rattle.master_agents.specs.Turns.{MasterView, MasterStands, EndsTurn}
@@ -36,6 +37,11 @@ pub record OneChanged {X : Type 0} (place : ℕ) (old new : List X) (before afte
   pub was : slice_get old place ≡ Some before
   pub is : slice_get new place ≡ Some after
   pub others : (n : ℕ) → n ≢ place → slice_get new n ≡ slice_get old n
+
+pub record OffersAt (place : ℕ) (ports : List PortView) (offers : List Offer) : Type 0 where
+  pub port : PortView
+  pub there : slice_get ports place ≡ Some port
+  pub offers_are : offers ≡ offers_of port.face
 
 pub record RespondsAt (place : ℕ) (old : List PortView) (line : ℕ) (o : OpId) (request : Request) (reply : Reply) (new : List PortView) : Type 0 where
   pub before : PortView

@@ -8,7 +8,7 @@ ghost use Rattle.master_agents.specs.Through.{count_in};
 ghost use Rattle.target_agents.specs.State.{step_of};
 ghost use Rattle.history_model.specs.World.{same_lane};
 ghost use Rattle.board_model.specs.Ways.{lane_back};
-ghost use Rattle.bus_core.specs.Places.{RespondsAt, AccessesAt, NotesPart, WantsAt, EndsTurnAt, TellsMaster, EndsAt};
+ghost use Rattle.bus_core.specs.Places.{OffersAt, RespondsAt, AccessesAt, NotesPart, WantsAt, EndsTurnAt, TellsMaster, EndsAt};
 
 use crate::steps::master_outcome;
 use arrayvec::ArrayVec;
@@ -141,7 +141,8 @@ pub(crate) fn end_at(
 /// What the lane of the port at the place presents.
 pub(crate) fn offers_at(ports: &[Port], place: usize) -> ArrayVec<Offer, 16>
     requires { place < length ports.now }
-    ensures { IfSome (slice_get ports.now place) (λ port. result.items ≡ offers_of port.face) }
+    ensures kept { IfSome (slice_get ports.now place) (λ port. result.items ≡ offers_of port.face) }
+    ensures offers { OffersAt place ports.now result.items }
 {
     ports[place].offers()
 }
