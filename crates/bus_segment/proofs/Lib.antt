@@ -1,3 +1,4 @@
 pub mod GoLemmas
 pub mod ActLemmas
 pub mod OtherLemmas
+pub mod EndLemmas

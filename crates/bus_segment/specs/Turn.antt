@@ -24,10 +24,13 @@ use Rattle.lane_items.specs.declared.item.Item.{Item}
 use Rattle.lane_items.specs.Lane.{in_hand}
 use Rattle.bridge_face.specs.Arrivals.{carried}
 use Rattle.bus_core.specs.Bus.{shape_of}
+use Rattle.bus_core.specs.declared.given.Acted.{Acted}
+use Rattle.bus_core.specs.declared.given.Presented.{Presented}
+use Rattle.bus_core.specs.declared.given.Presented.TheVariants.{Nothing, Retried, TurnsBack as Back, Did}
 use Rattle.bus_core.specs.Calls.{stamp_of}
 use Rattle.bus_core.specs.Serves.{is_taken_on}
 use Rattle.bus_segment.specs.Segment.{SegmentView, SegmentPast, SegmentGoes, all_carried, lanes_known}
-use Rattle.bus_segment.specs.Ends.{EndAfter}
+use Rattle.bus_segment.specs.Ends.{EndAfter, LacksRoom, SendsBoth}
 
 -- Stops.
 
@@ -91,3 +94,26 @@ pub record HasNothingToDo {End : Type 0} (had got : End → List Item) (board : 
 -- so it was before a turn that did nothing, if the segment did not stop; nothing is in hand after it either
 abbrev pub IsQuietAtZero : {End : Type 0} → (End → List Item) → (End → List Item) → Board → SegmentView → SegmentView → List End → ℕ → Type 0
 IsQuietAtZero had got board old new after count = count ≡ 0 → new.stopped ≡ false → HasNothingToDo had got board old after
+
+-- Steps of a turn.
+
+-- an act is recorded with the stamp and what it sends is sent; or the segment stops, since some end has no room for it
+pub record IsRecorded {End : Type 0} (had sent got : End → List Item) (paired : End → End → Type 0) (acted : Acted) (stamp : ℕ) (ends after : List End) (events kept_events : List Stamped) : Type 0 where
+  pub event : kept_events ≡ events ++ record { stamp = stamp; event = acted.event } ∷ []
+  pub sends : SendsBoth had sent got paired ends acted.over acted.back after
+
+pub record IsUnrecorded {End : Type 0} (kept : End → ℕ) (acted : Acted) (ends after : List End) (events kept_events : List Stamped) : Type 0 where
+  pub same_ends : after ≡ ends
+  pub same_events : kept_events ≡ events
+  pub full : LacksRoom kept ends acted.over ⊎ LacksRoom kept ends acted.back
+
+abbrev pub Records : {End : Type 0} → (End → List Item) → (End → List Item) → (End → List Item) → (End → ℕ) → (End → End → Type 0) → Acted → ℕ → List End → List End → List Stamped → List Stamped → Bool → Type 0
+Records had sent got kept paired acted stamp ends after events kept_events false = IsRecorded had sent got paired acted stamp ends after events kept_events
+Records had sent got kept paired acted stamp ends after events kept_events true = IsUnrecorded kept acted ends after events kept_events
+
+-- what comes of an initiator, at the ends and among the events
+abbrev pub Finishes : {End : Type 0} → (End → List Item) → (End → List Item) → (End → List Item) → (End → ℕ) → (End → End → Type 0) → Presented → ℕ → List End → List End → List Stamped → List Stamped → Bool → Type 0
+Finishes had sent got kept paired Nothing stamp ends after events kept_events stopped = (after ≡ ends) × (kept_events ≡ events) × (stopped ≡ false)
+Finishes had sent got kept paired Retried stamp ends after events kept_events stopped = (after ≡ ends) × (kept_events ≡ events) × (stopped ≡ false)
+Finishes had sent got kept paired Back stamp ends after events kept_events stopped = (after ≡ ends) × (kept_events ≡ events) × (stopped ≡ true)
+Finishes had sent got kept paired (Did acted) stamp ends after events kept_events stopped = Records had sent got kept paired acted stamp ends after events kept_events stopped

@@ -2,6 +2,11 @@
 //! what it did and what came to it, and stands for that past whatever comes later.
 #![tactic(auto)]
 
+mod ends;
+mod segment;
+
+pub use segment::Segment;
+
 ghost use Rattle.std.specs.Prelude.{◌≡◌, ◌==◌, ◌<◌, ◌≤◌, ℕ, false, List, [], ◌∷◌, ◌++◌, Option, Some, None, option_to_list, slice_get, if◌then◌else◌};
 ghost use Rattle.pci_command.specs.declared.op_id.OpId.{OpId};
 ghost use Rattle.board_model.specs.declared.board.Board.{Board};
