@@ -2,3 +2,4 @@ pub mod GoLemmas
 pub mod ActLemmas
 pub mod OtherLemmas
 pub mod EndLemmas
+pub mod DoesLemmas
