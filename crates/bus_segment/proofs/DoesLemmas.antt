@@ -60,7 +60,7 @@ same_past board old new stamp stopped shape stays =
     }
 
 -- something is at each place of a list
-there_at : {X : Type 0} (xs : List X) (n : ℕ) → n < length xs → (x : X) × (slice_get xs n ≡ Some x)
+pub there_at : {X : Type 0} (xs : List X) (n : ℕ) → n < length xs → (x : X) × (slice_get xs n ≡ Some x)
 there_at [] n within = absurd (omega arith)
 there_at (x ∷ xs) zero within = (x, refl)
 there_at (x ∷ xs) (suc n) within = there_at xs n (omega arith)

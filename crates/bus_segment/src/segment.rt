@@ -1,13 +1,21 @@
-ghost use Rattle.std.specs.Prelude.{◌≡◌, ◌+◌, ◌<◌, ◌≤◌, ◌++◌, [], ◌∷◌, false, vec_len};
+ghost use Rattle.std.specs.Prelude.{◌≡◌, ◌+◌, ◌-◌, ◌<◌, ◌≤◌, ◌++◌, [], ◌∷◌, false, length, max, slice_get, vec_len, IfSome, IsTrue};
+ghost use Rattle.std.specs.List.{Contains};
 ghost use Rattle.std.specs.Vec.{vec_capacity};
 ghost use Rattle.bus_core.specs.declared.given.Presented.TheVariants.{Did};
+ghost use Rattle.board_model.specs.WellFormed.{is_well_formed};
+ghost use Rattle.bridge_face.specs.Offers.{offers_of};
+ghost use Rattle.bus_core.specs.Bus.{shape_of, arrivals_at};
 ghost use Rattle.bus_core.specs.Serves.{SendsApart};
-ghost use Rattle.bus_segment.specs.Turn.{Records, Finishes};
+ghost use Rattle.bus_segment.specs.Turn.{Does, Records, Finishes};
 
 use crate::ends::{has_room, send_both};
+use board_model::Board;
+use bridge_face::Offer;
 use bus_core::{Acted, Bus, Presented};
 use history_model::Stamped;
 use lane_items::LaneEnd;
+use pci_command::List;
+use std::alloc::Global;
 
 /// One bus between the ends of its bridges' lanes.
 #[derive(Drop)]
@@ -20,6 +28,109 @@ pub struct Segment<L: LaneEnd + Drop> {
 }
 
 impl<L: LaneEnd + Drop> Segment<L> {
+    /// A bus and the ends of its bridges' lanes there, in the order of its ports, before the first
+    /// event. It takes no memory.
+    pub fn new(alloc: Global, bus: Bus, ends: Vec<L>) -> Segment<L>
+        ensures bus { result.bus ≡ bus }
+        ensures ends { result.ends.items ≡ ends.items }
+        ensures stamp { result.stamp ≡ 0 }
+        ensures goes { result.stopped ≡ false }
+        ensures none { result.events.items ≡ [] }
+    {
+        Segment {
+            bus,
+            ends,
+            stamp: 0,
+            stopped: false,
+            events: Vec::new(alloc),
+        }
+    }
+
+    /// The stamp of its last event, or the one with which it began.
+    pub fn stamp(&self) -> u32
+        ensures { result ≡ self.now.stamp }
+    {
+        self.stamp
+    }
+
+    /// Whether it does nothing more.
+    pub fn stopped(&self) -> bool
+        ensures { result ≡ self.now.stopped }
+    {
+        self.stopped
+    }
+
+    /// Later events have stamps from this number on.
+    pub fn begin(&mut self, stamp: u32)
+        ensures stamp { self.new.stamp ≡ max self.old.stamp stamp }
+        ensures bus { self.new.bus ≡ self.old.bus }
+        ensures ends { self.new.ends.items ≡ self.old.ends.items }
+        ensures stopped { self.new.stopped ≡ self.old.stopped }
+        ensures events { self.new.events.items ≡ self.old.events.items }
+        ensures spare { vec_capacity self.new.events ≡ vec_capacity self.old.events }
+    {
+        self.stamp = self.stamp.max(stamp);
+    }
+
+    /// For how many more events there is room.
+    pub fn spare(&self) -> usize
+        ensures { result ≡ vec_capacity self.now.events - vec_len self.now.events }
+    {
+        self.events.capacity() - self.events.len()
+    }
+
+    /// All its events, oldest first.
+    pub fn take_events(self) -> List<Stamped>
+        ensures { result ≡ self.events.items }
+    {
+        let Segment {
+            bus: _,
+            ends: _,
+            stamp: _,
+            stopped: _,
+            events,
+        } = self;
+        List::from_vec(events)
+    }
+
+    /// The master at this place is granted the bus: it presents its turn, if its program did not end.
+    pub fn serve_master(&mut self, board: &Board, place: u8)
+        requires formed { IsTrue (is_well_formed board.now) }
+        requires place { place < length self.old.bus.masters }
+        requires few { 9 + place < 256 }
+        requires ends { length self.old.ends.items ≡ length self.old.bus.ports }
+        requires goes { self.old.stopped ≡ false }
+        requires spare { vec_len self.old.events < vec_capacity self.old.events }
+        ensures does { Does L.had L.sent L.got L.kept L.paired board.now
+            (record { bus = self.old.bus; stamp = self.old.stamp; stopped = false }) (record { bus = self.new.bus; stamp = self.old.stamp; stopped = self.new.stopped })
+            self.old.ends.items self.new.ends.items self.old.events.items self.new.events.items }
+        ensures shape { shape_of self.new.bus ≡ shape_of self.old.bus }
+        ensures arrivals { arrivals_at self.new.bus ≡ arrivals_at self.old.bus }
+        ensures stamp { self.new.stamp ≡ self.old.stamp }
+    {
+        let presented = self.bus.serve_master(board, place, self.stamp);
+        self.finish(presented);
+    }
+
+    /// The lane of the port at this place is granted the bus, and presents what it offers.
+    pub fn serve_offer(&mut self, board: &Board, place: u8, offer: &Offer)
+        requires formed { IsTrue (is_well_formed board.now) }
+        requires place { place < length self.old.bus.ports }
+        requires offered { IfSome (slice_get self.old.bus.ports place) (λ port. Contains (offers_of port.face) offer.now) }
+        requires ends { length self.old.ends.items ≡ length self.old.bus.ports }
+        requires goes { self.old.stopped ≡ false }
+        requires spare { vec_len self.old.events < vec_capacity self.old.events }
+        ensures does { Does L.had L.sent L.got L.kept L.paired board.now
+            (record { bus = self.old.bus; stamp = self.old.stamp; stopped = false }) (record { bus = self.new.bus; stamp = self.old.stamp; stopped = self.new.stopped })
+            self.old.ends.items self.new.ends.items self.old.events.items self.new.events.items }
+        ensures shape { shape_of self.new.bus ≡ shape_of self.old.bus }
+        ensures arrivals { arrivals_at self.new.bus ≡ arrivals_at self.old.bus }
+        ensures stamp { self.new.stamp ≡ self.old.stamp }
+    {
+        let presented = self.bus.serve_offer(board, place, offer, self.stamp);
+        self.finish(presented);
+    }
+
     /// What comes of an initiator: an event is recorded and what it sends is sent, if there is room
     /// for it; else the segment stops.
     fn finish(&mut self, presented: Presented)
