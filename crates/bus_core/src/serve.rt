@@ -106,7 +106,7 @@ impl Bus {
     }
 
     /// The lane of the port at this place.
-    fn lane_of(&self, place: usize) -> Lane
+    pub fn lane_of(&self, place: usize) -> Lane
         requires { place < length self.now.ports }
         ensures { IfSome (slice_get self.now.ports place) (λ port. result ≡ port.lane) }
     {

@@ -1,7 +1,7 @@
 -- What a turn does with the end of a lane.
-use Rattle.std.specs.Prelude.{◌≡◌, ℕ, ◌<◌, List, [], ◌∷◌, ◌++◌, length, Option, Some, None, option_to_list, slice_get}
+use Rattle.std.specs.Prelude.{◌≡◌, ℕ, ◌<◌, ◌≤◌, IfNone, List, [], ◌∷◌, ◌++◌, length, Option, Some, None, option_to_list, slice_get}
 use Rattle.lane_items.specs.declared.item.Item.{Item}
-use Rattle.lane_items.specs.Lane.{KeepsPairs}
+use Rattle.lane_items.specs.Lane.{KeepsPairs, in_hand}
 use Rattle.bus_core.specs.declared.given.Sent.{Sent}
 use Rattle.bus_core.specs.Calls.{items_at}
 use Rattle.bus_core.specs.Places.{OneChanged}
@@ -39,6 +39,24 @@ pub record SendsAt {End : Type 0} (had sent got : End → List Item) (paired : E
   pub many : length new ≡ length old
   pub each : (n : ℕ) (end after : End) → slice_get old n ≡ Some end → slice_get new n ≡ Some after → EndAfter had sent got paired end after [] None (items_at item n)
   pub others : (n : ℕ) → items_at item n ≡ [] → slice_get new n ≡ slice_get old n
+
+-- an item, if there is one, sent at the port of this place
+abbrev pub sent_at : ℕ → Option Item → Option Sent
+sent_at place None = None
+sent_at place (Some item) = Some (record { place = place; item = item })
+
+-- one end gave one item, or none
+pub record ReceivesOne {End : Type 0} (had sent got : End → List Item) (kept : End → ℕ) (paired : End → End → Type 0) (place : ℕ) (old : List End) (item : Option Item) (new : List End) : Type 0 where
+  pub many : length new ≡ length old
+  pub before : End
+  pub after : End
+  pub one : OneChanged place old new before after
+  pub got_is : got after ≡ got before ++ option_to_list item
+  pub sent_is : sent after ≡ sent before
+  pub had_is : had after ≡ had before
+  pub kept_is : kept after ≤ kept before
+  pub pairs : KeepsPairs paired before after
+  pub none : IfNone item (in_hand (had before) (got before) ≡ [])
 
 -- both are sent, each at its port
 pub record SendsBoth {End : Type 0} (had sent got : End → List Item) (paired : End → End → Type 0) (old : List End) (over back : Option Sent) (new : List End) : Type 0 where

@@ -1,6 +1,7 @@
 ghost use Rattle.std.specs.Prelude.{◌≡◌, ◌≢◌, ◌<◌, length, slice_get, Some, true, false};
 ghost use Rattle.bus_core.specs.declared.given.Sent.{Sent as SentItem};
-ghost use Rattle.bus_segment.specs.Ends.{HasRoom, LacksRoom, SendsOne, SendsAt, SendsBoth};
+ghost use Rattle.bus_segment.specs.Ends.{HasRoom, LacksRoom, ReceivesOne, SendsOne, SendsAt, SendsBoth, sent_at};
+ghost use Rattle.bus_core.specs.Calls.{stamp_of};
 
 use bus_core::Sent;
 use lane_items::{Item, LaneEnd};
@@ -28,7 +29,7 @@ pub(crate) fn send_both<L: LaneEnd>(ends: &mut [L], over: Option<Sent>, back: Op
 }
 
 /// What is to be sent, if anything is, is sent at its port.
-fn send_at<L: LaneEnd>(ends: &mut [L], sent: Option<Sent>)
+pub(crate) fn send_at<L: LaneEnd>(ends: &mut [L], sent: Option<Sent>)
     requires { HasRoom L.kept ends.old sent }
     ensures { SendsAt L.had L.sent L.got L.paired ends.old sent ends.new }
 {
@@ -45,4 +46,36 @@ fn send_one<L: LaneEnd>(ends: &mut [L], place: usize, item: Item)
 {
     let end = &mut ends[place];
     end.send(item);
+}
+
+/// What the end of the port at the place gives.
+pub(crate) fn receive_at<L: LaneEnd>(ends: &mut [L], place: usize) -> Option<Item>
+    requires { place < length ends.old }
+    ensures { ReceivesOne L.had L.sent L.got L.kept L.paired place ends.old result ends.new }
+{
+    let end = &mut ends[place];
+    end.receive()
+}
+
+/// The item, if there is one, is to be sent at the port of this place.
+pub(crate) fn sent_at(place: usize, item: Option<Item>) -> Option<Sent>
+    ensures { result ≡ sent_at place item }
+{
+    match item {
+        Some(item) => Some(Sent { place, item }),
+        None => None,
+    }
+}
+
+/// The stamp of an item.
+pub(crate) fn stamp_of(item: Item) -> u32
+    ensures { result ≡ stamp_of item }
+{
+    match item {
+        Item::Post { stamp, .. }
+        | Item::Ask { stamp, .. }
+        | Item::Done { stamp, .. }
+        | Item::Room { stamp }
+        | Item::Gone { stamp, .. } => stamp,
+    }
 }

@@ -1,4 +1,4 @@
-ghost use Rattle.std.specs.Prelude.{◌≡◌, ◌+◌, ◌-◌, ◌<◌, ◌≤◌, ◌++◌, [], ◌∷◌, false, length, max, slice_get, vec_len, IfSome, IsTrue};
+ghost use Rattle.std.specs.Prelude.{◌≡◌, ◌+◌, ◌-◌, ◌<◌, ◌≤◌, ◌^◌, ◌++◌, [], ◌∷◌, false, length, max, slice_get, vec_len, IfSome, IsTrue};
 ghost use Rattle.std.specs.List.{Contains};
 ghost use Rattle.std.specs.Vec.{vec_capacity};
 ghost use Rattle.bus_core.specs.declared.given.Presented.TheVariants.{Did};
@@ -6,14 +6,15 @@ ghost use Rattle.board_model.specs.WellFormed.{is_well_formed};
 ghost use Rattle.bridge_face.specs.Offers.{offers_of};
 ghost use Rattle.bus_core.specs.Bus.{shape_of, arrivals_at};
 ghost use Rattle.bus_core.specs.Serves.{SendsApart};
-ghost use Rattle.bus_segment.specs.Turn.{Does, Records, Finishes};
+ghost use Rattle.bus_segment.specs.Turn.{Does, Records, Finishes, Keeps, Takes};
 
-use crate::ends::{has_room, send_both};
-use board_model::Board;
+use crate::ends::{has_room, send_at, send_both, sent_at, stamp_of};
+use board_model::{Board, Lane};
 use bridge_face::Offer;
 use bus_core::{Acted, Bus, Presented};
-use history_model::Stamped;
-use lane_items::LaneEnd;
+use bus_port::Arrival;
+use history_model::{Event, Stamped};
+use lane_items::{Item, LaneEnd};
 use pci_command::List;
 use std::alloc::Global;
 
@@ -129,6 +130,58 @@ impl<L: LaneEnd + Drop> Segment<L> {
     {
         let presented = self.bus.serve_offer(board, place, offer, self.stamp);
         self.finish(presented);
+    }
+
+    /// An item came at the port of this place: it arrives, and what goes back at once is sent; or the
+    /// segment stops, since the bus does not take it or there is no room for what goes back.
+    fn take(&mut self, board: &Board, place: usize, item: Item)
+        requires place { place < length self.old.bus.ports }
+        requires counts { IfSome (slice_get self.old.bus.ports place) (λ port. port.face.arrivals + 1 < 2 ^ 64) }
+        requires goes { self.old.stopped ≡ false }
+        requires spare { vec_len self.old.events < vec_capacity self.old.events }
+        ensures takes { Takes L.had L.sent L.got L.kept L.paired board.now place item
+            (record { bus = self.old.bus; stamp = self.old.stamp; stopped = false }) self.old.ends.items self.old.events.items
+            (record { bus = self.new.bus; stamp = self.new.stamp; stopped = self.new.stopped }) self.new.ends.items self.new.events.items }
+        ensures shape { shape_of self.new.bus ≡ shape_of self.old.bus }
+    {
+        let sent = stamp_of(item);
+        if sent >= 0x8000_0000 {
+            self.stopped = true;
+            return;
+        }
+        let later = self.stamp.max(sent + 1);
+        let lane = self.bus.lane_of(place);
+        match self.bus.arrive(board, place, item, later) {
+            None => self.stopped = true,
+            Some(arrival) => self.arrived(lane, place, later, arrival),
+        }
+    }
+
+    /// The item arrived so.
+    fn arrived(&mut self, lane: Lane, place: usize, later: u32, arrival: Arrival)
+        requires goes { self.old.stopped ≡ false }
+        requires spare { vec_len self.old.events < vec_capacity self.old.events }
+        ensures bus { self.new.bus ≡ self.old.bus }
+        ensures keeps { Keeps L.had L.sent L.got L.kept L.paired lane place later arrival self.old.stamp self.old.ends.items self.old.events.items self.new.stamp self.new.ends.items self.new.events.items self.new.stopped }
+    {
+        let back = sent_at(place, arrival.back);
+        if !has_room(self.ends.as_slice(), back) {
+            self.stopped = true;
+            return;
+        }
+        send_at(self.ends.as_mut_slice(), back);
+        let event = Event::Arrive {
+            lane,
+            mark: arrival.mark,
+        };
+        keep(
+            &mut self.events,
+            Stamped {
+                stamp: later,
+                event,
+            },
+        );
+        self.stamp = later;
     }
 
     /// What comes of an initiator: an event is recorded and what it sends is sent, if there is room
