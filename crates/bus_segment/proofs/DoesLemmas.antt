@@ -39,7 +39,7 @@ use Rattle.bus_segment.proofs.ActLemmas.{act_goes}
 use Rattle.bus_segment.proofs.EndLemmas.{end_still}
 
 -- a past in which nothing more was done, by a bus that stands for the same, or that stopped
-same_past : (board : Board) (old new : BusView) (stamp : ℕ) (stopped : Bool) → shape_of new ≡ shape_of old
+pub same_past : (board : Board) (old new : BusView) (stamp : ℕ) (stopped : Bool) → shape_of new ≡ shape_of old
     → (stopped ≡ false → (tags : By → OpId → ℕ) (world : World) (p : List Event) → BusStands board tags world p old → BusStands board tags world p new)
     → SegmentGoes board (record { bus = old; stamp = stamp; stopped = false }) (record { bus = new; stamp = stamp; stopped = stopped }) [] (λ n. []) (λ n. [])
 same_past board old new stamp stopped shape stays =

@@ -3,3 +3,4 @@ pub mod ActLemmas
 pub mod OtherLemmas
 pub mod EndLemmas
 pub mod DoesLemmas
+pub mod TakeLemmas

@@ -2,13 +2,14 @@ ghost use Rattle.std.specs.Prelude.{◌≡◌, ◌+◌, ◌-◌, ◌<◌, ◌≤
 ghost use Rattle.std.specs.List.{Contains};
 ghost use Rattle.std.specs.Vec.{vec_capacity};
 ghost use Rattle.bus_core.specs.declared.given.Presented.TheVariants.{Did};
+ghost use Rattle.board_model.specs.Valid.{IsValid};
 ghost use Rattle.board_model.specs.WellFormed.{is_well_formed};
 ghost use Rattle.bridge_face.specs.Offers.{offers_of};
 ghost use Rattle.bus_core.specs.Bus.{shape_of, arrivals_at};
 ghost use Rattle.bus_core.specs.Serves.{SendsApart};
 ghost use Rattle.bus_segment.specs.Turn.{Does, Records, Finishes, Keeps, Takes};
 
-use crate::ends::{has_room, send_at, send_both, sent_at, stamp_of};
+use crate::ends::{has_room, receive_at, send_at, send_both, sent_at, stamp_of};
 use board_model::{Board, Lane};
 use bridge_face::Offer;
 use bus_core::{Acted, Bus, Presented};
@@ -130,6 +131,29 @@ impl<L: LaneEnd + Drop> Segment<L> {
     {
         let presented = self.bus.serve_offer(board, place, offer, self.stamp);
         self.finish(presented);
+    }
+
+    /// One item is received from the end of the port at this place, if one is there, and arrives, with
+    /// a stamp above its own; or it stops the segment. Whether one was received.
+    pub fn receive(&mut self, board: &Board, place: usize) -> bool
+        requires valid { IsValid board.now }
+        requires place { place < length self.old.bus.ports }
+        requires counts { IfSome (slice_get self.old.bus.ports place) (λ port. port.face.arrivals + 1 < 2 ^ 64) }
+        requires ends { length self.old.ends.items ≡ length self.old.bus.ports }
+        requires goes { self.old.stopped ≡ false }
+        requires spare { vec_len self.old.events < vec_capacity self.old.events }
+        ensures does { Does L.had L.sent L.got L.kept L.paired board.now
+            (record { bus = self.old.bus; stamp = self.old.stamp; stopped = false }) (record { bus = self.new.bus; stamp = self.new.stamp; stopped = self.new.stopped })
+            self.old.ends.items self.new.ends.items self.old.events.items self.new.events.items }
+        ensures shape { shape_of self.new.bus ≡ shape_of self.old.bus }
+    {
+        match receive_at(self.ends.as_mut_slice(), place) {
+            None => false,
+            Some(item) => {
+                self.take(board, place, item);
+                true
+            }
+        }
     }
 
     /// An item came at the port of this place: it arrives, and what goes back at once is sent; or the
