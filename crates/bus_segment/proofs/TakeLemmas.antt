@@ -203,3 +203,44 @@ module _ {End : Type 0} (had sent got : End → List Item) (kept : End → ℕ) 
 
   pub received_does : IsValid board → length ends ≡ length old.ports → Takes had sent got kept paired board place item (record { bus = old; stamp = stamp; stopped = false }) mid events (record { bus = new; stamp = new_stamp; stopped = stopped }) after kept_events → Received
   received_does valid paired_up takes = elim takes as (λ _. Received) [ inl done ↦ received_arrives valid done | inr done ↦ received_stops paired_up done ]
+
+-- Nothing came.
+pub received_nothing : {End : Type 0} (had sent got : End → List Item) (kept : End → ℕ) (paired : End → End → Type 0) (board : Board) (place : ℕ) (bus : BusView) (stamp : ℕ) (stopped : Bool) (ends mid : List End) (events : List Stamped) → stopped ≡ false
+    → ReceivesOne had sent got kept paired place ends None mid
+    → Does had sent got kept paired board (record { bus = bus; stamp = stamp; stopped = false }) (record { bus = bus; stamp = stamp; stopped = stopped }) ends mid events events
+received_nothing {End} had sent got kept paired board place bus stamp stopped ends mid events goes_on received =
+    let G : Bool → Type 0 = λ b. SegmentGoes board (record { bus = bus; stamp = stamp; stopped = false }) (record { bus = bus; stamp = stamp; stopped = b }) [] (λ n. []) (λ n. []) in
+    record {
+      later = [];
+      received = λ n. [];
+      refused = λ n. None;
+      puts = λ n. [];
+      goes = subst G (sym goes_on) (same_past board bus bus stamp false refl (λ on tags world p stands. stands));
+      recorded = sym (append-nil events);
+      many = received.many;
+      at_ends = λ n end end_after was is.
+          let P : Bool → Type 0 = λ b. (n == place) ≡ b → EndAfter had sent got paired end end_after [] None [] in
+          (elim (n == place) as P [
+            | true ↦ λ here.
+                let number : n ≡ place = eqb-true n place here in
+                let first : slice_get ends place ≡ Some end = subst (λ m. slice_get ends m ≡ Some end) number was in
+                let last : slice_get mid place ≡ Some end_after = subst (λ m. slice_get mid m ≡ Some end_after) number is in
+                let both = sym first ∙ received.one.was in
+                let then = sym last ∙ received.one.is in
+                let one : end ≡ received.before = cc in
+                let other : end_after ≡ received.after = cc in
+                let E : End → End → Type 0 = λ a b. EndAfter had sent got paired a b [] None [] in
+                subst (λ a. E a end_after) (sym one) (subst (λ b. E received.before b) (sym other) (record {
+                  got_is = received.got_is ∙ sym (append-nil (got received.before ++ []));
+                  sent_is = received.sent_is ∙ sym (append-nil (sent received.before));
+                  had_is = received.had_is;
+                  pairs = received.pairs;
+                }))
+            | false ↦ λ differ.
+                let both = sym was ∙ (sym (received.one.others n (eqb-false n place differ)) ∙ is) in
+                let same : end ≡ end_after = cc in
+                subst (λ (e : End). EndAfter had sent got paired end e [] None []) same (end_still had sent got paired end)
+          ]) refl;
+      none_refused = λ on n. refl;
+      stops = λ on off. cc;
+    }
