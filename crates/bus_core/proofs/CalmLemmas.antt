@@ -1,15 +1,12 @@
 -- An answer that is at no target: the targets and what went through in parts stay as they were.
-use Rattle.std.proofs.Common.{◌≡◌, ℕ, ◌+◌, ◌<◌, Bool, true, false, cond, List, [], ◌∷◌, ◌++◌, map, length, Option, Some, None, ◌⊎◌, refl, sym, ap, subst, ◌∙◌, slice_get, arith}
+use Rattle.std.proofs.Common.{◌≡◌, ℕ, ◌<◌, Bool, true, false, cond, List, ◌∷◌, length, None, ◌⊎◌, refl, sym, ap, subst, ◌∙◌, arith}
 use Rattle.std.proofs.lemmas.List.{append-nil}
-use Rattle.pci_command.specs.declared.request.Request.{Request}
 use Rattle.pci_command.specs.declared.op_id.OpId.{OpId}
 use Rattle.pci_command.specs.Command.{is_read}
 use Rattle.pci_command.specs.Same.{same_op}
-use Rattle.board_model.specs.declared.bridge.Lane.{Lane as BridgeLane}
 use Rattle.board_model.specs.declared.bridge.Place.{Place}
 use Rattle.board_model.specs.declared.bridge.Place.TheVariants.{Target, Header, Lane, Nobody}
 use Rattle.board_model.specs.declared.board.Board.{Board}
-use Rattle.board_model.specs.Requests.{request_of}
 use Rattle.board_model.specs.Ways.{lane_back}
 use Rattle.history_model.specs.declared.event.By.{By}
 use Rattle.history_model.specs.declared.event.Step.{Step}
@@ -17,22 +14,18 @@ use Rattle.history_model.specs.declared.event.Event.{Event}
 use Rattle.history_model.specs.declared.event.Event.TheVariants.{Act}
 use Rattle.history_model.specs.declared.item.Answer.{Answer}
 use Rattle.history_model.specs.declared.item.Answer.TheVariants.{Gives, Retry}
-use Rattle.history_model.specs.Lanes.{LaneState}
 use Rattle.history_model.specs.World.{World}
 use Rattle.history_model.specs.Words.{phases_parted, parted_by, through}
 use Rattle.history_model.specs.Answers.{answer_in}
-use Rattle.lane_items.specs.declared.item.Item.{Item}
-use Rattle.bridge_face.specs.Arrivals.{carried}
 use Rattle.master_agents.specs.Through.{ThroughStands}
 use Rattle.master_agents.proofs.ThroughLemmas.{through_stays}
 use Rattle.target_agents.specs.State.{TargetView}
 use Rattle.target_agents.specs.Stands.{TargetStands}
 use Rattle.target_agents.proofs.EventLemmas.{stands_elsewhere}
-use Rattle.bus_port.specs.Port.{PortView, PortStands}
+use Rattle.bus_port.specs.Port.{PortStands}
 use Rattle.bus_port.specs.Calls.{after_answer}
-use Rattle.bus_core.specs.declared.given.Sent.{Sent}
-use Rattle.bus_core.specs.Bus.{BusView, shape_of, PartsAreOfWrites, BusStandsAt, BusStands}
-use Rattle.bus_core.specs.Calls.{past_after, items_at, Flights, Answered}
+use Rattle.bus_core.specs.Bus.{BusView, PartsAreOfWrites, BusStands}
+use Rattle.bus_core.specs.Calls.{past_after, Answered}
 
 -- no target answers, and nothing goes through
 abbrev pub IsCalm : Answer → Type 0

@@ -1,5 +1,5 @@
 -- An item arrives at one port of the bus.
-use Rattle.std.proofs.Common.{◌≡◌, ◌≢◌, ℕ, ◌+◌, Bool, true, false, cond, not, ◌==◌, ◌&&◌, List, [], ◌∷◌, ◌++◌, map, option_to_list, Option, Some, None, IsSome, refl, sym, ap, subst, ◌∙◌, slice_get}
+use Rattle.std.proofs.Common.{◌≡◌, ◌≢◌, ℕ, Bool, true, false, cond, not, ◌==◌, ◌&&◌, List, [], ◌∷◌, ◌++◌, map, option_to_list, Option, Some, None, IsSome, refl, sym, ap, subst, ◌∙◌, slice_get}
 use Rattle.std.proofs.lemmas.Bool.{eqb-true, eqb-false}
 use Rattle.std.proofs.lemmas.List.{append-nil}
 use Rattle.pci_command.specs.declared.request.Request.{Request}
@@ -28,8 +28,8 @@ use Rattle.bus_port.proofs.MoveLemmas.{moved_apart, other_bridge_leaves}
 use Rattle.master_agents.proofs.ThroughLemmas.{through_stays}
 use Rattle.target_agents.proofs.EventLemmas.{stands_elsewhere}
 use Rattle.bus_core.specs.Bus.{BusView, Shape, shape_of, IsOf, AreLines, BusStands}
-use Rattle.bus_core.specs.Places.{OneChanged, ComesAt, TestsAt, ask_request}
-use Rattle.bus_core.specs.Serves.{is_there_as, names_its_kind, is_taken_on, BusRefuses, taken_at, ArrivesAt, BusArrives}
+use Rattle.bus_core.specs.Places.{ComesAt, TestsAt, ask_request}
+use Rattle.bus_core.specs.Serves.{is_there_as, names_its_kind, BusRefuses, ArrivesAt, BusArrives}
 use Rattle.bus_core.proofs.ListLemmas.{one_map, one_each, get_map, map_get}
 use Rattle.bus_core.proofs.CalmLemmas.{parts_stay}
 

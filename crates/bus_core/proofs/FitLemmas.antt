@@ -1,5 +1,5 @@
 -- The address of what is left of a request fits in 64 bits.
-use Rattle.std.proofs.Common.{◌≡◌, ℕ, ◌+◌, ◌*◌, ◌%◌, ◌^◌, ◌<◌, ◌≤◌, true, false, ◌==◌, nat_le, List, length, Option, Some, None, ◌⊎◌, inl, inr, refl, sym, ap, subst, arith}
+use Rattle.std.proofs.Common.{◌≡◌, ℕ, ◌+◌, ◌*◌, ◌%◌, ◌^◌, ◌<◌, ◌≤◌, true, false, nat_le, List, length, Option, Some, None, ◌⊎◌, inl, inr, sym, subst, arith}
 use Rattle.std.proofs.lemmas.Bool.{eqb-true, leb-true, and_parts}
 use Rattle.pci_command.specs.declared.command.Space.{Space}
 use Rattle.pci_command.specs.declared.command.Space.TheVariants.{Mem, Io, Cfg}
@@ -9,7 +9,7 @@ use Rattle.pci_command.specs.declared.op_id.OpId.{OpId}
 use Rattle.board_model.specs.declared.op.Op.{Op}
 use Rattle.board_model.specs.declared.op.Op.TheVariants.{Read as ReadOp, Write as WriteOp, CfgRead, CfgWrite, Poll}
 use Rattle.board_model.specs.declared.board.Board.{Board}
-use Rattle.board_model.specs.Requests.{address_on, phases_of, request_of, request_on}
+use Rattle.board_model.specs.Requests.{address_on, phases_of, request_of}
 use Rattle.board_model.specs.WellFormed.{is_well_formed, is_well_formed_op, is_well_formed_write, is_within, write_space}
 use Rattle.board_model.proofs.Laws.{Write-parts, op_formed}
 use Rattle.history_facts.proofs.RequestLemmas.{request_is_of}

@@ -1,27 +1,24 @@
 -- A lane claims an operation.
-use Rattle.std.proofs.Common.{◌≡◌, ◌≢◌, ℕ, Bool, true, false, cond, ◌==◌, List, [], ◌∷◌, ◌++◌, map, Option, Some, None, refl, sym, ap, subst, ◌∙◌, slice_get}
+use Rattle.std.proofs.Common.{◌≡◌, ◌≢◌, ℕ, Bool, true, false, ◌==◌, List, [], ◌++◌, map, Option, Some, None, refl, sym, ap, subst, ◌∙◌, slice_get}
 use Rattle.std.specs.List.{position}
 use Rattle.std.proofs.lemmas.Bool.{eqb-true, eqb-false, eq-eqb}
 use Rattle.std.proofs.lemmas.List.{append-nil}
 use Rattle.pci_command.specs.declared.request.Request.{Request}
 use Rattle.pci_command.specs.declared.op_id.OpId.{OpId}
-use Rattle.pci_command.specs.declared.op_id.Outcome.{Outcome}
 use Rattle.board_model.specs.declared.bridge.Bridge.{Bridge}
 use Rattle.board_model.specs.declared.bridge.Lane.{Lane as BridgeLane}
 use Rattle.board_model.specs.declared.bridge.Place.TheVariants.{Lane, Nobody}
 use Rattle.board_model.specs.declared.board.Board.{Board}
-use Rattle.board_model.specs.Requests.{request_of}
 use Rattle.board_model.specs.Claims.{claim}
-use Rattle.board_model.specs.Ways.{start_of, end_of, lane_back}
+use Rattle.board_model.specs.Ways.{end_of, lane_back}
 use Rattle.history_model.specs.declared.event.By.{By}
 use Rattle.history_model.specs.declared.event.By.TheVariants.{Master, Lane as ByLane}
 use Rattle.history_model.specs.declared.event.Event.{Event}
 use Rattle.history_model.specs.declared.event.Step.TheVariants.{Accept, Latch, Take, MasterAbort}
 use Rattle.history_model.specs.declared.item.Answer.{Answer}
 use Rattle.history_model.specs.declared.item.Answer.TheVariants.{Gives}
-use Rattle.history_model.specs.Lanes.{LaneState, Both}
-use Rattle.history_model.specs.World.{World, same_lane, same_initiator, enters, moved}
-use Rattle.history_model.specs.Words.{through, without}
+use Rattle.history_model.specs.Lanes.{LaneState}
+use Rattle.history_model.specs.World.{World, same_lane, same_initiator, enters}
 use Rattle.history_model.specs.Answers.{bridge_to, lane_answer, answer_by, answer_to, answer_in}
 use Rattle.history_facts.proofs.BridgeLemmas.{lane_back_back, same_lane_true, same_lane_self}
 use Rattle.law_slots.proofs.Laws.{claim_starts, WellFormed-numbers}
@@ -31,15 +28,14 @@ use Rattle.bridge_face.specs.declared.reply.Reply.{Reply}
 use Rattle.bridge_face.specs.declared.reply.Reply.TheVariants.{Accepted, Latched, Taken, Retry as Retried}
 use Rattle.bridge_face.specs.Arrivals.{carried}
 use Rattle.bridge_face.specs.Replies.{as_answer}
-use Rattle.bridge_face.specs.OnLanes.{IsPresented, sent_by}
+use Rattle.bridge_face.specs.OnLanes.{sent_by}
 use Rattle.bus_port.specs.Port.{PortView, PortStands}
 use Rattle.bus_port.specs.Calls.{after_answer, Replies}
 use Rattle.bus_port.proofs.MoveLemmas.{moved_apart, other_bridge_leaves}
-use Rattle.bus_core.specs.declared.given.Sent.{Sent}
-use Rattle.bus_core.specs.Bus.{BusView, Shape, shape_of, arrivals_at, IsOf, AreLines, BusStandsAt, BusStands}
-use Rattle.bus_core.specs.Calls.{past_after, items_at, Flights, IsLine, Answered, ClaimedBack}
+use Rattle.bus_core.specs.Bus.{BusView, Shape, shape_of, arrivals_at, IsOf, AreLines, BusStands}
+use Rattle.bus_core.specs.Calls.{items_at, IsLine, Answered, ClaimedBack}
 use Rattle.bus_core.specs.Parts.{IsClaimed, PlaceAnswers, PlaceTurns}
-use Rattle.bus_core.specs.Places.{OneChanged, RespondsAt, sent_over}
+use Rattle.bus_core.specs.Places.{RespondsAt, sent_over}
 use Rattle.bus_core.proofs.ListLemmas.{one_map, one_each, get_map, map_get, found_at, none_at}
 use Rattle.bus_core.proofs.CalmLemmas.{IsCalm, calm_target, calm_through, calm_parts, unmoved}
 

@@ -1,8 +1,7 @@
 -- Request lines that tell the initiators of a bus apart, by their places; and a bus before its first event.
-use Rattle.std.proofs.Common.{◌≡◌, ◌≢◌, ℕ, ◌+◌, ◌<◌, ◌≤◌, Bool, true, false, ◌==◌, List, [], length, Option, Some, None, inl, refl, sym, ap, subst, ◌∙◌, arith, slice_get}
+use Rattle.std.proofs.Common.{◌≡◌, ◌≢◌, ℕ, ◌+◌, ◌<◌, ◌≤◌, Bool, true, false, ◌==◌, List, length, Option, Some, None, inl, refl, sym, ap, subst, ◌∙◌, arith, slice_get}
 use Rattle.std.specs.List.{position, list_any}
 use Rattle.std.proofs.lemmas.Bool.{eqb-true, eq-eqb}
-use Rattle.std.proofs.lemmas.Bool.Decides.{nat_tests}
 use Rattle.std.proofs.lemmas.Option.{slice_get_within}
 use Rattle.pci_command.specs.declared.op_id.OpId.{OpId}
 use Rattle.board_model.specs.declared.bridge.Lane.{Lane as BridgeLane}
@@ -12,7 +11,6 @@ use Rattle.history_model.specs.declared.event.By.TheVariants.{Master, Lane as By
 use Rattle.history_model.specs.World.{same_lane, same_initiator}
 use Rattle.history_model.specs.Answers.{wants_in}
 use Rattle.history_facts.proofs.BridgeLemmas.{same_lane_true, same_lane_self, same_lane_symm}
-use Rattle.law_slots.specs.Latched.{IsAt}
 use Rattle.bridge_face.specs.declared.offer.Offer.{Offer}
 use Rattle.bridge_face.specs.Offers.{offers_of, is_offer_of}
 use Rattle.bridge_face.proofs.EndLemmas.{offers_on_lanes}

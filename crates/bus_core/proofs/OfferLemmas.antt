@@ -1,6 +1,6 @@
 -- A lane presents an item that stands.
-use Rattle.std.proofs.Common.{◌≡◌, ◌≢◌, ℕ, Bool, true, false, cond, ◌==◌, ◌&&◌, List, [], ◌∷◌, ◌++◌, map, length, get_or, Option, Some, None, refl, sym, ap, subst, ◌∙◌, slice_get}
-use Rattle.std.proofs.lemmas.Bool.{eqb-true, eqb-false, eq-eqb}
+use Rattle.std.proofs.Common.{◌≡◌, ◌≢◌, ℕ, Bool, true, false, cond, ◌==◌, List, [], ◌∷◌, ◌++◌, map, length, get_or, Option, Some, None, refl, sym, ap, subst, ◌∙◌, slice_get}
+use Rattle.std.proofs.lemmas.Bool.{eqb-true, eqb-false}
 use Rattle.std.proofs.lemmas.List.{append-nil, append_assoc, map-append}
 use Rattle.std.proofs.lemmas.Option.{slice_get_read}
 use Rattle.std.proofs.lemmas.Map.Keys.{any_passes_from_place}
@@ -32,16 +32,16 @@ use Rattle.bus_port.specs.Port.{PortView, PortStands}
 use Rattle.bus_port.specs.Calls.{after_answer}
 use Rattle.bus_port.proofs.MoveLemmas.{moved_apart, other_bridge_leaves}
 use Rattle.bus_port.proofs.ReplyLemmas.{port_offers}
-use Rattle.master_agents.specs.Turns.{MasterView, MasterStands}
+use Rattle.master_agents.specs.Turns.{MasterView}
 use Rattle.master_agents.specs.Through.{ThroughStands}
 use Rattle.target_agents.specs.State.{TargetView}
 use Rattle.bus_core.specs.declared.given.Sent.{Sent}
 use Rattle.bus_core.specs.Bus.{BusView, Shape, shape_of, IsOf, AreLines, PartsAreOfWrites, BusStands}
-use Rattle.bus_core.specs.Calls.{items_at, Flights, IsLine, Answered, BusAnswers, TurnsBack}
+use Rattle.bus_core.specs.Calls.{items_at, Flights, IsLine, BusAnswers, TurnsBack}
 use Rattle.bus_core.specs.Parts.{TellsLane}
-use Rattle.bus_core.specs.Places.{OneChanged, EndsAt}
+use Rattle.bus_core.specs.Places.{EndsAt}
 use Rattle.bus_core.specs.Serves.{BusPresents, BusTurnsBack}
-use Rattle.bus_core.proofs.ListLemmas.{one_map, one_each, get_map, map_get}
+use Rattle.bus_core.proofs.ListLemmas.{one_each, get_map, map_get}
 
 -- nothing ended
 pub not_ended : (board : Board) (place : ℕ) (offer : Offer) (step : Step) (s : BusView) (port : PortView) → slice_get s.ports place ≡ Some port → lane_outcome board port.lane offer.op step ≡ None → TellsLane board place offer step s None s

@@ -1,10 +1,9 @@
 -- Whoever claims what is left of a request.
-use Rattle.std.proofs.Common.{◌≡◌, ℕ, ◌+◌, ◌*◌, ◌^◌, ◌<◌, true, false, List, length, drop, Option, Some, None, ◌⊎◌, inl, inr, refl, sym, ap, subst, ◌∙◌}
+use Rattle.std.proofs.Common.{◌≡◌, ℕ, ◌+◌, ◌*◌, ◌^◌, ◌<◌, true, List, length, Option, Some, None, ◌⊎◌, inl, inr, refl, sym, ap, subst, ◌∙◌}
 use Rattle.pci_command.specs.declared.command.Command.{Command}
 use Rattle.pci_command.specs.declared.phases.Phase.{Phase}
 use Rattle.pci_command.specs.declared.request.Request.{Request}
 use Rattle.pci_command.specs.declared.op_id.OpId.{OpId}
-use Rattle.pci_command.specs.Command.{is_read}
 use Rattle.board_model.specs.declared.bridge.Bridge.{Bridge}
 use Rattle.board_model.specs.declared.bridge.Place.{Place}
 use Rattle.board_model.specs.declared.bridge.Place.TheVariants.{Header, Nobody}
@@ -22,13 +21,12 @@ use Rattle.history_model.specs.Words.{through, without}
 use Rattle.history_model.specs.Answers.{header_answer, bridge_to, answer_by, answer_to, answer_in}
 use Rattle.history_facts.proofs.RequestLemmas.{request_is_of}
 use Rattle.master_agents.specs.Through.{or_zero, count_in}
-use Rattle.bus_port.specs.Calls.{after_answer}
 use Rattle.bus_core.specs.declared.given.Sent.{Sent}
 use Rattle.bus_core.specs.Bus.{BusView, BusStands}
-use Rattle.bus_core.specs.Calls.{IsLine, Answered, BusAnswers, TurnsBack}
-use Rattle.bus_core.specs.Parts.{IsRest, IsClaimed, PlaceAnswers, PlaceTurns, RequestAnswers, RequestTurns}
+use Rattle.bus_core.specs.Calls.{Answered, BusAnswers, TurnsBack}
+use Rattle.bus_core.specs.Parts.{IsRest, PlaceAnswers, PlaceTurns, RequestAnswers, RequestTurns}
 use Rattle.bus_core.proofs.FitLemmas.{rest_fits}
-use Rattle.bus_core.proofs.CalmLemmas.{IsCalm, unmoved}
+use Rattle.bus_core.proofs.CalmLemmas.{unmoved}
 
 -- nobody claims it
 pub nobody_claims : (board : Board) (s : BusView) (line : ℕ) (o : OpId) (request rest : Request) → PlaceAnswers board s Nobody line o request rest (Gives MasterAbort Nobody) None s

@@ -1,46 +1,43 @@
 -- A target claims an operation.
-use Rattle.std.proofs.Common.{◌≡◌, ◌≢◌, ℕ, ◌+◌, ◌-◌, ◌<◌, ◌≤◌, Bool, true, false, cond, ◌==◌, nat_lt, List, [], ◌∷◌, length, drop, map, Option, Some, None, ◌⊎◌, inl, inr, refl, sym, ap, subst, ◌∙◌, arith, slice_get}
+use Rattle.std.proofs.Common.{◌≡◌, ◌≢◌, ℕ, ◌+◌, ◌-◌, ◌<◌, Bool, true, false, cond, ◌==◌, List, ◌∷◌, length, map, Option, Some, None, ◌⊎◌, inl, inr, refl, sym, ap, subst, ◌∙◌, arith, slice_get}
 use Rattle.std.specs.List.{position}
-use Rattle.std.proofs.lemmas.Bool.{eqb-true, eqb-false, eq-eqb}
+use Rattle.std.proofs.lemmas.Bool.{eqb-true, eq-eqb}
 use Rattle.std.proofs.lemmas.Bool.Decides.{nat_tests}
 use Rattle.std.proofs.lemmas.List.{append-nil}
 use Rattle.std.proofs.Common.{length-drop}
-use Rattle.pci_command.specs.declared.command.Space.{Space}
 use Rattle.pci_command.specs.declared.command.Space.TheVariants.{Mem, Io, Cfg}
 use Rattle.pci_command.specs.declared.request.Request.{Request}
 use Rattle.pci_command.specs.declared.op_id.OpId.{OpId}
-use Rattle.pci_command.specs.Command.{is_read, space_of}
+use Rattle.pci_command.specs.Command.{is_read}
 use Rattle.pci_command.specs.Same.{same_op}
 use Rattle.board_model.specs.declared.agents.Target.{Target as TargetAgent}
-use Rattle.board_model.specs.declared.bridge.Lane.{Lane as BridgeLane}
 use Rattle.board_model.specs.declared.bridge.Place.{Place}
 use Rattle.board_model.specs.declared.bridge.Place.TheVariants.{Target, Nobody}
 use Rattle.board_model.specs.declared.op.Op.{Op}
 use Rattle.board_model.specs.declared.op.Op.TheVariants.{Read as ReadOp, Write as WriteOp, CfgRead, CfgWrite, Poll}
 use Rattle.board_model.specs.declared.board.Board.{Board}
-use Rattle.board_model.specs.Requests.{request_of, request_on, command_of, tries_of, read_in, op_of}
+use Rattle.board_model.specs.Requests.{request_of, command_of, tries_of}
 use Rattle.board_model.specs.Claims.{claim}
-use Rattle.board_model.specs.Ways.{aborts_at, lane_back}
+use Rattle.board_model.specs.Ways.{lane_back}
 use Rattle.history_model.specs.declared.event.By.{By}
 use Rattle.history_model.specs.declared.event.Event.{Event}
 use Rattle.history_model.specs.declared.event.Event.TheVariants.{Act}
 use Rattle.history_model.specs.declared.event.Step.TheVariants.{MasterAbort}
 use Rattle.history_model.specs.declared.item.Answer.TheVariants.{Gives}
 use Rattle.history_model.specs.World.{World}
-use Rattle.history_model.specs.Words.{phases_parted, parted_by, through, without}
+use Rattle.history_model.specs.Words.{phases_parted, through, without}
 use Rattle.history_model.specs.Answers.{target_answer, answer_by, answer_to, answer_in}
 use Rattle.history_facts.proofs.RequestLemmas.{request_is_of, same_op_true}
 use Rattle.law_local.proofs.PlaceLemmas.{target_on_bus}
-use Rattle.master_agents.specs.Through.{count_in, ThroughStands}
 use Rattle.target_agents.specs.declared.access.Access.{Access}
 use Rattle.target_agents.specs.declared.access.Access.TheVariants.{Stall, Abort, Value, Part, Landed}
-use Rattle.target_agents.specs.State.{TargetView, accessed_in, access_by, step_of}
+use Rattle.target_agents.specs.State.{TargetView, access_by, step_of}
 use Rattle.target_agents.specs.Stands.{TargetStands, IsAccess}
 use Rattle.target_agents.proofs.EventLemmas.{stands_elsewhere}
 use Rattle.bus_core.specs.Bus.{BusView, Shape, shape_of, IsOf, AreLines, PartsAreOfWrites, BusStands}
-use Rattle.bus_core.specs.Calls.{IsLine, Answered}
+use Rattle.bus_core.specs.Calls.{Answered}
 use Rattle.bus_core.specs.Parts.{IsClaimed, PlaceAnswers}
-use Rattle.bus_core.specs.Places.{OneChanged, AccessesAt, NotesPart}
+use Rattle.bus_core.specs.Places.{AccessesAt, NotesPart}
 use Rattle.bus_core.proofs.ListLemmas.{one_map, one_each, get_map, map_get, found_at, none_at}
 use Rattle.bus_core.proofs.CalmLemmas.{none_parted, parts_stay, unmoved}
 

@@ -4,7 +4,6 @@ use Rattle.std.proofs.lemmas.Bool.{eqb-true}
 use Rattle.std.proofs.lemmas.List.{append-nil}
 use Rattle.pci_command.specs.declared.op_id.OpId.{OpId}
 use Rattle.pci_command.specs.declared.op_id.Outcome.{Outcome}
-use Rattle.board_model.specs.declared.bridge.Lane.{Lane as BridgeLane}
 use Rattle.board_model.specs.declared.bridge.Place.{Place}
 use Rattle.board_model.specs.declared.op.Op.{Op}
 use Rattle.board_model.specs.declared.op.Op.TheVariants.{Read as ReadOp, Write, CfgRead, CfgWrite, Poll}
@@ -19,16 +18,16 @@ use Rattle.history_model.specs.declared.event.Event.TheVariants.{Act}
 use Rattle.history_model.specs.declared.item.Answer.TheVariants.{Gives, Retry}
 use Rattle.history_model.specs.declared.item.Cause.{Cause}
 use Rattle.history_model.specs.World.{World}
-use Rattle.history_model.specs.Program.{Ending, master_outcome, ending_of, ended, present, next_op, next_try, meets, follows_op, follows_in, follows, turn_after, turn_of}
-use Rattle.history_model.specs.Answers.{is_on, is_turn, wants_in}
+use Rattle.history_model.specs.Program.{Ending, master_outcome, ending_of, ended, present, next_op, next_try, meets, follows_in, follows, turn_after, turn_of}
+use Rattle.history_model.specs.Answers.{is_turn, wants_in}
 use Rattle.history_facts.proofs.RequestLemmas.{same_op_self}
 use Rattle.bridge_face.specs.Arrivals.{carried}
-use Rattle.master_agents.specs.Turns.{MasterView, MasterStands, IsOfOther, EndsTurn}
+use Rattle.master_agents.specs.Turns.{MasterView, MasterStands, IsOfOther}
 use Rattle.master_agents.proofs.TurnLemmas.{turn_stays}
 use Rattle.bus_core.specs.declared.given.Sent.{Sent}
 use Rattle.bus_core.specs.Bus.{BusView, Shape, shape_of, IsOf, AreLines, BusStands}
-use Rattle.bus_core.specs.Calls.{items_at, IsLine, Answered, BusAnswers, TurnsBack}
-use Rattle.bus_core.specs.Places.{OneChanged, EndsTurnAt, TellsMaster}
+use Rattle.bus_core.specs.Calls.{items_at, IsLine, BusAnswers, TurnsBack}
+use Rattle.bus_core.specs.Places.{EndsTurnAt, TellsMaster}
 use Rattle.bus_core.specs.Serves.{BusPresents, BusTurnsBack}
 use Rattle.bus_core.proofs.ListLemmas.{one_map, one_each, get_map}
 

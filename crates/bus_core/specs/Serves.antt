@@ -1,6 +1,6 @@
 -- What comes of an initiator that is granted the bus, and of an item that comes to a port, wherever the bus stands for what
 -- is on the lanes and for its past.
-use Rattle.std.specs.Prelude.{◌≡◌, ◌≢◌, ℕ, ◌+◌, Bool, true, false, not, ◌&&◌, List, [], ◌∷◌, ◌++◌, map, option_to_list, Option, Some, None, slice_get, ◌==◌, if◌then◌else◌}
+use Rattle.std.specs.Prelude.{◌≡◌, ◌≢◌, ℕ, Bool, true, false, not, ◌&&◌, List, [], ◌∷◌, ◌++◌, map, option_to_list, Option, Some, None, slice_get, ◌==◌, if◌then◌else◌}
 use Rattle.std.specs.List.{list_any}
 use Rattle.pci_command.specs.declared.request.Request.{Request}
 use Rattle.pci_command.specs.declared.op_id.OpId.{OpId}
@@ -21,7 +21,7 @@ use Rattle.history_model.specs.declared.item.Carried.{Carried}
 use Rattle.history_model.specs.declared.item.Carried.TheVariants.{Post, Ask, Done, Room, Gone}
 use Rattle.history_model.specs.declared.item.Cause.{Cause}
 use Rattle.history_model.specs.Lanes.{arrives}
-use Rattle.history_model.specs.World.{World, moved, at_initiator, after}
+use Rattle.history_model.specs.World.{World, moved, after}
 use Rattle.history_model.specs.Answers.{wants_in, answer_in}
 use Rattle.history_model.specs.Runs.{next_mark_in}
 use Rattle.history_model.specs.Local.{is_lawful_on}
@@ -29,12 +29,11 @@ use Rattle.lane_items.specs.declared.item.Item.{Item}
 use Rattle.bridge_face.specs.declared.offer.Offer.{Offer}
 use Rattle.bridge_face.specs.Arrivals.{carried}
 use Rattle.bridge_face.specs.Offers.{is_offer_of}
-use Rattle.bus_port.specs.Port.{PortView, PortStands}
 use Rattle.bus_core.specs.declared.given.Sent.{Sent}
 use Rattle.bus_core.specs.declared.given.Acted.{Acted}
 use Rattle.bus_core.specs.declared.given.Presented.{Presented}
 use Rattle.bus_core.specs.declared.given.Presented.TheVariants.{Nothing, Retried, TurnsBack as Back, Did}
-use Rattle.master_agents.specs.Turns.{MasterView, MasterStands}
+use Rattle.master_agents.specs.Turns.{MasterView}
 use Rattle.bus_core.specs.Bus.{BusView, shape_of, BusStands}
 use Rattle.bus_core.specs.Places.{TestsAt}
 use Rattle.bus_core.specs.Calls.{past_after, stamp_of, items_at, IsStamped, Flights, ClaimedBack}

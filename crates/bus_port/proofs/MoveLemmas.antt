@@ -1,5 +1,5 @@
 -- What a move of one bridge does to its two lanes, seen from the bus where one of them ends.
-use Rattle.std.proofs.Common.{◌≡◌, ◌≢◌, ℕ, Bool, true, false, List, refl, sym, ap, subst, ◌∙◌}
+use Rattle.std.proofs.Common.{◌≡◌, ◌≢◌, ℕ, Bool, true, false, refl, sym, ap, subst, ◌∙◌}
 use Rattle.std.specs.List.{AllByRecursion}
 use Rattle.pci_command.specs.declared.op_id.OpId.{OpId}
 use Rattle.board_model.specs.declared.bridge.Bridge.{Bridge}
@@ -15,7 +15,7 @@ use Rattle.bridge_face.specs.State.{FaceState}
 use Rattle.bridge_face.specs.Stands.{AreEntries, CanStandThere, Stands}
 use Rattle.bridge_face.specs.OnLanes.{turned}
 use Rattle.discard_events.specs.Marks.{MarksStand}
-use Rattle.bus_port.specs.Port.{PortView, PortStands}
+use Rattle.bus_port.specs.Port.{PortView}
 use Rattle.bus_port.specs.Calls.{OtherBridgesLeave}
 
 -- the two lanes of the lane back

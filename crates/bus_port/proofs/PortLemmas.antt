@@ -1,5 +1,5 @@
 -- A port before the first event, the test of an item, and an arrival.
-use Rattle.std.proofs.Common.{◌≡◌, ℕ, ◌+◌, Bool, true, List, [], ◌∷◌, ◌++◌, map, option_to_list, Option, Some, refl, sym, ap, subst, ◌∙◌}
+use Rattle.std.proofs.Common.{◌≡◌, ℕ, ◌+◌, Bool, List, ◌∷◌, Option, Some, refl, sym, ap, subst, ◌∙◌}
 use Rattle.pci_command.specs.declared.request.Request.{Request}
 use Rattle.pci_command.specs.declared.op_id.OpId.{OpId}
 use Rattle.board_model.specs.declared.bridge.Bridge.{Bridge}
@@ -12,16 +12,15 @@ use Rattle.history_model.specs.declared.item.Carried.{Carried}
 use Rattle.history_model.specs.Lanes.{LaneState, Both, empty_lane, asks_in, dones_in, came_off, Effect, Stands as EffectStands, Credits, Frees, Drops, effect_of, takes_effect, arrives_first, arrives}
 use Rattle.history_model.specs.World.{World, both, moved}
 use Rattle.history_model.specs.Answers.{bridge_to}
-use Rattle.history_model.specs.Runs.{mark_of_first, mark_of}
-use Rattle.history_model.specs.Local.{is_lawful_at, is_lawful_on, coming}
+use Rattle.history_model.specs.Runs.{mark_of_first}
+use Rattle.history_model.specs.Local.{is_lawful_at, coming}
 use Rattle.history_facts.proofs.BridgeLemmas.{lane_back_back}
 use Rattle.law_slots.specs.Kinds.{RightKind}
 use Rattle.law_local.proofs.Laws.{moved_here, moved_back}
 use Rattle.lane_items.specs.declared.item.Item.{Item}
 use Rattle.bridge_face.specs.State.{FaceState}
-use Rattle.bridge_face.specs.Arrivals.{carried}
 use Rattle.bridge_face.specs.Stands.{HasDepths, Stands}
-use Rattle.bridge_face.specs.OnLanes.{StandsForEmpty, IsLawfulOnLanes, IsItsRequest, turned, after_arrival, ArrivesOnLanes}
+use Rattle.bridge_face.specs.OnLanes.{StandsForEmpty, IsLawfulOnLanes, IsItsRequest, turned, ArrivesOnLanes}
 use Rattle.discard_events.specs.Marks.{MarksView, MarksStand, MarksArrival}
 use Rattle.bus_port.specs.Port.{PortView, PortStands}
 use Rattle.bus_port.specs.Calls.{PortStandsAtFirst, PortTests, Arrives, PortArrives}

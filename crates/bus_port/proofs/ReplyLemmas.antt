@@ -1,6 +1,6 @@
 -- What a port answers and presents, and the end of an item that it presented.
-use Rattle.std.proofs.Common.{◌≡◌, ℕ, Bool, true, false, cond, ◌&&◌, ◌==◌, nat_lt, List, [], ◌∷◌, ◌++◌, length, Option, Some, None, refl, sym, ap, subst, ◌∙◌}
-use Rattle.std.specs.List.{find, list_any}
+use Rattle.std.proofs.Common.{◌≡◌, ℕ, Bool, true, false, cond, ◌&&◌, ◌==◌, nat_lt, List, length, Option, Some, None, refl, sym, ap, subst, ◌∙◌}
+use Rattle.std.specs.List.{find}
 use Rattle.std.proofs.lemmas.Bool.{eq-eqb}
 use Rattle.pci_command.specs.declared.request.Request.{Request}
 use Rattle.pci_command.specs.declared.op_id.OpId.{OpId}
@@ -13,7 +13,6 @@ use Rattle.board_model.specs.Requests.{is_posted}
 use Rattle.history_model.specs.declared.event.By.{By}
 use Rattle.history_model.specs.declared.event.Step.{Step}
 use Rattle.history_model.specs.declared.event.Step.TheVariants.{Accept, Latch, Take}
-use Rattle.history_model.specs.declared.item.Carried.{Carried}
 use Rattle.history_model.specs.declared.item.Slot.{Slot as HeldSlot}
 use Rattle.history_model.specs.Lanes.{LaneState, Both, item_ends}
 use Rattle.history_model.specs.World.{World, is_own, slot_found, both, moved, enters}
@@ -28,14 +27,13 @@ use Rattle.bridge_face.specs.declared.reply.Reply.{Reply}
 use Rattle.bridge_face.specs.declared.reply.Reply.TheVariants.{Accepted, Latched, Taken, Retry as Retried}
 use Rattle.bridge_face.specs.declared.offer.Offer.{Offer}
 use Rattle.bridge_face.specs.State.{FaceState}
-use Rattle.bridge_face.specs.Arrivals.{carried}
 use Rattle.bridge_face.specs.Replies.{as_answer, replied, posts_reply, is_behind, is_own_entry, taken_reply, delayed_reply, reply_to, LowestReply}
-use Rattle.bridge_face.specs.Offers.{is_offer_of, left_by}
+use Rattle.bridge_face.specs.Offers.{left_by}
 use Rattle.bridge_face.specs.Stands.{Stands}
 use Rattle.bridge_face.specs.OnLanes.{IsPresented, IsReplyOfLane, RepliesOfLanes, OffersOfLanes, turned, EndsOnLanes}
 use Rattle.discard_events.specs.Marks.{MarksStand}
 use Rattle.bus_port.specs.Port.{PortView, PortStands}
-use Rattle.bus_port.specs.Calls.{after_answer, Replies, PortReplies, PortOffers, Ends, PortEnds}
+use Rattle.bus_port.specs.Calls.{after_answer, Replies, PortReplies, PortOffers, PortEnds}
 use Rattle.bus_port.proofs.MoveLemmas.{pair_turned, moved_turned, moved_pair, moved_ends}
 
 -- what a step does at the lane that claimed leaves the counts and what is in flight of the lane back

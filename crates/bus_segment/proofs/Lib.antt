@@ -4,3 +4,4 @@ pub mod OtherLemmas
 pub mod EndLemmas
 pub mod DoesLemmas
 pub mod TakeLemmas
+pub mod TurnLemmas

@@ -7,6 +7,8 @@ mod segment;
 
 pub use segment::Segment;
 
+use lane_items::LaneEnd;
+
 ghost use Rattle.std.specs.Prelude.{◌≡◌, ◌==◌, ◌<◌, ◌≤◌, ℕ, false, List, [], ◌∷◌, ◌++◌, Option, Some, None, option_to_list, slice_get, if◌then◌else◌};
 ghost use Rattle.pci_command.specs.declared.op_id.OpId.{OpId};
 ghost use Rattle.board_model.specs.declared.board.Board.{Board};
@@ -30,6 +32,7 @@ ghost use Rattle.bus_core.specs.Bus.{BusView, shape_of};
 ghost use Rattle.bus_core.specs.Calls.{stamp_of, items_at, IsStamped};
 ghost use Rattle.bus_core.specs.Serves.{BusPresents, HasStamp, BusArrives};
 ghost use Rattle.bus_segment.specs.Segment.{SegmentView, SegmentGoes};
+ghost use Rattle.bus_segment.specs.Turn.{Does};
 
 /// A segment that does nothing stands for its past, and what it does later it does after what it did
 /// before: with these the turns of a segment, and the steps of a turn, make one past.
@@ -63,4 +66,13 @@ pub fn arrivals_go_on()
 pub fn other_lanes_stay_empty()
     ensures { (board : Board) (bus : ℕ) (came : BridgeLane → List Carried) → ((lane : BridgeLane) → bridge_to board lane.bus ≡ None → came lane ≡ []) →
         (p : List Event) → LocalRun board bus came p → (lane : BridgeLane) → bridge_to board lane.bus ≡ None → local_world board came p lane ≡ empty_lane }
+{}
+
+/// Doing nothing is a turn, and a step after a turn is a turn, while the segment goes on: so the steps
+/// of a turn, one after the other, are one.
+pub fn steps_go_on<L: LaneEnd>()
+    ensures nothing { (board : Board) (s : SegmentView) (ends : List L) (events : List Stamped) → Does L.had L.sent L.got L.kept L.paired board s s ends ends events events }
+    ensures further { (board : Board) (old mid new : SegmentView) (ends between after : List L) (events some all : List Stamped) → old.stopped ≡ false → mid.stopped ≡ false →
+        Does L.had L.sent L.got L.kept L.paired board old mid ends between events some → Does L.had L.sent L.got L.kept L.paired board mid new between after some all →
+        Does L.had L.sent L.got L.kept L.paired board old new ends after events all }
 {}

@@ -1,4 +1,4 @@
-use Rattle.std.proofs.Common.{◌≡◌, ap, ◌∙◌}
+use Rattle.std.proofs.Common.{ap, ◌∙◌}
 use Rattle.bus_core.specs.Calls.{stamp_of}
 use Rattle.bus_core.proofs.NoteLemmas.{answer_stamp}
 use Rattle.bus_core.proofs.places.end_at.Goals as goal

@@ -1,4 +1,4 @@
-use Rattle.std.proofs.Common.{◌≡◌, ap, sym, subst}
+use Rattle.std.proofs.Common.{sym, subst}
 use Rattle.target_agents.specs.declared.access.Access.{Access}
 use Rattle.bus_core.specs.Places.{NotesPart}
 use Rattle.bus_core.proofs.NoteLemmas.{part_noted, none_noted}

@@ -1,4 +1,4 @@
-use Rattle.std.proofs.Common.{◌≡◌, ◌&&◌, true, false, List, map, length, Option, ap, subst, sym, ◌∙◌, arith}
+use Rattle.std.proofs.Common.{◌≡◌, ◌&&◌, true, false, List, map, Option, ap, subst, sym, ◌∙◌, arith}
 use Rattle.std.proofs.lemmas.Bool.{and_parts}
 use Rattle.std.proofs.lemmas.List.{with_items_is}
 use Rattle.board_model.specs.declared.bridge.Lane.{Lane as BridgeLane}
@@ -6,7 +6,7 @@ use Rattle.pci_command.specs.declared.request.Request.{Request}
 use Rattle.bridge_face.specs.Arrivals.{carried}
 use Rattle.bus_port.specs.Port.{PortView}
 use Rattle.bus_core.specs.Bus.{BusView, Shape, shape_of}
-use Rattle.bus_core.specs.Places.{ComesAt, ask_request}
+use Rattle.bus_core.specs.Places.{ComesAt}
 use Rattle.bus_core.specs.Serves.{names_its_kind, BusArrives}
 use Rattle.bus_core.proofs.ListLemmas.{one_map}
 use Rattle.bus_core.proofs.ComesLemmas.{refused, bus_arrives}

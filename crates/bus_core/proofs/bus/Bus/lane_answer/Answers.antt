@@ -1,11 +1,10 @@
-use Rattle.std.proofs.Common.{◌≡◌, List, length, Option, Some, None, ap, subst, sym, ◌∙◌, arith}
+use Rattle.std.proofs.Common.{◌≡◌, List, Option, Some, None, ap, subst, sym, ◌∙◌, arith}
 use Rattle.std.proofs.lemmas.List.{with_items_is}
 use Rattle.std.specs.List.{position}
 use Rattle.board_model.specs.Ways.{lane_back}
 use Rattle.board_model.specs.declared.bridge.Place.TheVariants.{Lane as LaneOf}
 use Rattle.history_model.specs.declared.item.Answer.{Answer}
 use Rattle.history_model.specs.World.{same_lane}
-use Rattle.bridge_face.specs.Replies.{as_answer}
 use Rattle.bus_port.specs.Port.{PortView}
 use Rattle.bus_core.specs.declared.given.Given.{Given}
 use Rattle.bus_core.specs.declared.given.Sent.{Sent}

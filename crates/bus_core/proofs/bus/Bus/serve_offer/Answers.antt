@@ -1,10 +1,9 @@
-use Rattle.std.proofs.Common.{◌≡◌, List, Option, Some, None, IfSome, ap, subst, sym, ◌∙◌, slice_get}
+use Rattle.std.proofs.Common.{◌≡◌, Option, Some, IfSome, ap, subst, ◌∙◌, slice_get}
 use Rattle.std.specs.List.{Contains}
 use Rattle.board_model.specs.declared.bridge.Lane.{Lane as BridgeLane}
 use Rattle.history_model.specs.declared.event.By.TheVariants.{Lane as ByLane}
 use Rattle.history_model.specs.declared.event.Event.TheVariants.{Act}
 use Rattle.history_model.specs.declared.item.Answer.{Answer}
-use Rattle.history_model.specs.declared.item.Answer.TheVariants.{Gives}
 use Rattle.bridge_face.specs.Offers.{offers_of}
 use Rattle.bus_port.specs.Port.{PortView}
 use Rattle.bus_core.specs.Bus.{BusView, Shape}

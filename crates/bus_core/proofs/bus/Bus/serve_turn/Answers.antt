@@ -1,6 +1,5 @@
-use Rattle.std.proofs.Common.{◌≡◌, ◌+◌, List, length, Option, Some, None, ap, subst, sym, ◌∙◌, arith, slice_get}
+use Rattle.std.proofs.Common.{◌≡◌, ◌+◌, List, None, ap, subst, sym, ◌∙◌, arith}
 use Rattle.std.proofs.lemmas.List.{with_items_is}
-use Rattle.board_model.specs.declared.bridge.Place.{Place}
 use Rattle.history_model.specs.declared.event.By.TheVariants.{Master}
 use Rattle.history_model.specs.declared.event.Event.TheVariants.{Act}
 use Rattle.history_model.specs.declared.item.Answer.{Answer}

@@ -1,4 +1,4 @@
-use Rattle.std.proofs.Common.{◌≡◌, ◌==◌, ℕ, List, length, Option, Some, None, ap, subst, sym, ◌∙◌, arith}
+use Rattle.std.proofs.Common.{◌≡◌, ◌==◌, List, Some, None, ap, subst, sym, ◌∙◌, arith}
 use Rattle.std.proofs.lemmas.List.{with_items_is}
 use Rattle.std.specs.List.{position}
 use Rattle.board_model.specs.declared.bridge.Place.TheVariants.{Target}
@@ -9,7 +9,7 @@ use Rattle.bus_core.specs.declared.given.Given.{Given}
 use Rattle.bus_core.specs.Bus.{BusView, shape_of}
 use Rattle.bus_core.specs.Parts.{PlaceAnswers}
 use Rattle.bus_core.specs.Places.{AccessesAt}
-use Rattle.bus_core.proofs.TargetLemmas.{target_nobody, target_accesses, targets_shape, part_room}
+use Rattle.bus_core.proofs.TargetLemmas.{target_nobody, target_accesses, targets_shape}
 use Rattle.bus_core.proofs.bus.Bus.target_answer.Goals as goal
 
 pub returns-in-None-clause-answers : goal.returns-in-None-clause-answers

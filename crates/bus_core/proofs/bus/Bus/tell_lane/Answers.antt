@@ -1,4 +1,4 @@
-use Rattle.std.proofs.Common.{◌≡◌, ℕ, List, map, length, Option, Some, None, ap, subst, sym, ◌∙◌, arith, slice_get, IfSome}
+use Rattle.std.proofs.Common.{◌≡◌, ℕ, List, map, Option, Some, ap, subst, sym, ◌∙◌, arith, slice_get, IfSome}
 use Rattle.std.proofs.lemmas.List.{with_items_is}
 use Rattle.board_model.specs.declared.bridge.Lane.{Lane as BridgeLane}
 use Rattle.history_model.specs.World.{lane_outcome}

@@ -1,4 +1,4 @@
-use Rattle.std.proofs.Common.{subst, sym}
+use Rattle.std.proofs.Common.{subst}
 use Rattle.bridge_face.specs.Arrivals.{carried}
 use Rattle.history_model.specs.declared.item.Carried.{Carried}
 use Rattle.discard_events.specs.Marks.{MarksArrival}

@@ -1,4 +1,4 @@
-use Rattle.std.proofs.Common.{subst, sym}
+use Rattle.std.proofs.Common.{subst}
 use Rattle.bridge_face.specs.Arrivals.{carried}
 use Rattle.bus_port.specs.Port.{PortView}
 use Rattle.bus_port.specs.Calls.{PortTests}

@@ -1,4 +1,4 @@
-use Rattle.std.proofs.Common.{subst, sym}
+use Rattle.std.proofs.Common.{subst}
 use Rattle.bus_port.specs.Port.{PortView}
 use Rattle.bus_port.specs.Calls.{PortOffers}
 use Rattle.bus_port.proofs.ReplyLemmas.{port_offers}

@@ -1,4 +1,4 @@
-use Rattle.std.proofs.Common.{subst, sym, ap, ◌∙◌, arith, ◌≤◌, ◌≡◌}
+use Rattle.std.proofs.Common.{subst, ap, ◌∙◌, arith}
 use Rattle.bus_port.specs.Port.{PortView}
 use Rattle.bus_port.specs.Calls.{PortReplies}
 use Rattle.bus_port.proofs.ReplyLemmas.{port_replies, replied_arrivals}
