@@ -1,8 +1,8 @@
 -- An act of the bus, and an arrival there, make the past of a segment longer.
-use Rattle.std.proofs.Common.{◌≡◌, ◌≢◌, ℕ, zero, suc, ◌+◌, ◌-◌, ◌<◌, ◌≤◌, max, Bool, true, false, cond, ◌==◌, List, [], ◌∷◌, ◌++◌, map, length, replicate, option_to_list, Option, Some, None, refl, sym, ap, subst, ◌∙◌, arith, slice_get}
+use Rattle.std.proofs.Common.{◌≡◌, ◌≢◌, ℕ, ◌<◌, ◌≤◌, Bool, true, false, cond, ◌==◌, List, [], ◌∷◌, ◌++◌, map, length, replicate, option_to_list, Option, Some, None, refl, sym, ap, subst, ◌∙◌, arith, slice_get}
 use Rattle.std.specs.List.{AllByRecursion}
 use Rattle.std.proofs.lemmas.Bool.{eqb-true, eqb-false, eq-eqb}
-use Rattle.std.proofs.lemmas.List.{append-nil, append_assoc, map-append, length-append, length-map}
+use Rattle.std.proofs.lemmas.List.{append_assoc, map-append, length-append, length-map}
 use Rattle.list_facts.proofs.EachLemmas.{Each-weaker}
 use Rattle.pci_command.specs.declared.op_id.OpId.{OpId}
 use Rattle.board_model.specs.declared.bridge.Lane.{Lane as BridgeLane}
@@ -19,22 +19,22 @@ use Rattle.history_model.specs.declared.event.Event.TheVariants.{Act, Arrive}
 use Rattle.history_model.specs.declared.event.Stamped.{Stamped}
 use Rattle.history_model.specs.declared.item.Carried.{Carried}
 use Rattle.history_model.specs.declared.item.Answer.TheVariants.{Gives}
-use Rattle.history_model.specs.Lanes.{LaneState, arrives}
+use Rattle.history_model.specs.Lanes.{arrives}
 use Rattle.history_model.specs.World.{World, same_lane, moved}
 use Rattle.history_model.specs.Local.{local_world, LocalRun}
 use Rattle.history_facts.proofs.BridgeLemmas.{same_lane_true, same_lane_self}
 use Rattle.law_order.specs.Sent.{arrives_by, arrivals}
-use Rattle.law_local.specs.Stamps.{events_of, items_put, put_stamps, AllInTime, NeverFall}
+use Rattle.law_local.specs.Stamps.{events_of, items_put, put_stamps}
 use Rattle.law_local.proofs.Laws.{lane_apart}
 use Rattle.lane_items.specs.declared.item.Item.{Item}
 use Rattle.bridge_face.specs.Arrivals.{carried}
 use Rattle.bus_port.specs.Port.{PortView}
 use Rattle.bus_core.specs.declared.given.Sent.{Sent}
-use Rattle.bus_core.specs.Bus.{BusView, Shape, shape_of, BusStands}
+use Rattle.bus_core.specs.Bus.{BusView, Shape, shape_of}
 use Rattle.bus_core.specs.Calls.{stamp_of, items_at, IsStamped}
 use Rattle.bus_core.specs.Serves.{BusPresents, HasStamp, BusArrives}
 use Rattle.bus_core.proofs.ListLemmas.{map_get}
-use Rattle.bus_segment.specs.Segment.{SegmentView, PortPast, SegmentPast, SegmentGoes, Keeps, all_carried, all_stamps, lanes_known}
+use Rattle.bus_segment.specs.Segment.{PortPast, SegmentGoes, Keeps, all_carried, all_stamps, lanes_known}
 
 -- all of these items have the stamp
 abbrev AllStamped : ℕ → List Item → Type 0

@@ -1,20 +1,17 @@
 -- The steps of a turn: an act, a Retry, and a stop.
-use Rattle.std.proofs.Common.{◌≡◌, ◌≢◌, ℕ, zero, suc, ◌+◌, ◌<◌, ◌≤◌, Bool, true, false, cond, ◌==◌, List, [], ◌∷◌, ◌++◌, map, length, reverse, Option, Some, None, ◌⊎◌, inl, inr, refl, sym, ap, subst, ◌∙◌, arith, slice_get}
+use Rattle.std.proofs.Common.{◌≡◌, ℕ, zero, suc, ◌<◌, Bool, true, false, ◌==◌, List, [], ◌∷◌, ◌++◌, map, length, Option, Some, None, inl, inr, refl, sym, ap, subst, ◌∙◌, arith, slice_get}
 use Rattle.std.proofs.lemmas.Bool.{eq-eqb}
 use Rattle.std.proofs.lemmas.Option.{slice_get_within}
 use Rattle.std.proofs.lemmas.List.{append-nil, length-append, length-map}
 use Rattle.pci_command.specs.declared.op_id.OpId.{OpId}
 use Rattle.board_model.specs.declared.bridge.Lane.{Lane as BridgeLane}
-use Rattle.board_model.specs.declared.bridge.Place.{Place}
 use Rattle.board_model.specs.declared.board.Board.{Board}
 use Rattle.board_model.specs.Ways.{lane_back}
 use Rattle.history_model.specs.declared.event.By.{By}
 use Rattle.history_model.specs.declared.event.By.TheVariants.{Master, Lane as ByLane}
-use Rattle.history_model.specs.declared.event.Step.{Step}
 use Rattle.history_model.specs.declared.event.Event.{Event}
 use Rattle.history_model.specs.declared.event.Event.TheVariants.{Act}
 use Rattle.history_model.specs.declared.event.Stamped.{Stamped}
-use Rattle.history_model.specs.declared.item.Answer.TheVariants.{Gives}
 use Rattle.history_model.specs.World.{World}
 use Rattle.history_model.specs.Answers.{wants_in}
 use Rattle.history_model.specs.Local.{LocalRun}
@@ -22,19 +19,17 @@ use Rattle.law_local.specs.Stamps.{events_of}
 use Rattle.lane_items.specs.declared.item.Item.{Item}
 use Rattle.bridge_face.specs.Arrivals.{carried}
 use Rattle.bus_port.specs.Port.{PortView}
-use Rattle.master_agents.specs.Turns.{MasterView}
 use Rattle.bus_core.specs.declared.given.Sent.{Sent}
 use Rattle.bus_core.specs.declared.given.Acted.{Acted}
 use Rattle.bus_core.specs.declared.given.Presented.{Presented}
 use Rattle.bus_core.specs.declared.given.Presented.TheVariants.{Nothing, Retried, TurnsBack as Back, Did}
 use Rattle.bus_core.specs.Bus.{BusView, Shape, shape_of, BusStands}
 use Rattle.bus_core.specs.Calls.{items_at, IsStamped}
-use Rattle.bus_core.specs.Serves.{BusPresents, BusTurnsBack, IsAct, Serves, SendsStamped, ServesTurn, ServesMaster}
+use Rattle.bus_core.specs.Serves.{BusTurnsBack, IsAct, Serves, SendsStamped, ServesTurn, ServesMaster}
 use Rattle.bus_core.proofs.ListLemmas.{get_map, map_get}
-use Rattle.bus_segment.specs.Segment.{SegmentView, PortPast, SegmentPast, SegmentGoes, Keeps, all_carried, lanes_known}
-use Rattle.bus_segment.specs.Ends.{EndAfter, LacksRoom, SendsBoth}
-use Rattle.bus_segment.specs.Turn.{TurnsBack, Sends, StopsAt, Does, IsRecorded, IsUnrecorded, Records, Finishes}
-use Rattle.bus_segment.proofs.GoLemmas.{past_as}
+use Rattle.bus_segment.specs.Segment.{PortPast, SegmentPast, SegmentGoes, Keeps, all_carried, lanes_known}
+use Rattle.bus_segment.specs.Ends.{EndAfter, LacksRoom}
+use Rattle.bus_segment.specs.Turn.{TurnsBack, Sends, StopsAt, Does, IsRecorded, Records, Finishes}
 use Rattle.bus_segment.proofs.ActLemmas.{act_goes}
 use Rattle.bus_segment.proofs.EndLemmas.{end_still}
 
@@ -147,47 +142,47 @@ module _ {End : Type 0} (had sent got : End → List Item) (kept : End → ℕ) 
   does_lack : (by : By) (o : OpId) (acted : Acted) → IsAct board by o old acted new → length ends ≡ length old.ports → IsFull kept ends acted.over acted.back → DoesSo true ends events
   does_lack by o acted act paired_up full =
       does_stop (λ came p rest put past.
-          let w : World = lanes_known board came p in
-          let keeping : Keeps board w p old = past.keeps refl in
-          let pr = act.presents.presents keeping.tags w (events_of p) keeping.stands in
-          let n : ℕ = full.0 in
-          let within : n < length old.ports = let f = slice_get_within ends n full.1.0 full.1.1.0 in omega arith in
-          let port = there_at old.ports n within in
-          let lane : BridgeLane = port.0.lane in
-          let was : slice_get (shape_of old).lanes n ≡ Some lane = get_map (λ (x : PortView). x.lane) old.ports n port.0 port.1 in
-          let is : slice_get (shape_of new).lanes n ≡ Some lane = ap (λ (s : Shape). slice_get s.lanes n) shape ∙ was in
-          let e : Event = Act old.bus by o act.step act.place in
-          let puts : List Item = items_at acted.over n ++ items_at acted.back n in
-          let grown = pr.flights.from_bus n lane was in
-          let many : length (map carried puts) ≡ length puts = simp length-map in
-          let more : length (lanes_known board came p (lane_back lane)).flight < length (lanes_known board came (record { stamp = stamp; event = e } ∷ p) (lane_back lane)).flight =
-          let some = full.1.1.1.1 in omega (arith, ap length grown, length-append (w (lane_back lane)).flight (map carried puts), many, some) in
-          let sends : Sends board new.bus (all_carried came) (events_of p) lane e = record { here = sym (ap (λ (s : Shape). s.bus) shape); allowed = (pr.wanted, pr.answer_is); puts = more } in
-          (n, lane, full.1.0, is, full.1.1.0, record { cause = inr (inr (full.1.1.1.0, (e, sends))) }))
+      let w : World = lanes_known board came p in
+      let keeping : Keeps board w p old = past.keeps refl in
+      let pr = act.presents.presents keeping.tags w (events_of p) keeping.stands in
+      let n : ℕ = full.0 in
+      let within : n < length old.ports = let f = slice_get_within ends n full.1.0 full.1.1.0 in omega arith in
+      let port = there_at old.ports n within in
+      let lane : BridgeLane = port.0.lane in
+      let was : slice_get (shape_of old).lanes n ≡ Some lane = get_map (λ (x : PortView). x.lane) old.ports n port.0 port.1 in
+      let is : slice_get (shape_of new).lanes n ≡ Some lane = ap (λ (s : Shape). slice_get s.lanes n) shape ∙ was in
+      let e : Event = Act old.bus by o act.step act.place in
+      let puts : List Item = items_at acted.over n ++ items_at acted.back n in
+      let grown = pr.flights.from_bus n lane was in
+      let many : length (map carried puts) ≡ length puts = simp length-map in
+      let more : length (lanes_known board came p (lane_back lane)).flight < length (lanes_known board came (record { stamp = stamp; event = e } ∷ p) (lane_back lane)).flight =
+      let some = full.1.1.1.1 in omega (arith, ap length grown, length-append (w (lane_back lane)).flight (map carried puts), many, some) in
+      let sends : Sends board new.bus (all_carried came) (events_of p) lane e = record { here = sym (ap (λ (s : Shape). s.bus) shape); allowed = (pr.wanted, pr.answer_is); puts = more } in
+      (n, lane, full.1.0, is, full.1.1.0, record { cause = inr (inr (full.1.1.1.0, (e, sends))) }))
 
   -- what a lane presents is claimed by its lane back
   does_turn_back : (by : By) (o : OpId) → BusTurnsBack board by o old → length ends ≡ length old.ports → ((lane : BridgeLane) → by ≡ ByLane lane → (n : ℕ) × (slice_get (shape_of old).lanes n ≡ Some lane)) → DoesSo true ends events
   does_turn_back by o turns paired_up where_is =
       does_stop (λ came p rest put past.
-          let w : World = lanes_known board came p in
-          let keeping : Keeps board w p old = past.keeps refl in
-          let wanted = turns.wanted keeping.tags w (events_of p) keeping.stands in
-          let back = turns.turns keeping.tags w (events_of p) keeping.stands in
-          let place = where_is back.lane back.is_by in
-          let n : ℕ = place.0 in
-          let port = map_get (λ (x : PortView). x.lane) old.ports n back.lane place.1 in
-          let within : n < length ends = let f = slice_get_within old.ports n port.0 port.1.0 in omega arith in
-          let end = there_at ends n within in
-          let is : slice_get (shape_of new).lanes n ≡ Some back.lane = ap (λ (s : Shape). slice_get s.lanes n) shape ∙ place.1 in
-          let bus : old.bus ≡ new.bus = sym (ap (λ (s : Shape). s.bus) shape) in
-          let found : TurnsBack board old.bus w (events_of p) back.lane = record {
-            op = o;
-            wanted = subst (λ b. wants_in board w (events_of p) old.bus b o ≡ true) back.is_by wanted;
-            request = back.request;
-            is_request = back.is_request;
-            claims = back.claims;
-          } in
-          (n, back.lane, end.0, is, end.1, record { cause = inr (inl (subst (λ b. TurnsBack board b w (events_of p) back.lane) bus found)) }))
+      let w : World = lanes_known board came p in
+      let keeping : Keeps board w p old = past.keeps refl in
+      let wanted = turns.wanted keeping.tags w (events_of p) keeping.stands in
+      let back = turns.turns keeping.tags w (events_of p) keeping.stands in
+      let place = where_is back.lane back.is_by in
+      let n : ℕ = place.0 in
+      let port = map_get (λ (x : PortView). x.lane) old.ports n back.lane place.1 in
+      let within : n < length ends = let f = slice_get_within old.ports n port.0 port.1.0 in omega arith in
+      let end = there_at ends n within in
+      let is : slice_get (shape_of new).lanes n ≡ Some back.lane = ap (λ (s : Shape). slice_get s.lanes n) shape ∙ place.1 in
+      let bus : old.bus ≡ new.bus = sym (ap (λ (s : Shape). s.bus) shape) in
+      let found : TurnsBack board old.bus w (events_of p) back.lane = record {
+        op = o;
+        wanted = subst (λ b. wants_in board w (events_of p) old.bus b o ≡ true) back.is_by wanted;
+        request = back.request;
+        is_request = back.is_request;
+        claims = back.claims;
+      } in
+      (n, back.lane, end.0, is, end.1, record { cause = inr (inl (subst (λ b. TurnsBack board b w (events_of p) back.lane) bus found)) }))
 
   -- whatever comes of an operation that is presented
   records_does : (by : By) (o : OpId) (acted : Acted) (stopped : Bool) (after : List End) (kept_events : List Stamped) → IsAct board by o old acted new → IsStamped stamp acted.over × IsStamped stamp acted.back → length ends ≡ length old.ports

@@ -4,7 +4,6 @@ use Rattle.std.proofs.lemmas.Bool.{eqb-true, eqb-false, eq-eqb}
 use Rattle.std.proofs.lemmas.Option.{slice_get_within}
 use Rattle.std.proofs.lemmas.List.{append-nil, append_assoc}
 use Rattle.lane_items.specs.declared.item.Item.{Item}
-use Rattle.lane_items.specs.Lane.{KeepsPairs}
 use Rattle.bus_core.specs.declared.given.Sent.{Sent}
 use Rattle.bus_core.specs.Calls.{items_at}
 use Rattle.bus_segment.specs.Ends.{EndAfter, SendsOne, SendsAt, SendsBoth}

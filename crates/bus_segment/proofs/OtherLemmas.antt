@@ -1,6 +1,5 @@
 -- Nothing is ever on a lane of no bridge.
-use Rattle.std.proofs.Common.{◌≡◌, ◌≢◌, ℕ, Bool, true, false, ◌==◌, ◌&&◌, List, [], ◌∷◌, Option, Some, None, refl, sym, ap, subst, ◌∙◌}
-use Rattle.std.specs.List.{find}
+use Rattle.std.proofs.Common.{◌≡◌, ◌≢◌, ℕ, true, ◌==◌, List, [], ◌∷◌, Option, Some, None, refl, sym, ap, ◌∙◌}
 use Rattle.std.proofs.lemmas.Bool.{and_parts}
 use Rattle.pci_command.specs.declared.op_id.OpId.{OpId}
 use Rattle.pci_command.specs.declared.op_id.Outcome.{Outcome}
@@ -20,8 +19,8 @@ use Rattle.history_model.specs.declared.item.Answer.TheVariants.{Gives}
 use Rattle.history_model.specs.Lanes.{LaneState, empty_lane, item_ends, arrives}
 use Rattle.history_model.specs.World.{World, enters, lane_outcome, leaves, at_place, at_initiator}
 use Rattle.history_model.specs.Answers.{bridge_to, presents, wants_in, answer_in}
-use Rattle.history_model.specs.Runs.{mark_of_first, next_mark_in}
-use Rattle.history_model.specs.Local.{local_world, LocalRun, coming}
+use Rattle.history_model.specs.Runs.{mark_of_first}
+use Rattle.history_model.specs.Local.{local_world, LocalRun}
 use Rattle.history_facts.proofs.AnswerLemmas.{answered_in}
 use Rattle.bus_port.proofs.MoveLemmas.{moved_apart}
 

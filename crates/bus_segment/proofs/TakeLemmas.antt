@@ -1,5 +1,5 @@
 -- An item is received, and arrives or stops the segment.
-use Rattle.std.proofs.Common.{◌≡◌, ◌≢◌, ℕ, ◌+◌, ◌^◌, ◌<◌, ◌≤◌, max, Bool, true, false, cond, ◌==◌, ◌&&◌, nat_lt, List, [], ◌∷◌, ◌++◌, map, length, reverse, option_to_list, Option, Some, None, ◌⊎◌, inl, inr, refl, sym, ap, subst, ◌∙◌, arith, slice_get}
+use Rattle.std.proofs.Common.{◌≡◌, ◌≢◌, ℕ, ◌+◌, ◌^◌, ◌<◌, ◌≤◌, max, Bool, true, false, cond, ◌==◌, ◌&&◌, nat_lt, List, [], ◌∷◌, ◌++◌, map, length, option_to_list, Option, Some, None, inl, inr, refl, sym, ap, subst, ◌∙◌, arith, slice_get}
 use Rattle.std.proofs.lemmas.Bool.{eqb-true, eqb-false, eq-eqb}
 use Rattle.std.proofs.lemmas.Bool.Decides.{nat_tests}
 use Rattle.std.proofs.lemmas.Option.{slice_get_within}
@@ -16,16 +16,14 @@ use Rattle.history_model.specs.World.{World}
 use Rattle.law_local.specs.Stamps.{events_of}
 use Rattle.lane_items.specs.declared.item.Item.{Item}
 use Rattle.bridge_face.specs.Arrivals.{carried}
-use Rattle.bus_port.specs.declared.port.Arrival.{Arrival}
 use Rattle.bus_port.specs.Port.{PortView}
-use Rattle.bus_core.specs.declared.given.Sent.{Sent}
 use Rattle.bus_core.specs.Bus.{BusView, Shape, shape_of}
 use Rattle.bus_core.specs.Calls.{stamp_of, items_at}
-use Rattle.bus_core.specs.Serves.{is_taken_on, HasStamp, BusRefuses, BusArrives}
-use Rattle.bus_core.proofs.ListLemmas.{get_map, map_get}
-use Rattle.bus_segment.specs.Segment.{SegmentView, SegmentPast, SegmentGoes, Keeps as KeepsPast, all_carried, lanes_known}
-use Rattle.bus_segment.specs.Ends.{EndAfter, LacksRoom, ReceivesOne, SendsAt, sent_at}
-use Rattle.bus_segment.specs.Turn.{is_allowed_on, Sends, StopsAt, Does, Keeps, IsArrived, IsNotArrived, Takes}
+use Rattle.bus_core.specs.Serves.{is_taken_on, HasStamp, BusArrives}
+use Rattle.bus_core.proofs.ListLemmas.{get_map}
+use Rattle.bus_segment.specs.Segment.{SegmentGoes, Keeps as KeepsPast, all_carried, lanes_known}
+use Rattle.bus_segment.specs.Ends.{EndAfter, ReceivesOne, sent_at}
+use Rattle.bus_segment.specs.Turn.{Sends, StopsAt, Does, Keeps, IsArrived, IsNotArrived, Takes}
 use Rattle.bus_segment.proofs.ActLemmas.{arrival_goes}
 use Rattle.bus_segment.proofs.EndLemmas.{end_still}
 use Rattle.bus_segment.proofs.DoesLemmas.{same_past, there_at}

@@ -1,13 +1,11 @@
 -- What is done step by step is done in one turn.
-use Rattle.std.proofs.Common.{◌≡◌, ℕ, ◌<◌, ◌≤◌, Bool, true, false, List, [], ◌∷◌, ◌++◌, length, reverse, option_to_list, Option, Some, None, refl, sym, ap, subst, ◌∙◌, arith, slice_get}
+use Rattle.std.proofs.Common.{◌≡◌, ℕ, ◌<◌, true, false, List, [], ◌++◌, length, reverse, option_to_list, Option, None, refl, sym, ap, subst, ◌∙◌, arith}
 use Rattle.std.proofs.lemmas.Option.{slice_get_within}
 use Rattle.std.proofs.lemmas.List.{append-nil, append_assoc, reverse-append}
-use Rattle.board_model.specs.declared.bridge.Lane.{Lane as BridgeLane}
 use Rattle.board_model.specs.declared.board.Board.{Board}
 use Rattle.history_model.specs.declared.event.Stamped.{Stamped}
 use Rattle.lane_items.specs.declared.item.Item.{Item}
-use Rattle.bus_core.specs.Bus.{shape_of}
-use Rattle.bus_segment.specs.Segment.{SegmentView, SegmentPast, SegmentGoes}
+use Rattle.bus_segment.specs.Segment.{SegmentView, SegmentPast}
 use Rattle.bus_segment.specs.Ends.{EndAfter}
 use Rattle.bus_segment.specs.Turn.{StopsAt, Does}
 use Rattle.bus_segment.proofs.GoLemmas.{past_as, segment_none, segment_further}

@@ -5,10 +5,6 @@
 mod ends;
 mod segment;
 
-pub use segment::Segment;
-
-use lane_items::LaneEnd;
-
 ghost use Rattle.std.specs.Prelude.{◌≡◌, ◌==◌, ◌<◌, ◌≤◌, ℕ, false, List, [], ◌∷◌, ◌++◌, Option, Some, None, option_to_list, slice_get, if◌then◌else◌};
 ghost use Rattle.pci_command.specs.declared.op_id.OpId.{OpId};
 ghost use Rattle.board_model.specs.declared.board.Board.{Board};
@@ -33,6 +29,9 @@ ghost use Rattle.bus_core.specs.Calls.{stamp_of, items_at, IsStamped};
 ghost use Rattle.bus_core.specs.Serves.{BusPresents, HasStamp, BusArrives};
 ghost use Rattle.bus_segment.specs.Segment.{SegmentView, SegmentGoes};
 ghost use Rattle.bus_segment.specs.Turn.{Does};
+
+use lane_items::LaneEnd;
+pub use segment::Segment;
 
 /// A segment that does nothing stands for its past, and what it does later it does after what it did
 /// before: with these the turns of a segment, and the steps of a turn, make one past.

@@ -1,4 +1,4 @@
-use Rattle.std.proofs.Common.{Option, sym, subst, arith, ◌<◌, length}
+use Rattle.std.proofs.Common.{Option, sym, subst, arith}
 use Rattle.bus_core.specs.declared.given.Sent.{Sent}
 use Rattle.bus_segment.specs.Ends.{SendsAt}
 use Rattle.bus_segment.proofs.EndLemmas.{sends_nowhere}

@@ -1,7 +1,6 @@
-use Rattle.std.proofs.Common.{◌≡◌, List, length, Option, Some, None, ap, sym, subst, ◌∙◌, arith, false}
+use Rattle.std.proofs.Common.{List, Option, sym, subst, arith, false}
 use Rattle.std.proofs.lemmas.List.{with_items_is}
 use Rattle.lane_items.specs.declared.item.Item.{Item}
-use Rattle.bus_segment.specs.Segment.{SegmentView}
 use Rattle.bus_segment.specs.Ends.{ReceivesOne}
 use Rattle.bus_segment.specs.Turn.{Does, Takes}
 use Rattle.bus_segment.proofs.TakeLemmas.{received_nothing, received_does}

@@ -1,7 +1,6 @@
 use Rattle.std.proofs.Common.{◌≡◌, ◌+◌, max, Option, Some, IfSome, ap, sym, subst, ◌∙◌}
-use Rattle.board_model.specs.declared.bridge.Lane.{Lane as BridgeLane}
 use Rattle.bus_port.specs.Port.{PortView}
-use Rattle.bus_core.specs.Bus.{BusView, shape_of}
+use Rattle.bus_core.specs.Bus.{BusView}
 use Rattle.bus_core.specs.Serves.{BusArrives}
 use Rattle.bus_core.proofs.ListLemmas.{get_map}
 use Rattle.bus_segment.proofs.DoesLemmas.{there_at}
