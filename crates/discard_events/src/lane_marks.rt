@@ -32,6 +32,7 @@ impl Model for LaneMarks {
 }
 
 impl LaneMarks {
+    ghost use Rattle.history_model.specs.Lanes.{asks_in, dones_in};
     ghost use Rattle.discard_events.specs.Marks.{MarksStand, MarksArrival};
 
     /// The lines of the lane, before anything arrived on it.
@@ -52,7 +53,9 @@ impl LaneMarks {
     pub fn mark(&mut self, item: Carried) -> Mark
         requires asks { self.old.asks + 1 < 2 ^ 64 }
         requires dones { self.old.dones + 1 < 2 ^ 64 }
-        ensures { MarksArrival self.old item result self.new }
+        ensures arrival { MarksArrival self.old item result self.new }
+        ensures asks { self.new.asks ≡ self.old.asks + asks_in item }
+        ensures dones { self.new.dones ≡ self.old.dones + dones_in item }
     {
         match item {
             Carried::Ask { .. } => self.ask(),

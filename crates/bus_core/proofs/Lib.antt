@@ -1,0 +1,11 @@
+pub mod ListLemmas
+pub mod FitLemmas
+pub mod CalmLemmas
+pub mod LaneLemmas
+pub mod NoteLemmas
+pub mod TargetLemmas
+pub mod RequestLemmas
+pub mod TellLemmas
+pub mod OfferLemmas
+pub mod ComesLemmas
+pub mod LineLemmas

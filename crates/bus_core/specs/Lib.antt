@@ -1,0 +1,5 @@
+pub mod Bus
+pub mod Places
+pub mod Calls
+pub mod Parts
+pub mod Serves

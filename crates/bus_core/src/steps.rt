@@ -1,0 +1,163 @@
+ghost use Rattle.std.specs.Prelude.{◌≡◌, ◌+◌, ◌<◌, drop, length, None};
+ghost use Rattle.board_model.specs.declared.bridge.Place.TheVariants.{Nobody};
+ghost use Rattle.history_model.specs.declared.event.Step.TheVariants.{MasterAbort};
+ghost use Rattle.history_model.specs.declared.item.Answer.TheVariants.{Gives};
+ghost use Rattle.history_model.specs.Program.{master_outcome};
+ghost use Rattle.history_model.specs.World.{lane_outcome, unclaimed, mode_of};
+ghost use Rattle.bridge_face.specs.Replies.{as_answer};
+ghost use Rattle.target_agents.specs.State.{step_of};
+ghost use Rattle.bus_core.specs.Parts.{IsRest};
+ghost use Rattle.bus_core.specs.Places.{sent_over};
+
+use crate::{Given, Sent};
+use board_model::{Board, Lane, Place, bridge_to};
+use bridge_face::Reply;
+use history_model::{Answer, Step};
+use lane_items::Item;
+use lane_replay::reads;
+use pci_command::{OpId, Outcome, Phases, Request};
+use target_agents::Access;
+
+/// Nobody claims it.
+pub(crate) fn nobody() -> Given
+    ensures { result ≡ record { answer = Gives MasterAbort Nobody; over = None } }
+{
+    Given {
+        answer: Answer::Gives {
+            step: Step::MasterAbort,
+            place: Place::Nobody,
+        },
+        over: None,
+    }
+}
+
+/// What is left of a request of which so many data phases went through.
+pub(crate) fn rest_of(request: &Request, gone: u8) -> Request
+    ensures rest { IsRest gone request.now result }
+    ensures few { gone + length result.phases < 256 }
+{
+    let _few = request.phases.len();
+    Request {
+        command: request.command,
+        address: request.address.saturating_add(4 * u64::from(gone)),
+        phases: phases_from(&request.phases, gone as usize),
+    }
+}
+
+/// The data phases from a place on.
+fn phases_from(phases: &Phases, place: usize) -> Phases
+    ensures { result ≡ drop place phases.now }
+{
+    if place == 0 {
+        return phases.copy();
+    }
+    let mut left = Phases::new();
+    if place < phases.len() {
+        for phase in &phases.as_slice()[place..] {
+            left.push(*phase);
+        }
+    }
+    left
+}
+
+/// The reply of the half bridge where the lane begins is this answer.
+pub(crate) fn as_answer(lane: Lane, reply: Reply) -> Answer
+    ensures { result ≡ as_answer lane reply }
+{
+    let place = Place::Lane(lane);
+    match reply {
+        Reply::Accepted => Answer::Gives {
+            step: Step::Accept,
+            place,
+        },
+        Reply::Latched(_) => Answer::Gives {
+            step: Step::Latch,
+            place,
+        },
+        Reply::Taken(_, outcome) => Answer::Gives {
+            step: Step::Take(outcome),
+            place,
+        },
+        Reply::Retry(cause) => Answer::Retry { cause },
+    }
+}
+
+/// What the reply of the port at the place sends over its bridge, with the stamp.
+pub(crate) fn sent_over(place: usize, op: OpId, reply: Reply, stamp: u32) -> Option<Sent>
+    ensures { result ≡ sent_over place op stamp reply }
+{
+    match reply {
+        Reply::Accepted => Some(Sent {
+            place,
+            item: Item::Post { op, stamp },
+        }),
+        Reply::Latched(slot) => Some(Sent {
+            place,
+            item: Item::Ask { op, slot, stamp },
+        }),
+        Reply::Taken(..) | Reply::Retry(_) => None,
+    }
+}
+
+/// The step that the answer of a target is.
+pub(crate) fn step_of(access: Access) -> Step
+    ensures { result ≡ step_of access }
+{
+    match access {
+        Access::Stall => Step::Stall,
+        Access::Abort => Step::TargetAbort,
+        Access::Value(value) => Step::Read(value),
+        Access::Part(phases) => Step::Part(phases),
+        Access::Landed => Step::Land,
+    }
+}
+
+/// How a step ends the operation of a master that presented it, if it does.
+pub(crate) fn master_outcome(step: Step) -> Option<Outcome>
+    ensures { result ≡ master_outcome step }
+{
+    match step {
+        Step::Land | Step::Accept => Some(Outcome::Written),
+        Step::Read(value) => Some(Outcome::Value(value)),
+        Step::Take(outcome) => Some(outcome),
+        Step::MasterAbort => Some(Outcome::Nobody),
+        Step::TargetAbort => Some(Outcome::Aborted),
+        Step::Part(_) | Step::Latch | Step::Stall => None,
+    }
+}
+
+/// How a step ends the item of a lane that presented it, if it does.
+pub(crate) fn lane_outcome(board: &Board, lane: Lane, op: OpId, step: Step) -> Option<Outcome>
+    ensures { result ≡ lane_outcome board.now lane op step }
+{
+    match step {
+        Step::Land | Step::Accept => Some(Outcome::Written),
+        Step::Read(value) => Some(Outcome::Value(value)),
+        Step::Take(outcome) => Some(outcome),
+        Step::MasterAbort => Some(unclaimed(mode_of(board, lane.bus), reads(board, op))),
+        Step::TargetAbort => Some(Outcome::Aborted),
+        Step::Part(_) | Step::Latch | Step::Stall => None,
+    }
+}
+
+/// How a bridge ends a delayed request that nobody claimed, by its master abort mode.
+fn unclaimed(mode: bool, reads: bool) -> Outcome
+    ensures { result ≡ unclaimed mode reads }
+{
+    if mode {
+        Outcome::Aborted
+    } else if reads {
+        Outcome::Value(0xffff_ffff)
+    } else {
+        Outcome::Written
+    }
+}
+
+fn mode_of(board: &Board, bus: u8) -> bool
+    ensures { result ≡ mode_of board.now bus }
+{
+    match bridge_to(board, bus) {
+        Some(bridge) => bridge.mode,
+        None => false,
+    }
+}

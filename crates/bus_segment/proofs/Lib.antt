@@ -1,0 +1,7 @@
+pub mod GoLemmas
+pub mod ActLemmas
+pub mod OtherLemmas
+pub mod EndLemmas
+pub mod DoesLemmas
+pub mod TakeLemmas
+pub mod TurnLemmas
