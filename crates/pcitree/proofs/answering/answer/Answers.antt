@@ -32,6 +32,9 @@ returns-in-Combine-clause-ok c = subst (λ (form : Form). IfOk c.answer_combine.
 pub returns-in-Generate-clause-ok : goal.returns-in-Generate-clause-ok
 returns-in-Generate-clause-ok c = subst (λ (form : Form). IfOk c.answer_generate.result (λ text. AnswersTo form c.args.input.now text.items)) (sym c.in-Generate.is) c.answer_generate.ensures.ok
 
+pub returns-in-Devices-clause-ok : goal.returns-in-Devices-clause-ok
+returns-in-Devices-clause-ok c = subst (λ (form : Form). IfOk c.answer_devices.result (λ text. AnswersTo form c.args.input.now text.items)) (sym c.in-Devices.is) c.answer_devices.ensures.ok
+
 -- a number is answered only where it names rounds
 pub answer_generate-requires : goal.answer_generate-requires
 answer_generate-requires c = subst (λ (form : Form). IsGiven form c.args.input.now) c.in-Generate.is c.requires.given

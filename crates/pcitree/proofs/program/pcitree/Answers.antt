@@ -3,7 +3,7 @@ use Rattle.pcitree.proofs.WrittenLemmas.{run_is_written}
 use Rattle.pcitree.proofs.program.pcitree.Goals as goal
 
 pub returns-in-Ok-clause-checked : goal.returns-in-Ok-clause-checked
-returns-in-Ok-clause-checked g c = λ form is found writes. run_is_written c.written_runs_are_complete.ensures c.finished_traces_are_complete.ensures form _ _ _ _ _ _ found writes c.in-Ok.ensures.done
+returns-in-Ok-clause-checked g c = λ form is found writes. run_is_written c.written_runs_are_complete.ensures c.finished_traces_are_complete.ensures c.written_devices_are_complete.ensures form _ _ _ _ _ _ found writes c.in-Ok.ensures.done
 
 pub returns-in-Ok-clause-cause : goal.returns-in-Ok-clause-cause
 returns-in-Ok-clause-cause g c = λ form input there is. finished _ form _ _ _ _ _ input there is c.in-Ok.ensures.done
