@@ -26,6 +26,9 @@ returns-in-Audit-clause-ok c = subst (λ (form : Form). IfOk c.answer_audit.resu
 pub returns-in-Report-clause-ok : goal.returns-in-Report-clause-ok
 returns-in-Report-clause-ok c = subst (λ (form : Form). IfOk c.answer_report.result (λ text. AnswersTo form c.args.input.now text.items)) (sym c.in-Report.is) c.answer_report.ensures.ok
 
+pub returns-in-Waves-clause-ok : goal.returns-in-Waves-clause-ok
+returns-in-Waves-clause-ok c = subst (λ (form : Form). IfOk c.answer_waves.result (λ text. AnswersTo form c.args.input.now text.items)) (sym c.in-Waves.is) c.answer_waves.ensures.ok
+
 pub returns-in-Combine-clause-ok : goal.returns-in-Combine-clause-ok
 returns-in-Combine-clause-ok c = subst (λ (form : Form). IfOk c.answer_combine.result (λ text. AnswersTo form c.args.input.now text.items)) (sym c.in-Combine.is) c.answer_combine.ensures.ok
 
