@@ -1,0 +1,8 @@
+pub mod Digits
+pub mod Slots
+pub mod Rows
+pub mod Regions
+pub mod Capabilities
+pub mod Entries
+pub mod Functions
+pub mod Faults
