@@ -9,3 +9,6 @@ mod text;
 pub use fault::ParseFault;
 pub use laws::read_is_well_formed;
 pub use text::{parse, parse_sheet};
+
+#[cfg(test)]
+mod tests;

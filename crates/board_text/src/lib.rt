@@ -10,3 +10,6 @@ pub use numbers::{NumberFault, decimal, hex};
 pub use reader::{BadLine, check_line, next_line};
 pub use text::{Line, TextFault, lines};
 pub use tokens::{Token, tokens_of};
+
+#[cfg(test)]
+mod tests;

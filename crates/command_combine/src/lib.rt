@@ -5,3 +5,6 @@
 mod answer;
 
 pub use answer::answer_combine;
+
+#[cfg(test)]
+mod tests;

@@ -109,3 +109,6 @@ fn space_bit(space: Space) -> u32
         Space::Mem | Space::Cfg => 0,
     }
 }
+
+#[cfg(test)]
+mod tests;

@@ -11,3 +11,6 @@ pub use device_pages::DEVICE_PAGES;
 pub use fault::Fault;
 pub use page::{Page, explain, find_page};
 pub use pages::PAGES;
+
+#[cfg(test)]
+mod tests;

@@ -49,3 +49,6 @@ fn next_on(board: &Board, events: &[Event]) -> Option<Event>
         None => first_act(board, events),
     }
 }
+
+#[cfg(test)]
+mod tests;

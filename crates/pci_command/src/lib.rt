@@ -15,3 +15,6 @@ pub use no_memory::NoMemory;
 pub use op_id::{OpId, Outcome};
 pub use phases::{Phase, Phases};
 pub use request::{Request, address_phases, same_request};
+
+#[cfg(test)]
+mod tests;

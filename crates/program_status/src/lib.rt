@@ -5,3 +5,6 @@
 mod status;
 
 pub use status::{BoardFault, Status};
+
+#[cfg(test)]
+mod tests;

@@ -7,3 +7,6 @@ mod teller;
 
 pub use lines::Message;
 pub use teller::Teller;
+
+#[cfg(test)]
+mod tests;

@@ -7,3 +7,6 @@ mod telling;
 mod trace;
 
 pub use telling::{about, message};
+
+#[cfg(test)]
+mod tests;

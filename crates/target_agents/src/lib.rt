@@ -11,3 +11,6 @@ mod words;
 pub use access::Access;
 pub use target::{TargetState, others_leave_targets};
 pub use words::WordTable;
+
+#[cfg(test)]
+mod tests;
