@@ -2,7 +2,7 @@
 //! them, so that no completion of one can be taken by the other.
 #![tactic(auto)]
 
-mod apart;
+mod masters;
 mod meet;
 
-pub use apart::apart;
+pub use masters::apart;

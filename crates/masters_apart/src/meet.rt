@@ -1,4 +1,4 @@
-ghost use Rattle.std.specs.Prelude.{◌≡◌, ◌↔◌, IsTrue, not};
+ghost use Rattle.std.specs.Prelude.{◌≡◌, ◌↔◌, IsTrue, length, not};
 ghost use Rattle.std.specs.List.{list_any};
 ghost use Rattle.pci_command.specs.declared.command.Command.TheVariants.{MemWrite};
 ghost use Rattle.pci_command.specs.Same.{same_command, same_request};
@@ -11,7 +11,7 @@ ghost use Rattle.masters_apart.specs.Look.{NeverSame, AddressesDiffer, Registers
 
 use board_claim::claim;
 use board_model::{Board, Lane, Op, Place, end_of, primary_of, request_on};
-use pci_command::{Command, Space, same_request};
+use pci_command::{Command, Request, Space, same_request};
 
 /// A register of the configuration space of a device on a bus.
 #[derive(Clone, Copy)]
@@ -26,8 +26,21 @@ pub(crate) fn ops_meet(board: &Board, on: u8, op: &Op, other_on: u8, other: &Op)
     requires { IsTrue (is_well_formed board.now) }
     ensures { result ≡ ops_meet board.now on op.now other_on other.now }
 {
-    let most = board.bridges.as_slice().len() as u8;
-    may_meet(op, other) && is_delayed(op) && meets_within(board, on, op, other_on, other, most)
+    if !is_delayed(op) {
+        return false;
+    }
+    if !may_meet(op, other) {
+        return false;
+    }
+    meets_within(board, on, op, other_on, other, bridges_of(board))
+}
+
+/// How many bridges the board has: no way takes more lanes.
+fn bridges_of(board: &Board) -> u8
+    requires { IsTrue (is_well_formed board.now) }
+    ensures { result ≡ length board.now.bridges }
+{
+    board.bridges.as_slice().len() as u8
 }
 
 /// The same on the lanes of the way from the bus on, at most so many.
@@ -59,7 +72,13 @@ fn meets_on(board: &Board, op: &Op, other_on: u8, other: &Op, lane: Lane) -> boo
 fn have_same_request(op: &Op, other: &Op, bus: u8) -> bool
     ensures { result ≡ same_request (request_on op.now bus) (request_on other.now bus) }
 {
-    same_request(&request_on(op, bus), &request_on(other, bus))
+    are_same(&request_on(op, bus), &request_on(other, bus))
+}
+
+fn are_same(a: &Request, b: &Request) -> bool
+    ensures { result ≡ same_request a.now b.now }
+{
+    same_request(a, b)
 }
 
 /// Whether a delayed operation takes the lane.
@@ -67,8 +86,7 @@ fn is_taken(board: &Board, on: u8, op: &Op, lane: Lane) -> bool
     requires { IsTrue (is_well_formed board.now) }
     ensures { result ≡ list_any (same_lane lane) (delayed_way board.now on op.now) }
 {
-    let most = board.bridges.as_slice().len() as u8;
-    is_delayed(op) && is_taken_within(board, on, op, lane, most)
+    is_delayed(op) && is_taken_within(board, on, op, lane, bridges_of(board))
 }
 
 /// Whether one of the lanes of its way from the bus on, at most so many, is this one.

@@ -44,7 +44,9 @@ fn meets_one(board: &Board, master: &Master, others: &[Master]) -> bool
     requires { IsTrue (is_well_formed board.now) }
     ensures { result ≡ list_any (masters_meet board.now master.now) others.now }
 {
-    others.iter().any(|other| masters_meet(board, master, other))
+    others
+        .iter()
+        .any(|other| masters_meet(board, master, other))
 }
 
 /// Whether an operation of one meets an operation of the other.
@@ -52,12 +54,20 @@ fn masters_meet(board: &Board, master: &Master, other: &Master) -> bool
     requires { IsTrue (is_well_formed board.now) }
     ensures { result ≡ masters_meet board.now master.now other.now }
 {
-    master.ops.as_slice().iter().any(|op| meets_some(board, master.bus, op, other))
+    master
+        .ops
+        .as_slice()
+        .iter()
+        .any(|op| meets_some(board, master.bus, op, other))
 }
 
 fn meets_some(board: &Board, on: u8, op: &Op, other: &Master) -> bool
     requires { IsTrue (is_well_formed board.now) }
     ensures { result ≡ list_any (ops_meet board.now on op.now other.now.bus) other.now.ops }
 {
-    other.ops.as_slice().iter().any(|second| ops_meet(board, on, op, other.bus, second))
+    other
+        .ops
+        .as_slice()
+        .iter()
+        .any(|second| ops_meet(board, on, op, other.bus, second))
 }
