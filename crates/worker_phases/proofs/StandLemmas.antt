@@ -17,7 +17,7 @@ use Rattle.bus_core.specs.Bus.{Shape, shape_of, IsOf}
 use Rattle.bus_core.specs.Calls.{stamp_of}
 use Rattle.bus_segment.specs.Segment.{SegmentView, SegmentGoes}
 use Rattle.law_phases.specs.Engine.{GoesOn, ItemPast, Stands}
-use Rattle.segment_workers.specs.Stands.{ComesBehind, SegmentStands, IsAtPorts}
+use Rattle.worker_phases.specs.Stands.{ComesBehind, SegmentStands, IsAtPorts}
 
 -- what comes on a lane behind what was received there
 abbrev rest_on : (BridgeLane → List Item) → (BridgeLane → List Item) → Option BridgeLane → List Item

@@ -13,7 +13,7 @@ use Rattle.bus_core.specs.Bus.{shape_of, IsOf}
 use Rattle.bus_core.specs.Calls.{stamp_of}
 use Rattle.bus_segment.specs.Segment.{SegmentView, SegmentGoes}
 use Rattle.law_phases.specs.Engine.{NoneElsewhere}
-use Rattle.segment_workers.specs.Stands.{SegmentStands}
+use Rattle.worker_phases.specs.Stands.{SegmentStands}
 
 -- one segment with its ends of lanes, one at each port, and the events that it recorded, oldest first
 pub record WorkerView (End : Type 0) : Type 0 where

@@ -26,7 +26,7 @@ use Rattle.law_phases.specs.Taken.{HasRequest, HasItsKind}
 use Rattle.law_phases.specs.Engine.{Worked, AllInOrder, ending_on, carried_to, put_up_to, did_by}
 use Rattle.law_phases.proofs.Laws.{refused_taken, never_back, keeps_fewer}
 use Rattle.law_room.specs.Room.{Puts}
-use Rattle.segment_workers.specs.Workers.{IsStampedBelow}
+use Rattle.worker_phases.specs.Workers.{IsStampedBelow}
 
 -- an item of its kind names it
 there_as : (board : Board) (bus : ℕ) (posted : Bool) (o : OpId) → HasRequest board bus posted o → is_there_as posted (request_of board o bus) ≡ true

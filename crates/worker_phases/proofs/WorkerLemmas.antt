@@ -11,9 +11,9 @@ use Rattle.bus_core.specs.Bus.{Shape, shape_of, IsOf}
 use Rattle.bus_core.specs.Calls.{stamp_of}
 use Rattle.bus_segment.specs.Segment.{SegmentView}
 use Rattle.law_phases.specs.Engine.{Stands, Engine, Worked}
-use Rattle.segment_workers.specs.Stands.{SegmentStands, IsAtPorts}
-use Rattle.segment_workers.specs.Workers.{WorkerView, at_port, at_ports, back_at_ports, AreBetween, AllDidPhase}
-use Rattle.segment_workers.proofs.StandLemmas.{stands_for, stands_on}
+use Rattle.worker_phases.specs.Stands.{SegmentStands, IsAtPorts}
+use Rattle.worker_phases.specs.Workers.{WorkerView, at_port, at_ports, back_at_ports, AreBetween, AllDidPhase}
+use Rattle.worker_phases.proofs.StandLemmas.{stands_for, stands_on}
 
 -- lists at the ports of a segment, by its lanes
 by_lanes : (s : SegmentView) (items : BridgeLane → List Item) (n : ℕ) (lane : BridgeLane) → slice_get (shape_of s.bus).lanes n ≡ Some lane → at_port items (slice_get (shape_of s.bus).lanes n) ≡ items lane

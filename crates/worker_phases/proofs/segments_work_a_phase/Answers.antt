@@ -1,5 +1,5 @@
-use Rattle.segment_workers.proofs.WorkerLemmas.{worked_of, worked_rest}
-use Rattle.segment_workers.proofs.segments_work_a_phase.Goals as goal
+use Rattle.worker_phases.proofs.WorkerLemmas.{worked_of, worked_rest}
+use Rattle.worker_phases.proofs.segments_work_a_phase.Goals as goal
 
 pub returns : goal.returns
 returns g c = λ board old new received hand taken not_taken sent part later between did. (

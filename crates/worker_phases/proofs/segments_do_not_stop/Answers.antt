@@ -1,7 +1,7 @@
 use Rattle.std.proofs.Common.{◌++◌}
-use Rattle.segment_workers.proofs.WorkerLemmas.{worked_of, worked_rest}
-use Rattle.segment_workers.proofs.StopLemmas.{no_stop}
-use Rattle.segment_workers.proofs.segments_do_not_stop.Goals as goal
+use Rattle.worker_phases.proofs.WorkerLemmas.{worked_of, worked_rest}
+use Rattle.worker_phases.proofs.StopLemmas.{no_stop}
+use Rattle.worker_phases.proofs.segments_do_not_stop.Goals as goal
 
 pub returns : goal.returns
 returns g c = λ board old new received hand taken not_taken sent kept part later all lane bridge refused valid between did ordered merged some is low were_sent stops.

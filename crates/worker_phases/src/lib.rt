@@ -1,4 +1,5 @@
-//! The buses of a board, each worked as a segment, phase by phase.
+//! The laws of the buses of a board, each worked as a segment, phase by phase. Each law is the contract of a
+//! function that does nothing.
 #![tactic(auto)]
 
 ghost use Rattle.std.specs.Prelude.{◌≡◌, ℕ, ◌^◌, ◌≤◌, List, ◌++◌, length, Option, Some, option_to_list};
@@ -17,8 +18,8 @@ ghost use Rattle.bus_segment.specs.Segment.{SegmentView, SegmentGoes};
 ghost use Rattle.bus_segment.specs.Turn.{StopsAt};
 ghost use Rattle.law_local.specs.Stamps.{IsMerged};
 ghost use Rattle.law_phases.specs.Engine.{Stands, Engine, Worked, AllInOrder, ending_on, put_up_to};
-ghost use Rattle.segment_workers.specs.Stands.{SegmentStands, IsAtPorts};
-ghost use Rattle.segment_workers.specs.Workers.{WorkerView, AreBetween, AllDidPhase, IsStampedBelow};
+ghost use Rattle.worker_phases.specs.Stands.{SegmentStands, IsAtPorts};
+ghost use Rattle.worker_phases.specs.Workers.{WorkerView, AreBetween, AllDidPhase, IsStampedBelow};
 
 use lane_items::LaneEnd;
 
