@@ -23,7 +23,7 @@ use std::alloc::Global;
 #[derive(Drop)]
 pub struct Segment<L: LaneEnd + Drop> {
     bus: Bus,
-    ends: Vec<L>,
+    pub(crate) ends: Vec<L>,
     stamp: u32,
     stopped: bool,
     events: Vec<Stamped>,
