@@ -1,4 +1,5 @@
 pub mod Segment
 pub mod Ends
 pub mod Turn
+pub mod Stands
 pub mod Settle
