@@ -1,0 +1,116 @@
+ghost use Rattle.std.specs.Prelude.{◌≡◌, ◌+◌, ◌-◌, ◌≤◌, false, length, max, vec_len, IfOk};
+ghost use Rattle.std.specs.Vec.{vec_capacity};
+ghost use Rattle.board_model.specs.Valid.{IsValid};
+ghost use Rattle.bus_core.specs.Bus.{shape_of};
+ghost use Rattle.bus_segment.specs.Steps.{StampsUpTo, ArrivedUpTo};
+ghost use Rattle.bus_segment.specs.Turn.{Does, IsQuietAtZero};
+
+use crate::receiving::receive_all;
+use crate::serving::serve_all;
+use board_model::Board;
+use bus_arbiter::Arbiter;
+use bus_segment::Segment;
+use history_model::Stamped;
+use lane_items::LaneEnd;
+use pci_command::{List, NoMemory};
+
+/// One bus as it is worked: its segment, and the arbiter that grants the bus.
+#[derive(Drop)]
+pub struct Worker<L: LaneEnd + Drop> {
+    segment: Segment<L>,
+    arbiter: Arbiter,
+}
+
+impl<L: LaneEnd + Drop> Worker<L> {
+    /// A bus that is worked from now on.
+    pub fn new(segment: Segment<L>) -> Worker<L>
+        ensures { result.segment ≡ segment }
+    {
+        Worker {
+            segment,
+            arbiter: Arbiter::new(),
+        }
+    }
+
+    /// The stamp of its last event, or the one with which it began.
+    pub fn stamp(&self) -> u32
+        ensures { result ≡ self.now.segment.stamp }
+    {
+        self.segment.stamp()
+    }
+
+    /// Whether it does nothing more.
+    pub fn stopped(&self) -> bool
+        ensures { result ≡ self.now.segment.stopped }
+    {
+        self.segment.stopped()
+    }
+
+    /// Later events have stamps from this number on.
+    pub fn begin(&mut self, stamp: u32)
+        ensures stamp { self.new.segment.stamp ≡ max self.old.segment.stamp stamp }
+        ensures bus { self.new.segment.bus ≡ self.old.segment.bus }
+        ensures ends { self.new.segment.ends.items ≡ self.old.segment.ends.items }
+        ensures stopped { self.new.segment.stopped ≡ self.old.segment.stopped }
+        ensures events { self.new.segment.events.items ≡ self.old.segment.events.items }
+        ensures spare { vec_capacity self.new.segment.events ≡ vec_capacity self.old.segment.events }
+        ensures arbiter { self.new.arbiter ≡ self.old.arbiter }
+    {
+        self.segment.begin(stamp);
+    }
+
+    /// Takes memory for the events of one more turn.
+    pub fn reserve(&mut self) -> Result<(), NoMemory>
+        ensures spare { IfOk result (λ _. 512 ≤ vec_capacity self.new.segment.events - vec_len self.new.segment.events) }
+        ensures bus { self.new.segment.bus ≡ self.old.segment.bus }
+        ensures ends { self.new.segment.ends.items ≡ self.old.segment.ends.items }
+        ensures stamp { self.new.segment.stamp ≡ self.old.segment.stamp }
+        ensures stopped { self.new.segment.stopped ≡ self.old.segment.stopped }
+        ensures events { self.new.segment.events.items ≡ self.old.segment.events.items }
+        ensures arbiter { self.new.arbiter ≡ self.old.arbiter }
+    {
+        self.segment.reserve()
+    }
+
+    /// Receives what came over the bridges of the bus, up to 32 items from each, and then serves once
+    /// each initiator that presents something, in the order in which the arbiter grants the bus; how
+    /// many events that made. The board is that of the segment.
+    pub fn turn(&mut self, board: &Board) -> u32
+        requires valid { IsValid board.now }
+        requires going { self.old.segment.stopped ≡ false }
+        requires ends { length self.old.segment.ends.items ≡ length self.old.segment.bus.ports }
+        requires few { (length self.old.segment.bus.ports ≤ 9) × (length self.old.segment.bus.masters ≤ 8) }
+        requires counts { ArrivedUpTo (length self.old.segment.events.items) self.old.segment.bus }
+        requires spare { 512 ≤ vec_capacity self.old.segment.events - vec_len self.old.segment.events }
+        ensures does { Does L.had L.sent L.got L.kept L.paired board.now
+            (record { bus = self.old.segment.bus; stamp = self.old.segment.stamp; stopped = self.old.segment.stopped })
+            (record { bus = self.new.segment.bus; stamp = self.new.segment.stamp; stopped = self.new.segment.stopped })
+            self.old.segment.ends.items self.new.segment.ends.items self.old.segment.events.items self.new.segment.events.items }
+        ensures shape { shape_of self.new.segment.bus ≡ shape_of self.old.segment.bus }
+        ensures ends { length self.new.segment.ends.items ≡ length self.old.segment.ends.items }
+        ensures counts { self.new.segment.stopped ≡ false → ArrivedUpTo (length self.new.segment.events.items) self.new.segment.bus }
+        ensures many { length self.new.segment.events.items ≡ length self.old.segment.events.items + result }
+        ensures few { result ≤ 440 }
+        ensures quiet { IsQuietAtZero L.had L.got board.now
+            (record { bus = self.old.segment.bus; stamp = self.old.segment.stamp; stopped = self.old.segment.stopped })
+            (record { bus = self.new.segment.bus; stamp = self.new.segment.stamp; stopped = self.new.segment.stopped })
+            self.new.segment.ends.items result }
+        ensures stamps { StampsUpTo L.sent L.got self.old.segment.stamp self.new.segment.stamp self.old.segment.ends.items self.new.segment.ends.items }
+    {
+        let before = self.segment.recorded();
+        receive_all(&mut self.segment, board);
+        serve_all(&mut self.segment, &mut self.arbiter, board);
+        (self.segment.recorded() - before) as u32
+    }
+
+    /// All its events, oldest first.
+    pub fn take_events(self) -> List<Stamped>
+        ensures { result ≡ self.segment.events.items }
+    {
+        let Worker {
+            segment,
+            arbiter: _,
+        } = self;
+        segment.take_events()
+    }
+}
