@@ -1,3 +1,4 @@
 pub mod Segment
 pub mod Ends
 pub mod Turn
+pub mod Stands

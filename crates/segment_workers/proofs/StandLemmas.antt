@@ -16,8 +16,8 @@ use Rattle.bridge_face.specs.Arrivals.{carried}
 use Rattle.bus_core.specs.Bus.{Shape, shape_of, IsOf}
 use Rattle.bus_core.specs.Calls.{stamp_of}
 use Rattle.bus_segment.specs.Segment.{SegmentView, SegmentGoes}
+use Rattle.bus_segment.specs.Stands.{ComesBehind, SegmentStands, IsAtPorts}
 use Rattle.law_phases.specs.Engine.{GoesOn, ItemPast, Stands}
-use Rattle.segment_workers.specs.Stands.{ComesBehind, SegmentStands, IsAtPorts}
 
 -- what comes on a lane behind what was received there
 abbrev rest_on : (BridgeLane → List Item) → (BridgeLane → List Item) → Option BridgeLane → List Item

@@ -10,9 +10,9 @@ use Rattle.bridge_face.specs.Arrivals.{carried}
 use Rattle.bus_core.specs.Bus.{Shape, shape_of, IsOf}
 use Rattle.bus_core.specs.Calls.{stamp_of}
 use Rattle.bus_segment.specs.Segment.{SegmentView}
+use Rattle.bus_segment.specs.Stands.{WorkerView, SegmentStands, IsAtPorts}
 use Rattle.law_phases.specs.Engine.{Stands, Engine, Worked}
-use Rattle.segment_workers.specs.Stands.{SegmentStands, IsAtPorts}
-use Rattle.segment_workers.specs.Workers.{WorkerView, at_port, at_ports, back_at_ports, AreBetween, AllDidPhase}
+use Rattle.segment_workers.specs.Workers.{at_port, at_ports, back_at_ports, AreBetween, AllDidPhase}
 use Rattle.segment_workers.proofs.StandLemmas.{stands_for, stands_on}
 
 -- lists at the ports of a segment, by its lanes

@@ -11,15 +11,9 @@ use Rattle.lane_items.specs.declared.item.Item.{Item}
 use Rattle.lane_items.specs.Lane.{IsEmptied}
 use Rattle.bus_core.specs.Bus.{shape_of, IsOf}
 use Rattle.bus_core.specs.Calls.{stamp_of}
-use Rattle.bus_segment.specs.Segment.{SegmentView, SegmentGoes}
+use Rattle.bus_segment.specs.Segment.{SegmentGoes}
+use Rattle.bus_segment.specs.Stands.{WorkerView, SegmentStands}
 use Rattle.law_phases.specs.Engine.{NoneElsewhere}
-use Rattle.segment_workers.specs.Stands.{SegmentStands}
-
--- one segment with its ends of lanes, one at each port, and the events that it recorded, oldest first
-pub record WorkerView (End : Type 0) : Type 0 where
-  pub segment : SegmentView
-  pub ends : List End
-  pub events : List Stamped
 
 -- of the items of all lanes, those of the lane at each port
 abbrev pub at_port : (BridgeLane → List Item) → Option BridgeLane → List Item

@@ -14,11 +14,11 @@ ghost use Rattle.bridge_face.specs.Arrivals.{carried};
 ghost use Rattle.bus_core.specs.Bus.{shape_of, IsOf};
 ghost use Rattle.bus_core.specs.Calls.{stamp_of};
 ghost use Rattle.bus_segment.specs.Segment.{SegmentView, SegmentGoes};
+ghost use Rattle.bus_segment.specs.Stands.{WorkerView, SegmentStands, IsAtPorts};
 ghost use Rattle.bus_segment.specs.Turn.{StopsAt};
 ghost use Rattle.law_local.specs.Stamps.{IsMerged};
 ghost use Rattle.law_phases.specs.Engine.{Stands, Engine, Worked, AllInOrder, ending_on, put_up_to};
-ghost use Rattle.segment_workers.specs.Stands.{SegmentStands, IsAtPorts};
-ghost use Rattle.segment_workers.specs.Workers.{WorkerView, AreBetween, AllDidPhase, IsStampedBelow};
+ghost use Rattle.segment_workers.specs.Workers.{AreBetween, AllDidPhase, IsStampedBelow};
 
 use lane_items::LaneEnd;
 

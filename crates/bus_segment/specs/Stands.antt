@@ -1,4 +1,4 @@
--- A segment between phases, and what an engine knows of its bus by that.
+-- A segment with its ends of lanes, and what it stands for between phases, whatever comes to its bus.
 use Rattle.std.specs.Prelude.{◌≡◌, ◌≢◌, ℕ, List, [], ◌++◌, Some, None, slice_get}
 use Rattle.board_model.specs.declared.bridge.Lane.{Lane as BridgeLane}
 use Rattle.board_model.specs.declared.board.Board.{Board}
@@ -8,6 +8,12 @@ use Rattle.history_model.specs.Answers.{bridge_to}
 use Rattle.lane_items.specs.declared.item.Item.{Item}
 use Rattle.bus_core.specs.Bus.{shape_of}
 use Rattle.bus_segment.specs.Segment.{SegmentView, SegmentPast}
+
+-- one segment with its ends of lanes, one at each port, and the events that it recorded, oldest first
+pub record WorkerView (End : Type 0) : Type 0 where
+  pub segment : SegmentView
+  pub ends : List End
+  pub events : List Stamped
 
 -- what comes to the bus is at each port what was received there and then the rest; nothing comes on other lanes
 pub record ComesBehind (board : Board) (s : SegmentView) (received rest : ℕ → List Item) (came : BridgeLane → List Item) : Type 0 where
