@@ -2,7 +2,7 @@
 //! function that does nothing.
 #![tactic(auto)]
 
-ghost use Rattle.std.specs.Prelude.{◌≡◌, ℕ, ◌^◌, ◌≤◌, List, ◌++◌, length, Option, Some, option_to_list};
+ghost use Rattle.std.specs.Prelude.{◌≡◌, ℕ, ◌+◌, ◌^◌, ◌≤◌, Bool, true, false, List, ◌++◌, length, Option, Some, option_to_list};
 ghost use Rattle.board_model.specs.declared.board.Board.{Board};
 ghost use Rattle.board_model.specs.declared.bridge.Lane.{Lane as BridgeLane};
 ghost use Rattle.board_model.specs.declared.bridge.Bridge.{Bridge};
@@ -20,8 +20,10 @@ ghost use Rattle.bus_segment.specs.Turn.{StopsAt};
 ghost use Rattle.law_local.specs.Stamps.{IsMerged};
 ghost use Rattle.law_phases.specs.Engine.{Stands, Engine, Worked, AllInOrder, ending_on, put_up_to};
 ghost use Rattle.worker_phases.specs.Workers.{AreBetween, AllDidPhase, IsStampedBelow};
+ghost use Rattle.worker_phases.specs.Phase.{AfterPhases, AllTurned, NoneStopped, CrossesAtSettle, AllMaySettle, AllSettled, IsCompleteRun, history_of_all};
 
 use lane_items::LaneEnd;
+use law_bound::runs_end;
 
 /// What a segment stands for is what the laws of phases suppose of its bus.
 pub fn segments_stand()
@@ -61,3 +63,40 @@ pub fn segments_do_not_stop<L: LaneEnd>()
         kept (lane_back lane) ≤ length (sent (lane_back lane)) →
         StopsAt board (end_of board lane) (ending_on board (end_of board lane) (put_up_to received hand sent)) (later (end_of board lane) ++ part (end_of board lane)) lane refused (kept (lane_back lane)) → ⊥ }
 {}
+
+/// Each phase before made an event, and no run of a valid board has more events than the board's bound: so there were at
+/// most 500,000 phases.
+pub fn phases_are_few<L: LaneEnd>()
+    ensures { (board : Board) (workers : List (WorkerView L)) (phases : ℕ) → IsValid board → AfterPhases L.had L.sent L.got L.kept L.paired board workers phases → phases ≤ 500000 }
+{
+    runs_end();
+}
+
+/// After the turns of a phase the two ends of each bridge may be settled. And no worker stopped, where what is sent comes
+/// across at the settle alone.
+pub fn turns_stop_no_worker<L: LaneEnd>()
+    ensures settle { (board : Board) (old new : List (WorkerView L)) (phases : ℕ) (busy : Bool) → IsValid board → AfterPhases L.had L.sent L.got L.kept L.paired board old phases →
+        AllTurned L.had L.sent L.got L.kept L.paired board (phases + 1) old new busy → AllMaySettle L.had L.sent L.got L.kept L.paired new }
+    ensures going { (board : Board) (old new : List (WorkerView L)) (phases : ℕ) (busy : Bool) → IsValid board → AfterPhases L.had L.sent L.got L.kept L.paired board old phases →
+        AllTurned L.had L.sent L.got L.kept L.paired board (phases + 1) old new busy → CrossesAtSettle L.had L.got → NoneStopped new }
+{
+    phases_are_few::<L>();
+}
+
+/// After a busy phase, when all ends are settled, the next one may begin.
+pub fn settles_end_a_phase<L: LaneEnd>()
+    ensures { (board : Board) (old new settled : List (WorkerView L)) (phases : ℕ) → IsValid board → AfterPhases L.had L.sent L.got L.kept L.paired board old phases →
+        AllTurned L.had L.sent L.got L.kept L.paired board (phases + 1) old new true → CrossesAtSettle L.had L.got → AllSettled L.had L.sent L.got L.kept L.paired new settled →
+        AfterPhases L.had L.sent L.got L.kept L.paired board settled (phases + 1) }
+{
+    turns_stop_no_worker::<L>();
+}
+
+/// After a phase in which no worker made an event, what all did is a complete run.
+pub fn idle_phases_end_the_run<L: LaneEnd>()
+    ensures { (board : Board) (old new : List (WorkerView L)) (phases : ℕ) → IsValid board → AfterPhases L.had L.sent L.got L.kept L.paired board old phases →
+        AllTurned L.had L.sent L.got L.kept L.paired board (phases + 1) old new false → CrossesAtSettle L.had L.got → IsCompleteRun board (history_of_all new) }
+{
+    runs_end();
+    turns_stop_no_worker::<L>();
+}
