@@ -1,7 +1,8 @@
-ghost use Rattle.std.specs.Prelude.{◌≡◌, ◌+◌, ◌-◌, ◌≤◌, false, length, max, vec_len, IfOk};
+ghost use Rattle.std.specs.Prelude.{◌≡◌, ◌+◌, ◌-◌, ◌<◌, ◌≤◌, false, length, max, vec_len, IfOk};
 ghost use Rattle.std.specs.Vec.{vec_capacity};
 ghost use Rattle.board_model.specs.Valid.{IsValid};
 ghost use Rattle.bus_core.specs.Bus.{shape_of};
+ghost use Rattle.bus_segment.specs.Settle.{MaySettle, SettlesAt};
 ghost use Rattle.bus_segment.specs.Steps.{StampsUpTo, ArrivedUpTo};
 ghost use Rattle.bus_segment.specs.Turn.{Does, IsQuietAtZero};
 
@@ -101,6 +102,26 @@ impl<L: LaneEnd + Drop> Worker<L> {
         receive_all(&mut self.segment, board);
         serve_all(&mut self.segment, &mut self.arbiter, board);
         (self.segment.recorded() - before) as u32
+    }
+
+    /// Ends a phase of the bridge between this worker's port at the place and the other worker's port
+    /// at the other place, as `Segment::settle_with` does.
+    pub fn settle_with(&mut self, place: usize, other: &mut Worker<L>, other_place: usize)
+        requires place { place < length self.old.segment.ends.items }
+        requires other_place { other_place < length other.old.segment.ends.items }
+        requires may { MaySettle L.had L.sent L.got L.kept L.paired self.old.segment.ends.items place other.old.segment.ends.items other_place }
+        ensures settles { SettlesAt L.had L.sent L.got L.kept L.paired self.old.segment.ends.items place other.old.segment.ends.items other_place self.new.segment.ends.items other.new.segment.ends.items }
+        ensures bus { self.new.segment.bus ≡ self.old.segment.bus }
+        ensures stamp { self.new.segment.stamp ≡ self.old.segment.stamp }
+        ensures stopped { self.new.segment.stopped ≡ self.old.segment.stopped }
+        ensures events { self.new.segment.events.items ≡ self.old.segment.events.items }
+        ensures other_bus { other.new.segment.bus ≡ other.old.segment.bus }
+        ensures other_stamp { other.new.segment.stamp ≡ other.old.segment.stamp }
+        ensures other_stopped { other.new.segment.stopped ≡ other.old.segment.stopped }
+        ensures other_events { other.new.segment.events.items ≡ other.old.segment.events.items }
+    {
+        self.segment
+            .settle_with(place, &mut other.segment, other_place);
     }
 
     /// All its events, oldest first.

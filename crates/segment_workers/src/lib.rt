@@ -1,0 +1,9 @@
+//! The engine that works the buses of a board one after another, phase by phase: in each phase each bus does one turn, and
+//! then all lanes are settled, so that what is sent in a phase arrives in the next one. What it did is a complete run.
+#![tactic(auto)]
+
+mod phase;
+mod steady;
+mod settling;
+
+pub use steady::run_steady;
