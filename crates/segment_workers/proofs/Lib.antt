@@ -1,1 +1,3 @@
 pub mod SettleLemmas
+pub mod LayLemmas
+pub mod SteadyLemmas

@@ -310,7 +310,7 @@ module _ {End : Type 0} (had sent got : End → List Item) (kept : End → ℕ) 
     each = so_far.each;
     many = so_far.same_many;
     lanes = λ k m w v w_after v_after lane far near far_after near_after was were is are at back after after_back.
-        let found = laid.below k w at.port lane was at.lane_is in
+        let found = laid.hang.below k w at.port lane was at.lane_is in
         let within = slice_get_within old (found.0 + 1) found.1 found.2 in
         let count = are_above.many in
         (so_far.done found.0 found.1 (omega (arith, within, count, all)) found.2).lanes k m w v w_after v_after lane far near far_after near_after was were is are at back after after_back found.3;

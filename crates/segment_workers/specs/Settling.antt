@@ -27,13 +27,17 @@ pub record AreAbove {End : Type 0} (workers : List (WorkerView End)) (above : Li
   pub each : (k : ℕ) (up : Above) → slice_get above k ≡ Some up → IsAbove workers (k + 1) up
   pub many : length workers ≡ length above + 1
 
--- the workers are those of a board, and the lanes at their ports are those of bridges to the later ones
+-- the lanes at their ports are those of bridges to the buses of all but the first
+pub record HangBelow {End : Type 0} (workers : List (WorkerView End)) : Type 0 where
+  pub below : (k : ℕ) (w : WorkerView End) (n : ℕ) (lane : BridgeLane) → slice_get workers k ≡ Some w → slice_get (shape_of w.segment.bus).lanes n ≡ Some lane
+      → (m : ℕ) × (v : WorkerView End) × (slice_get workers (m + 1) ≡ Some v) × (lane.bus ≡ v.segment.bus.bus)
+
+-- and the workers are those of a board
 pub record AreLaidOut {End : Type 0} (workers : List (WorkerView End)) : Type 0 where
   pub board : Board
   pub are : AreWorkers board workers
   pub apart : AreApart board workers
-  pub below : (k : ℕ) (w : WorkerView End) (n : ℕ) (lane : BridgeLane) → slice_get workers k ≡ Some w → slice_get (shape_of w.segment.bus).lanes n ≡ Some lane
-      → (m : ℕ) × (v : WorkerView End) × (slice_get workers (m + 1) ≡ Some v) × (lane.bus ≡ v.segment.bus.bus)
+  pub hang : HangBelow workers
 
 -- the bridge to the bus of the worker at this place may be settled
 pub record CanMeet {End : Type 0} (had sent got : End → List Item) (kept : End → ℕ) (paired : End → End → Type 0) (workers : List (WorkerView End)) (above : Above) (place : ℕ) : Type 0 where

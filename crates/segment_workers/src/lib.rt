@@ -3,7 +3,7 @@
 #![tactic(auto)]
 
 mod phase;
-mod steady;
 mod settling;
+mod steady;
 
 pub use steady::run_steady;

@@ -8,7 +8,11 @@ use lane_items::LaneEnd;
 use pci_command::NoMemory;
 
 /// Each worker does its turn of the phase of this number: whether any of them made an event.
-pub(crate) fn work_all<L: LaneEnd + Drop>(workers: &mut [Worker<L>], board: &Board, phase: u32) -> Result<bool, NoMemory>
+pub(crate) fn work_all<L: LaneEnd + Drop>(
+    workers: &mut [Worker<L>],
+    board: &Board,
+    phase: u32,
+) -> Result<bool, NoMemory>
     requires valid { IsValid board.now }
     requires ready { AreReady (all_seen workers.old) }
     ensures { IfOk result (λ busy. AllWorked L.had L.sent L.got L.kept L.paired board.now phase (all_seen workers.old) (all_seen workers.new) busy) }
@@ -23,7 +27,11 @@ pub(crate) fn work_all<L: LaneEnd + Drop>(workers: &mut [Worker<L>], board: &Boa
 }
 
 /// One turn in the phase of this number: whether it made an event.
-fn work<L: LaneEnd + Drop>(worker: &mut Worker<L>, board: &Board, phase: u32) -> Result<bool, NoMemory>
+fn work<L: LaneEnd + Drop>(
+    worker: &mut Worker<L>,
+    board: &Board,
+    phase: u32,
+) -> Result<bool, NoMemory>
     requires valid { IsValid board.now }
     requires ready { IsReady (seen worker.old) }
     ensures { IfOk result (λ busy. Worked L.had L.sent L.got L.kept L.paired board.now phase (seen worker.old) (seen worker.new) busy) }

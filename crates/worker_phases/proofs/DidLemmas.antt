@@ -212,8 +212,8 @@ module _ {End : Type 0} (had sent got : End → List Item) (kept : End → ℕ) 
       record {
         same_shape = d.turned.shape;
         goes = subst G (sym (later_is k d is)) (goes_at_ports board d.before.segment d.after.segment d.turned.does.later d.turned.does.received (at_ports d.before took) d.turned.does.puts (back_at_ports d.before puts) d.turned.shape
-        (λ n lane here. sym (ap (at_port took) here ∙ took_is k d n lane is here))
-        (λ n lane here. sym (ap (at_port (λ (l : BridgeLane). puts (lane_back l))) here ∙ puts_is k d n lane is here)) d.turned.does.goes);
+            (λ n lane here. sym (ap (at_port took) here ∙ took_is k d n lane is here))
+            (λ n lane here. sym (ap (at_port (λ (l : BridgeLane). puts (lane_back l))) here ∙ puts_is k d n lane is here)) d.turned.does.goes);
       }
 
   pub phase_did : AllDidPhase board old new took refused puts part later

@@ -270,7 +270,8 @@ module _ {End : Type 0} (had sent got : End → List Item) (kept : End → ℕ) 
         let L : List Item → List Item → List Item → Type 0 = λ a b c. left_count a b c ≤ 32 in
         let first = three_same (O (kept near)) (had far) (got far) (sent near) (hand lane) (Got lane) (done.puts lane) one.had_is one.got_is sent_there order in
         let second = three_same (O (kept far)) (had near) (got near) (sent far) (hand (lane_back lane)) (Got (lane_back lane)) (done.puts (lane_back lane)) other.had_is other.got_is one.sent_is order_back in
-        let room = phase_room carried stamp_of board received hand Got done.puts Part worked valid lane found.0 (kept near) (kept far) found.1 first second in
-        (three_same L (hand lane) (Got lane) (done.puts lane) (had far) (got far) (sent near) (sym one.had_is) (sym one.got_is) (sym sent_there) room.0,
-        three_same L (hand (lane_back lane)) (Got (lane_back lane)) (done.puts (lane_back lane)) (had near) (got near) (sent far) (sym other.had_is) (sym other.got_is) (sym one.sent_is) room.1);
+        let room = phase_room carried stamp_of board received hand Got done.puts Part worked valid lane found.0 (kept near) (kept far) found.1 first second in (
+          three_same L (hand lane) (Got lane) (done.puts lane) (had far) (got far) (sent near) (sym one.had_is) (sym one.got_is) (sym sent_there) room.0,
+          three_same L (hand (lane_back lane)) (Got (lane_back lane)) (done.puts (lane_back lane)) (had near) (got near) (sent far) (sym other.had_is) (sym other.got_is) (sym one.sent_is) room.1,
+        );
   }
