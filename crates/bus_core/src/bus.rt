@@ -6,7 +6,9 @@ ghost use Rattle.history_model.specs.Answers.{header_answer, bridge_to};
 ghost use Rattle.board_model.specs.WellFormed.{is_well_formed};
 
 use crate::Given;
-use crate::places::{access_at, note_part, offers_at, port_back, respond_at, target_place, want_at};
+use crate::places::{
+    access_at, note_part, offers_at, port_back, respond_at, target_place, want_at,
+};
 use crate::steps::{as_answer, nobody, rest_of, sent_over, step_of};
 use arrayvec::ArrayVec;
 use board_claim::claim;

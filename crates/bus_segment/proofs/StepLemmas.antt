@@ -60,13 +60,15 @@ module _ {End : Type 0} (had sent got : End → List Item) (kept : End → ℕ) 
   both_stamps : (stamp : ℕ) (ends after : List End) (over back : Option Sent) → SendsBoth had sent got paired ends over back after → IsStamped stamp over → IsStamped stamp back → StampsUpTo sent got stamp stamp ends after
   both_stamps stamp ends after over back sends over_stamp back_stamp =
       record {
-        up_to = λ most le below up.
-            (le, λ n end is.
-            let within : n < length ends = let f = slice_get_within after n end is in let m = sends.many in omega arith in
-            let first = there_at ends n within in
-            let one = sends.each n first.0 end first.1 is in
-            let more : AllByRecursion (UpTo most) (items_at over n ++ items_at back n) = all_joined (UpTo most) (items_at over n) (items_at back n) (sent_up_to stamp most over n le over_stamp) (sent_up_to stamp most back n le back_stamp) in
-            subst (λ l. AllByRecursion (UpTo most) l) (sym one.sent_is) (all_joined (UpTo most) (sent first.0) (items_at over n ++ items_at back n) (up n first.0 first.1) more));
+        up_to = λ most le below up. (
+          le,
+          λ n end is.
+              let within : n < length ends = let f = slice_get_within after n end is in let m = sends.many in omega arith in
+              let first = there_at ends n within in
+              let one = sends.each n first.0 end first.1 is in
+              let more : AllByRecursion (UpTo most) (items_at over n ++ items_at back n) = all_joined (UpTo most) (items_at over n) (items_at back n) (sent_up_to stamp most over n le over_stamp) (sent_up_to stamp most back n le back_stamp) in
+              subst (λ l. AllByRecursion (UpTo most) l) (sym one.sent_is) (all_joined (UpTo most) (sent first.0) (items_at over n ++ items_at back n) (up n first.0 first.1) more),
+        );
       }
 
   records_stamps : (acted : Acted) (stamp : ℕ) (ends after : List End) (events all : List Stamped) (stopped : Bool) → Records had sent got kept paired acted stamp ends after events all stopped → IsStamped stamp acted.over × IsStamped stamp acted.back
@@ -148,14 +150,16 @@ module _ {End : Type 0} (had sent got : End → List Item) (kept : End → ℕ) 
                 let gone : got last.0 ≡ got received.before ++ item ∷ [] = end_after.got_is ∙ (append-nil (got received.after ++ []) ∙ (append-nil (got received.after) ∙ received.got_is)) in
                 let all_below : AllByRecursion (Below most) (got received.before ++ item ∷ []) = subst (λ l. AllByRecursion (Below most) l) gone (below place last.0 last.1) in
                 let item_below : stamp_of item < most = (all_back (Below most) (got received.before) (item ∷ []) all_below).0 in
-                let reached : new.stamp ≤ most = omega (arith, done.stamp_is, item_below, le) in
-                (reached, λ n end is.
-                let there : n < length mid = let f = slice_get_within after n end is in let m = done.sends.many in omega arith in
-                let first = there_at mid n there in
-                let one = done.sends.each n first.0 end first.1 is in
-                let stamped : IsStamped new.stamp done.back = subst (λ b. IsStamped new.stamp b) (sym done.back_is) (back_is_stamped new.stamp place done.back_item done.stamped) in
-                subst (λ l. AllByRecursion (UpTo most) l) (sym one.sent_is)
-                (all_joined (UpTo most) (sent first.0) (items_at done.back n) (mid_up_to (Some item) most received up n first.0 first.1) (sent_up_to new.stamp most done.back n reached stamped)));
+                let reached : new.stamp ≤ most = omega (arith, done.stamp_is, item_below, le) in (
+                  reached,
+                  λ n end is.
+                      let there : n < length mid = let f = slice_get_within after n end is in let m = done.sends.many in omega arith in
+                      let first = there_at mid n there in
+                      let one = done.sends.each n first.0 end first.1 is in
+                      let stamped : IsStamped new.stamp done.back = subst (λ b. IsStamped new.stamp b) (sym done.back_is) (back_is_stamped new.stamp place done.back_item done.stamped) in
+                      subst (λ l. AllByRecursion (UpTo most) l) (sym one.sent_is)
+                      (all_joined (UpTo most) (sent first.0) (items_at done.back n) (mid_up_to (Some item) most received up n first.0 first.1) (sent_up_to new.stamp most done.back n reached stamped)),
+                );
           }
 
       stopped_stamps : IsNotArrived kept board place item old mid events new after all → StampsUpTo sent got old.stamp new.stamp ends after
