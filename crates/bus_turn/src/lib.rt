@@ -2,6 +2,7 @@
 //! presents something is served once.
 #![tactic(auto)]
 
+mod lines;
 mod receiving;
 mod serving;
 mod worker;

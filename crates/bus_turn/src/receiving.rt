@@ -48,7 +48,7 @@ fn receive_from<L: LaneEnd + Drop>(segment: &mut Segment<L>, board: &Board, plac
     ensures same { length segment.new.events.items ≡ length segment.old.events.items → segment.new.stopped ≡ false → segment.new.bus ≡ segment.old.bus }
     ensures quiet { length segment.new.events.items ≡ length segment.old.events.items → segment.new.stopped ≡ false → NothingCame L.had L.got place segment.old.ends.items segment.new.ends.items }
 {
-    for _ in 0..ITEMS {
+    for _received in 0..ITEMS {
         if !receive_one(segment, board, place) {
             return;
         }
