@@ -1,3 +1,4 @@
 pub mod SettleLemmas
 pub mod LayLemmas
 pub mod SteadyLemmas
+pub mod FirstLemmas

@@ -1,3 +1,4 @@
 pub mod Loop
 pub mod Settling
 pub mod Steady
+pub mod First

@@ -14,7 +14,10 @@ use pci_command::NoMemory;
 use std::alloc::Global;
 
 /// The segments, each to be worked.
-pub(crate) fn all_workers<L: LaneEnd + Drop>(alloc: Global, segments: Vec<Segment<L>>) -> Result<Vec<Worker<L>>, NoMemory>
+pub(crate) fn all_workers<L: LaneEnd + Drop>(
+    alloc: Global,
+    segments: Vec<Segment<L>>,
+) -> Result<Vec<Worker<L>>, NoMemory>
     ensures { IfOk result (λ workers. map (λ w. w.segment) workers.items ≡ segments.items) }
 {
     let mut workers = Vec::new(alloc);
@@ -48,9 +51,7 @@ fn above_of(alloc: Global, board: &Board, buses: &[u8], place: usize) -> Result<
     let primary = primary_of(board, bus);
     let lanes = lanes_to(alloc, board, primary)?;
     let worker = buses.iter().position(|other| *other == primary);
-    let port = lanes
-        .iter()
-        .position(|lane| lane.up && lane.bus == bus);
+    let port = lanes.iter().position(|lane| lane.up && lane.bus == bus);
     match (worker, port) {
         (Some(worker), Some(port)) => Ok(Above { worker, port }),
         _ => unreachable!(),

@@ -11,14 +11,20 @@ use std::alloc::Global;
 use trace_merge::merge;
 
 /// What all workers did, as one history.
-pub(crate) fn merge_all<L: LaneEnd + Drop>(alloc: Global, workers: Vec<Worker<L>>) -> Result<List<Event>, NoMemory>
+pub(crate) fn merge_all<L: LaneEnd + Drop>(
+    alloc: Global,
+    workers: Vec<Worker<L>>,
+) -> Result<List<Event>, NoMemory>
     ensures { IfOk result (λ events. history_of events ≡ history_of_all (all_seen workers.items)) }
 {
     let parts = all_parts(alloc, workers)?;
     merge(alloc, List::from_vec(parts))
 }
 
-fn all_parts<L: LaneEnd + Drop>(alloc: Global, workers: Vec<Worker<L>>) -> Result<Vec<List<Stamped>>, NoMemory>
+fn all_parts<L: LaneEnd + Drop>(
+    alloc: Global,
+    workers: Vec<Worker<L>>,
+) -> Result<Vec<List<Stamped>>, NoMemory>
     ensures { IfOk result (λ parts. parts.items ≡ map (λ w. w.events) (all_seen workers.items)) }
 {
     let mut parts = Vec::new(alloc);
