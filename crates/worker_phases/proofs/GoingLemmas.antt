@@ -139,7 +139,7 @@ module _ {End : Type 0} (had sent got : End → List Item) (kept : End → ℕ) 
   came_there : NoneElsewhere board Came
   came_there lane missing = ap (λ (l : List Item). l ++ done.took lane) (between.received_there lane missing) ∙ done.did.taken_there lane missing
 
-  put_there : NoneElsewhere board Put
+  pub put_there : NoneElsewhere board Put
   put_there lane missing =
       ap (λ (l : List Item). l ++ (hand lane ++ done.puts lane)) (between.received_there lane missing)
       ∙ (ap (λ (l : List Item). l ++ done.puts lane) (between.hand_there lane missing) ∙ done.did.sent_there lane missing)
@@ -175,10 +175,10 @@ module _ {End : Type 0} (had sent got : End → List Item) (kept : End → ℕ) 
   -- when all lanes brought their items in order
   module _ (ordered : AllInOrder board hand Got done.puts done.keeps) where
     -- what is left on a lane
-    left_on : BridgeLane → List Item
+    pub left_on : BridgeLane → List Item
     left_on lane = drop (length (Got lane)) (hand lane ++ done.puts lane)
 
-    left_is : (lane : BridgeLane) (bridge : Bridge) → bridge_to board lane.bus ≡ Some bridge → hand lane ++ done.puts lane ≡ done.took lane ++ (done.refused lane ++ left_on lane)
+    pub left_is : (lane : BridgeLane) (bridge : Bridge) → bridge_to board lane.bus ≡ Some bridge → hand lane ++ done.puts lane ≡ done.took lane ++ (done.refused lane ++ left_on lane)
     unfolding left_on
     left_is lane bridge some =
         let left = what_is_left (hand lane) (Got lane) (done.puts lane) (done.keeps lane) (ordered lane bridge some) in

@@ -73,19 +73,17 @@ part_at : {End : Type 0} (board : Board) (part : ℕ → List Stamped) (workers 
     → ((j : ℕ) (v : WorkerView End) → slice_get workers j ≡ Some v → Recorded board v.segment.bus.bus (part v.segment.bus.bus) v.events)
     → slice_get workers k ≡ Some w → w.segment.bus.bus ≡ bus → part_of (buses_of_all workers) (parts_of_all workers) bus ≡ part bus
 part_at board part [] bus k w each here same = cc
-part_at {End} board part (v ∷ workers) bus k w each here same =
+part_at {End} board part (v ∷ workers) bus zero w each here same =
+    let one : v ≡ w = cc in
+    let own : v.segment.bus.bus ≡ bus = ap (λ (x : WorkerView End). x.segment.bus.bus) one ∙ same in
+    let is : (v.segment.bus.bus == bus) ≡ true = eq-eqb v.segment.bus.bus bus own in
+    ap (λ (b : Bool). cond b (reverse v.events) (part_of (buses_of_all workers) (parts_of_all workers) bus)) is ∙ (sym (each 0 v refl).same ∙ ap part own)
+part_at board part (v ∷ workers) bus (suc k) w each here same =
     let P : Bool → Type 0 = λ b. (v.segment.bus.bus == bus) ≡ b → cond b (reverse v.events) (part_of (buses_of_all workers) (parts_of_all workers) bus) ≡ part bus in
     (elim (v.segment.bus.bus == bus) as P [
       | true ↦ λ is. sym (each 0 v refl).same ∙ ap part (eqb-true v.segment.bus.bus bus is)
-      | false ↦ λ apart. later k here apart
+      | false ↦ λ _. part_at board part workers bus k w (λ i u there. each (suc i) u there) here same
     ]) refl
-  where
-    later : (j : ℕ) → slice_get (v ∷ workers) j ≡ Some w → (v.segment.bus.bus == bus) ≡ false → part_of (buses_of_all workers) (parts_of_all workers) bus ≡ part bus
-    later zero at apart =
-        let one : v ≡ w = cc in
-        let is : (v.segment.bus.bus == bus) ≡ true = eq-eqb v.segment.bus.bus bus (ap (λ (x : WorkerView End). x.segment.bus.bus) one ∙ same) in
-        let wrong : true ≡ false = sym is ∙ apart in cc
-    later (suc j) at apart = part_at board part workers bus j w (λ i u there. each (suc i) u there) at same
 
 -- a bus without a worker has none
 part_nowhere : {End : Type 0} (workers : List (WorkerView End)) (bus : ℕ) → ((k : ℕ) (w : WorkerView End) → slice_get workers k ≡ Some w → w.segment.bus.bus ≢ bus) → part_of (buses_of_all workers) (parts_of_all workers) bus ≡ []
