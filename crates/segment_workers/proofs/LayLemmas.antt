@@ -5,7 +5,6 @@ use Rattle.std.proofs.lemmas.Option.{slice_get_within}
 use Rattle.board_model.specs.declared.bridge.Lane.{Lane as BridgeLane}
 use Rattle.board_model.specs.declared.board.Board.{Board}
 use Rattle.board_model.specs.Valid.{is_bus}
-use Rattle.board_segments.specs.First.{down_to, up_from}
 use Rattle.bus_port.specs.Port.{PortView}
 use Rattle.bus_core.specs.Bus.{Shape, shape_of, IsOf}
 use Rattle.bus_segment.specs.Stands.{WorkerView}
@@ -15,7 +14,7 @@ use Rattle.worker_phases.specs.Workers.{AreWorkers}
 use Rattle.worker_phases.specs.Phase.{AreApart, AllTurned, AllSettled, begun}
 use Rattle.worker_phases.proofs.SpotLemmas.{same_there}
 use Rattle.segment_workers.specs.declared.settling.Above.{Above}
-use Rattle.segment_workers.specs.Settling.{IsAbove, AreAbove, HangBelow}
+use Rattle.segment_workers.specs.Settling.{down_to, up_from, IsAbove, AreAbove, HangBelow}
 use Rattle.segment_workers.specs.Steady.{SameLay}
 
 module _ {End : Type 0} (old new : List (WorkerView End)) (same : SameLay old new) where

@@ -1,4 +1,6 @@
 pub mod SettleLemmas
 pub mod LayLemmas
+pub mod OneLemmas
+pub mod WorkLemmas
 pub mod SteadyLemmas
 pub mod FirstLemmas

@@ -4,7 +4,6 @@ use Rattle.std.proofs.lemmas.Bool.{eqb-true, eqb-false}
 use Rattle.std.proofs.lemmas.Option.{slice_get_within}
 use Rattle.board_model.specs.declared.bridge.Lane.{Lane as BridgeLane}
 use Rattle.board_model.specs.Ways.{lane_back}
-use Rattle.board_segments.specs.First.{down_to, up_from}
 use Rattle.lane_items.specs.declared.item.Item.{Item}
 use Rattle.lane_items.specs.Lane.{GotInOrder, left_count}
 use Rattle.bus_core.specs.Bus.{shape_of}
@@ -15,7 +14,7 @@ use Rattle.worker_phases.specs.Workers.{EndAt}
 use Rattle.worker_phases.specs.Phase.{OnlyEnds, LaneSettled, AllMaySettle, AllSettled}
 use Rattle.worker_phases.proofs.SpotLemmas.{same_there, same_port}
 use Rattle.segment_workers.specs.declared.settling.Above.{Above}
-use Rattle.segment_workers.specs.Settling.{IsAbove, AreAbove, AreLaidOut, CanMeet, SettlesOne, LanesSettled, SettledSoFar}
+use Rattle.segment_workers.specs.Settling.{down_to, up_from, IsAbove, AreAbove, AreLaidOut, CanMeet, SettlesOne, LanesSettled, SettledSoFar}
 
 -- the same end, at a worker whose ends alone changed
 only_none : {End : Type 0} (w : WorkerView End) → OnlyEnds w w
@@ -29,9 +28,9 @@ lane_moved v u only n lane here = ap (λ (s : SegmentView). slice_get (shape_of 
 
 -- a number is this one or another
 is_same : (P : Type 0) (a b : ℕ) → (a ≡ b → P) → (a ≢ b → P) → P
-is_same P a b yes no =
+is_same P a b here other =
     let Q : Bool → Type 0 = λ t. (a == b) ≡ t → P in
-    (elim (a == b) as Q [ true ↦ λ same. yes (eqb-true a b same) | false ↦ λ differ. no (eqb-false a b differ) ]) refl
+    (elim (a == b) as Q [ true ↦ λ same. here (eqb-true a b same) | false ↦ λ differ. other (eqb-false a b differ) ]) refl
 
 module _ {End : Type 0} (had sent got : End → List Item) (kept : End → ℕ) (paired : End → End → Type 0) (both_ways : (a b : End) → paired a b → paired b a) (old : List (WorkerView End)) (above : List Above)
     (laid : AreLaidOut old) (are_above : AreAbove old above) where

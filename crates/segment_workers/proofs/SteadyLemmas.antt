@@ -27,11 +27,11 @@ module _ {End : Type 0} (had sent got : End → List Item) (kept : End → ℕ) 
     board = board;
     are = are_still old new lay_worked board steady.after.between.are_workers;
     apart = apart_still old new lay_worked board steady.after.apart;
-    hang = hang_still old new lay_worked steady.below;
+    hang = hang_still old new lay_worked steady.hang;
   }
 
   pub above_worked : AreAbove new above
-  above_worked = above_still old new lay_worked above steady.above
+  above_worked = above_still old new lay_worked above steady.linked
 
   pub ready_worked : NoneStopped new → AreReady new
   ready_worked none = record {
@@ -84,6 +84,6 @@ module _ {End : Type 0} (had sent got : End → List Item) (kept : End → ℕ) 
     steady_settled after = record {
       after = after;
       ready = ready_settled;
-      below = hang_still new settled lay_settled laid_worked.hang;
-      above = above_still new settled lay_settled above above_worked;
+      hang = hang_still new settled lay_settled laid_worked.hang;
+      linked = above_still new settled lay_settled above above_worked;
     }

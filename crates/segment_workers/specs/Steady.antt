@@ -14,8 +14,8 @@ use Rattle.segment_workers.specs.Settling.{AreAbove, HangBelow}
 pub record IsSteady {End : Type 0} (had sent got : End → List Item) (kept : End → ℕ) (paired : End → End → Type 0) (board : Board) (workers : List (WorkerView End)) (above : List Above) (phases : ℕ) : Type 0 where
   pub after : AfterPhases had sent got kept paired board workers phases
   pub ready : AreReady workers
-  pub below : HangBelow workers
-  pub above : AreAbove workers above
+  pub hang : HangBelow workers
+  pub linked : AreAbove workers above
 
 -- workers of the same buses, with as many ends of lanes
 pub record SameLay {End : Type 0} (old new : List (WorkerView End)) : Type 0 where
