@@ -1,0 +1,4 @@
+pub mod NumberLemmas
+pub mod LaneLemmas
+pub mod FewLemmas
+pub mod FirstLemmas
