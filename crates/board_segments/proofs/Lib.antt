@@ -2,3 +2,4 @@ pub mod NumberLemmas
 pub mod LaneLemmas
 pub mod FewLemmas
 pub mod FirstLemmas
+pub mod SegmentLemmas
