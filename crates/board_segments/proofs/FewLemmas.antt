@@ -27,16 +27,17 @@ total-count test xs = is_sum_by (total (λ x. cond (test x) 1 0)) (λ x. cond (t
 
 -- where at most eight are counted on the bus of each element, at most eight are counted on a bus, or none is there
 none_or_few : {X : Type 0} (number : X → ℕ) (count : ℕ → ℕ) (bus : ℕ) (xs : List X) → list_all (λ x. nat_le (count (number x)) 8) xs ≡ true
-    → (count_by (λ x. number x == bus) xs ≡ 0) ⊎ (count bus ≤ 8)
+    → (total (λ x. cond (number x == bus) 1 0) xs ≡ 0) ⊎ (count bus ≤ 8)
 none_or_few number count bus [] few = inl refl
 none_or_few number count bus (x ∷ xs) few =
     let parts = and_parts (nat_le (count (number x)) 8) (list_all (λ y. nat_le (count (number y)) 8) xs) few in
     let later = none_or_few number count bus xs parts.1 in
-    let P : Bool → Type 0 = λ b. (number x == bus) ≡ b → (cond b 1 0 + count_by (λ y. number y == bus) xs ≡ 0) ⊎ (count bus ≤ 8) in
+    let rest = total (λ y. cond (number y == bus) 1 0) xs in
+    let P : Bool → Type 0 = λ b. (number x == bus) ≡ b → (cond b 1 0 + rest ≡ 0) ⊎ (count bus ≤ 8) in
     let Q : ℕ → Type 0 = λ n. count n ≤ 8 in
     (elim (number x == bus) as P [
       | true ↦ λ same. inr (subst Q (eqb-true (number x) bus same) (leb-true _ _ parts.0))
-      | false ↦ λ _. elim later as (λ _. (0 + count_by (λ y. number y == bus) xs ≡ 0) ⊎ (count bus ≤ 8)) [ inl none ↦ inl (omega (arith, none)) | inr most ↦ inr most ]
+      | false ↦ λ _. elim later as (λ _. (0 + rest ≡ 0) ⊎ (count bus ≤ 8)) [ inl none ↦ inl (omega (arith, none)) | inr most ↦ inr most ]
     ]) refl
 
 -- Bridges below a bus.
@@ -118,20 +119,22 @@ module _ (board : Board) (bus : ℕ) where
 
 -- as many places of a list pass as elements of it
 places_counted : {X : Type 0} (place_test : Option X → Bool) (test : X → Bool) → ((x : X) → place_test (Some x) ≡ test x) → (xs : List X) (a : ℕ) (get : ℕ → Option X) → ((k : ℕ) → get (a + k) ≡ slice_get xs k)
-    → length (filter (λ n. place_test (get n)) (range_with_len a (length xs))) ≡ count_by test xs
+    → length (filter (λ n. place_test (get n)) (range_with_len a (length xs))) ≡ total (λ x. cond (test x) 1 0) xs
 places_counted place_test test same [] a get gets = refl
 places_counted {X} place_test test same (x ∷ xs) a get gets =
     let later = places_counted place_test test same xs (a + 1) get (λ k. ap get (let e : (a + 1) + k ≡ a + suc k = omega arith in e) ∙ gets (suc k)) in
     let rest = filter (λ n. place_test (get n)) (range_with_len (a + 1) (length xs)) in
+    let more = total (λ y. cond (test y) 1 0) xs in
     let here : place_test (get a) ≡ test x = ap (λ n. place_test (get n)) (sym (add-zero a)) ∙ (ap place_test (gets 0) ∙ same x) in
-    let P : Bool → Type 0 = λ b. length (cond b (a ∷ rest) rest) ≡ cond b 1 0 + count_by test xs in
+    let P : Bool → Type 0 = λ b. length (cond b (a ∷ rest) rest) ≡ cond b 1 0 + more in
     ap (λ b. length (cond b (a ∷ rest) rest)) here ∙ elim (test x) as P [ true ↦ omega (arith, later) | false ↦ omega (arith, later) ]
 
 pub few_masters : (board : Board) (bus : ℕ) → is_well_formed board ≡ true → length (masters_on board bus) ≤ 8
 few_masters board bus formed =
     let form = WellFormed-parts board formed in
     let counted = places_counted (is_on bus) (λ (m : Master). m.bus == bus) (λ _. refl) board.masters 0 (slice_get board.masters) (λ k. ap (slice_get board.masters) (let e : 0 + k ≡ k = omega arith in e)) in
+    let count = total-count (λ (m : Master). m.bus == bus) board.masters in
     elim (none_or_few (λ (m : Master). m.bus) (agents_on board) bus board.masters form.few.masters) as (λ _. length (masters_on board bus) ≤ 8) [
       | inl none ↦ omega (arith, counted, none)
-      | inr most ↦ omega (arith, counted, most)
+      | inr most ↦ omega (arith, counted, count, most)
     ]

@@ -11,6 +11,7 @@ use Rattle.board_model.specs.declared.board.Board.{Board}
 use Rattle.board_model.specs.Valid.{IsValid, has_bridge_to}
 use Rattle.board_model.specs.Ways.{start_of, end_of, lane_back}
 use Rattle.board_laws.proofs.Laws.{IsTree-valid}
+use Rattle.history_model.specs.declared.event.Stamped.{Stamped}
 use Rattle.law_local.proofs.Laws.{end_back, lane_apart}
 use Rattle.lane_items.specs.declared.item.Item.{Item}
 use Rattle.bridge_face.specs.Arrivals.{carried}
@@ -129,3 +130,15 @@ module _ (board : Board) (valid : IsValid board) (fit : AllByRecursion BridgeFit
     going = refl;
     stands = record { past = past 0 false };
   }
+
+  -- so is what has the same parts
+  pub made_first : {End : Type 0} (given : List End) → length given ≡ length (lanes_to board bus) → (made : BusView) (stamp : ℕ) (stopped : Bool) (ends : List End) (events : List Stamped)
+      → made ≡ s → stamp ≡ 0 → stopped ≡ false → ends ≡ given → events ≡ []
+      → IsAtFirst board (record { segment = record { bus = made; stamp = stamp; stopped = stopped }; ends = ends; events = events })
+  made_first {End} given many made stamp stopped ends events bus_is stamp_is goes ends_are none =
+      let F : BusView → ℕ → Bool → List End → List Stamped → Type 0 = λ b n f l e. IsAtFirst board (record { segment = record { bus = b; stamp = n; stopped = f }; ends = l; events = e }) in
+      subst (λ b. F b stamp stopped ends events) (sym bus_is)
+      (subst (λ n. F s n stopped ends events) (sym stamp_is)
+      (subst (λ f. F s 0 f ends events) (sym goes)
+      (subst (λ l. F s 0 false l events) (sym ends_are)
+      (subst (λ e. F s 0 false given e) (sym none) (at_first given many)))))

@@ -1,5 +1,5 @@
 -- The lanes that end on a bus of a valid board, its masters and its targets: each of them once, and no other.
-use Rattle.std.proofs.Common.{◌≡◌, ◌≢◌, ℕ, zero, suc, ◌+◌, ◌<◌, ◌==◌, ◌&&◌, Bool, true, false, List, [], ◌∷◌, ◌++◌, length, map, ◌⊎◌, inl, inr, Option, Some, None, refl, sym, ap, subst, ◌∙◌, arith, if◌then◌else◌, slice_get}
+use Rattle.std.proofs.Common.{◌≡◌, ◌≢◌, ℕ, zero, suc, ◌+◌, ◌<◌, ◌==◌, ◌&&◌, ◌||◌, Bool, true, false, List, [], ◌∷◌, ◌++◌, length, map, ◌⊎◌, inl, inr, Option, Some, None, refl, sym, ap, subst, ◌∙◌, arith, if◌then◌else◌, slice_get}
 use Rattle.std.specs.List.{AllByRecursion, range_with_len, find, list_any}
 use Rattle.std.proofs.lemmas.Bool.{and_parts, eqb-true, eq-eqb}
 use Rattle.std.proofs.lemmas.Option.{slice_get_within}
@@ -83,7 +83,7 @@ bus_fits board bus fit there =
     (elim (has_bridge_to board bus) as P [
       | true ↦ λ has. number_fits board bus fit has
       | false ↦ λ has_not.
-          let Q : Bool → Type 0 = λ b. (bus == 0) ≡ b → (if b then true else has_bridge_to board bus) ≡ true → bus < 256 in
+          let Q : Bool → Type 0 = λ b. (bus == 0) ≡ b → (b || has_bridge_to board bus) ≡ true → bus < 256 in
           (elim (bus == 0) as Q [ true ↦ λ zero_is _. let is = eqb-true bus 0 zero_is in omega (arith, is) | false ↦ λ _ other. let both : true ≡ false = sym other ∙ has_not in cc ]) refl there
     ]) refl
 

@@ -34,7 +34,7 @@ pub one_place : (xs : List ℕ) → IsStrictlyIncreasing xs → (i j a : ℕ) �
 one_place xs rise i j a one two =
     let up : i < j → a < a = λ before. later_above xs rise i j a a one two before in
     let down : j < i → a < a = λ before. later_above xs rise j i a a two one before in
-    omega (arith, up, down)
+    grind (arith, up, down)
 
 pub passes_at : (p : ℕ → Bool) (xs : List ℕ) (k x : ℕ) → slice_get (filter p xs) k ≡ Some x → p x ≡ true
 passes_at p xs k x there =

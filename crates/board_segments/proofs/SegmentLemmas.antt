@@ -27,7 +27,7 @@ number_of s = s.segment.bus.bus
 
 -- those made so far: of the first buses, with the first ends; `rest` are the ends that are left
 pub record AreSoFar {End : Type 0} (board : Board) (all rest : List (List End)) (made : List (WorkerView End)) : Type 0 where
-  pub numbers : map (number_of {End}) made ≡ take (length made) (buses_of board)
+  pub numbers : map (number_of {End = End}) made ≡ take (length made) (buses_of board)
   pub ends : map (λ (s : WorkerView End). s.ends) made ++ rest ≡ all
   pub each : (k : ℕ) (s : WorkerView End) → slice_get made k ≡ Some s → IsAtFirst board s
 

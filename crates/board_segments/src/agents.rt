@@ -12,6 +12,7 @@ use std::alloc::Global;
 use target_agents::TargetState;
 
 /// The masters on the bus, in the order of the board.
+#[tactic(auto, using(board_claim::proofs::FewLemmas::few_masters_before, board_claim::proofs::FewLemmas::master_more))]
 pub(crate) fn masters_on(
     alloc: Global,
     board: &Board,
@@ -32,6 +33,7 @@ pub(crate) fn masters_on(
 }
 
 /// The targets on the bus, in the order of the board.
+#[tactic(auto, using(board_claim::proofs::FewLemmas::few_targets_before, board_claim::proofs::FewLemmas::target_more))]
 pub(crate) fn targets_on(
     alloc: Global,
     board: &Board,

@@ -3,12 +3,12 @@
 #![tactic(auto)]
 
 mod agents;
-mod buses;
+mod first;
 mod fits;
+mod order;
 mod plain;
 mod ports;
-mod segments;
 
-pub use buses::{buses, lanes_to};
+pub use order::{buses, lanes_to};
 pub use plain::plain_ends;
-pub use segments::segments;
+pub use first::segments;

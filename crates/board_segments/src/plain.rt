@@ -1,7 +1,7 @@
 ghost use Rattle.std.specs.Prelude.{◌≡◌, [], map, IfOk};
 ghost use Rattle.board_segments.specs.First.{lanes_to, AreEndsOf, ends_alike};
 
-use crate::buses::{buses, lanes_to};
+use crate::order::{buses, lanes_to};
 use board_model::Board;
 use bus_tree::Tree;
 use lane_plain::PlainEnd;

@@ -1,7 +1,7 @@
 use Rattle.std.proofs.Common.{◌≡◌, ◌++◌, map}
 use Rattle.std.specs.List.{filter, range_with_len}
 use Rattle.board_segments.specs.First.{is_below, own_lane, up_from}
-use Rattle.board_segments.proofs.buses.lanes_to.Given as goal
+use Rattle.board_segments.proofs.order.lanes_to.Given as goal
 
 -- the lane of the bus's own bridge, and those from below so far
 abbrev pub invariant-loop-child : goal.invariant-loop-child

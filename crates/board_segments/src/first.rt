@@ -5,7 +5,7 @@ ghost use Rattle.board_segments.specs.First.{lanes_to, AreEndsOf, IsAtFirst, Are
 ghost use Rattle.board_segments.specs.Parts.{BridgeFits, BusAtFirst};
 
 use crate::agents::{masters_on, targets_on};
-use crate::buses::{buses, lanes_to};
+use crate::order::{buses, lanes_to};
 use crate::fits::bridges_fit;
 use crate::ports::ports_of;
 use board_model::Board;
@@ -32,8 +32,9 @@ pub fn segments<L: LaneEnd + Drop>(
     bridges_fit(board.bridges.as_slice());
     let buses = buses(alloc, board)?;
     let mut segments = Vec::new(alloc);
-    for (place, ends) in ends.into_iter().enumerate() {
-        segments.push(segment_on(alloc, board, buses[place], ends)?)?;
+    for at in ends {
+        let segment = segment_on(alloc, board, buses[segments.len()], at)?;
+        segments.push(segment)?;
     }
     Ok(segments)
 }

@@ -6,7 +6,6 @@ use pci_command::NoMemory;
 use std::alloc::Global;
 
 /// The buses of the board, by increasing number.
-#[tactic(auto, using(crate::proofs::NumberLemmas::bus_more, crate::proofs::NumberLemmas::bus_skipped))]
 pub fn buses(alloc: Global, board: &Board) -> Result<Vec<u8>, NoMemory>
     ensures { IfOk result (λ buses. buses.items ≡ buses_of board.now) }
 {

@@ -1,7 +1,7 @@
 use Rattle.std.proofs.Common.{◌≡◌}
 use Rattle.std.specs.List.{filter, range_with_len}
 use Rattle.board_model.specs.Valid.{is_bus}
-use Rattle.board_segments.proofs.buses.buses.Given as goal
+use Rattle.board_segments.proofs.order.buses.Given as goal
 
 -- the buses so far
 abbrev pub invariant-loop-bus : goal.invariant-loop-bus
