@@ -1,7 +1,7 @@
 -- On a bus of a well-formed board there are at most eight bridges below it and eight masters.
-use Rattle.std.proofs.Common.{◌≡◌, ℕ, zero, suc, ◌+◌, ◌<◌, ◌≤◌, ◌==◌, ◌&&◌, nat_le, nat_lt, Bool, true, false, cond, List, [], ◌∷◌, ◌++◌, length, map, count_by, ◌⊎◌, inl, inr, Option, Some, None, refl, sym, ap, subst, ◌∙◌, arith, add-one, add-zero, length-append, if◌then◌else◌, slice_get}
-use Rattle.std.specs.List.{filter, range_with_len, find, list_all, list_any}
-use Rattle.std.proofs.lemmas.Bool.{and_parts, leb-true, eqb-true, eq-eqb}
+use Rattle.std.proofs.Common.{◌≡◌, ℕ, zero, suc, ◌+◌, ◌≤◌, ◌==◌, ◌&&◌, nat_le, nat_lt, Bool, true, false, cond, List, [], ◌∷◌, ◌++◌, length, map, count_by, ◌⊎◌, inl, inr, Option, Some, refl, sym, ap, subst, ◌∙◌, arith, add-one, add-zero, length-append, if◌then◌else◌, slice_get}
+use Rattle.std.specs.List.{filter, range_with_len, list_all, list_any}
+use Rattle.std.proofs.lemmas.Bool.{and_parts, leb-true, eqb-true}
 use Rattle.std.proofs.lemmas.Bool.Decides.{nat_tests}
 use Rattle.std.proofs.lemmas.List.{length-map}
 use Rattle.std.proofs.lemmas.List.Recursion.{is_sum_by}
@@ -9,7 +9,6 @@ use Rattle.list_facts.specs.Lists.{total}
 use Rattle.list_facts.proofs.AnyLemmas.{any_some, found_any, total_falls}
 use Rattle.list_facts.proofs.FindLemmas.{find_passes}
 use Rattle.list_facts.proofs.TotalLemmas.{total-le}
-use Rattle.board_model.specs.declared.agents.Target.{Target}
 use Rattle.board_model.specs.declared.agents.Master.{Master}
 use Rattle.board_model.specs.declared.bridge.Bridge.{Bridge}
 use Rattle.board_model.specs.declared.board.Board.{Board}
@@ -18,7 +17,7 @@ use Rattle.board_model.specs.Ways.{primary_in, primary_of}
 use Rattle.board_model.specs.WellFormed.{is_well_formed, children_on, agents_on}
 use Rattle.board_model.proofs.Laws.{WellFormed-parts}
 use Rattle.history_model.specs.Answers.{is_on}
-use Rattle.board_segments.specs.First.{is_below, children_of, own_lane, lanes_to, masters_on, up_from}
+use Rattle.board_segments.specs.First.{is_below, children_of, lanes_to, masters_on, up_from}
 use Rattle.board_segments.proofs.NumberLemmas.{passing_more, passing_skipped}
 
 -- as many as pass

@@ -1,10 +1,9 @@
 -- A bus whose parts are as they are before the first event is a segment that stands for nothing received, done or sent.
-use Rattle.std.proofs.Common.{◌≡◌, ◌≢◌, ◌==◌, ℕ, ◌+◌, ◌≤◌, Bool, true, false, List, [], ◌∷◌, ◌++◌, length, map, Option, Some, None, refl, sym, ap, subst, ◌∙◌, arith, slice_get}
-use Rattle.std.specs.List.{AllByRecursion, find}
+use Rattle.std.proofs.Common.{◌≡◌, ◌≢◌, ◌==◌, ℕ, ◌≤◌, Bool, true, false, List, [], ◌∷◌, length, map, Some, refl, sym, ap, subst, ◌∙◌, arith, slice_get}
+use Rattle.std.specs.List.{AllByRecursion}
 use Rattle.std.proofs.lemmas.List.{length-map}
 use Rattle.list_facts.proofs.AnyLemmas.{any_some}
 use Rattle.list_facts.proofs.EachLemmas.{Each-weaker, Each-slice_get}
-use Rattle.pci_command.specs.declared.op_id.OpId.{OpId}
 use Rattle.board_model.specs.declared.bridge.Bridge.{Bridge}
 use Rattle.board_model.specs.declared.bridge.Lane.{Lane as BridgeLane}
 use Rattle.board_model.specs.declared.board.Board.{Board}
@@ -18,15 +17,14 @@ use Rattle.bridge_face.specs.Arrivals.{carried}
 use Rattle.bus_port.specs.Port.{PortView}
 use Rattle.bus_port.specs.Calls.{PortStandsAtFirst}
 use Rattle.master_agents.specs.Turns.{MasterView, MasterStands}
-use Rattle.target_agents.specs.State.{TargetView}
 use Rattle.target_agents.specs.Stands.{TargetStands}
 use Rattle.bus_core.specs.Bus.{BusView, Shape, shape_of, arrivals_at, IsOf, AreLines}
 use Rattle.bus_core.proofs.ListLemmas.{get_map}
 use Rattle.bus_core.proofs.LineLemmas.{line_of, shape_lines}
-use Rattle.bus_segment.specs.Segment.{SegmentView, SegmentPast, all_carried}
-use Rattle.bus_segment.specs.Stands.{WorkerView, ComesBehind, SegmentStands}
-use Rattle.board_segments.specs.First.{lanes_to, masters_on, shape_on, IsAtFirst}
-use Rattle.board_segments.specs.Parts.{BridgeFits, IsOfBridge, PortAtFirst, BusAtFirst}
+use Rattle.bus_segment.specs.Segment.{SegmentPast, all_carried}
+use Rattle.bus_segment.specs.Stands.{ComesBehind}
+use Rattle.board_segments.specs.First.{lanes_to, shape_on, IsAtFirst}
+use Rattle.board_segments.specs.Parts.{BridgeFits, PortAtFirst, BusAtFirst}
 use Rattle.board_segments.proofs.LaneLemmas.{of_bridge_at, ends_at, shape_is_of}
 use Rattle.board_segments.proofs.FewLemmas.{few_lanes, few_masters}
 

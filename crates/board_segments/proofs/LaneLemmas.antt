@@ -1,24 +1,22 @@
 -- The lanes that end on a bus of a valid board, its masters and its targets: each of them once, and no other.
 use Rattle.std.proofs.Common.{◌≡◌, ◌≢◌, ℕ, zero, suc, ◌+◌, ◌<◌, ◌==◌, ◌&&◌, ◌||◌, Bool, true, false, List, [], ◌∷◌, ◌++◌, length, map, ◌⊎◌, inl, inr, Option, Some, None, refl, sym, ap, subst, ◌∙◌, arith, if◌then◌else◌, slice_get}
-use Rattle.std.specs.List.{AllByRecursion, range_with_len, find, list_any}
+use Rattle.std.specs.List.{AllByRecursion, range_with_len}
 use Rattle.std.proofs.lemmas.Bool.{and_parts, eqb-true, eq-eqb}
 use Rattle.std.proofs.lemmas.Option.{slice_get_within}
 use Rattle.list_facts.proofs.AnyLemmas.{any_some, find_any}
 use Rattle.list_facts.proofs.EachLemmas.{Each-find}
 use Rattle.list_facts.proofs.FindLemmas.{find_passes}
 use Rattle.board_model.specs.declared.agents.Target.{Target}
-use Rattle.board_model.specs.declared.agents.Master.{Master}
 use Rattle.board_model.specs.declared.bridge.Bridge.{Bridge}
 use Rattle.board_model.specs.declared.bridge.Lane.{Lane as BridgeLane}
 use Rattle.board_model.specs.declared.board.Board.{Board}
-use Rattle.board_model.specs.Valid.{IsValid, has_bridge_to, is_bus}
+use Rattle.board_model.specs.Valid.{has_bridge_to, is_bus}
 use Rattle.board_model.specs.Ways.{primary_in, primary_of, end_of}
 use Rattle.board_laws.specs.Trees.{IsTree}
-use Rattle.board_laws.proofs.Laws.{IsTree-valid}
 use Rattle.history_model.specs.Answers.{is_on, bridge_to}
-use Rattle.bus_core.specs.Bus.{Shape, HasPlace, IsOf}
+use Rattle.bus_core.specs.Bus.{HasPlace, IsOf}
 use Rattle.bus_core.proofs.ListLemmas.{get_map, map_get}
-use Rattle.board_segments.specs.First.{is_below, children_of, down_to, up_from, own_lane, lanes_to, has_target, shape_on}
+use Rattle.board_segments.specs.First.{is_below, children_of, down_to, up_from, lanes_to, has_target, shape_on}
 use Rattle.board_segments.specs.Parts.{BridgeFits, IsOfBridge}
 use Rattle.board_segments.proofs.NumberLemmas.{passing_rise, one_place, passes_at, passing_place, children_rise, child_place, child_below}
 

@@ -1,8 +1,8 @@
 -- The segments of a board, one after the other.
-use Rattle.std.proofs.Common.{◌≡◌, ℕ, zero, suc, ◌+◌, ◌<◌, ◌≤◌, true, List, [], ◌∷◌, ◌++◌, length, map, get_or, take, Option, Some, None, ◌⊎◌, inl, inr, refl, sym, ap, subst, ◌∙◌, arith, add-one, append_assoc, append-nil, length-append, slice_get}
+use Rattle.std.proofs.Common.{◌≡◌, ℕ, zero, suc, ◌+◌, ◌<◌, List, [], ◌∷◌, ◌++◌, length, map, get_or, take, Some, ◌⊎◌, inl, inr, refl, sym, ap, subst, ◌∙◌, arith, append_assoc, append-nil, length-append, slice_get}
 use Rattle.std.specs.List.{AllByRecursion}
 use Rattle.std.proofs.lemmas.List.{length-map, map-append, take_more, take_all}
-use Rattle.std.proofs.lemmas.Option.{slice_get_within, slice_get-get_or}
+use Rattle.std.proofs.lemmas.Option.{slice_get-get_or}
 use Rattle.board_model.specs.declared.board.Board.{Board}
 use Rattle.bus_core.proofs.ListLemmas.{get_map}
 use Rattle.bus_segment.specs.Stands.{WorkerView}
@@ -22,7 +22,18 @@ pushed [] y (suc k) x there = cc
 pushed (z ∷ xs) y zero x there = inl there
 pushed (z ∷ xs) y (suc k) x there = pushed xs y k x there
 
-abbrev number_of : {End : Type 0} → WorkerView End → ℕ
+pub nothing_left : {X : Type 0} (xs : List X) → length xs ≡ 0 → xs ≡ []
+nothing_left [] none = refl
+nothing_left (x ∷ xs) none = absurd (omega arith)
+
+pub any_default : (xs : List ℕ) (i d e : ℕ) → i < length xs → get_or xs i d ≡ get_or xs i e
+any_default xs i d e within =
+    let one = slice_get-get_or xs i d within in
+    let two = slice_get-get_or xs i e within in
+    let both = sym one ∙ two in
+    cc
+
+abbrev pub number_of : {End : Type 0} → WorkerView End → ℕ
 number_of s = s.segment.bus.bus
 
 -- those made so far: of the first buses, with the first ends; `rest` are the ends that are left

@@ -1,12 +1,12 @@
 ghost use Rattle.std.specs.Prelude.{◌≡◌, length, map, IfOk};
 ghost use Rattle.std.specs.List.{AllByRecursion};
 ghost use Rattle.board_model.specs.Valid.{IsValid};
-ghost use Rattle.board_segments.specs.First.{lanes_to, AreEndsOf, IsAtFirst, AreAtFirst};
+ghost use Rattle.board_segments.specs.First.{lanes_to, AreEndsOf, worker_of, IsAtFirst, AreAtFirst};
 ghost use Rattle.board_segments.specs.Parts.{BridgeFits, BusAtFirst};
 
 use crate::agents::{masters_on, targets_on};
-use crate::order::{buses, lanes_to};
 use crate::fits::bridges_fit;
+use crate::order::{buses, lanes_to};
 use crate::ports::ports_of;
 use board_model::Board;
 use bus_core::Bus;
@@ -25,8 +25,7 @@ pub fn segments<L: LaneEnd + Drop>(
     ends: Vec<Vec<L>>,
 ) -> Result<Vec<Segment<L>>, NoMemory>
     requires { AreEndsOf tree.now (map (λ at. at.items) ends.items) }
-    ensures { IfOk result (λ segments. AreAtFirst tree.now (map (λ at. at.items) ends.items)
-        (map (λ s. record { segment = record { bus = s.bus; stamp = s.stamp; stopped = s.stopped }; ends = s.ends.items; events = s.events.items }) segments.items)) }
+    ensures { IfOk result (λ segments. AreAtFirst tree.now (map (λ at. at.items) ends.items) (map worker_of segments.items)) }
 {
     let board = tree.board();
     bridges_fit(board.bridges.as_slice());
@@ -51,8 +50,7 @@ fn segment_on<L: LaneEnd + Drop>(
     requires one_a_port { length ends.items ≡ length (lanes_to board.now bus) }
     ensures bus { IfOk result (λ s. s.bus.bus ≡ bus) }
     ensures ends { IfOk result (λ s. s.ends.items ≡ ends.items) }
-    ensures first { IfOk result (λ s. IsAtFirst board.now
-        (record { segment = record { bus = s.bus; stamp = s.stamp; stopped = s.stopped }; ends = s.ends.items; events = s.events.items })) }
+    ensures first { IfOk result (λ s. IsAtFirst board.now (worker_of s)) }
 {
     let bus = bus_on(alloc, board, bus)?;
     Ok(Segment::new(alloc, bus, ends))

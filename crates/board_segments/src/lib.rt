@@ -9,6 +9,6 @@ mod order;
 mod plain;
 mod ports;
 
+pub use first::segments;
 pub use order::{buses, lanes_to};
 pub use plain::plain_ends;
-pub use first::segments;

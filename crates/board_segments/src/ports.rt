@@ -10,11 +10,7 @@ use pci_command::NoMemory;
 use std::alloc::Global;
 
 /// A port for each of these lanes, in their order.
-pub(crate) fn ports_of(
-    alloc: Global,
-    board: &Board,
-    lanes: &[Lane],
-) -> Result<Vec<Port>, NoMemory>
+pub(crate) fn ports_of(alloc: Global, board: &Board, lanes: &[Lane]) -> Result<Vec<Port>, NoMemory>
     requires formed { IsTrue (is_well_formed board.now) }
     requires bridges { AllByRecursion (IsOfBridge board.now) lanes.now }
     ensures { IfOk result (λ ports. PortsAtFirst board.now lanes.now ports.items) }

@@ -1,4 +1,4 @@
-use Rattle.std.proofs.Common.{◌≡◌, ◌<◌, List, [], map, take, slice_get}
+use Rattle.std.proofs.Common.{◌≡◌, ◌<◌, [], map, take, slice_get}
 use Rattle.std.specs.List.{AllByRecursion, filter, range_with_len}
 use Rattle.board_model.specs.declared.agents.Target.{Target}
 use Rattle.target_agents.specs.State.{TargetView}

@@ -1,6 +1,5 @@
-use Rattle.std.proofs.Common.{◌≡◌, List, sym, subst, ◌∙◌}
+use Rattle.std.proofs.Common.{sym, subst, ◌∙◌}
 use Rattle.std.specs.List.{AllByRecursion}
-use Rattle.board_model.specs.declared.bridge.Lane.{Lane as BridgeLane}
 use Rattle.board_segments.specs.First.{lanes_to}
 use Rattle.board_segments.specs.Parts.{IsOfBridge}
 use Rattle.board_segments.proofs.LaneLemmas.{of_bridge_at}

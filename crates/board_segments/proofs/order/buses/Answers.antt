@@ -1,4 +1,4 @@
-use Rattle.std.proofs.Common.{◌≡◌, ℕ, List, [], ◌∷◌, ◌++◌, Bool, true, false, sym, ap, ◌∙◌, arith}
+use Rattle.std.proofs.Common.{◌≡◌, ℕ, List, [], ◌∷◌, ◌++◌, true, false, sym, ap, ◌∙◌, arith}
 use Rattle.board_model.specs.Valid.{is_bus}
 use Rattle.board_segments.proofs.NumberLemmas.{passing_more, passing_skipped, all_buses}
 use Rattle.board_segments.proofs.order.buses.Goals as goal

@@ -2,7 +2,7 @@ use Rattle.std.proofs.Common.{◌≡◌, ℕ, List, [], ◌∷◌, ◌++◌, Boo
 use Rattle.std.specs.List.{filter, range_with_len}
 use Rattle.std.proofs.lemmas.List.{map-append}
 use Rattle.board_model.specs.declared.bridge.Lane.{Lane as BridgeLane}
-use Rattle.board_segments.specs.First.{is_below, own_lane, up_from, children_of}
+use Rattle.board_segments.specs.First.{is_below, own_lane, up_from}
 use Rattle.board_segments.proofs.NumberLemmas.{passing_more, passing_skipped, all_children}
 use Rattle.board_segments.proofs.order.lanes_to.Goals as goal
 use Rattle.board_segments.proofs.order.lanes_to.Goals.{then-is_below+in_ok-push-2, else-is_below}
