@@ -10,6 +10,7 @@ use Rattle.board_model.specs.Valid.{has_bridge_to, is_bus}
 use Rattle.board_model.specs.Ways.{primary_of, end_of}
 use Rattle.history_model.specs.Answers.{is_on}
 use Rattle.bus_core.specs.Bus.{Shape, shape_of, arrivals_at, HasPlace, IsOf}
+use Rattle.bus_segment.specs.declared.segment.Segment.{Segment}
 use Rattle.bus_segment.specs.Stands.{WorkerView, SegmentStands}
 
 -- Who is on which bus.
@@ -68,6 +69,14 @@ abbrev pub ends_alike : {End : Type 0} → Board → End → List (List End)
 ends_alike board end = map (λ bus. map (λ lane. end) (lanes_to board bus)) (buses_of board)
 
 -- Before the first event.
+
+-- what a segment is, with its ends of lanes and its events
+abbrev pub worker_of : {End : Type 0} → Segment End → WorkerView End
+worker_of s = record {
+  segment = record { bus = s.bus; stamp = s.stamp; stopped = s.stopped };
+  ends = s.ends.items;
+  events = s.events.items;
+}
 
 -- one bus of the board, with an end of a lane at each of its ports
 pub record IsAtFirst {End : Type 0} (board : Board) (s : WorkerView End) : Type 0 where
