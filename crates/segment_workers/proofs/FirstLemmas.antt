@@ -37,6 +37,23 @@ use Rattle.segment_workers.specs.Loop.{AreReady}
 use Rattle.segment_workers.specs.Settling.{down_to, up_from, AreAbove, HangBelow}
 use Rattle.segment_workers.specs.Steady.{IsSteady}
 
+-- the bridges to the first so many buses behind bus 0
+pub record AreAboveSoFar (board : Board) (above : List Above) : Type 0 where
+  pub each : (k : ℕ) (up : Above) → slice_get above k ≡ Some up → IsAboveOf board (k + 1) up
+
+pub above_none : (board : Board) → AreAboveSoFar board []
+above_none board = record { each = λ k up here. cc }
+
+-- of one more at the end
+at_end : (P : ℕ → Above → Type 0) (xs : List Above) (x : Above) → ((k : ℕ) (y : Above) → slice_get xs k ≡ Some y → P k y) → P (length xs) x → (k : ℕ) (y : Above) → slice_get (xs ++ x ∷ []) k ≡ Some y → P k y
+at_end P [] x each last zero y here = let same : x ≡ y = cc in subst (P 0) same last
+at_end P [] x each last (suc k) y here = cc
+at_end P (z ∷ xs) x each last zero y here = each 0 y here
+at_end P (z ∷ xs) x each last (suc k) y here = at_end (λ n u. P (suc n) u) xs x (λ n u there. each (suc n) u there) last k y here
+
+pub above_more : (board : Board) (above : List Above) (up : Above) → AreAboveSoFar board above → IsAboveOf board (length above + 1) up → AreAboveSoFar board (above ++ up ∷ [])
+above_more board above up so_far is = record { each = at_end (λ (n : ℕ) (u : Above). IsAboveOf board (n + 1) u) above up so_far.each is }
+
 -- Buses.
 
 -- a number at a later place is greater

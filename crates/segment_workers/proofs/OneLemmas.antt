@@ -132,3 +132,8 @@ module _ {End : Type 0} (had sent got : End → List Item) (kept : End → ℕ) 
 -- what stands at a place, as it is seen
 pub seen_there : {End : Type 0} (workers : List (Worker End)) (k : ℕ) (d : Worker End) → k < length workers → slice_get (all_seen workers) k ≡ Some (seen (get_or workers k d))
 seen_there {End} workers k d within = get_map (λ (w : Worker End). seen w) workers k (get_or workers k d) (slice_get-get_or workers k d within)
+
+-- a list without length is none
+pub nothing_left : {X : Type 0} (xs : List X) → length xs ≡ 0 → xs ≡ []
+nothing_left [] none = refl
+nothing_left (x ∷ xs) none = absurd (omega (arith, none))

@@ -1,6 +1,5 @@
-ghost use Rattle.std.specs.Prelude.{◌≡◌, ◌+◌, length, map, IfOk};
-ghost use Rattle.board_model.specs.Valid.{IsValid};
-ghost use Rattle.board_segments.specs.First.{buses_of, lanes_to};
+ghost use Rattle.std.specs.Prelude.{◌≡◌, ◌<◌, length, map, IfOk};
+ghost use Rattle.board_segments.specs.First.{buses_of, worker_of};
 ghost use Rattle.segment_workers.specs.Loop.{all_seen};
 ghost use Rattle.segment_workers.specs.First.{AreLinked, AreAboveOf, IsAboveOf};
 
@@ -18,7 +17,7 @@ pub(crate) fn all_workers<L: LaneEnd + Drop>(
     alloc: Global,
     segments: Vec<Segment<L>>,
 ) -> Result<Vec<Worker<L>>, NoMemory>
-    ensures { IfOk result (λ workers. map (λ w. w.segment) workers.items ≡ segments.items) }
+    ensures { IfOk result (λ workers. all_seen workers.items ≡ map worker_of segments.items) }
 {
     let mut workers = Vec::new(alloc);
     for segment in segments {

@@ -6,24 +6,44 @@ ghost use Rattle.worker_phases.specs.Phase.{CrossesAtSettle, IsCompleteRun, hist
 ghost use Rattle.segment_workers.specs.Loop.{all_seen};
 ghost use Rattle.segment_workers.specs.Steady.{IsSteady};
 
+use crate::first::{all_above, all_workers};
 use crate::merging::merge_all;
 use crate::phase::work_all;
 use crate::settling::{Above, settle_all};
 use board_model::Board;
+use board_segments::{plain_ends, segments};
+use bus_tree::Tree;
 use bus_turn::Worker;
 use history_model::Event;
 use lane_items::LaneEnd;
+use lane_plain::got_in_order;
 use pci_command::{List, NoMemory};
 use std::alloc::Global;
 use worker_phases::{
     idle_phases_end_the_run, phases_are_few, settles_end_a_phase, turns_stop_no_worker,
 };
 
+/// Works the buses of the board one after another, phase by phase: in each phase each bus does one
+/// turn, and then all lanes are settled. It ends after a phase in which no bus did anything; what all
+/// buses did is then a complete run, no longer than the board's bound. The first event comes first.
+pub fn run_steady(alloc: Global, tree: &Tree) -> Result<List<Event>, NoMemory>
+    ensures run { IfOk result (λ events. Run tree.now (history_of events)) }
+    ensures complete { IfOk result (λ events. Complete tree.now (history_of events)) }
+    ensures bound { IfOk result (λ events. length (history_of events) ≤ bound_of tree.now) }
+{
+    got_in_order();
+    let ends = plain_ends(alloc, tree)?;
+    let segments = segments(alloc, tree, ends)?;
+    let workers = all_workers(alloc, segments)?;
+    let above = all_above(alloc, tree.board())?;
+    run_all(alloc, tree.board(), workers, above.as_slice())
+}
+
 /// More phases than there ever are: each but the last one makes an event.
 const TOO_MANY_PHASES: u32 = 500_001;
 
 /// Phase after phase, until one makes no event: what all workers did is a complete run of the board.
-pub(crate) fn run_all<L: LaneEnd + Drop>(
+fn run_all<L: LaneEnd + Drop>(
     alloc: Global,
     board: &Board,
     mut workers: Vec<Worker<L>>,

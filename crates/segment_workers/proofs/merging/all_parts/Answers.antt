@@ -3,7 +3,7 @@ use Rattle.std.specs.Vec.Iter.{into_iter_items}
 use Rattle.std.proofs.lemmas.List.{append-nil}
 use Rattle.bus_segment.specs.Stands.{WorkerView}
 use Rattle.bus_turn.specs.declared.worker.Worker.{Worker}
-use Rattle.worker_phases.proofs.QuietLemmas.{no_items}
+use Rattle.segment_workers.proofs.OneLemmas.{nothing_left}
 use Rattle.segment_workers.specs.Loop.{all_seen}
 use Rattle.segment_workers.proofs.merging.all_parts.Goals as goal
 
@@ -11,6 +11,6 @@ pub returns : goal.returns
 returns g c =
     let left : List (Worker g.row.L.Denot) = into_iter_items c.loop-worker.worker-iterator in
     let none : length left ≡ 0 = sym c.loop-worker.invariant.1 ∙ c.in-None.ensures.steps.0 in
-    let empty : left ≡ [] = no_items left none in
+    let empty : left ≡ [] = nothing_left left none in
     sym (append-nil c.loop-worker.parts.items)
     ∙ (ap (λ (l : List (Worker g.row.L.Denot)). c.loop-worker.parts.items ++ map (λ (w : WorkerView g.row.L.Denot). w.events) (all_seen l)) (sym empty) ∙ c.loop-worker.invariant.0)
