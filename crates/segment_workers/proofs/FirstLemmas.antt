@@ -1,8 +1,9 @@
 -- The workers before the first phase, and where the bridges of a board hang.
-use Rattle.std.proofs.Common.{◌≡◌, ◌≢◌, ℕ, zero, suc, ◌+◌, ◌<◌, ◌≤◌, ◌==◌, ◌||◌, Bool, true, false, cond, List, [], ◌∷◌, ◌++◌, length, map, reverse, Option, Some, None, refl, sym, ap, subst, ◌∙◌, arith, slice_get}
-use Rattle.std.specs.List.{AllByRecursion, range_with_len}
+use Rattle.std.proofs.Common.{◌≡◌, ◌≢◌, ℕ, zero, suc, ◌+◌, ◌<◌, ◌≤◌, ◌==◌, ◌||◌, ◌&&◌, Bool, true, false, cond, List, [], ◌∷◌, ◌++◌, length, map, reverse, Option, Some, None, refl, sym, ap, subst, ◌∙◌, arith, slice_get}
+use Rattle.std.specs.List.{AllByRecursion, position, range_with_len}
+use Rattle.std.specs.Option.{IsSome}
 use Rattle.std.specs.List.Sorted.{IsStrictlyIncreasing}
-use Rattle.std.proofs.lemmas.Bool.{eqb-true}
+use Rattle.std.proofs.lemmas.Bool.{and_parts, eqb-true, eq-eqb}
 use Rattle.std.proofs.lemmas.List.{length-map}
 use Rattle.std.proofs.lemmas.List.Kept.{AllPairs-from_increasing}
 use Rattle.std.proofs.lemmas.Option.{slice_get_within, get_or_from_slice_get}
@@ -21,7 +22,7 @@ use Rattle.lane_items.specs.declared.item.Item.{Item}
 use Rattle.lane_items.specs.Lane.{IsEmptied}
 use Rattle.bus_port.specs.Port.{PortView}
 use Rattle.bus_core.specs.Bus.{Shape, shape_of, arrivals_at, HasPlace}
-use Rattle.bus_core.proofs.ListLemmas.{get_map, map_get}
+use Rattle.bus_core.proofs.ListLemmas.{get_map, map_get, found_at, none_at}
 use Rattle.bus_segment.specs.Stands.{WorkerView}
 use Rattle.bus_segment.proofs.DoesLemmas.{there_at}
 use Rattle.board_segments.specs.First.{buses_of, up_from as from_below, children_of, own_lane, lanes_to, IsAtFirst, AreAtFirst}
@@ -53,6 +54,47 @@ at_end P (z ∷ xs) x each last (suc k) y here = at_end (λ n u. P (suc n) u) xs
 
 pub above_more : (board : Board) (above : List Above) (up : Above) → AreAboveSoFar board above → IsAboveOf board (length above + 1) up → AreAboveSoFar board (above ++ up ∷ [])
 above_more board above up so_far is = record { each = at_end (λ (n : ℕ) (u : Above). IsAboveOf board (n + 1) u) above up so_far.each is }
+
+-- What is looked for is found.
+
+pub bus_found : (buses : List ℕ) (bus : ℕ) (found : Option ℕ) → HasPlace buses bus → found ≡ position (λ (other : ℕ). other == bus) buses → IsSome found
+bus_found buses bus None has is = let wrong : false ≡ true = sym (none_at (λ (other : ℕ). other == bus) buses (sym is) has.0 bus has.1) ∙ eq-eqb bus bus refl in cc
+bus_found buses bus (Some k) has is = refl
+
+pub bus_there : (buses : List ℕ) (bus k : ℕ) (found : Option ℕ) → found ≡ position (λ (other : ℕ). other == bus) buses → found ≡ Some k → slice_get buses k ≡ Some bus
+bus_there buses bus k found is some =
+    let at = found_at (λ (other : ℕ). other == bus) buses k (sym is ∙ some) in
+    at.1.0 ∙ ap (λ (b : ℕ). Some b) (eqb-true at.0 bus at.1.1)
+
+abbrev IsUp : ℕ → BridgeLane → Bool
+IsUp bus lane = lane.up && lane.bus == bus
+
+pub lane_found : (lanes : List BridgeLane) (bus : ℕ) (found : Option ℕ) → HasPlace lanes (up_from bus) → found ≡ position (IsUp bus) lanes → IsSome found
+lane_found lanes bus None has is = let wrong : false ≡ true = sym (none_at (IsUp bus) lanes (sym is) has.0 (up_from bus) has.1) ∙ eq-eqb bus bus refl in cc
+lane_found lanes bus (Some k) has is = refl
+
+pub lane_there : (lanes : List BridgeLane) (bus k : ℕ) (found : Option ℕ) → found ≡ position (IsUp bus) lanes → found ≡ Some k → slice_get lanes k ≡ Some (up_from bus)
+lane_there lanes bus k found is some =
+    let at = found_at (IsUp bus) lanes k (sym is ∙ some) in
+    let parts = and_parts at.0.up (at.0.bus == bus) at.1.1 in
+    let Rebuilt : ℕ → Bool → Option BridgeLane = λ n u. Some (record { bus = n; up = u }) in
+    at.1.0 ∙ (ap (λ n. Rebuilt n at.0.up) (eqb-true at.0.bus bus parts.1) ∙ ap (Rebuilt bus) parts.0)
+
+pub above_is : (board : Board) (linked : AreLinked board) (place bus : ℕ) (up : Above) → 0 < place → slice_get (buses_of board) place ≡ Some bus → slice_get (buses_of board) up.worker ≡ Some (primary_of board bus)
+    → slice_get (lanes_to board (primary_of board bus)) up.port ≡ Some (up_from bus) → IsAboveOf board place up
+above_is board linked zero bus up some here worker port = absurd (omega (arith, some))
+above_is board linked (suc k) bus up some here worker port =
+    let next : k + 1 ≡ suc k = omega arith in
+    let there : slice_get (buses_of board) (k + 1) ≡ Some bus = ap (slice_get (buses_of board)) next ∙ here in
+    let before = linked.earlier k up.worker bus there worker in
+    record { bus = bus; bus_is = here; earlier = omega (arith, before); primary = worker; up = port }
+
+pub linked_at : (board : Board) (linked : AreLinked board) (place bus : ℕ) → 0 < place → slice_get (buses_of board) place ≡ Some bus → HasPlace (buses_of board) (primary_of board bus) × HasPlace (lanes_to board (primary_of board bus)) (up_from bus)
+linked_at board linked zero bus some here = absurd (omega (arith, some))
+linked_at board linked (suc k) bus some here =
+    let next : k + 1 ≡ suc k = omega arith in
+    let there : slice_get (buses_of board) (k + 1) ≡ Some bus = ap (slice_get (buses_of board)) next ∙ here in
+    (linked.primary k bus there, linked.up k bus there)
 
 -- Buses.
 

@@ -1,10 +1,11 @@
-ghost use Rattle.std.specs.Prelude.{◌≡◌, ◌<◌, length, map, IfOk};
+ghost use Rattle.std.specs.Prelude.{◌≡◌, ◌<◌, ◌==◌, ◌&&◌, length, map, IfOk};
+ghost use Rattle.std.specs.List.{position};
 ghost use Rattle.board_segments.specs.First.{buses_of, worker_of};
 ghost use Rattle.segment_workers.specs.Loop.{all_seen};
 ghost use Rattle.segment_workers.specs.First.{AreLinked, AreAboveOf, IsAboveOf};
 
 use crate::settling::Above;
-use board_model::{Board, primary_of};
+use board_model::{Board, Lane, primary_of};
 use board_segments::{buses, lanes_to};
 use bus_segment::Segment;
 use bus_turn::Worker;
@@ -49,10 +50,20 @@ fn above_of(alloc: Global, board: &Board, buses: &[u8], place: usize) -> Result<
     let bus = buses[place];
     let primary = primary_of(board, bus);
     let lanes = lanes_to(alloc, board, primary)?;
-    let worker = buses.iter().position(|other| *other == primary);
-    let port = lanes.iter().position(|lane| lane.up && lane.bus == bus);
-    match (worker, port) {
-        (Some(worker), Some(port)) => Ok(Above { worker, port }),
-        _ => unreachable!(),
-    }
+    let worker = place_of(buses, primary).unwrap();
+    let port = port_of(lanes.as_slice(), bus).unwrap();
+    Ok(Above { worker, port })
+}
+
+fn place_of(buses: &[u8], bus: u8) -> Option<usize>
+    ensures { result ≡ position (λ other. other == bus) buses.now }
+{
+    buses.iter().position(|other| *other == bus)
+}
+
+/// The port of the lane up from a bus.
+fn port_of(lanes: &[Lane], bus: u8) -> Option<usize>
+    ensures { result ≡ position (λ lane. lane.up && lane.bus == bus) lanes.now }
+{
+    lanes.iter().position(|lane| lane.up && lane.bus == bus)
 }
