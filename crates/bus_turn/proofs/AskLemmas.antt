@@ -1,7 +1,8 @@
 -- Which request lines ask: they are gathered one after another.
-use Rattle.std.proofs.Common.{◌≡◌, ◌≢◌, ℕ, ◌+◌, ◌<◌, ◌≤◌, max, bit_or, Bool, true, false, ◌==◌, ◌&&◌, List, [], ◌∷◌, length, map, Option, Some, None, refl, sym, ap, subst, ◌∙◌, arith, inl, inr, slice_get}
+use Rattle.std.proofs.Common.{◌≡◌, ◌≢◌, ℕ, ◌+◌, ◌<◌, ◌≤◌, max, bit_or, Bool, true, false, not, ◌==◌, ◌&&◌, List, [], ◌∷◌, length, map, Option, Some, None, refl, sym, ap, subst, ◌∙◌, arith, inl, inr, slice_get}
 use Rattle.std.specs.Int.{bit_at}
 use Rattle.std.specs.List.{list_any}
+use Rattle.std.specs.Option.{is_some}
 use Rattle.std.proofs.lemmas.Bool.{and_parts, eqb-true, eqb-false, cases_lt}
 use Rattle.std.proofs.lemmas.Option.{slice_get_within}
 use Rattle.std.proofs.lemmas.List.{length-map}
@@ -26,6 +27,18 @@ use Rattle.bus_turn.specs.Works.{HasLine, IsServed, IsSilent, NeverWants, AsksUp
 no_turn : (a b : Bool) → b ≡ false → (a && b) ≡ false
 no_turn true b is = is
 no_turn false b is = refl
+
+pub none_listed : {X : Type 0} (xs : List X) (empty : Bool) → empty ≡ (length xs == 0) → not empty ≡ false → xs ≡ []
+none_listed [] empty is some = refl
+none_listed (x ∷ xs) empty is some =
+    let none : (length (x ∷ xs) == 0) ≡ false = refl in
+    let full : empty ≡ false = is ∙ none in
+    let wrong : not false ≡ false = ap not (sym full) ∙ some in
+    cc
+
+pub is_none : {X : Type 0} (found : Option X) → is_some found ≡ false → found ≡ None
+is_none None is = refl
+is_none (Some x) is = cc
 
 -- a lane that offers nothing presents nothing
 pub lane_silent : (s : BusView) (place : ℕ) (offers : List Offer) → place < 9 → BusOffers place s offers → offers ≡ [] → IsSilent s place
