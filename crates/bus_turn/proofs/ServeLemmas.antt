@@ -1,5 +1,5 @@
 -- Initiators are served, one after another.
-use Rattle.std.proofs.Common.{◌≡◌, ◌≢◌, ℕ, ◌+◌, ◌<◌, ◌≤◌, Bool, true, false, ◌==◌, ◌||◌, List, [], ◌∷◌, ◌++◌, length, map, take, get_or, Option, Some, None, IfSome, refl, sym, ap, subst, ◌∙◌, arith, slice_get}
+use Rattle.std.proofs.Common.{◌≡◌, ◌≢◌, ℕ, ◌+◌, ◌<◌, ◌≤◌, Bool, true, false, ◌==◌, ◌||◌, List, [], ◌∷◌, ◌++◌, length, take, Option, Some, None, IfSome, refl, sym, ap, subst, ◌∙◌, arith, slice_get}
 use Rattle.std.specs.Int.{bit_at}
 use Rattle.std.specs.List.{find, list_any, Contains}
 use Rattle.std.proofs.lemmas.Bool.{eqb-true, eqb-false}
@@ -8,14 +8,12 @@ use Rattle.std.proofs.lemmas.List.{take_more}
 use Rattle.std.proofs.lemmas.List.Folds.{list_any-append, find_at}
 use Rattle.list_facts.proofs.FindLemmas.{find_passes, find-none_any}
 use Rattle.pci_command.specs.declared.op_id.OpId.{OpId}
-use Rattle.board_model.specs.declared.bridge.Lane.{Lane as BridgeLane}
 use Rattle.board_model.specs.declared.board.Board.{Board}
 use Rattle.history_model.specs.declared.event.By.{By}
 use Rattle.history_model.specs.declared.event.By.TheVariants.{Master, Lane as ByLane}
 use Rattle.history_model.specs.declared.event.Stamped.{Stamped}
-use Rattle.history_model.specs.Answers.{wants_in, answer_in}
+use Rattle.history_model.specs.Answers.{wants_in}
 use Rattle.history_facts.proofs.RequestLemmas.{same_op_true}
-use Rattle.law_local.specs.Quiet.{IsRetry}
 use Rattle.lane_items.specs.declared.item.Item.{Item}
 use Rattle.bridge_face.specs.declared.offer.Offer.{Offer}
 use Rattle.bridge_face.specs.Offers.{is_offer_of, offers_of}
@@ -23,8 +21,8 @@ use Rattle.bus_port.specs.Port.{PortView}
 use Rattle.bus_core.specs.Bus.{BusView, Shape, shape_of, arrivals_at}
 use Rattle.bus_core.specs.Serves.{BusOffers}
 use Rattle.bus_segment.specs.Turn.{Does}
-use Rattle.bus_segment.specs.Steps.{StampsUpTo, StandsStill, GetsRetry, IsOfMaster, IsOfLane, Retries}
-use Rattle.bus_turn.specs.Works.{seen, Works, HasLine, IsOfPort, IsSilent, IsRetried, AreAsked, AllRetried}
+use Rattle.bus_segment.specs.Steps.{StampsUpTo, GetsRetry, IsOfMaster, IsOfLane, Retries}
+use Rattle.bus_turn.specs.Works.{seen, Works, HasLine, IsOfPort, IsRetried, AreAsked, AllRetried}
 use Rattle.bus_turn.proofs.WorkLemmas.{same_arrived, still_none, still_further, retry_before, does_grows}
 
 -- One initiator.

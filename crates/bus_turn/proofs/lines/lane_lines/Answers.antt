@@ -1,4 +1,4 @@
-use Rattle.std.proofs.Common.{◌≡◌, ◌+◌, ◌<◌, ◌≤◌, sym, subst, arith, w32}
+use Rattle.std.proofs.Common.{◌+◌, ◌<◌, sym, subst, arith, w32}
 use Rattle.std.proofs.lemmas.Nat.Bits.{bit_at_set_same, bit_at_set_other}
 use Rattle.bus_turn.specs.Works.{AsksUpTo}
 use Rattle.bus_turn.proofs.AskLemmas.{asks_none, asks_more, asks_skip}

@@ -1,4 +1,4 @@
-use Rattle.std.proofs.Common.{◌≡◌, List, Option, Some, [], IfSome, subst, sym, arith}
+use Rattle.std.proofs.Common.{arith}
 use Rattle.bus_turn.proofs.AskLemmas.{lane_silent, none_listed}
 use Rattle.bus_turn.proofs.lines.lane_presents.Goals as goal
 

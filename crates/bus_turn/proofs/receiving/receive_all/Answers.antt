@@ -1,8 +1,8 @@
-use Rattle.std.proofs.Common.{◌≡◌, ◌≢◌, ◌+◌, ◌*◌, ◌<◌, ◌≤◌, Bool, true, false, List, length, refl, sym, ap, subst, ◌∙◌, arith}
+use Rattle.std.proofs.Common.{◌≡◌, ◌+◌, ◌*◌, false, length, refl, sym, ap, ◌∙◌, arith}
 use Rattle.bus_core.specs.Bus.{BusView}
-use Rattle.bus_turn.specs.Works.{seen, Works}
+use Rattle.bus_turn.specs.Works.{seen}
 use Rattle.bus_turn.proofs.WorkLemmas.{works_none, works_further, works_within}
-use Rattle.bus_turn.proofs.ReceiveLemmas.{NoneBefore, none_before, none_further, none_in_hand}
+use Rattle.bus_turn.proofs.ReceiveLemmas.{none_before, none_further, none_in_hand}
 use Rattle.bus_turn.proofs.receiving.receive_all.Goals as goal
 
 pub loop-place-init : goal.loop-place-init

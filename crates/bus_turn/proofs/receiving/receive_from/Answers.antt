@@ -1,7 +1,5 @@
-use Rattle.std.proofs.Common.{◌≡◌, ◌≢◌, ◌+◌, ◌<◌, ◌≤◌, Bool, true, false, List, length, refl, sym, ap, subst, ◌∙◌, arith}
-use Rattle.history_model.specs.declared.event.Stamped.{Stamped}
-use Rattle.bus_segment.specs.Steps.{NothingCame}
-use Rattle.bus_turn.specs.Works.{seen, Works}
+use Rattle.std.proofs.Common.{◌≡◌, ◌+◌, false, refl, sym, ◌∙◌, arith}
+use Rattle.bus_turn.specs.Works.{seen}
 use Rattle.bus_turn.proofs.WorkLemmas.{works_none, works_further, works_within}
 use Rattle.bus_turn.proofs.receiving.receive_from.Goals as goal
 
