@@ -104,7 +104,8 @@ impl<L: LaneEnd + Drop> Segment<L> {
 
     /// For how many more events there is room.
     pub fn spare(&self) -> usize
-        ensures { result ≡ vec_capacity self.now.events - vec_len self.now.events }
+        ensures spare { result ≡ vec_capacity self.now.events - vec_len self.now.events }
+        ensures counted { vec_capacity self.now.events < 2 ^ 64 }
     {
         self.events.capacity() - self.events.len()
     }

@@ -1,23 +1,20 @@
 -- Which request lines ask: they are gathered one after another.
-use Rattle.std.proofs.Common.{◌≡◌, ◌≢◌, ℕ, ◌+◌, ◌<◌, ◌≤◌, max, bit_or, Bool, true, false, ◌==◌, ◌&&◌, List, [], ◌∷◌, length, map, Option, Some, None, refl, sym, ap, subst, ◌∙◌, arith, inl, inr, slice_get}
+use Rattle.std.proofs.Common.{◌≡◌, ◌≢◌, ℕ, ◌+◌, ◌<◌, ◌≤◌, max, bit_or, Bool, true, false, not, ◌==◌, ◌&&◌, List, [], ◌∷◌, length, Option, Some, None, refl, sym, ap, subst, ◌∙◌, arith, inl, inr, slice_get}
 use Rattle.std.specs.Int.{bit_at}
 use Rattle.std.specs.List.{list_any}
-use Rattle.std.proofs.lemmas.Bool.{and_parts, eqb-true, eqb-false, cases_lt}
+use Rattle.std.specs.Option.{is_some}
+use Rattle.std.proofs.lemmas.Bool.{eqb-true, eqb-false, cases_lt}
 use Rattle.std.proofs.lemmas.Option.{slice_get_within}
 use Rattle.std.proofs.lemmas.List.{length-map}
-use Rattle.std.proofs.lemmas.Nat.Bits.{bit_at-lt, bit_at-zero, bit_at_or}
-use Rattle.pci_command.specs.declared.op_id.OpId.{OpId}
-use Rattle.board_model.specs.declared.bridge.Lane.{Lane as BridgeLane}
-use Rattle.board_model.specs.declared.board.Board.{Board}
+use Rattle.std.proofs.lemmas.Nat.Bits.{bit_at-zero, bit_at_or}
 use Rattle.history_model.specs.declared.event.By.{By}
 use Rattle.history_model.specs.declared.event.By.TheVariants.{Master, Lane as ByLane}
 use Rattle.history_model.specs.Program.{turn_of}
 use Rattle.history_model.specs.Answers.{is_on, is_turn}
 use Rattle.bridge_face.specs.declared.offer.Offer.{Offer}
 use Rattle.bridge_face.specs.Offers.{is_offer_of}
-use Rattle.bus_port.specs.Port.{PortView}
 use Rattle.master_agents.specs.Turns.{MasterView}
-use Rattle.bus_core.specs.Bus.{BusView, Shape, shape_of}
+use Rattle.bus_core.specs.Bus.{BusView, shape_of}
 use Rattle.bus_core.specs.Places.{WantsAt}
 use Rattle.bus_core.specs.Serves.{BusOffers}
 use Rattle.bus_core.proofs.Laws.{get_map}
@@ -26,6 +23,15 @@ use Rattle.bus_turn.specs.Works.{HasLine, IsServed, IsSilent, NeverWants, AsksUp
 no_turn : (a b : Bool) → b ≡ false → (a && b) ≡ false
 no_turn true b is = is
 no_turn false b is = refl
+
+pub none_listed : {X : Type 0} (xs : List X) (empty : Bool) → empty ≡ (length xs == 0) → not empty ≡ false → xs ≡ []
+none_listed [] empty is some = refl
+none_listed (x ∷ xs) true is some = absurd (omega (arith, eqb-true (length (x ∷ xs)) 0 (sym is)))
+none_listed (x ∷ xs) false is some = cc
+
+pub is_none : {X : Type 0} (found : Option X) → is_some found ≡ false → found ≡ None
+is_none None is = refl
+is_none (Some x) is = cc
 
 -- a lane that offers nothing presents nothing
 pub lane_silent : (s : BusView) (place : ℕ) (offers : List Offer) → place < 9 → BusOffers place s offers → offers ≡ [] → IsSilent s place

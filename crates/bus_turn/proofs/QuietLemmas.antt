@@ -1,12 +1,11 @@
 -- A turn that did nothing: there was nothing to do.
-use Rattle.std.proofs.Common.{◌≡◌, ℕ, ◌+◌, ◌<◌, ◌≤◌, Bool, true, false, ◌==◌, ◌&&◌, List, [], length, map, Option, Some, None, refl, sym, ap, subst, ◌∙◌, arith, slice_get}
+use Rattle.std.proofs.Common.{◌≡◌, ℕ, ◌+◌, ◌<◌, ◌≤◌, Bool, true, false, ◌==◌, List, [], ◌∷◌, length, map, Option, Some, None, refl, sym, ap, ◌∙◌, arith, slice_get}
 use Rattle.std.specs.Int.{bit_at}
 use Rattle.std.proofs.lemmas.Bool.{and_parts, eqb-true}
 use Rattle.std.proofs.lemmas.Option.{slice_get_within}
 use Rattle.std.proofs.lemmas.Nat.Bits.{bit_at-zero}
 use Rattle.pci_command.specs.declared.op_id.OpId.{OpId}
 use Rattle.board_model.specs.declared.bridge.Bridge.{Bridge}
-use Rattle.board_model.specs.declared.bridge.Lane.{Lane as BridgeLane}
 use Rattle.board_model.specs.declared.board.Board.{Board}
 use Rattle.board_model.specs.Ways.{end_of}
 use Rattle.history_model.specs.declared.event.By.{By}
@@ -20,12 +19,12 @@ use Rattle.law_local.specs.Stamps.{events_of}
 use Rattle.law_local.specs.Quiet.{IsRetry}
 use Rattle.lane_items.specs.declared.item.Item.{Item}
 use Rattle.bridge_face.specs.Arrivals.{carried}
-use Rattle.bus_core.specs.Bus.{BusView, Shape, shape_of, BusStands}
-use Rattle.bus_segment.specs.Segment.{SegmentView, SegmentPast, Keeps, all_carried, lanes_known}
+use Rattle.bus_core.specs.Bus.{BusView, shape_of}
+use Rattle.bus_segment.specs.Segment.{Keeps, all_carried, lanes_known}
 use Rattle.bus_segment.specs.Turn.{HasNothingToDo}
 use Rattle.bus_segment.specs.Steps.{GetsRetry}
 use Rattle.bus_segment.proofs.Laws.{none_elsewhere}
-use Rattle.bus_turn.specs.Works.{seen, HasLine, AllRetried, NoneInHand}
+use Rattle.bus_turn.specs.Works.{seen, AllRetried, NoneInHand}
 
 module _ {End : Type 0} (had got : End → List Item) (board : Board) (old : BusView) (stamp : ℕ) (stopped : Bool) (few_ports : length (shape_of old).lanes ≤ 9) (few_masters : length (shape_of old).masters ≤ 8) (going : stopped ≡ false) where
   -- nothing stands on an empty lane

@@ -10,7 +10,6 @@ use Rattle.bus_port.specs.Port.{PortView}
 use Rattle.bus_core.specs.Bus.{BusView, shape_of, arrivals_at}
 use Rattle.bus_core.specs.Serves.{OneMoreAt}
 use Rattle.bus_core.proofs.Laws.{get_map}
-use Rattle.bus_segment.specs.Segment.{SegmentView}
 use Rattle.bus_segment.specs.Turn.{Does}
 use Rattle.bus_segment.specs.Steps.{StampsUpTo, ArrivedUpTo, NothingCame}
 use Rattle.bus_turn.specs.Works.{seen, Works, NoneInHand}

@@ -1,5 +1,5 @@
 -- Initiators are served, one after another.
-use Rattle.std.proofs.Common.{◌≡◌, ◌≢◌, ℕ, ◌+◌, ◌<◌, ◌≤◌, Bool, true, false, ◌==◌, ◌||◌, List, [], ◌∷◌, ◌++◌, length, map, take, get_or, Option, Some, None, refl, sym, ap, subst, ◌∙◌, arith, slice_get}
+use Rattle.std.proofs.Common.{◌≡◌, ◌≢◌, ℕ, ◌+◌, ◌<◌, ◌≤◌, Bool, true, false, ◌==◌, ◌||◌, List, [], ◌∷◌, ◌++◌, length, take, Option, Some, None, IfSome, refl, sym, ap, subst, ◌∙◌, arith, slice_get}
 use Rattle.std.specs.Int.{bit_at}
 use Rattle.std.specs.List.{find, list_any, Contains}
 use Rattle.std.proofs.lemmas.Bool.{eqb-true, eqb-false}
@@ -8,22 +8,21 @@ use Rattle.std.proofs.lemmas.List.{take_more}
 use Rattle.std.proofs.lemmas.List.Folds.{list_any-append, find_at}
 use Rattle.list_facts.proofs.FindLemmas.{find_passes, find-none_any}
 use Rattle.pci_command.specs.declared.op_id.OpId.{OpId}
-use Rattle.board_model.specs.declared.bridge.Lane.{Lane as BridgeLane}
 use Rattle.board_model.specs.declared.board.Board.{Board}
 use Rattle.history_model.specs.declared.event.By.{By}
 use Rattle.history_model.specs.declared.event.By.TheVariants.{Master, Lane as ByLane}
 use Rattle.history_model.specs.declared.event.Stamped.{Stamped}
-use Rattle.history_model.specs.Answers.{wants_in, answer_in}
+use Rattle.history_model.specs.Answers.{wants_in}
 use Rattle.history_facts.proofs.RequestLemmas.{same_op_true}
-use Rattle.law_local.specs.Quiet.{IsRetry}
 use Rattle.lane_items.specs.declared.item.Item.{Item}
 use Rattle.bridge_face.specs.declared.offer.Offer.{Offer}
-use Rattle.bridge_face.specs.Offers.{is_offer_of}
+use Rattle.bridge_face.specs.Offers.{is_offer_of, offers_of}
+use Rattle.bus_port.specs.Port.{PortView}
 use Rattle.bus_core.specs.Bus.{BusView, Shape, shape_of, arrivals_at}
 use Rattle.bus_core.specs.Serves.{BusOffers}
 use Rattle.bus_segment.specs.Turn.{Does}
-use Rattle.bus_segment.specs.Steps.{StampsUpTo, StandsStill, GetsRetry, IsOfMaster, IsOfLane, Retries}
-use Rattle.bus_turn.specs.Works.{seen, Works, HasLine, IsOfPort, IsSilent, IsRetried, AreAsked, AllRetried}
+use Rattle.bus_segment.specs.Steps.{StampsUpTo, GetsRetry, IsOfMaster, IsOfLane, Retries}
+use Rattle.bus_turn.specs.Works.{seen, Works, HasLine, IsOfPort, IsRetried, AreAsked, AllRetried}
 use Rattle.bus_turn.proofs.WorkLemmas.{same_arrived, still_none, still_further, retry_before, does_grows}
 
 -- One initiator.
@@ -54,7 +53,16 @@ pub record IsAmong (shape : Shape) (place : ℕ) (offers : List Offer) (by : By)
 pub found_among : (op : OpId) (offers : List Offer) (offer : Offer) → find (is_offer_of op) offers ≡ Some offer → Contains offers offer
 found_among op offers offer found =
     let there = sym (find_at (is_offer_of op) offers) ∙ found in
-    (_, (slice_get_within offers _ offer there, get_or_from_slice_get offers _ offer offer there))
+    (_, slice_get_within offers _ offer there, get_or_from_slice_get offers _ offer offer there)
+
+pub offered_there : (s : BusView) (place : ℕ) (op : OpId) (offers : List Offer) (offer : Offer) → IfSome (slice_get s.ports place) (λ port. offers ≡ offers_of port.face) → find (is_offer_of op) offers ≡ Some offer
+    → IfSome (slice_get s.ports place) (λ port. Contains (offers_of port.face) offer)
+offered_there s place op offers offer kept found =
+    let P : Option PortView → Type 0 = λ at. IfSome at (λ port. offers ≡ offers_of port.face) → IfSome at (λ port. Contains (offers_of port.face) offer) in
+    (elim (slice_get s.ports place) as P [
+      | None ↦ λ _. tt
+      | Some port ↦ λ same. subst (λ l. Contains l offer) same (found_among op offers offer found)
+    ]) kept
 
 pub found_op : (op : OpId) (offers : List Offer) (offer : Offer) → find (is_offer_of op) offers ≡ Some offer → op ≡ offer.op
 found_op op offers offer found = same_op_true op offer.op (find_passes (is_offer_of op) offers offer found)

@@ -1,5 +1,5 @@
 -- What is done step by step, and counts of arrivals.
-use Rattle.std.proofs.Common.{◌≡◌, ◌≢◌, ℕ, ◌+◌, ◌<◌, ◌≤◌, Bool, true, false, ◌==◌, List, [], ◌++◌, length, reverse, option_to_list, Option, Some, None, refl, sym, ap, subst, ◌∙◌, arith, slice_get}
+use Rattle.std.proofs.Common.{◌≡◌, ℕ, ◌+◌, ◌<◌, ◌≤◌, Bool, true, false, ◌==◌, List, ◌++◌, length, reverse, option_to_list, Some, refl, sym, ap, subst, ◌∙◌, arith, slice_get}
 use Rattle.std.specs.List.{AllByRecursion}
 use Rattle.std.proofs.lemmas.Bool.{eqb-true, eqb-false}
 use Rattle.std.proofs.lemmas.Option.{slice_get_within}
@@ -8,17 +8,13 @@ use Rattle.pci_command.specs.declared.op_id.OpId.{OpId}
 use Rattle.board_model.specs.declared.board.Board.{Board}
 use Rattle.history_model.specs.declared.event.By.{By}
 use Rattle.history_model.specs.declared.event.Stamped.{Stamped}
-use Rattle.history_model.specs.World.{World}
-use Rattle.history_model.specs.declared.event.Event.{Event}
 use Rattle.history_model.specs.Answers.{wants_in, answer_in}
 use Rattle.law_local.specs.Quiet.{IsRetry}
 use Rattle.lane_items.specs.declared.item.Item.{Item}
 use Rattle.bus_core.specs.Bus.{BusView, Shape, shape_of, arrivals_at}
 use Rattle.bus_core.specs.Calls.{stamp_of}
-use Rattle.bus_core.specs.Places.{OneChanged}
 use Rattle.bus_core.specs.Serves.{OneMoreAt}
 use Rattle.bus_segment.specs.Segment.{SegmentView}
-use Rattle.bus_segment.specs.Ends.{EndAfter}
 use Rattle.bus_segment.specs.Turn.{Does}
 use Rattle.bus_segment.specs.Steps.{AllItems, StampsUpTo, ArrivedUpTo, StandsStill, GetsRetry}
 use Rattle.bus_segment.proofs.Laws.{does_none, does_further, all_front, there_at}

@@ -1,5 +1,5 @@
 -- What is done from one moment of a turn to a later one.
-use Rattle.std.specs.Prelude.{◌≡◌, ℕ, ◌+◌, ◌<◌, ◌≤◌, Bool, true, false, nat_lt, List, [], length, Some, slice_get, ◌⊎◌, if◌then◌else◌}
+use Rattle.std.specs.Prelude.{◌≡◌, ℕ, ◌+◌, ◌<◌, ◌≤◌, Bool, false, nat_lt, List, [], length, Some, slice_get, ◌⊎◌, if◌then◌else◌}
 use Rattle.std.specs.Int.{bit_at}
 use Rattle.pci_command.specs.declared.op_id.OpId.{OpId}
 use Rattle.board_model.specs.declared.bridge.Lane.{Lane as BridgeLane}
@@ -21,13 +21,13 @@ abbrev pub seen : BusView → ℕ → Bool → SegmentView
 seen bus stamp stopped = record { bus = bus; stamp = stamp; stopped = stopped }
 
 -- no more than so many events are made, for which there was room
-pub record Works {End : Type 0} (had sent got : End → List Item) (kept : End → ℕ) (paired : End → End → Type 0) (board : Board) (most : ℕ) (old new : SegmentView) (ends after : List End) (events all : List Stamped) : Type 0 where
+pub record Works {End : Type 0} (had sent got : End → List Item) (kept : End → ℕ) (paired : End → End → Type 0) (board : Board) (limit : ℕ) (old new : SegmentView) (ends after : List End) (events all : List Stamped) : Type 0 where
   pub does : Does had sent got kept paired board old new ends after events all
   pub shape : shape_of new.bus ≡ shape_of old.bus
   pub stamps : StampsUpTo sent got old.stamp new.stamp ends after
   pub counts : new.stopped ≡ false → ArrivedUpTo (length events) old.bus → ArrivedUpTo (length all) new.bus
   pub grows : length events ≤ length all
-  pub most : length all ≤ length events + most
+  pub most : length all ≤ length events + limit
 
 -- Request lines.
 

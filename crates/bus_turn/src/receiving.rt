@@ -1,4 +1,4 @@
-ghost use Rattle.std.specs.Prelude.{◌≡◌, ◌+◌, ◌*◌, ◌<◌, ◌≤◌, false, length, vec_len};
+ghost use Rattle.std.specs.Prelude.{◌≡◌, ◌+◌, ◌*◌, ◌<◌, ◌≤◌, true, false, length, vec_len};
 ghost use Rattle.std.specs.Vec.{vec_capacity};
 ghost use Rattle.board_model.specs.Valid.{IsValid};
 ghost use Rattle.bus_segment.specs.Steps.{ArrivedUpTo, NothingCame};
@@ -74,5 +74,6 @@ fn receive_one<L: LaneEnd + Drop>(segment: &mut Segment<L>, board: &Board, place
     ensures same { result ≡ false → segment.new.bus ≡ segment.old.bus }
     ensures none { result ≡ false → NothingCame L.had L.got place segment.old.ends.items segment.new.ends.items }
 {
+    let _spare = segment.spare();
     segment.receive(board, place)
 }

@@ -1,6 +1,7 @@
 ghost use Rattle.std.specs.Prelude.{◌≡◌, ◌+◌, ◌<◌, ◌≤◌, true, false, length, vec_len, IsTrue};
 ghost use Rattle.std.specs.Vec.{vec_capacity};
 ghost use Rattle.std.specs.List.{find};
+ghost use Rattle.std.specs.Option.{option_copied};
 ghost use Rattle.board_model.specs.WellFormed.{is_well_formed};
 ghost use Rattle.bridge_face.specs.Offers.{is_offer_of};
 ghost use Rattle.bus_core.specs.Bus.{shape_of};
@@ -38,7 +39,7 @@ pub(crate) fn serve_all<L: LaneEnd + Drop>(
         AllRetried board.now 0 segment.old.bus segment.new.bus segment.old.ends.items segment.new.ends.items }
 {
     let mut lines = lines(segment.bus());
-    while !segment.stopped() {
+    'grants: while !segment.stopped() {
         let Some(line) = arbiter.grant(lines) else {
             return;
         };
@@ -109,8 +110,9 @@ fn serve_op<L: LaneEnd + Drop>(segment: &mut Segment<L>, board: &Board, place: u
         Retries board.now segment.old.bus segment.new.bus segment.old.ends.items segment.new.ends.items (IsOfLane (shape_of segment.old.bus) place op) }
 {
     let offers = segment.bus().offers(place as usize);
-    if let Some(offer) = offer_of(offers.as_slice(), op) {
-        segment.serve_offer(board, place, &offer);
+    match offer_of(offers.as_slice(), op) {
+        Some(offer) => segment.serve_offer(board, place, &offer),
+        None => {}
     }
 }
 
@@ -118,7 +120,13 @@ fn serve_op<L: LaneEnd + Drop>(segment: &mut Segment<L>, board: &Board, place: u
 fn offer_of(offers: &[Offer], op: OpId) -> Option<Offer>
     ensures { result ≡ find (is_offer_of op) offers.now }
 {
-    offers.iter().find(|offer| is_of(offer, op)).copied()
+    find_offer(offers, op).copied()
+}
+
+fn find_offer(offers: &[Offer], op: OpId) -> Option<&Offer>
+    ensures { option_copied result ≡ find (is_offer_of op) offers.now }
+{
+    offers.iter().find(|offer| is_of(offer, op))
 }
 
 fn is_of(offer: &Offer, op: OpId) -> bool

@@ -1,4 +1,4 @@
-use Rattle.std.proofs.Common.{◌≡◌, ◌+◌, ◌≤◌, Bool, false, length}
+use Rattle.std.proofs.Common.{◌≡◌, ◌+◌, ◌≤◌, false, length}
 use Rattle.std.specs.Vec.{vec_capacity}
 use Rattle.bus_turn.specs.Works.{seen, Works}
 use Rattle.bus_turn.proofs.receiving.receive_from.Given as goal

@@ -7,8 +7,8 @@ use Rattle.bus_turn.proofs.LineLemmas.{left}
 use Rattle.bus_turn.proofs.serving.serve_all.Given as goal
 
 -- those that do not ask any more were served
-abbrev pub invariant-loop-segment : goal.invariant-loop-segment
-invariant-loop-segment g l = record {
+abbrev pub invariant-grants : goal.invariant-grants
+invariant-grants g l = record {
   spare : vec_capacity l.initial.segment.events ≤ vec_capacity l.segment.events;
   bound : length l.segment.events.items + left l.lines 17 ≤ length l.initial.segment.events.items + 152;
   served : (line : ℕ) → bit_at l.lines line ≡ 1 → IsServed (shape_of l.initial.segment.bus) line;
@@ -19,5 +19,5 @@ invariant-loop-segment g l = record {
       l.initial.segment.ends.items l.segment.ends.items l.initial.segment.events.items l.segment.events.items;
 }
 
-abbrev pub decreases-loop-segment : goal.decreases-loop-segment
-decreases-loop-segment g l = left l.lines 17
+abbrev pub decreases-grants : goal.decreases-grants
+decreases-grants g l = left l.lines 17
