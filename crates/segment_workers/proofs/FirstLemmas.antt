@@ -25,7 +25,7 @@ use Rattle.bus_core.specs.Bus.{Shape, shape_of, arrivals_at, HasPlace}
 use Rattle.bus_core.proofs.ListLemmas.{get_map, map_get, found_at, none_at}
 use Rattle.bus_segment.specs.Stands.{WorkerView}
 use Rattle.bus_segment.proofs.DoesLemmas.{there_at}
-use Rattle.board_segments.specs.First.{buses_of, up_from as from_below, children_of, own_lane, lanes_to, IsAtFirst, AreAtFirst}
+use Rattle.board_segments.specs.First.{buses_of, up_from as from_below, children_of, own_lane, lanes_to, ends_alike, IsAtFirst, AreAtFirst}
 use Rattle.board_segments.proofs.NumberLemmas.{one_place, passes_at}
 use Rattle.board_segments.proofs.LaneLemmas.{of_bridge_at}
 use Rattle.worker_phases.specs.Workers.{at_port, at_ports, back_at_ports, AreBetween}
@@ -131,7 +131,7 @@ other_bridged board bus there above =
       | false ↦ λ _ has. has
     ]) refl there
 
-module _ {End : Type 0} (had sent got : End → List Item) (kept : End → ℕ) (paired : End → End → Type 0) (board : Board) (valid : IsValid board) (ends : List (List End)) (workers : List (WorkerView End)) (first : AreAtFirst board ends workers) where
+module _ {End : Type 0} (board : Board) (valid : IsValid board) (ends : List (List End)) (workers : List (WorkerView End)) (first : AreAtFirst board ends workers) where
   -- the bus of a worker stands at its place
   bus_at : (k : ℕ) (w : WorkerView End) → slice_get workers k ≡ Some w → slice_get (buses_of board) k ≡ Some w.segment.bus.bus
   bus_at k w here = ap (λ (l : List ℕ). slice_get l k) (sym first.buses) ∙ get_map (λ (s : WorkerView End). s.segment.bus.bus) workers k w here
@@ -260,8 +260,17 @@ module _ {End : Type 0} (had sent got : End → List Item) (kept : End → ℕ) 
         };
   }
 
+  -- ends that are all alike
+  pub all_alike : (fresh : End) → ends ≡ ends_alike board fresh → (k : ℕ) (w : WorkerView End) (n : ℕ) (end : End) → slice_get workers k ≡ Some w → slice_get w.ends n ≡ Some end → end ≡ fresh
+  all_alike fresh alike k w n end here at =
+      let mine : slice_get (ends_alike board fresh) k ≡ Some w.ends =
+      ap (λ (l : List (List End)). slice_get l k) (sym alike) ∙ (ap (λ (l : List (List End)). slice_get l k) (sym first.ends_are) ∙ get_map (λ (s : WorkerView End). s.ends) workers k w here) in
+      let found = map_get (λ (bus : ℕ). map (λ (lane : BridgeLane). fresh) (lanes_to board bus)) (buses_of board) k w.ends mine in
+      let one = map_get (λ (lane : BridgeLane). fresh) (lanes_to board found.0) n end (ap (λ (l : List End). slice_get l n) found.1.1 ∙ at) in
+      sym one.1.1
+
   -- with ends that have nothing in hand and nothing sent
-  module _ (fresh : End) (no_hand : had fresh ≡ []) (emptied : IsEmptied (sent fresh) (got fresh) (kept fresh)) (pairs : paired fresh fresh) (are : (k : ℕ) (w : WorkerView End) (n : ℕ) (end : End) → slice_get workers k ≡ Some w → slice_get w.ends n ≡ Some end → end ≡ fresh) where
+  module _ (had sent got : End → List Item) (kept : End → ℕ) (paired : End → End → Type 0) (fresh : End) (no_hand : had fresh ≡ []) (emptied : IsEmptied (sent fresh) (got fresh) (kept fresh)) (pairs : paired fresh fresh) (are : (k : ℕ) (w : WorkerView End) (n : ℕ) (end : End) → slice_get workers k ≡ Some w → slice_get w.ends n ≡ Some end → end ≡ fresh) where
     between_first : AreBetween had sent got kept paired board workers Nothing Nothing (λ bus. [])
     between_first = record {
       are_workers = record {
@@ -285,19 +294,22 @@ module _ {End : Type 0} (had sent got : End → List Item) (kept : End → ℕ) 
       hand_there = λ lane missing. refl;
     }
 
-    pub steady_first : (above : List Above) → AreAboveOf board above → IsSteady had sent got kept paired board workers above 0
-    steady_first above hangs = record {
-      after = record {
-        received = Nothing;
-        hand = Nothing;
-        part = λ bus. [];
-        between = between_first;
-        apart = apart_first;
-        stamps = λ k w here. let zero_is = (first.each k w here).stamp in omega (arith, zero_is);
-        hand_stamps = λ lane. tt;
-        many = omega arith;
-      };
-      ready = ready_first;
-      hang = hang_first;
-      linked = above_first above hangs;
-    }
+    pub steady_first : (other : Board) (others : List (WorkerView End)) (above more : List Above) → other ≡ board → others ≡ workers → more ≡ above → AreAboveOf board above → IsSteady had sent got kept paired other others more 0
+    steady_first other others above more same_board same_workers same_above hangs =
+        let P : Board → List (WorkerView End) → List Above → Type 0 = λ b w a. IsSteady had sent got kept paired b w a 0 in
+        let steady : P board workers above = record {
+          after = record {
+            received = Nothing;
+            hand = Nothing;
+            part = λ bus. [];
+            between = between_first;
+            apart = apart_first;
+            stamps = λ k w here. let zero_is = (first.each k w here).stamp in omega (arith, zero_is);
+            hand_stamps = λ lane. tt;
+            many = omega arith;
+          };
+          ready = ready_first;
+          hang = hang_first;
+          linked = above_first above hangs;
+        } in
+        subst (λ b. P b others more) (sym same_board) (subst (λ w. P board w more) (sym same_workers) (subst (P board workers) (sym same_above) steady))

@@ -29,7 +29,7 @@ pub(crate) fn all_workers<L: LaneEnd + Drop>(
 
 /// Where the bridges to all buses but bus 0 hang.
 pub(crate) fn all_above(alloc: Global, board: &Board) -> Result<Vec<Above>, NoMemory>
-    requires linked { AreLinked board.now }
+    requires { AreLinked board.now }
     ensures { IfOk result (λ above. AreAboveOf board.now above.items) }
 {
     let buses = buses(alloc, board)?;
