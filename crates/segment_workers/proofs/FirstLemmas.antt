@@ -1,6 +1,6 @@
 -- The workers before the first phase, and where the bridges of a board hang.
-use Rattle.std.proofs.Common.{◌≡◌, ◌≢◌, ℕ, zero, suc, ◌+◌, ◌<◌, ◌≤◌, ◌==◌, ◌||◌, ◌&&◌, Bool, true, false, cond, List, [], ◌∷◌, ◌++◌, length, map, reverse, Option, Some, None, refl, sym, ap, subst, ◌∙◌, arith, slice_get}
-use Rattle.std.specs.List.{AllByRecursion, position, range_with_len}
+use Rattle.std.proofs.Common.{◌≡◌, ℕ, zero, suc, ◌+◌, ◌<◌, ◌==◌, ◌||◌, ◌&&◌, Bool, true, false, cond, List, [], ◌∷◌, ◌++◌, length, map, reverse, Option, Some, None, refl, sym, ap, subst, ◌∙◌, arith, slice_get}
+use Rattle.std.specs.List.{position, range_with_len}
 use Rattle.std.specs.Option.{IsSome}
 use Rattle.std.specs.List.Sorted.{IsStrictlyIncreasing}
 use Rattle.std.proofs.lemmas.Bool.{and_parts, eqb-true, eq-eqb}
@@ -25,11 +25,11 @@ use Rattle.bus_core.specs.Bus.{Shape, shape_of, arrivals_at, HasPlace}
 use Rattle.bus_core.proofs.ListLemmas.{get_map, map_get, found_at, none_at}
 use Rattle.bus_segment.specs.Stands.{WorkerView}
 use Rattle.bus_segment.proofs.DoesLemmas.{there_at}
-use Rattle.board_segments.specs.First.{buses_of, up_from as from_below, children_of, own_lane, lanes_to, ends_alike, IsAtFirst, AreAtFirst}
+use Rattle.board_segments.specs.First.{buses_of, up_from as from_below, children_of, own_lane, lanes_to, ends_alike, AreAtFirst}
 use Rattle.board_segments.proofs.NumberLemmas.{one_place, passes_at}
 use Rattle.board_segments.proofs.LaneLemmas.{of_bridge_at}
 use Rattle.worker_phases.specs.Workers.{at_port, at_ports, back_at_ports, AreBetween}
-use Rattle.worker_phases.specs.Phase.{AreApart, AfterPhases}
+use Rattle.worker_phases.specs.Phase.{AreApart}
 use Rattle.worker_phases.proofs.SpotLemmas.{same_there}
 use Rattle.worker_phases.proofs.PortLemmas.{stands_at_ports}
 use Rattle.segment_workers.specs.declared.settling.Above.{Above}

@@ -1,5 +1,5 @@
 -- Bridge by bridge all lanes are settled.
-use Rattle.std.proofs.Common.{◌≡◌, ◌≢◌, ℕ, ◌+◌, ◌<◌, ◌≤◌, ◌==◌, Bool, true, false, List, length, Option, Some, None, refl, sym, ap, subst, ◌∙◌, arith, slice_get}
+use Rattle.std.proofs.Common.{◌≡◌, ◌≢◌, ℕ, ◌+◌, ◌<◌, ◌≤◌, ◌==◌, Bool, true, false, List, length, Some, refl, sym, ap, subst, ◌∙◌, arith, slice_get}
 use Rattle.std.proofs.lemmas.Bool.{eqb-true, eqb-false}
 use Rattle.std.proofs.lemmas.Option.{slice_get_within}
 use Rattle.board_model.specs.declared.bridge.Lane.{Lane as BridgeLane}
@@ -14,7 +14,7 @@ use Rattle.worker_phases.specs.Workers.{EndAt}
 use Rattle.worker_phases.specs.Phase.{OnlyEnds, LaneSettled, AllMaySettle, AllSettled}
 use Rattle.worker_phases.proofs.SpotLemmas.{same_there, same_port}
 use Rattle.segment_workers.specs.declared.settling.Above.{Above}
-use Rattle.segment_workers.specs.Settling.{down_to, up_from, IsAbove, AreAbove, AreLaidOut, CanMeet, SettlesOne, LanesSettled, SettledSoFar}
+use Rattle.segment_workers.specs.Settling.{down_to, up_from, IsAbove, AreAbove, AreLaidOut, CanMeet, SettlesOne, SettledSoFar}
 
 -- the same end, at a worker whose ends alone changed
 only_none : {End : Type 0} (w : WorkerView End) → OnlyEnds w w
