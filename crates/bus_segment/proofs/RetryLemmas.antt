@@ -1,20 +1,15 @@
 -- An initiator that is granted the bus, and nothing is done.
-use Rattle.std.proofs.Common.{◌≡◌, ℕ, ◌+◌, Bool, true, false, ◌&&◌, List, [], ◌∷◌, length, Option, Some, None, refl, sym, ap, subst, ◌∙◌, arith, slice_get}
+use Rattle.std.proofs.Common.{◌≡◌, ℕ, Bool, true, false, List, [], ◌∷◌, length, Option, Some, None, sym, ap, subst, ◌∙◌, arith, slice_get}
 use Rattle.std.proofs.lemmas.Bool.{and_parts}
 use Rattle.std.proofs.lemmas.List.{length-append}
 use Rattle.pci_command.specs.declared.op_id.OpId.{OpId}
 use Rattle.board_model.specs.declared.board.Board.{Board}
-use Rattle.board_model.specs.declared.bridge.Lane.{Lane as BridgeLane}
 use Rattle.history_model.specs.declared.event.By.{By}
 use Rattle.history_model.specs.declared.event.By.TheVariants.{Master, Lane as ByLane}
-use Rattle.history_model.specs.declared.event.Event.{Event}
 use Rattle.history_model.specs.declared.event.Stamped.{Stamped}
-use Rattle.history_model.specs.declared.item.Answer.{Answer}
-use Rattle.history_model.specs.declared.item.Answer.TheVariants.{Retry}
 use Rattle.history_model.specs.Program.{turn_of}
-use Rattle.history_model.specs.World.{World}
 use Rattle.history_facts.proofs.RequestLemmas.{same_op_true}
-use Rattle.history_model.specs.Answers.{is_on, is_turn, wants_in, answer_in}
+use Rattle.history_model.specs.Answers.{is_on, is_turn}
 use Rattle.law_local.specs.Quiet.{IsRetry}
 use Rattle.lane_items.specs.declared.item.Item.{Item}
 use Rattle.bus_port.specs.Port.{PortView}
@@ -24,7 +19,7 @@ use Rattle.bus_core.specs.declared.given.Presented.{Presented}
 use Rattle.bus_core.specs.declared.given.Presented.TheVariants.{Nothing, Retried, TurnsBack as Back, Did}
 use Rattle.bus_core.specs.Bus.{BusView, shape_of, BusStands}
 use Rattle.bus_core.specs.Serves.{Serves, ServesTurn, ServesMaster}
-use Rattle.bus_core.proofs.ListLemmas.{get_map, map_get}
+use Rattle.bus_core.proofs.ListLemmas.{get_map}
 use Rattle.bus_segment.specs.Turn.{Records, Finishes}
 use Rattle.bus_segment.specs.Steps.{StandsStill, GetsRetry, IsOfMaster, IsOfLane, Retries}
 

@@ -1,5 +1,5 @@
 -- Request lines as bits, and how many events those that still ask can make.
-use Rattle.std.proofs.Common.{◌≡◌, ◌≢◌, ℕ, zero, suc, ◌+◌, ◌*◌, ◌%◌, ◌^◌, ◌<◌, ◌≤◌, bit_and, w32, Bool, true, false, cond, ◌==◌, nat_lt, length, refl, ap, ◌∙◌, arith, inl, inr}
+use Rattle.std.proofs.Common.{◌≡◌, ◌≢◌, ℕ, zero, suc, ◌+◌, ◌*◌, ◌%◌, ◌^◌, ◌<◌, ◌≤◌, bit_and, w32, Bool, true, false, cond, ◌==◌, nat_lt, length, refl, sym, ap, subst, ◌∙◌, arith, inl, inr}
 use Rattle.std.specs.Int.{bit_at}
 use Rattle.std.proofs.lemmas.Bool.{eqb-true, eqb-false, eq-eqb}
 use Rattle.std.specs.Int.{bit_not}
@@ -104,3 +104,6 @@ served_low s line ports masters served =
       | inl lane ↦ omega (arith, lanes_many s, lane, ports)
       | inr master ↦ omega (arith, masters_many s, master.1, masters)
     ]
+
+pub served_there : (a b : BusView) (line : ℕ) → shape_of b ≡ shape_of a → IsServed (shape_of a) line → IsServed (shape_of b) line
+served_there a b line shape served = subst (λ (s : Shape). IsServed s line) (sym shape) served

@@ -17,10 +17,11 @@ use Rattle.bus_segment.specs.Segment.{SegmentView}
 use Rattle.bus_segment.specs.Steps.{StampsUpTo, ArrivedUpTo, StandsStill, GetsRetry}
 use Rattle.bus_segment.specs.Turn.{Does}
 
+-- what is seen of a segment
 abbrev pub seen : BusView → ℕ → Bool → SegmentView
 seen bus stamp stopped = record { bus = bus; stamp = stamp; stopped = stopped }
 
--- no more than so many events are made, for which there was room
+-- by steps of the segment, which make no more than so many events
 pub record Works {End : Type 0} (had sent got : End → List Item) (kept : End → ℕ) (paired : End → End → Type 0) (board : Board) (limit : ℕ) (old new : SegmentView) (ends after : List End) (events all : List Stamped) : Type 0 where
   pub does : Does had sent got kept paired board old new ends after events all
   pub shape : shape_of new.bus ≡ shape_of old.bus
@@ -36,7 +37,7 @@ abbrev pub HasLine : Shape → ℕ → By → OpId → Type 0
 HasLine shape line Master o = (place : ℕ) × (line ≡ 9 + place) × (slice_get shape.masters place ≡ Some o.master)
 HasLine shape line (ByLane lane) o = slice_get shape.lanes line ≡ Some lane
 
--- one of these lines is that of a bridge or master on the bus
+-- the line is that of a bridge or a master on the bus
 abbrev pub IsServed : Shape → ℕ → Type 0
 IsServed shape line = (line < length shape.lanes) ⊎ ((9 ≤ line) × (line < 9 + length shape.masters))
 
@@ -62,12 +63,12 @@ pub record IsSilent (s : BusView) (line : ℕ) : Type 0 where
 pub record IsRetried (board : Board) (s : BusView) (line : ℕ) : Type 0 where
   pub retried : (by : By) (o : OpId) → HasLine (shape_of s) line by o → GetsRetry board s by o
 
--- of the lines from one on and below another, those of all that present something ask, and no other line does
+-- of the lines from one on and below another, those of all that present something ask; no other line asks
 pub record AsksUpTo (s : BusView) (from to : ℕ) (lines : ℕ) : Type 0 where
   pub within : (line : ℕ) → bit_at lines line ≡ 1 → (from ≤ line) × (line < to)
   pub silent : (line : ℕ) → from ≤ line → line < to → bit_at lines line ≡ 0 → IsSilent s line
 
--- the lines of all that present something ask, and no others
+-- the lines of all that present something ask; each that asks is of a bridge or a master on the bus
 pub record AreAsked (s : BusView) (lines : ℕ) : Type 0 where
   pub served : (line : ℕ) → bit_at lines line ≡ 1 → IsServed (shape_of s) line
   pub silent : (line : ℕ) → line < 17 → bit_at lines line ≡ 0 → IsSilent s line

@@ -31,7 +31,7 @@ loop-place-preserved g c =
       none = λ same still. none_further {End = End} E.had E.got c.loop-place.place (c.loop-place.place + 1) c.loop-place.segment.ends.items c.receive_from.new.segment.ends.items refl (i.none (omega (arith, i.works.grows, e.works.grows, same)) on)
           (e.quiet (omega (arith, i.works.grows, e.works.grows, same)) still);
       works = works_within {End = End} E.had E.sent E.got E.kept E.paired c.args.board.now (32 * c.loop-place.place + 32) (32 * (c.loop-place.place + 1)) (seen c.args.segment.now.bus c.args.segment.now.stamp c.args.segment.now.stopped) (seen c.receive_from.new.segment.bus c.receive_from.new.segment.stamp c.receive_from.new.segment.stopped)
-    c.args.segment.now.ends.items c.receive_from.new.segment.ends.items c.args.segment.now.events.items c.receive_from.new.segment.events.items (omega (arith, both.most)) both;
+          c.args.segment.now.ends.items c.receive_from.new.segment.ends.items c.args.segment.now.events.items c.receive_from.new.segment.events.items (omega (arith, both.most)) both;
     }
 
 pub returns-clause-quiet : goal.returns-clause-quiet

@@ -50,5 +50,5 @@ loop-received-preserved g c =
       same_bus = λ same. absurd {A = c.receive_one.new.segment.bus ≡ c.args.segment.now.bus} (omega (arith, i.counted, some, same));
       same_ends = λ same. absurd {A = c.receive_one.new.segment.ends.items ≡ c.args.segment.now.ends.items} (omega (arith, i.counted, some, same));
       works = works_further {End = End} E.had E.sent E.got E.kept E.paired c.args.board.now c.loop-received._received 1 (seen c.args.segment.now.bus c.args.segment.now.stamp c.args.segment.now.stopped) (seen c.loop-received.segment.bus c.loop-received.segment.stamp c.loop-received.segment.stopped) (seen c.receive_one.new.segment.bus c.receive_one.new.segment.stamp c.receive_one.new.segment.stopped)
-    c.args.segment.now.ends.items c.loop-received.segment.ends.items c.receive_one.new.segment.ends.items c.args.segment.now.events.items c.loop-received.segment.events.items c.receive_one.new.segment.events.items c.requires.going i.going i.works c.receive_one.ensures.works;
+          c.args.segment.now.ends.items c.loop-received.segment.ends.items c.receive_one.new.segment.ends.items c.args.segment.now.events.items c.loop-received.segment.events.items c.receive_one.new.segment.events.items c.requires.going i.going i.works c.receive_one.ensures.works;
     }

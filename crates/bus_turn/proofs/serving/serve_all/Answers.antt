@@ -1,8 +1,8 @@
 use Rattle.std.proofs.Common.{◌≡◌, ◌+◌, ◌<◌, ◌≤◌, false, length, sym, subst, ◌∙◌, arith}
-use Rattle.bus_core.specs.Bus.{BusView, Shape}
-use Rattle.bus_turn.specs.Works.{seen, IsServed, AreAsked, most_at}
+use Rattle.bus_core.specs.Bus.{BusView}
+use Rattle.bus_turn.specs.Works.{seen, AreAsked, most_at}
 use Rattle.bus_turn.proofs.WorkLemmas.{works_none, works_further, works_within}
-use Rattle.bus_turn.proofs.LineLemmas.{left, left_at_first, cleared, cleared_other, cleared_asks, left_cleared, most_some, ports_same, served_low}
+use Rattle.bus_turn.proofs.LineLemmas.{left, left_at_first, cleared, cleared_other, cleared_asks, left_cleared, most_some, ports_same, served_low, served_there}
 use Rattle.bus_turn.proofs.ServeLemmas.{all_silent, all_further}
 use Rattle.bus_turn.proofs.serving.serve_all.Goals as goal
 
@@ -25,7 +25,7 @@ serve-requires-clause-ends g c = let i = c.grants.invariant in omega (arith, i.w
 pub serve-requires-clause-line : goal.serve-requires-clause-line
 serve-requires-clause-line g c =
     let i = c.grants.invariant in
-    subst (λ (s : Shape). IsServed s c.in-Some.line) (sym i.works.shape) (i.served c.in-Some.line c.in-Some.ensures.granted.asks)
+    served_there c.args.segment.now.bus c.grants.segment.bus c.in-Some.line i.works.shape (i.served c.in-Some.line c.in-Some.ensures.granted.asks)
 
 pub serve-requires-clause-spare : goal.serve-requires-clause-spare
 serve-requires-clause-spare g c =
@@ -65,5 +65,5 @@ grants-preserved g c =
           (λ n below apart. cleared_other c.grants.lines c.in-Some.line n low below apart)
           (i.quiet (omega (arith, i.works.grows, e.works.grows, same)) on) (e.quiet (omega (arith, i.works.grows, e.works.grows, same)) still);
       works = works_within {End = End} E.had E.sent E.got E.kept E.paired c.args.board.now (152 + most_at c.in-Some.line) 152 (seen c.args.segment.now.bus c.args.segment.now.stamp c.args.segment.now.stopped) (seen c.serve.new.segment.bus c.serve.new.segment.stamp c.serve.new.segment.stopped)
-    c.args.segment.now.ends.items c.serve.new.segment.ends.items c.args.segment.now.events.items c.serve.new.segment.events.items (omega (arith, bound)) both;
+          c.args.segment.now.ends.items c.serve.new.segment.ends.items c.args.segment.now.events.items c.serve.new.segment.events.items (omega (arith, bound)) both;
     }

@@ -34,7 +34,7 @@ loop-offer-preserved g c =
           (slice_get-get_or c.as_slice-offer-items.result.now c.loop-offer.offer-index _ c.loop-offer-test.true)
           (i.quiet (omega (arith, i.works.grows, e.works.grows, same)) on) (e.quiet (omega (arith, i.works.grows, e.works.grows, same)) still);
       works = works_further {End = End} E.had E.sent E.got E.kept E.paired c.args.board.now c.loop-offer.offer-index 1 (seen c.args.segment.now.bus c.args.segment.now.stamp c.args.segment.now.stopped) (seen c.loop-offer.segment.bus c.loop-offer.segment.stamp c.loop-offer.segment.stopped) (seen c.serve_op.new.segment.bus c.serve_op.new.segment.stamp c.serve_op.new.segment.stopped)
-    c.args.segment.now.ends.items c.loop-offer.segment.ends.items c.serve_op.new.segment.ends.items c.args.segment.now.events.items c.loop-offer.segment.events.items c.serve_op.new.segment.events.items c.requires.going on i.works e.works;
+          c.args.segment.now.ends.items c.loop-offer.segment.ends.items c.serve_op.new.segment.ends.items c.args.segment.now.events.items c.loop-offer.segment.events.items c.serve_op.new.segment.events.items c.requires.going on i.works e.works;
     }
 
 pub returns-clause-quiet : goal.returns-clause-quiet
