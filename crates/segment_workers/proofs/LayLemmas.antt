@@ -8,11 +8,11 @@ use Rattle.board_model.specs.Valid.{is_bus}
 use Rattle.bus_port.specs.Port.{PortView}
 use Rattle.bus_core.specs.Bus.{Shape, shape_of, IsOf}
 use Rattle.bus_segment.specs.Stands.{WorkerView}
-use Rattle.bus_segment.proofs.DoesLemmas.{there_at}
+use Rattle.bus_segment.proofs.Laws.{there_at}
 use Rattle.master_agents.specs.Turns.{MasterView}
 use Rattle.worker_phases.specs.Workers.{AreWorkers}
 use Rattle.worker_phases.specs.Phase.{AreApart}
-use Rattle.worker_phases.proofs.SpotLemmas.{same_there}
+use Rattle.worker_phases.proofs.Laws.{same_there}
 use Rattle.segment_workers.specs.declared.settling.Above.{Above}
 use Rattle.segment_workers.specs.Settling.{down_to, up_from, AreAbove, HangBelow}
 use Rattle.segment_workers.specs.Steady.{SameLay}

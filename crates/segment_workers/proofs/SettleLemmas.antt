@@ -9,10 +9,10 @@ use Rattle.lane_items.specs.Lane.{GotInOrder, left_count}
 use Rattle.bus_core.specs.Bus.{shape_of}
 use Rattle.bus_segment.specs.Segment.{SegmentView}
 use Rattle.bus_segment.specs.Stands.{WorkerView}
-use Rattle.bus_segment.proofs.DoesLemmas.{there_at}
+use Rattle.bus_segment.proofs.Laws.{there_at}
 use Rattle.worker_phases.specs.Workers.{EndAt}
 use Rattle.worker_phases.specs.Phase.{OnlyEnds, LaneSettled, AllMaySettle, AllSettled}
-use Rattle.worker_phases.proofs.SpotLemmas.{same_there, same_port}
+use Rattle.worker_phases.proofs.Laws.{same_there, same_port}
 use Rattle.segment_workers.specs.declared.settling.Above.{Above}
 use Rattle.segment_workers.specs.Settling.{down_to, up_from, IsAbove, AreAbove, AreLaidOut, CanMeet, SettlesOne, SettledSoFar}
 

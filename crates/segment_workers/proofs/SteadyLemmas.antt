@@ -7,7 +7,7 @@ use Rattle.bus_segment.specs.Segment.{SegmentView}
 use Rattle.bus_segment.specs.Stands.{WorkerView}
 use Rattle.bus_segment.specs.Steps.{ArrivedUpTo}
 use Rattle.worker_phases.specs.Phase.{AfterPhases, NoneStopped, AllSettled}
-use Rattle.worker_phases.proofs.SpotLemmas.{same_there}
+use Rattle.worker_phases.proofs.Laws.{same_there}
 use Rattle.segment_workers.specs.declared.settling.Above.{Above}
 use Rattle.segment_workers.specs.Loop.{IsReady, AreReady, AllWorked}
 use Rattle.segment_workers.specs.Settling.{AreAbove, AreLaidOut}

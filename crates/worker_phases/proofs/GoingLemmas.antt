@@ -20,7 +20,7 @@ use Rattle.bus_core.specs.Bus.{Shape, shape_of, IsOf}
 use Rattle.bus_core.specs.Calls.{stamp_of}
 use Rattle.bus_segment.specs.Stands.{WorkerView, SegmentStands}
 use Rattle.bus_segment.specs.Turn.{StopsAt}
-use Rattle.bus_segment.proofs.DoesLemmas.{there_at}
+use Rattle.bus_segment.proofs.Laws.{there_at}
 use Rattle.law_room.proofs.Laws.{what_is_left}
 use Rattle.law_phases.specs.Engine.{NoneElsewhere, Worked, AllInOrder, ending_on, put_up_to}
 use Rattle.law_phases.proofs.Laws.{phase_room}

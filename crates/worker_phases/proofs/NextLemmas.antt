@@ -20,7 +20,7 @@ use Rattle.bus_core.specs.Calls.{stamp_of}
 use Rattle.bus_segment.specs.Segment.{SegmentView}
 use Rattle.bus_segment.specs.Stands.{WorkerView, SegmentStands}
 use Rattle.bus_segment.specs.Steps.{AllItems}
-use Rattle.bus_segment.proofs.DoesLemmas.{there_at}
+use Rattle.bus_segment.proofs.Laws.{there_at}
 use Rattle.worker_phases.specs.Workers.{at_port, at_ports, back_at_ports, EndAt, AreWorkers, AreBetween}
 use Rattle.worker_phases.specs.Phase.{AreApart, NoneStopped, OnlyEnds, LaneSettled, AllSettled}
 use Rattle.worker_phases.proofs.SpotLemmas.{Spot, same_there, same_port, spot_of, spot_at, spot_none}

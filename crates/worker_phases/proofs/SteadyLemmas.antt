@@ -16,10 +16,10 @@ use Rattle.lane_items.specs.declared.item.Item.{Item}
 use Rattle.lane_items.specs.Lane.{passed_on, in_hand}
 use Rattle.bus_core.specs.Bus.{Shape, shape_of, IsOf}
 use Rattle.bus_core.specs.Calls.{stamp_of}
-use Rattle.bus_core.proofs.ListLemmas.{get_map, map_get}
+use Rattle.bus_core.proofs.Laws.{get_map, map_get}
 use Rattle.bus_segment.specs.Stands.{WorkerView, SegmentStands}
 use Rattle.bus_segment.specs.Steps.{AllItems}
-use Rattle.bus_segment.proofs.DoesLemmas.{there_at}
+use Rattle.bus_segment.proofs.Laws.{there_at}
 use Rattle.law_phases.specs.Engine.{AllInOrder}
 use Rattle.law_phases.proofs.Laws.{end_is_bus}
 use Rattle.trace_merge.specs.Merged.{merged}
