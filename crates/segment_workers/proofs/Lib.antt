@@ -1,3 +1,6 @@
-pub mod StandLemmas
-pub mod WorkerLemmas
-pub mod StopLemmas
+pub mod SettleLemmas
+pub mod LayLemmas
+pub mod OneLemmas
+pub mod WorkLemmas
+pub mod SteadyLemmas
+pub mod FirstLemmas

@@ -1,1 +1,4 @@
-pub mod Workers
+pub mod Loop
+pub mod Settling
+pub mod Steady
+pub mod First
