@@ -6,9 +6,8 @@ ghost use Rattle.program_input.specs.Traces.{IsCompleteTrace};
 ghost use Rattle.command_run.specs.Answers.{AnswersRun};
 
 mod answer;
-mod steady;
 
-pub use answer::{answer_run, answer_run_steady};
+pub use answer::answer_run;
 
 /// What a run writes of a board is the text of a valid board and of a complete run of it.
 pub fn written_runs_are_complete()

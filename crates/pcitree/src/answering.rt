@@ -15,7 +15,7 @@ pub(crate) fn answer(alloc: Global, form: Form, input: &[u8]) -> Result<Vec<u8>,
 {
     match form {
         Form::Run => command_run::answer_run(alloc, input),
-        Form::RunSteady => command_run::answer_run_steady(alloc, input),
+        Form::RunSteady => command_run::answer_run(alloc, input),
         Form::Headers => command_headers::answer_headers(alloc, input),
         Form::Check => command_check::answer_check(alloc, input),
         Form::Finish => command_finish::answer_finish(alloc, input),

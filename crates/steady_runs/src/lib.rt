@@ -1,3 +1,6 @@
+//! A whole run of a board, worked bus by bus and phase by phase, and what holds of every run.
+#![tactic(auto)]
+
 ghost use Rattle.std.specs.Prelude.{IfOk};
 ghost use Rattle.trace_check.specs.Verdicts.{CompleteRun};
 
@@ -9,8 +12,9 @@ use pci_command::{List, NoMemory};
 use segment_workers::run_steady;
 use std::alloc::Global;
 
-/// A complete run, in which the buses work phase by phase.
-pub(crate) fn steady_run(alloc: Global, tree: &Tree) -> Result<List<Event>, NoMemory>
+/// A complete run of the board, the first event first: in each phase each bus does one turn, and what
+/// it sends comes to other buses in the next one.
+pub fn steady_run(alloc: Global, tree: &Tree) -> Result<List<Event>, NoMemory>
     ensures { IfOk result (CompleteRun tree.now) }
 {
     matched();
