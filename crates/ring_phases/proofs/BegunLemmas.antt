@@ -1,5 +1,5 @@
 -- The workers when a phase begins: only their stamps are raised.
-use Rattle.std.proofs.Common.{◌≡◌, ℕ, max, true, false, List, ◌++◌, length, map, reverse, Some, refl, sym, ap, subst, ◌∙◌, slice_get}
+use Rattle.std.proofs.Common.{◌≡◌, ℕ, true, false, List, ◌++◌, length, map, reverse, Some, sym, ap, subst, ◌∙◌, slice_get}
 use Rattle.board_model.specs.declared.bridge.Lane.{Lane as BridgeLane}
 use Rattle.board_model.specs.declared.board.Board.{Board}
 use Rattle.board_model.specs.Valid.{is_bus}

@@ -112,7 +112,7 @@ more_put board came lane (s ∷ later) p =
       rest.0 ++ last,
       ap (λ (l : List ℕ). l ++ last) rest.1 ∙ append_assoc (put_stamps board came lane p) rest.0 last,
       Each-append (Steps (s ∷ later)) rest.0 last (Each-weaker (Steps later) (Steps (s ∷ later)) (λ t steps. steps_later s later t steps) rest.0 rest.2)
-      (each_replicate (Steps (s ∷ later)) n s.stamp (steps_here s later)),
+          (each_replicate (Steps (s ∷ later)) n s.stamp (steps_here s later)),
     )
 
 -- How many events there are.

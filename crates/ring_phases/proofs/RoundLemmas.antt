@@ -1,5 +1,5 @@
 -- A phase in which what is sent may come across at once: from the workers before it to the workers after it.
-use Rattle.std.proofs.Common.{◌≡◌, ℕ, zero, suc, ◌+◌, ◌^◌, ◌<◌, ◌≤◌, nat_lt, nat_le, ◌||◌, max, Bool, true, false, List, [], ◌∷◌, ◌++◌, length, map, reverse, Option, Some, None, refl, sym, ap, subst, ◌∙◌, append_assoc, append-nil, arith, slice_get}
+use Rattle.std.proofs.Common.{◌≡◌, ℕ, zero, suc, ◌+◌, ◌^◌, ◌<◌, ◌≤◌, nat_lt, nat_le, ◌||◌, Bool, true, false, List, [], ◌++◌, length, map, reverse, Option, Some, None, refl, sym, ap, subst, ◌∙◌, append-nil, arith, slice_get}
 use Rattle.std.specs.List.{AllByRecursion}
 use Rattle.std.proofs.lemmas.Bool.{leb-true, le-leb}
 use Rattle.std.proofs.lemmas.Bool.Decides.{nat_tests}
@@ -10,26 +10,24 @@ use Rattle.list_facts.proofs.EachLemmas.{Each-append, Each-weaker}
 use Rattle.board_model.specs.declared.bridge.Bridge.{Bridge}
 use Rattle.board_model.specs.declared.bridge.Lane.{Lane as BridgeLane}
 use Rattle.board_model.specs.declared.board.Board.{Board}
-use Rattle.board_model.specs.Valid.{is_bus, IsValid}
-use Rattle.board_model.specs.Ways.{bound_of, start_of, end_of, lane_back}
+use Rattle.board_model.specs.Valid.{IsValid}
+use Rattle.board_model.specs.Ways.{bound_of, end_of, lane_back}
 use Rattle.history_model.specs.declared.event.Stamped.{Stamped}
-use Rattle.history_model.specs.declared.item.Carried.{Carried}
 use Rattle.history_model.specs.Answers.{bridge_to}
 use Rattle.history_facts.proofs.BridgeLemmas.{lane_back_back}
 use Rattle.law_local.specs.Stamps.{events_of, put_stamps}
-use Rattle.law_local.proofs.Laws.{end_back}
 use Rattle.lane_items.specs.declared.item.Item.{Item}
 use Rattle.lane_items.specs.Lane.{GotInOrder}
 use Rattle.bridge_face.specs.Arrivals.{carried}
 use Rattle.bus_core.specs.Bus.{Shape, shape_of}
 use Rattle.bus_core.specs.Calls.{stamp_of}
-use Rattle.bus_segment.specs.Segment.{SegmentView, SegmentPast, all_carried}
+use Rattle.bus_segment.specs.Segment.{SegmentView, all_carried}
 use Rattle.bus_segment.specs.Stands.{WorkerView}
 use Rattle.bus_segment.specs.Steps.{AllItems}
 use Rattle.bus_segment.proofs.DoesLemmas.{there_at}
 use Rattle.law_room.proofs.Laws.{what_is_left, settled_in_order}
 use Rattle.law_phases.specs.Engine.{NoneElsewhere, AllInOrder, ending_on}
-use Rattle.law_phases.proofs.Laws.{start_is_bus, end_is_bus, worked_run}
+use Rattle.law_phases.proofs.Laws.{end_is_bus, worked_run}
 use Rattle.trace_merge.specs.Merged.{merged}
 use Rattle.worker_phases.specs.Workers.{at_port, at_ports, back_at_ports, EndAt, AreBetween}
 use Rattle.worker_phases.specs.Phase.{AreApart, Turned, NoneStopped, AllMaySettle, OnlyEnds, AllSettled, IsCompleteRun, begun, count_all, history_of_all}
@@ -37,13 +35,13 @@ use Rattle.worker_phases.proofs.SpotLemmas.{same_there}
 use Rattle.worker_phases.proofs.PortLemmas.{comes_behind}
 use Rattle.worker_phases.proofs.MergeLemmas.{all_of, all_counted, parts_of_all}
 use Rattle.worker_phases.proofs.RunLemmas.{RunsEnd, run_between, bound_between, count_between, parts_same, count_same}
-use Rattle.worker_phases.proofs.DidLemmas.{Turns, WorkerDone, PhaseDone, phase_done}
+use Rattle.worker_phases.proofs.DidLemmas.{Turns, PhaseDone, phase_done}
 use Rattle.worker_phases.proofs.GoingLemmas.{Got, Came, Part, OneDone, EndFacts, worked, merged_after, are_after, apart_after, before, end_facts, puts_back, three_same, none_stopped, may_settle_all}
 use Rattle.worker_phases.proofs.NextLemmas.{next, apart_settled, between_next, next_stamps, stamps_settled}
 use Rattle.worker_phases.proofs.QuietLemmas.{complete_now, same_events}
 use Rattle.ring_phases.specs.Rounds.{AfterRounds, AllRan, StampsRise}
 use Rattle.ring_phases.proofs.CountLemmas.{each_all, each_both, each_own, each_of_map, each_parts, total_upto, total_more, below, Steps, below_upto, below_most, more_put, count_begun, count_grown}
-use Rattle.ring_phases.proofs.BegunLemmas.{Begun as BegunFrom, began as began_from, between_begun, apart_begun}
+use Rattle.ring_phases.proofs.BegunLemmas.{began as began_from, between_begun, apart_begun}
 
 in_first : (a b : ℕ) (c : Bool) → a ≤ b → (nat_le a b || c) ≡ true
 in_first a b c upto = let is = le-leb a b upto in ap (λ (x : Bool). x || c) is
