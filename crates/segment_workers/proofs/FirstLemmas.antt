@@ -1,12 +1,14 @@
 -- The workers before the first phase, and where the bridges of a board hang.
-use Rattle.std.proofs.Common.{◌≡◌, ◌≢◌, ℕ, zero, suc, ◌+◌, ◌<◌, ◌≤◌, ◌==◌, ◌||◌, ◌&&◌, Bool, true, false, cond, List, [], ◌∷◌, ◌++◌, length, map, reverse, Option, Some, None, refl, sym, ap, subst, ◌∙◌, arith, slice_get}
-use Rattle.std.specs.List.{AllByRecursion, position, range_with_len}
+use Rattle.std.proofs.Common.{◌≡◌, ℕ, zero, suc, ◌+◌, ◌<◌, ◌==◌, ◌||◌, ◌&&◌, Bool, true, false, cond, List, [], ◌∷◌, ◌++◌, length, get_or, map, reverse, Option, Some, None, refl, sym, ap, subst, ◌∙◌, arith, slice_get}
+use Rattle.std.specs.List.{position, position_from, range_with_len}
 use Rattle.std.specs.Option.{IsSome}
 use Rattle.std.specs.List.Sorted.{IsStrictlyIncreasing}
 use Rattle.std.proofs.lemmas.Bool.{and_parts, eqb-true, eq-eqb}
 use Rattle.std.proofs.lemmas.List.{length-map}
 use Rattle.std.proofs.lemmas.List.Kept.{AllPairs-from_increasing}
-use Rattle.std.proofs.lemmas.Option.{slice_get_within, get_or_from_slice_get}
+use Rattle.std.proofs.lemmas.Iterator.Adapters.{position_from-zero}
+use Rattle.std.proofs.lemmas.List.Quantifiers.{position-Some}
+use Rattle.std.proofs.lemmas.Option.{slice_get_within, slice_get-get_or, get_or_from_slice_get}
 use Rattle.list_facts.proofs.AnyLemmas.{any_some}
 use Rattle.list_facts.proofs.EachLemmas.{Each-find, Each-slice_get}
 use Rattle.list_facts.proofs.FindLemmas.{find_passes}
@@ -22,16 +24,15 @@ use Rattle.lane_items.specs.declared.item.Item.{Item}
 use Rattle.lane_items.specs.Lane.{IsEmptied}
 use Rattle.bus_port.specs.Port.{PortView}
 use Rattle.bus_core.specs.Bus.{Shape, shape_of, arrivals_at, HasPlace}
-use Rattle.bus_core.proofs.ListLemmas.{get_map, map_get, found_at, none_at}
+use Rattle.bus_core.proofs.Laws.{get_map, map_get}
 use Rattle.bus_segment.specs.Stands.{WorkerView}
-use Rattle.bus_segment.proofs.DoesLemmas.{there_at}
-use Rattle.board_segments.specs.First.{buses_of, up_from as from_below, children_of, own_lane, lanes_to, ends_alike, IsAtFirst, AreAtFirst}
+use Rattle.bus_segment.proofs.Laws.{there_at}
+use Rattle.board_segments.specs.First.{buses_of, up_from as from_below, children_of, own_lane, lanes_to, ends_alike, AreAtFirst}
 use Rattle.board_segments.proofs.NumberLemmas.{one_place, passes_at}
 use Rattle.board_segments.proofs.LaneLemmas.{of_bridge_at}
 use Rattle.worker_phases.specs.Workers.{at_port, at_ports, back_at_ports, AreBetween}
-use Rattle.worker_phases.specs.Phase.{AreApart, AfterPhases}
-use Rattle.worker_phases.proofs.SpotLemmas.{same_there}
-use Rattle.worker_phases.proofs.PortLemmas.{stands_at_ports}
+use Rattle.worker_phases.specs.Phase.{AreApart}
+use Rattle.worker_phases.proofs.Laws.{same_there, stands_at_ports}
 use Rattle.segment_workers.specs.declared.settling.Above.{Above}
 use Rattle.segment_workers.specs.First.{IsAboveOf, AreAboveOf, AreLinked}
 use Rattle.segment_workers.specs.Loop.{AreReady}
@@ -56,6 +57,25 @@ pub above_more : (board : Board) (above : List Above) (up : Above) → AreAboveS
 above_more board above up so_far is = record { each = at_end (λ (n : ℕ) (u : Above). IsAboveOf board (n + 1) u) above up so_far.each is }
 
 -- What is looked for is found.
+
+found_at : {X : Type 0} (p : X → Bool) (xs : List X) (k : ℕ) → position p xs ≡ Some k → (x : X) × ((slice_get xs k ≡ Some x) × (p x ≡ true))
+found_at {X} p [] k is = cc
+found_at {X} p (x ∷ xs) k is =
+    let at = position-Some p (x ∷ xs) k x is in
+    (get_or (x ∷ xs) k x, (slice_get-get_or (x ∷ xs) k x at.0, at.1))
+
+none_from : {X : Type 0} (p : X → Bool) (i : ℕ) (xs : List X) → position_from p i xs ≡ None → (n : ℕ) (x : X) → slice_get xs n ≡ Some x → p x ≡ false
+none_from p i [] is n x there = cc
+none_from {X} p i (y ∷ ys) is zero x there =
+    let same : y ≡ x = cc in
+    let P : Bool → Type 0 = λ b. cond b (Some i) (position_from p (i + 1) ys) ≡ None → b ≡ false in
+    subst (λ z. p z ≡ false) same ((elim (p y) as P [ true ↦ λ e. cc | false ↦ λ _. refl ]) is)
+none_from {X} p i (y ∷ ys) is (suc n) x there =
+    let P : Bool → Type 0 = λ b. cond b (Some i) (position_from p (i + 1) ys) ≡ None → position_from p (i + 1) ys ≡ None in
+    none_from p (i + 1) ys ((elim (p y) as P [ true ↦ λ e. cc | false ↦ λ e. e ]) is) n x there
+
+none_at : {X : Type 0} (p : X → Bool) (xs : List X) → position p xs ≡ None → (n : ℕ) (x : X) → slice_get xs n ≡ Some x → p x ≡ false
+none_at p xs is n x there = none_from p 0 xs (sym (position_from-zero p xs) ∙ is) n x there
 
 pub bus_found : (buses : List ℕ) (bus : ℕ) (found : Option ℕ) → HasPlace buses bus → found ≡ position (λ (other : ℕ). other == bus) buses → IsSome found
 bus_found buses bus None has is = let wrong : false ≡ true = sym (none_at (λ (other : ℕ). other == bus) buses (sym is) has.0 bus has.1) ∙ eq-eqb bus bus refl in cc

@@ -1,5 +1,5 @@
 -- Where lanes end stays as long as the buses of the workers are the same.
-use Rattle.std.proofs.Common.{◌≡◌, ℕ, ◌+◌, ◌<◌, true, List, length, map, Some, refl, sym, ap, subst, ◌∙◌, arith, slice_get}
+use Rattle.std.proofs.Common.{◌≡◌, ℕ, ◌+◌, List, length, Some, sym, ap, subst, ◌∙◌, arith, slice_get}
 use Rattle.std.proofs.lemmas.List.{length-map}
 use Rattle.std.proofs.lemmas.Option.{slice_get_within}
 use Rattle.board_model.specs.declared.bridge.Lane.{Lane as BridgeLane}
@@ -8,13 +8,13 @@ use Rattle.board_model.specs.Valid.{is_bus}
 use Rattle.bus_port.specs.Port.{PortView}
 use Rattle.bus_core.specs.Bus.{Shape, shape_of, IsOf}
 use Rattle.bus_segment.specs.Stands.{WorkerView}
-use Rattle.bus_segment.proofs.DoesLemmas.{there_at}
+use Rattle.bus_segment.proofs.Laws.{there_at}
 use Rattle.master_agents.specs.Turns.{MasterView}
 use Rattle.worker_phases.specs.Workers.{AreWorkers}
-use Rattle.worker_phases.specs.Phase.{AreApart, AllTurned, AllSettled, begun}
-use Rattle.worker_phases.proofs.SpotLemmas.{same_there}
+use Rattle.worker_phases.specs.Phase.{AreApart}
+use Rattle.worker_phases.proofs.Laws.{same_there}
 use Rattle.segment_workers.specs.declared.settling.Above.{Above}
-use Rattle.segment_workers.specs.Settling.{down_to, up_from, IsAbove, AreAbove, HangBelow}
+use Rattle.segment_workers.specs.Settling.{down_to, up_from, AreAbove, HangBelow}
 use Rattle.segment_workers.specs.Steady.{SameLay}
 
 module _ {End : Type 0} (old new : List (WorkerView End)) (same : SameLay old new) where

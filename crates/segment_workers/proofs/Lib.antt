@@ -4,3 +4,4 @@ pub mod OneLemmas
 pub mod WorkLemmas
 pub mod SteadyLemmas
 pub mod FirstLemmas
+pub mod Laws

@@ -1,5 +1,5 @@
 -- Bridge by bridge all lanes are settled.
-use Rattle.std.proofs.Common.{◌≡◌, ◌≢◌, ℕ, ◌+◌, ◌<◌, ◌≤◌, ◌==◌, Bool, true, false, List, length, Option, Some, None, refl, sym, ap, subst, ◌∙◌, arith, slice_get}
+use Rattle.std.proofs.Common.{◌≡◌, ◌≢◌, ℕ, ◌+◌, ◌<◌, ◌≤◌, ◌==◌, Bool, true, false, List, length, Some, refl, sym, ap, subst, ◌∙◌, arith, slice_get}
 use Rattle.std.proofs.lemmas.Bool.{eqb-true, eqb-false}
 use Rattle.std.proofs.lemmas.Option.{slice_get_within}
 use Rattle.board_model.specs.declared.bridge.Lane.{Lane as BridgeLane}
@@ -9,12 +9,12 @@ use Rattle.lane_items.specs.Lane.{GotInOrder, left_count}
 use Rattle.bus_core.specs.Bus.{shape_of}
 use Rattle.bus_segment.specs.Segment.{SegmentView}
 use Rattle.bus_segment.specs.Stands.{WorkerView}
-use Rattle.bus_segment.proofs.DoesLemmas.{there_at}
+use Rattle.bus_segment.proofs.Laws.{there_at}
 use Rattle.worker_phases.specs.Workers.{EndAt}
 use Rattle.worker_phases.specs.Phase.{OnlyEnds, LaneSettled, AllMaySettle, AllSettled}
-use Rattle.worker_phases.proofs.SpotLemmas.{same_there, same_port}
+use Rattle.worker_phases.proofs.Laws.{same_there, same_port}
 use Rattle.segment_workers.specs.declared.settling.Above.{Above}
-use Rattle.segment_workers.specs.Settling.{down_to, up_from, IsAbove, AreAbove, AreLaidOut, CanMeet, SettlesOne, LanesSettled, SettledSoFar}
+use Rattle.segment_workers.specs.Settling.{down_to, up_from, IsAbove, AreAbove, AreLaidOut, CanMeet, SettlesOne, SettledSoFar}
 
 -- the same end, at a worker whose ends alone changed
 only_none : {End : Type 0} (w : WorkerView End) → OnlyEnds w w

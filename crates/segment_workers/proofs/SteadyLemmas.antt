@@ -1,16 +1,16 @@
 -- One phase of the loop.
-use Rattle.std.proofs.Common.{◌≡◌, ℕ, ◌+◌, ◌≤◌, Bool, true, false, List, length, Some, refl, sym, ap, subst, ◌∙◌, arith, slice_get}
+use Rattle.std.proofs.Common.{◌≡◌, ℕ, ◌+◌, Bool, List, length, sym, ap, subst, ◌∙◌, arith}
 use Rattle.board_model.specs.declared.board.Board.{Board}
 use Rattle.lane_items.specs.declared.item.Item.{Item}
 use Rattle.bus_core.specs.Bus.{shape_of}
 use Rattle.bus_segment.specs.Segment.{SegmentView}
 use Rattle.bus_segment.specs.Stands.{WorkerView}
 use Rattle.bus_segment.specs.Steps.{ArrivedUpTo}
-use Rattle.worker_phases.specs.Phase.{AfterPhases, AllTurned, NoneStopped, AllMaySettle, AllSettled}
-use Rattle.worker_phases.proofs.SpotLemmas.{same_there}
+use Rattle.worker_phases.specs.Phase.{AfterPhases, NoneStopped, AllSettled}
+use Rattle.worker_phases.proofs.Laws.{same_there}
 use Rattle.segment_workers.specs.declared.settling.Above.{Above}
 use Rattle.segment_workers.specs.Loop.{IsReady, AreReady, AllWorked}
-use Rattle.segment_workers.specs.Settling.{AreAbove, HangBelow, AreLaidOut}
+use Rattle.segment_workers.specs.Settling.{AreAbove, AreLaidOut}
 use Rattle.segment_workers.specs.Steady.{IsSteady, SameLay}
 use Rattle.segment_workers.proofs.LayLemmas.{then, are_still, apart_still, hang_still, above_still, ports_same, masters_same}
 

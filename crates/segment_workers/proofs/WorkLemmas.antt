@@ -7,9 +7,9 @@ use Rattle.board_model.specs.declared.board.Board.{Board}
 use Rattle.lane_items.specs.declared.item.Item.{Item}
 use Rattle.bus_segment.specs.Stands.{WorkerView}
 use Rattle.bus_segment.specs.Steps.{ArrivedUpTo}
-use Rattle.bus_segment.proofs.DoesLemmas.{there_at}
+use Rattle.bus_segment.proofs.Laws.{there_at}
 use Rattle.worker_phases.specs.Phase.{Turned, begun, count_all}
-use Rattle.worker_phases.proofs.SpotLemmas.{same_there}
+use Rattle.worker_phases.proofs.Laws.{same_there}
 use Rattle.segment_workers.specs.Loop.{Worked, AllWorked}
 use Rattle.segment_workers.proofs.OneLemmas.{set_here, set_other}
 

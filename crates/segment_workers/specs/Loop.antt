@@ -1,11 +1,11 @@
 -- The loop over the phases: what its calls do with the workers.
-use Rattle.std.specs.Prelude.{◌≡◌, ℕ, ◌+◌, ◌<◌, ◌≤◌, Bool, true, false, List, length, map, Some, slice_get}
+use Rattle.std.specs.Prelude.{◌≡◌, ℕ, ◌<◌, ◌≤◌, Bool, true, false, List, length, map, Some, slice_get}
 use Rattle.board_model.specs.declared.board.Board.{Board}
 use Rattle.lane_items.specs.declared.item.Item.{Item}
 use Rattle.bus_segment.specs.Stands.{WorkerView}
 use Rattle.bus_segment.specs.Steps.{ArrivedUpTo}
 use Rattle.bus_turn.specs.declared.worker.Worker.{Worker}
-use Rattle.worker_phases.specs.Phase.{AfterPhases, Turned, AllTurned, begun}
+use Rattle.worker_phases.specs.Phase.{Turned, AllTurned, begun}
 
 -- a worker as the laws of phases see it
 abbrev pub seen : {End : Type 0} → Worker End → WorkerView End

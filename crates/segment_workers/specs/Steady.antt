@@ -1,6 +1,5 @@
 -- Between two phases of the loop.
-use Rattle.std.specs.Prelude.{◌≡◌, ℕ, ◌+◌, List, Some, length, slice_get}
-use Rattle.board_model.specs.declared.bridge.Lane.{Lane as BridgeLane}
+use Rattle.std.specs.Prelude.{◌≡◌, ℕ, List, Some, length, slice_get}
 use Rattle.board_model.specs.declared.board.Board.{Board}
 use Rattle.lane_items.specs.declared.item.Item.{Item}
 use Rattle.bus_core.specs.Bus.{shape_of}

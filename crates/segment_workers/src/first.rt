@@ -13,8 +13,8 @@ use lane_items::LaneEnd;
 use pci_command::NoMemory;
 use std::alloc::Global;
 
-/// The segments, each to be worked.
-pub(crate) fn all_workers<L: LaneEnd + Drop>(
+/// A worker for each segment, in the same order.
+pub fn all_workers<L: LaneEnd + Drop>(
     alloc: Global,
     segments: Vec<Segment<L>>,
 ) -> Result<Vec<Worker<L>>, NoMemory>
@@ -27,8 +27,8 @@ pub(crate) fn all_workers<L: LaneEnd + Drop>(
     Ok(workers)
 }
 
-/// Where the bridges to all buses but bus 0 hang.
-pub(crate) fn all_above(alloc: Global, board: &Board) -> Result<Vec<Above>, NoMemory>
+/// Where the bridges to all buses but bus 0 hang, by increasing number of the bus.
+pub fn all_above(alloc: Global, board: &Board) -> Result<Vec<Above>, NoMemory>
     requires { AreLinked board.now }
     ensures { IfOk result (λ above. AreAboveOf board.now above.items) }
 {

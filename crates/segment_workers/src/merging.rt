@@ -10,8 +10,9 @@ use pci_command::{List, NoMemory};
 use std::alloc::Global;
 use trace_merge::merge;
 
-/// What all workers did, as one history.
-pub(crate) fn merge_all<L: LaneEnd + Drop>(
+/// What all workers did, as one history: in the order of the stamps, and of equal stamps in that of
+/// the buses. The first event comes first.
+pub fn merge_all<L: LaneEnd + Drop>(
     alloc: Global,
     workers: Vec<Worker<L>>,
 ) -> Result<List<Event>, NoMemory>

@@ -7,14 +7,14 @@ use lane_items::LaneEnd;
 
 /// Where the lane up from a bus ends: at which worker, and at which of its ports.
 #[derive(Clone, Copy, Debug)]
-pub(crate) struct Above {
+pub struct Above {
     pub(crate) worker: usize,
     pub(crate) port: usize,
 }
 
 /// Settles the ends of the two lanes of each bridge: what was sent on a bus, and was not got on the
 /// other, is in hand there.
-pub(crate) fn settle_all<L: LaneEnd + Drop>(workers: &mut [Worker<L>], above: &[Above])
+pub fn settle_all<L: LaneEnd + Drop>(workers: &mut [Worker<L>], above: &[Above])
     requires laid { AreLaidOut (all_seen workers.old) }
     requires above { AreAbove (all_seen workers.old) above.now }
     requires may { AllMaySettle L.had L.sent L.got L.kept L.paired (all_seen workers.old) }

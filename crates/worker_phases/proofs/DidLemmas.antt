@@ -15,11 +15,11 @@ use Rattle.bus_segment.specs.Segment.{SegmentPast, SegmentGoes}
 use Rattle.bus_segment.specs.Stands.{WorkerView}
 use Rattle.bus_segment.specs.Steps.{StampsUpTo}
 use Rattle.bus_segment.specs.Turn.{HasNothingToDo, StopsAt}
-use Rattle.bus_segment.proofs.DoesLemmas.{there_at}
+use Rattle.bus_segment.proofs.Laws.{there_at}
 use Rattle.law_phases.specs.Engine.{NoneElsewhere}
 use Rattle.worker_phases.specs.Workers.{at_port, at_ports, back_at_ports, EndAt, AreBetween, DidPhase, AllDidPhase}
 use Rattle.worker_phases.specs.Phase.{AreApart, Turned}
-use Rattle.worker_phases.proofs.SpotLemmas.{Spot, same_there, place_of, place_at, place_none, spot_of, spot_at, spot_none}
+use Rattle.worker_phases.proofs.SpotLemmas.{Spot, place_of, place_at, place_none, spot_of, spot_at, spot_none}
 use Rattle.worker_phases.proofs.PortLemmas.{SameAtPorts, past_at_ports, goes_at_ports}
 
 -- a list of what is found of each element

@@ -1,5 +1,5 @@
 -- After the turns of a phase no segment stopped, and all ends may be settled.
-use Rattle.std.proofs.Common.{◌≡◌, ℕ, ◌+◌, ◌^◌, ◌<◌, ◌≤◌, Bool, true, false, List, [], ◌∷◌, ◌++◌, length, map, drop, reverse, Option, Some, None, option_to_list, refl, sym, ap, subst, ◌∙◌, append_assoc, append-nil, arith, slice_get}
+use Rattle.std.proofs.Common.{◌≡◌, ℕ, ◌^◌, ◌<◌, ◌≤◌, Bool, true, false, List, [], ◌++◌, length, map, drop, reverse, Option, Some, None, option_to_list, refl, sym, ap, subst, ◌∙◌, append_assoc, arith, slice_get}
 use Rattle.std.specs.List.{AllByRecursion}
 use Rattle.std.proofs.lemmas.List.{reverse-reverse, reverse-append}
 use Rattle.std.proofs.lemmas.Option.{slice_get_within}
@@ -18,10 +18,9 @@ use Rattle.lane_items.specs.Lane.{GotInOrder, left_count, KeepsPairs}
 use Rattle.bridge_face.specs.Arrivals.{carried}
 use Rattle.bus_core.specs.Bus.{Shape, shape_of, IsOf}
 use Rattle.bus_core.specs.Calls.{stamp_of}
-use Rattle.bus_segment.specs.Segment.{SegmentPast}
 use Rattle.bus_segment.specs.Stands.{WorkerView, SegmentStands}
 use Rattle.bus_segment.specs.Turn.{StopsAt}
-use Rattle.bus_segment.proofs.DoesLemmas.{there_at}
+use Rattle.bus_segment.proofs.Laws.{there_at}
 use Rattle.law_room.proofs.Laws.{what_is_left}
 use Rattle.law_phases.specs.Engine.{NoneElsewhere, Worked, AllInOrder, ending_on, put_up_to}
 use Rattle.law_phases.proofs.Laws.{phase_room}
@@ -29,7 +28,7 @@ use Rattle.worker_phases.specs.Workers.{at_port, at_ports, back_at_ports, EndAt,
 use Rattle.worker_phases.specs.Phase.{AreApart, NoneStopped, AllMaySettle}
 use Rattle.worker_phases.proofs.SpotLemmas.{same_there}
 use Rattle.worker_phases.proofs.PortLemmas.{comes_behind, own_past, stands_at_ports}
-use Rattle.worker_phases.proofs.MergeLemmas.{Recorded, all_own, all_of, all_merged}
+use Rattle.worker_phases.proofs.MergeLemmas.{all_own, all_of, all_merged}
 use Rattle.worker_phases.proofs.StandLemmas.{stands_on}
 use Rattle.worker_phases.proofs.WorkerLemmas.{worked_of, worked_rest}
 use Rattle.worker_phases.proofs.StopLemmas.{no_stop}

@@ -10,3 +10,4 @@ pub mod GoingLemmas
 pub mod NextLemmas
 pub mod QuietLemmas
 pub mod SteadyLemmas
+pub mod Laws

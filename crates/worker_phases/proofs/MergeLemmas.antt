@@ -1,14 +1,11 @@
 -- What all workers recorded, as one history.
-use Rattle.std.proofs.Common.{◌≡◌, ◌≢◌, ℕ, zero, suc, ◌+◌, ◌<◌, ◌≤◌, nat_le, nat_lt, ◌==◌, Bool, true, false, cond, List, [], ◌∷◌, ◌++◌, length, map, reverse, Option, Some, None, refl, sym, ap, subst, ◌∙◌, arith, slice_get}
+use Rattle.std.proofs.Common.{◌≡◌, ◌≢◌, ℕ, zero, suc, ◌+◌, nat_le, ◌==◌, Bool, true, false, cond, List, [], ◌∷◌, ◌++◌, length, map, reverse, Some, refl, sym, ap, subst, ◌∙◌, arith, slice_get}
 use Rattle.std.specs.List.{AllByRecursion}
 use Rattle.std.proofs.lemmas.Bool.{eqb-true, eq-eqb}
-use Rattle.std.proofs.lemmas.Bool.Decides.{nat_tests}
 use Rattle.std.proofs.lemmas.List.{length-append, length-reverse, reverse-append}
-use Rattle.list_facts.specs.Lists.{total}
 use Rattle.board_model.specs.declared.bridge.Lane.{Lane as BridgeLane}
 use Rattle.board_model.specs.declared.board.Board.{Board}
-use Rattle.board_model.specs.Valid.{is_bus, IsValid}
-use Rattle.history_model.specs.declared.event.Event.{Event}
+use Rattle.board_model.specs.Valid.{is_bus}
 use Rattle.history_model.specs.declared.event.Stamped.{Stamped}
 use Rattle.history_model.specs.declared.item.Carried.{Carried}
 use Rattle.history_model.specs.Local.{bus_of, LocalRun}
@@ -18,7 +15,6 @@ use Rattle.trace_merge.specs.Merged.{put_event, in_order, all_events, merged, Ar
 use Rattle.trace_merge.proofs.OwnLemmas.{own_merged}
 use Rattle.worker_phases.specs.Workers.{AreWorkers}
 use Rattle.worker_phases.specs.Phase.{AreApart, count_all}
-use Rattle.worker_phases.proofs.SpotLemmas.{same_there}
 
 -- what a bus recorded is its part, in the order of its stamps
 pub record Recorded (board : Board) (bus : ℕ) (part : List Stamped) (events : List Stamped) : Type 0 where

@@ -1,5 +1,5 @@
 -- When all ends are settled, the next phase may begin.
-use Rattle.std.proofs.Common.{◌≡◌, ℕ, ◌+◌, ◌<◌, ◌≤◌, true, false, List, [], ◌∷◌, ◌++◌, length, reverse, Option, Some, None, refl, sym, ap, subst, ◌∙◌, append_assoc, append-nil, arith, slice_get}
+use Rattle.std.proofs.Common.{◌≡◌, ℕ, ◌≤◌, List, [], ◌∷◌, ◌++◌, length, reverse, Option, Some, None, refl, sym, ap, subst, ◌∙◌, append_assoc, append-nil, arith, slice_get}
 use Rattle.std.specs.List.{AllByRecursion}
 use Rattle.std.proofs.lemmas.Option.{slice_get_within}
 use Rattle.list_facts.proofs.EachLemmas.{Each-append}
@@ -20,7 +20,7 @@ use Rattle.bus_core.specs.Calls.{stamp_of}
 use Rattle.bus_segment.specs.Segment.{SegmentView}
 use Rattle.bus_segment.specs.Stands.{WorkerView, SegmentStands}
 use Rattle.bus_segment.specs.Steps.{AllItems}
-use Rattle.bus_segment.proofs.DoesLemmas.{there_at}
+use Rattle.bus_segment.proofs.Laws.{there_at}
 use Rattle.worker_phases.specs.Workers.{at_port, at_ports, back_at_ports, EndAt, AreWorkers, AreBetween}
 use Rattle.worker_phases.specs.Phase.{AreApart, NoneStopped, OnlyEnds, LaneSettled, AllSettled}
 use Rattle.worker_phases.proofs.SpotLemmas.{Spot, same_there, same_port, spot_of, spot_at, spot_none}

@@ -4,7 +4,7 @@ use Rattle.std.proofs.lemmas.Bool.{eqb-true}
 use Rattle.list_facts.proofs.EachLemmas.{Each-weaker}
 use Rattle.board_model.specs.declared.bridge.Lane.{Lane as BridgeLane}
 use Rattle.board_model.specs.declared.board.Board.{Board}
-use Rattle.board_model.specs.Ways.{end_of, lane_back}
+use Rattle.board_model.specs.Ways.{end_of}
 use Rattle.history_model.specs.declared.event.Stamped.{Stamped}
 use Rattle.history_model.specs.Answers.{bridge_to}
 use Rattle.lane_items.specs.declared.item.Item.{Item}

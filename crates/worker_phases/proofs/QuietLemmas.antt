@@ -1,5 +1,5 @@
 -- After a phase without an event the run is complete.
-use Rattle.std.proofs.Common.{◌≡◌, ℕ, ◌+◌, ◌≤◌, true, List, [], ◌∷◌, ◌++◌, length, map, drop, reverse, Option, Some, None, refl, sym, ap, subst, ◌∙◌, append-nil, arith, slice_get}
+use Rattle.std.proofs.Common.{◌≡◌, ℕ, true, List, [], ◌∷◌, ◌++◌, length, map, reverse, Option, Some, None, refl, sym, ap, subst, ◌∙◌, append-nil, arith, slice_get}
 use Rattle.std.proofs.lemmas.List.{length-append, length-reverse, length-map}
 use Rattle.board_model.specs.declared.bridge.Bridge.{Bridge}
 use Rattle.board_model.specs.declared.bridge.Lane.{Lane as BridgeLane}
@@ -16,7 +16,7 @@ use Rattle.lane_items.specs.Lane.{in_hand}
 use Rattle.bridge_face.specs.Arrivals.{carried}
 use Rattle.bus_core.specs.Bus.{shape_of}
 use Rattle.bus_core.specs.Calls.{stamp_of}
-use Rattle.bus_segment.specs.Segment.{SegmentPast, lanes_known}
+use Rattle.bus_segment.specs.Segment.{lanes_known}
 use Rattle.bus_segment.specs.Stands.{WorkerView}
 use Rattle.law_phases.specs.Engine.{AllInOrder, ending_on, put_up_to, did_by, known_at_end}
 use Rattle.law_phases.specs.Taken.{AllGetARetry}
@@ -26,7 +26,7 @@ use Rattle.worker_phases.specs.Phase.{AreApart, NoneStopped}
 use Rattle.worker_phases.proofs.PortLemmas.{comes_behind}
 use Rattle.worker_phases.proofs.MergeLemmas.{all_of}
 use Rattle.worker_phases.proofs.RunLemmas.{merged_between, engine_between}
-use Rattle.worker_phases.proofs.DidLemmas.{WorkerDone, PhaseDone}
+use Rattle.worker_phases.proofs.DidLemmas.{PhaseDone}
 use Rattle.worker_phases.proofs.GoingLemmas.{Got, Put, OneDone, put_there, left_on, left_is}
 
 -- a list without length is none

@@ -1,5 +1,5 @@
 -- What all segments did up to a time between two phases is a run, no longer than runs of the board are.
-use Rattle.std.proofs.Common.{◌≡◌, ℕ, suc, ◌+◌, ◌≤◌, nat_lt, Bool, true, false, List, [], ◌∷◌, ◌++◌, length, map, Some, refl, sym, ap, subst, ◌∙◌, arith, slice_get}
+use Rattle.std.proofs.Common.{◌≡◌, ℕ, suc, ◌+◌, ◌≤◌, nat_lt, false, List, [], ◌∷◌, ◌++◌, length, map, Some, refl, sym, ap, ◌∙◌, arith, slice_get}
 use Rattle.std.proofs.lemmas.Bool.Decides.{nat_tests}
 use Rattle.list_facts.specs.Lists.{total}
 use Rattle.board_model.specs.declared.bridge.Lane.{Lane as BridgeLane}
@@ -16,7 +16,7 @@ use Rattle.bus_core.specs.Calls.{stamp_of}
 use Rattle.bus_segment.specs.Stands.{WorkerView}
 use Rattle.law_phases.specs.Engine.{Engine, ending_on}
 use Rattle.law_phases.proofs.Laws.{engine_run}
-use Rattle.worker_phases.specs.Workers.{at_ports, back_at_ports, AreBetween}
+use Rattle.worker_phases.specs.Workers.{back_at_ports, AreBetween}
 use Rattle.worker_phases.specs.Phase.{AreApart, count_all}
 use Rattle.worker_phases.proofs.PortLemmas.{own_past}
 use Rattle.worker_phases.proofs.MergeLemmas.{all_own, all_of, all_counted, all_merged, parts_of_all}

@@ -1,5 +1,5 @@
 -- A phase in which what is sent comes across when it ends: from the workers before it to the workers after it.
-use Rattle.std.proofs.Common.{◌≡◌, ℕ, ◌+◌, ◌^◌, ◌<◌, ◌≤◌, max, Bool, true, false, List, [], ◌∷◌, ◌++◌, length, map, reverse, Option, Some, None, refl, sym, ap, subst, ◌∙◌, append_assoc, arith, slice_get}
+use Rattle.std.proofs.Common.{◌≡◌, ℕ, ◌+◌, ◌^◌, ◌<◌, ◌≤◌, Bool, true, false, List, [], ◌∷◌, ◌++◌, length, map, reverse, Option, Some, None, refl, sym, ap, subst, ◌∙◌, append_assoc, arith, slice_get}
 use Rattle.std.specs.List.{AllByRecursion}
 use Rattle.std.proofs.lemmas.Option.{slice_get_within}
 use Rattle.std.proofs.lemmas.List.{length-map}
@@ -16,20 +16,20 @@ use Rattle.lane_items.specs.declared.item.Item.{Item}
 use Rattle.lane_items.specs.Lane.{passed_on, in_hand}
 use Rattle.bus_core.specs.Bus.{Shape, shape_of, IsOf}
 use Rattle.bus_core.specs.Calls.{stamp_of}
-use Rattle.bus_core.proofs.ListLemmas.{get_map, map_get}
+use Rattle.bus_core.proofs.Laws.{get_map, map_get}
 use Rattle.bus_segment.specs.Stands.{WorkerView, SegmentStands}
 use Rattle.bus_segment.specs.Steps.{AllItems}
-use Rattle.bus_segment.proofs.DoesLemmas.{there_at}
+use Rattle.bus_segment.proofs.Laws.{there_at}
 use Rattle.law_phases.specs.Engine.{AllInOrder}
 use Rattle.law_phases.proofs.Laws.{end_is_bus}
 use Rattle.trace_merge.specs.Merged.{merged}
 use Rattle.worker_phases.specs.Workers.{at_ports, back_at_ports, EndAt, AreBetween}
-use Rattle.worker_phases.specs.Phase.{AreApart, AfterPhases, Turned, AllTurned, NoneStopped, AllMaySettle, AllSettled, CrossesAtSettle, IsCompleteRun, begun, count_all, history_of_all}
+use Rattle.worker_phases.specs.Phase.{AreApart, AfterPhases, Turned, AllTurned, NoneStopped, AllMaySettle, AllSettled, CrossesAtSettle, IsCompleteRun, begun, history_of_all}
 use Rattle.worker_phases.proofs.SpotLemmas.{same_there}
 use Rattle.worker_phases.proofs.PortLemmas.{stands_later}
-use Rattle.worker_phases.proofs.MergeLemmas.{all_of, parts_of_all}
+use Rattle.worker_phases.proofs.MergeLemmas.{parts_of_all}
 use Rattle.worker_phases.proofs.RunLemmas.{RunsEnd, run_between, bound_between, count_between, parts_same, count_same}
-use Rattle.worker_phases.proofs.DidLemmas.{Turns, WorkerDone, PhaseDone, phase_done}
+use Rattle.worker_phases.proofs.DidLemmas.{Turns, PhaseDone, phase_done}
 use Rattle.worker_phases.proofs.GoingLemmas.{Got, OneDone, before, end_facts, none_stopped, may_settle_all}
 use Rattle.worker_phases.proofs.NextLemmas.{next, apart_settled, between_next, next_stamps, stamps_settled}
 use Rattle.worker_phases.proofs.QuietLemmas.{complete_now, same_events}

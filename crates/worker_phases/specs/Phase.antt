@@ -1,5 +1,5 @@
 -- A phase of all segments: each does its turn, and then all ends of lanes are settled.
-use Rattle.std.specs.Prelude.{◌≡◌, ℕ, ◌+◌, ◌<◌, ◌≤◌, Bool, true, false, List, [], ◌++◌, length, map, reverse, max, Some, slice_get}
+use Rattle.std.specs.Prelude.{◌≡◌, ℕ, ◌+◌, ◌<◌, ◌≤◌, Bool, true, false, List, ◌++◌, length, map, reverse, max, Some, slice_get}
 use Rattle.std.specs.List.{AllByRecursion}
 use Rattle.list_facts.specs.Lists.{total}
 use Rattle.board_model.specs.declared.bridge.Bridge.{Bridge}

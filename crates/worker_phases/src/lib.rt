@@ -1,5 +1,5 @@
-//! The laws of the buses of a board, each worked as a segment, phase by phase. Each law is the contract of a
-//! function that does nothing.
+//! The laws of the buses of a board, each worked as a segment, phase by phase. Each law is the contract
+//! of a function that does nothing, or that only calls the laws which it rests on.
 #![tactic(auto)]
 
 ghost use Rattle.std.specs.Prelude.{◌≡◌, ℕ, ◌+◌, ◌^◌, ◌≤◌, Bool, true, false, List, ◌++◌, length, Option, Some, option_to_list};

@@ -1,7 +1,6 @@
-use Rattle.std.proofs.Common.{◌≡◌, ℕ, List, Some, get_or, sym, ap, subst, ◌∙◌, slice_get}
+use Rattle.std.proofs.Common.{ℕ, List, Some, get_or, sym, ap, subst, ◌∙◌, slice_get}
 use Rattle.std.proofs.lemmas.Option.{slice_get-get_or}
 use Rattle.board_model.specs.declared.bridge.Lane.{Lane as BridgeLane}
-use Rattle.board_model.specs.Ways.{primary_of}
 use Rattle.bus_core.specs.Bus.{HasPlace}
 use Rattle.board_segments.specs.First.{buses_of, lanes_to, up_from}
 use Rattle.segment_workers.proofs.FirstLemmas.{bus_found, bus_there, lane_found, lane_there, above_is, linked_at}

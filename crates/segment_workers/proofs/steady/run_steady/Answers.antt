@@ -1,5 +1,4 @@
-use Rattle.std.proofs.Common.{List, [], map, refl, sym, ap, subst, ◌∙◌}
-use Rattle.board_segments.specs.First.{worker_of}
+use Rattle.std.proofs.Common.{[], refl, sym, subst}
 use Rattle.lane_plain.specs.Plain.{PlainState}
 use Rattle.segment_workers.specs.First.{AreLinked, AreAboveOf}
 use Rattle.segment_workers.proofs.FirstLemmas.{linked, all_alike, steady_first}
