@@ -39,7 +39,7 @@ use Rattle.worker_phases.proofs.DidLemmas.{Turns, PhaseDone, phase_done}
 use Rattle.worker_phases.proofs.GoingLemmas.{Got, Came, Part, OneDone, EndFacts, worked, merged_after, are_after, apart_after, before, end_facts, puts_back, three_same, none_stopped, may_settle_all}
 use Rattle.worker_phases.proofs.NextLemmas.{next, apart_settled, between_next, next_stamps, stamps_settled}
 use Rattle.worker_phases.proofs.QuietLemmas.{complete_now, same_events}
-use Rattle.ring_phases.specs.Rounds.{AfterRounds, AllRan, StampsRise}
+use Rattle.ring_phases.specs.Rounds.{AfterRounds, AllRan}
 use Rattle.ring_phases.proofs.CountLemmas.{each_all, each_both, each_own, each_of_map, each_parts, total_upto, total_more, below, Steps, below_upto, below_most, more_put, count_begun, count_grown}
 use Rattle.ring_phases.proofs.BegunLemmas.{began as began_from, between_begun, apart_begun}
 
@@ -303,9 +303,7 @@ module _ {End : Type 0} (had sent got : End → List Item) (kept : End → ℕ) 
           let root = began k was.0 was.1 in
           let low : was.0.segment.stamp ≤ Base =
           subst (λ (x : WorkerView End). x.segment.stamp ≤ Base) root.1.1 (let stamp = after.stamps k root.0 root.1.0 in let from = ran.low in omega (arith, stamp, from)) in
-          let R : WorkerView End → Type 0 = λ x. StampsRise sent got x.segment.stamp v.segment.stamp x.ends v.ends in
-          let rises : R was.0 = subst R root.1.1 (ran.rise k root.0 v root.1.0 here) in
-          rises.rise (In (suc n)) (low_in (suc n) was.0.segment.stamp low) (got_next n (all_in n) k was.0 v was.1 was.2) (none_sent k was.0 (λ i. In (suc n) (stamp_of i) ≡ true) was.1)
+          was.2.stamps.rise (In (suc n)) (low_in (suc n) was.0.segment.stamp low) (got_next n (all_in n) k was.0 v was.1 was.2) (none_sent k was.0 (λ i. In (suc n) (stamp_of i) ≡ true) was.1)
 
       low_of : (s : ℕ) → In (suc s) s ≡ true → s ≤ Top
       low_of s is = let low = in_either (suc s) s s (Base + Below s) is (omega arith) in let top = below_top s in omega (arith, low, top)

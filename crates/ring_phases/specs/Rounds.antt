@@ -23,16 +23,9 @@ pub record AfterRounds {End : Type 0} (had sent got : End → List Item) (kept :
   pub hand_stamps : (lane : BridgeLane) → AllByRecursion (λ (item : Item). stamp_of item ≤ phases + count_all workers) (hand lane)
   pub many : phases ≤ count_all workers
 
--- Stamps rise one by one: they stay in any set of numbers that has the first one, and with the stamp of each item that was
--- got the next number; the stamp of the segment, and those of the items that were sent.
-pub record StampsRise {End : Type 0} (sent got : End → List Item) (old new : ℕ) (ends after : List End) : Type 0 where
-  pub rise : (among : ℕ → Bool) → among old ≡ true → AllItems got (λ item. among (stamp_of item + 1) ≡ true) after → AllItems sent (λ item. among (stamp_of item) ≡ true) ends
-      → (among new ≡ true) × AllItems sent (λ item. among (stamp_of item) ≡ true) after
-
 -- each worker did turns of its own, with stamps from a number on that is at most one above all stamps before; if the phase
 -- was not busy, none made an event
 pub record AllRan {End : Type 0} (had sent got : End → List Item) (kept : End → ℕ) (paired : End → End → Type 0) (board : Board) (phases : ℕ) (old new : List (WorkerView End)) (busy : Bool) : Type 0 where
   pub from : ℕ
   pub low : from ≤ phases + count_all old + 1
   pub turned : AllTurned had sent got kept paired board from old new busy
-  pub rise : (k : ℕ) (w v : WorkerView End) → slice_get old k ≡ Some w → slice_get new k ≡ Some v → StampsRise sent got (begun from w).segment.stamp v.segment.stamp w.ends v.ends
