@@ -1,5 +1,5 @@
 -- How far a step of a turn goes: in stamps and counts, and where it does nothing.
-use Rattle.std.specs.Prelude.{◌≡◌, ◌≢◌, ℕ, ◌<◌, ◌≤◌, true, List, [], Some, slice_get}
+use Rattle.std.specs.Prelude.{◌≡◌, ◌≢◌, ℕ, ◌+◌, ◌≤◌, Bool, true, List, [], length, Some, slice_get}
 use Rattle.std.specs.List.{AllByRecursion}
 use Rattle.pci_command.specs.declared.op_id.OpId.{OpId}
 use Rattle.board_model.specs.declared.bridge.Lane.{Lane as BridgeLane}
@@ -12,7 +12,7 @@ use Rattle.history_model.specs.Answers.{wants_in, answer_in}
 use Rattle.law_local.specs.Quiet.{IsRetry}
 use Rattle.lane_items.specs.declared.item.Item.{Item}
 use Rattle.lane_items.specs.Lane.{in_hand}
-use Rattle.bus_core.specs.Bus.{BusView, Shape, arrivals_at, BusStands}
+use Rattle.bus_core.specs.Bus.{BusView, Shape, shape_of, arrivals_at, BusStands}
 use Rattle.bus_core.specs.Calls.{stamp_of}
 
 -- Stamps.
@@ -21,11 +21,11 @@ use Rattle.bus_core.specs.Calls.{stamp_of}
 abbrev pub AllItems : {End : Type 0} → (End → List Item) → (Item → Type 0) → List End → Type 0
 AllItems {End} items P ends = (n : ℕ) (end : End) → slice_get ends n ≡ Some end → AllByRecursion P (items end)
 
--- Stamps stay up to any number up to which they were, if those of the items that were got are below it: the stamp of the
--- segment, and those of the items that were sent.
-pub record StampsUpTo {End : Type 0} (sent got : End → List Item) (old new : ℕ) (ends after : List End) : Type 0 where
-  pub up_to : (most : ℕ) → old ≤ most → AllItems got (λ item. stamp_of item < most) after → AllItems sent (λ item. stamp_of item ≤ most) ends
-      → (new ≤ most) × AllItems sent (λ item. stamp_of item ≤ most) after
+-- Stamps rise one by one: they stay in any set of numbers that has the first one, and with the stamp of each item that was
+-- got the next number; the stamp of the segment, and those of the items that were sent.
+pub record StampsRise {End : Type 0} (sent got : End → List Item) (old new : ℕ) (ends after : List End) : Type 0 where
+  pub rise : (among : ℕ → Bool) → among old ≡ true → AllItems got (λ item. among (stamp_of item + 1) ≡ true) after → AllItems sent (λ item. among (stamp_of item) ≡ true) ends
+      → (among new ≡ true) × AllItems sent (λ item. among (stamp_of item) ≡ true) after
 
 -- Counts.
 

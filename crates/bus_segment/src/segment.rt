@@ -7,7 +7,7 @@ ghost use Rattle.board_model.specs.WellFormed.{is_well_formed};
 ghost use Rattle.bridge_face.specs.Offers.{offers_of};
 ghost use Rattle.bus_core.specs.Bus.{shape_of, arrivals_at};
 ghost use Rattle.bus_core.specs.Serves.{SendsApart, OneMoreAt};
-ghost use Rattle.bus_segment.specs.Steps.{StampsUpTo, NothingCame, IsOfMaster, IsOfLane, Retries};
+ghost use Rattle.bus_segment.specs.Steps.{StampsRise, NothingCame, IsOfMaster, IsOfLane, Retries};
 ghost use Rattle.bus_segment.specs.Turn.{Does, Records, Finishes, Keeps, Takes};
 
 use crate::ends::{has_room, receive_at, send_at, send_both, sent_at, stamp_of};
@@ -138,7 +138,7 @@ impl<L: LaneEnd + Drop> Segment<L> {
         ensures shape { shape_of self.new.bus ≡ shape_of self.old.bus }
         ensures arrivals { arrivals_at self.new.bus ≡ arrivals_at self.old.bus }
         ensures stamp { self.new.stamp ≡ self.old.stamp }
-        ensures stamps { StampsUpTo L.sent L.got self.old.stamp self.new.stamp self.old.ends.items self.new.ends.items }
+        ensures stamps { StampsRise L.sent L.got self.old.stamp self.new.stamp self.old.ends.items self.new.ends.items }
         ensures most { length self.new.events.items ≤ length self.old.events.items + 1 }
         ensures spare { vec_capacity self.old.events ≤ vec_capacity self.new.events }
         ensures quiet { length self.new.events.items ≡ length self.old.events.items → self.new.stopped ≡ false →
@@ -162,7 +162,7 @@ impl<L: LaneEnd + Drop> Segment<L> {
         ensures shape { shape_of self.new.bus ≡ shape_of self.old.bus }
         ensures arrivals { arrivals_at self.new.bus ≡ arrivals_at self.old.bus }
         ensures stamp { self.new.stamp ≡ self.old.stamp }
-        ensures stamps { StampsUpTo L.sent L.got self.old.stamp self.new.stamp self.old.ends.items self.new.ends.items }
+        ensures stamps { StampsRise L.sent L.got self.old.stamp self.new.stamp self.old.ends.items self.new.ends.items }
         ensures most { length self.new.events.items ≤ length self.old.events.items + 1 }
         ensures spare { vec_capacity self.old.events ≤ vec_capacity self.new.events }
         ensures quiet { length self.new.events.items ≡ length self.old.events.items → self.new.stopped ≡ false →
@@ -185,7 +185,7 @@ impl<L: LaneEnd + Drop> Segment<L> {
             (record { bus = self.old.bus; stamp = self.old.stamp; stopped = false }) (record { bus = self.new.bus; stamp = self.new.stamp; stopped = self.new.stopped })
             self.old.ends.items self.new.ends.items self.old.events.items self.new.events.items }
         ensures shape { shape_of self.new.bus ≡ shape_of self.old.bus }
-        ensures stamps { StampsUpTo L.sent L.got self.old.stamp self.new.stamp self.old.ends.items self.new.ends.items }
+        ensures stamps { StampsRise L.sent L.got self.old.stamp self.new.stamp self.old.ends.items self.new.ends.items }
         ensures most { length self.new.events.items ≤ length self.old.events.items + 1 }
         ensures spare { vec_capacity self.old.events ≤ vec_capacity self.new.events }
         ensures recorded { result ≡ true → self.new.stopped ≡ false → length self.new.events.items ≡ length self.old.events.items + 1 }

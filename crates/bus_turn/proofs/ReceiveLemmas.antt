@@ -11,7 +11,7 @@ use Rattle.bus_core.specs.Bus.{BusView, shape_of, arrivals_at}
 use Rattle.bus_core.specs.Serves.{OneMoreAt}
 use Rattle.bus_core.proofs.Laws.{get_map}
 use Rattle.bus_segment.specs.Turn.{Does}
-use Rattle.bus_segment.specs.Steps.{StampsUpTo, ArrivedUpTo, NothingCame}
+use Rattle.bus_segment.specs.Steps.{StampsRise, ArrivedUpTo, NothingCame}
 use Rattle.bus_turn.specs.Works.{seen, Works, NoneInHand}
 use Rattle.bus_turn.proofs.WorkLemmas.{none_arrived, one_arrived, does_grows}
 
@@ -26,7 +26,7 @@ arrivals_fit s place most up fits =
 
 module _ {End : Type 0} (had sent got : End → List Item) (kept : End → ℕ) (paired : End → End → Type 0) (board : Board) where
   pub receive_works : (place : ℕ) (old new : BusView) (stamp new_stamp : ℕ) (was stopped result : Bool) (ends after : List End) (events all : List Stamped) → was ≡ false
-      → Does had sent got kept paired board (seen old stamp false) (seen new new_stamp stopped) ends after events all → shape_of new ≡ shape_of old → StampsUpTo sent got stamp new_stamp ends after → length all ≤ length events + 1
+      → Does had sent got kept paired board (seen old stamp false) (seen new new_stamp stopped) ends after events all → shape_of new ≡ shape_of old → StampsRise sent got stamp new_stamp ends after → length all ≤ length events + 1
       → (result ≡ true → stopped ≡ false → length all ≡ length events + 1) → (result ≡ true → stopped ≡ false → OneMoreAt place (arrivals_at old) (arrivals_at new)) → (result ≡ false → new ≡ old) → (result ≡ false → all ≡ events)
       → Works had sent got kept paired board 1 (seen old stamp was) (seen new new_stamp stopped) ends after events all
   receive_works place old new stamp new_stamp was stopped result ends after events all going does shape stamps most recorded arrives same_bus same_events =

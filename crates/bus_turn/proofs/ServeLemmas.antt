@@ -21,14 +21,14 @@ use Rattle.bus_port.specs.Port.{PortView}
 use Rattle.bus_core.specs.Bus.{BusView, Shape, shape_of, arrivals_at}
 use Rattle.bus_core.specs.Serves.{BusOffers}
 use Rattle.bus_segment.specs.Turn.{Does}
-use Rattle.bus_segment.specs.Steps.{StampsUpTo, GetsRetry, IsOfMaster, IsOfLane, Retries}
+use Rattle.bus_segment.specs.Steps.{StampsRise, GetsRetry, IsOfMaster, IsOfLane, Retries}
 use Rattle.bus_turn.specs.Works.{seen, Works, HasLine, IsOfPort, IsRetried, AreAsked, AllRetried}
 use Rattle.bus_turn.proofs.WorkLemmas.{same_arrived, still_none, still_further, retry_before, does_grows}
 
 -- One initiator.
 module _ {End : Type 0} (had sent got : End → List Item) (kept : End → ℕ) (paired : End → End → Type 0) (board : Board) where
   pub serve_works : (old new : BusView) (stamp new_stamp : ℕ) (was stopped : Bool) (ends after : List End) (events all : List Stamped) → was ≡ false → Does had sent got kept paired board (seen old stamp false) (seen new stamp stopped) ends after events all
-      → shape_of new ≡ shape_of old → arrivals_at new ≡ arrivals_at old → new_stamp ≡ stamp → StampsUpTo sent got stamp new_stamp ends after → length all ≤ length events + 1
+      → shape_of new ≡ shape_of old → arrivals_at new ≡ arrivals_at old → new_stamp ≡ stamp → StampsRise sent got stamp new_stamp ends after → length all ≤ length events + 1
       → Works had sent got kept paired board 1 (seen old stamp was) (seen new new_stamp stopped) ends after events all
   serve_works old new stamp new_stamp was stopped ends after events all going does shape arrivals same_stamp stamps most =
       let grows = does_grows had sent got kept paired board (seen old stamp false) (seen new stamp stopped) ends after events all does in

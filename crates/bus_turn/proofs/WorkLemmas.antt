@@ -16,7 +16,7 @@ use Rattle.bus_core.specs.Calls.{stamp_of}
 use Rattle.bus_core.specs.Serves.{OneMoreAt}
 use Rattle.bus_segment.specs.Segment.{SegmentView}
 use Rattle.bus_segment.specs.Turn.{Does}
-use Rattle.bus_segment.specs.Steps.{AllItems, StampsUpTo, ArrivedUpTo, StandsStill, GetsRetry}
+use Rattle.bus_segment.specs.Steps.{AllItems, StampsRise, ArrivedUpTo, StandsStill, GetsRetry}
 use Rattle.bus_segment.proofs.Laws.{does_none, does_further, all_front, there_at}
 use Rattle.bus_turn.specs.Works.{Works}
 
@@ -66,8 +66,8 @@ retry_before board a b by o still shape retry =
     }
 
 module _ {End : Type 0} (had sent got : End → List Item) (kept : End → ℕ) (paired : End → End → Type 0) (board : Board) where
-  stamps_none : (stamp : ℕ) (ends : List End) → StampsUpTo sent got stamp stamp ends ends
-  stamps_none stamp ends = record { up_to = λ most le below up. (le, up) }
+  stamps_none : (stamp : ℕ) (ends : List End) → StampsRise sent got stamp stamp ends ends
+  stamps_none stamp ends = record { rise = λ among has next up. (has, up) }
 
   -- items got by then were got by later
   got_before : (old new : SegmentView) (ends after : List End) (events all : List Stamped) → Does had sent got kept paired board old new ends after events all → (P : Item → Type 0) → AllItems got P after → AllItems got P ends
@@ -79,13 +79,13 @@ module _ {End : Type 0} (had sent got : End → List Item) (kept : End → ℕ) 
       let whole : AllByRecursion P ((got end ++ does.received n) ++ option_to_list (does.refused n)) = subst (λ l. AllByRecursion P l) one.got_is (all_after n later.0 later.1) in
       all_front P (got end) (does.received n) (all_front P (got end ++ does.received n) (option_to_list (does.refused n)) whole)
 
-  pub stamps_further : (old mid new : SegmentView) (ends between after : List End) (some all : List Stamped) → StampsUpTo sent got old.stamp mid.stamp ends between → Does had sent got kept paired board mid new between after some all
-      → StampsUpTo sent got mid.stamp new.stamp between after → StampsUpTo sent got old.stamp new.stamp ends after
+  pub stamps_further : (old mid new : SegmentView) (ends between after : List End) (some all : List Stamped) → StampsRise sent got old.stamp mid.stamp ends between → Does had sent got kept paired board mid new between after some all
+      → StampsRise sent got mid.stamp new.stamp between after → StampsRise sent got old.stamp new.stamp ends after
   stamps_further old mid new ends between after some all one does two =
       record {
-        up_to = λ most le below up.
-            let first = one.up_to most le (got_before mid new between after some all does (λ item. stamp_of item < most) below) up in
-            two.up_to most first.0 below first.1;
+        rise = λ among has next up.
+            let first = one.rise among has (got_before mid new between after some all does (λ item. among (stamp_of item + 1) ≡ true) next) up in
+            two.rise among first.0 next first.1;
       }
 
   pub does_grows : (old new : SegmentView) (ends after : List End) (events all : List Stamped) → Does had sent got kept paired board old new ends after events all → length events ≤ length all

@@ -14,7 +14,7 @@ use Rattle.lane_items.specs.declared.item.Item.{Item}
 use Rattle.lane_items.specs.Lane.{in_hand}
 use Rattle.bus_core.specs.Bus.{BusView, Shape, shape_of, BusStands}
 use Rattle.bus_segment.specs.Segment.{SegmentView}
-use Rattle.bus_segment.specs.Steps.{StampsUpTo, ArrivedUpTo, StandsStill, GetsRetry}
+use Rattle.bus_segment.specs.Steps.{StampsRise, ArrivedUpTo, StandsStill, GetsRetry}
 use Rattle.bus_segment.specs.Turn.{Does}
 
 -- what is seen of a segment
@@ -25,7 +25,7 @@ seen bus stamp stopped = record { bus = bus; stamp = stamp; stopped = stopped }
 pub record Works {End : Type 0} (had sent got : End → List Item) (kept : End → ℕ) (paired : End → End → Type 0) (board : Board) (limit : ℕ) (old new : SegmentView) (ends after : List End) (events all : List Stamped) : Type 0 where
   pub does : Does had sent got kept paired board old new ends after events all
   pub shape : shape_of new.bus ≡ shape_of old.bus
-  pub stamps : StampsUpTo sent got old.stamp new.stamp ends after
+  pub stamps : StampsRise sent got old.stamp new.stamp ends after
   pub counts : new.stopped ≡ false → ArrivedUpTo (length events) old.bus → ArrivedUpTo (length all) new.bus
   pub grows : length events ≤ length all
   pub most : length all ≤ length events + limit

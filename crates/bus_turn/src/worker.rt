@@ -3,7 +3,7 @@ ghost use Rattle.std.specs.Vec.{vec_capacity};
 ghost use Rattle.board_model.specs.Valid.{IsValid};
 ghost use Rattle.bus_core.specs.Bus.{shape_of};
 ghost use Rattle.bus_segment.specs.Settle.{MaySettle, SettlesAt};
-ghost use Rattle.bus_segment.specs.Steps.{StampsUpTo, ArrivedUpTo};
+ghost use Rattle.bus_segment.specs.Steps.{StampsRise, ArrivedUpTo};
 ghost use Rattle.bus_segment.specs.Turn.{Does, HasNothingToDo, IsQuietAtZero};
 ghost use Rattle.bus_turn.specs.Works.{seen, Works};
 
@@ -63,6 +63,20 @@ impl<L: LaneEnd + Drop> Worker<L> {
         self.segment.stamp()
     }
 
+    /// For how many more events there is room.
+    pub fn spare(&self) -> usize
+        ensures { result ≡ vec_capacity self.now.segment.events - vec_len self.now.segment.events }
+    {
+        self.segment.spare()
+    }
+
+    /// How many events it recorded.
+    pub fn recorded(&self) -> usize
+        ensures { result ≡ length self.now.segment.events.items }
+    {
+        self.segment.recorded()
+    }
+
     /// Whether it does nothing more.
     pub fn stopped(&self) -> bool
         ensures { result ≡ self.now.segment.stopped }
@@ -119,7 +133,7 @@ impl<L: LaneEnd + Drop> Worker<L> {
             (record { bus = self.old.segment.bus; stamp = self.old.segment.stamp; stopped = self.old.segment.stopped })
             (record { bus = self.new.segment.bus; stamp = self.new.segment.stamp; stopped = self.new.segment.stopped })
             self.new.segment.ends.items result }
-        ensures stamps { StampsUpTo L.sent L.got self.old.segment.stamp self.new.segment.stamp self.old.segment.ends.items self.new.segment.ends.items }
+        ensures stamps { StampsRise L.sent L.got self.old.segment.stamp self.new.segment.stamp self.old.segment.ends.items self.new.segment.ends.items }
     {
         let before = self.segment.recorded();
         work(&mut self.segment, &mut self.arbiter, board);

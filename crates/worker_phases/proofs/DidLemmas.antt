@@ -13,7 +13,7 @@ use Rattle.lane_items.specs.Lane.{IsEmptied, KeepsPairs}
 use Rattle.bus_core.specs.Bus.{Shape, shape_of}
 use Rattle.bus_segment.specs.Segment.{SegmentPast, SegmentGoes}
 use Rattle.bus_segment.specs.Stands.{WorkerView}
-use Rattle.bus_segment.specs.Steps.{StampsUpTo}
+use Rattle.bus_segment.specs.Steps.{StampsRise}
 use Rattle.bus_segment.specs.Turn.{HasNothingToDo, StopsAt}
 use Rattle.bus_segment.proofs.Laws.{there_at}
 use Rattle.law_phases.specs.Engine.{NoneElsewhere}
@@ -70,7 +70,7 @@ pub record WorkerDone {End : Type 0} (had sent got : End → List Item) (kept : 
   pub many_ends : length v.ends ≡ length w.ends
   pub none_refused : v.segment.stopped ≡ false → (n : ℕ) (lane : BridgeLane) → slice_get (shape_of w.segment.bus).lanes n ≡ Some lane → refused lane ≡ []
   pub recorded : v.events ≡ w.events ++ reverse (later w.segment.bus.bus)
-  pub stamps : StampsUpTo sent got w.segment.stamp v.segment.stamp w.ends v.ends
+  pub stamps : StampsRise sent got w.segment.stamp v.segment.stamp w.ends v.ends
   pub quiet : v.segment.stopped ≡ false → length v.events ≡ length w.events → HasNothingToDo had got board w.segment v.ends
   pub stops : w.segment.stopped ≡ false → v.segment.stopped ≡ true → (came : BridgeLane → List Item) (p : List Stamped) (rest put : ℕ → List Item)
       → SegmentPast board came p w.segment (λ n. at_ports w took n ++ (at_ports w refused n ++ rest n)) put

@@ -1,6 +1,7 @@
 -- A phase in which what is sent comes across when it ends: from the workers before it to the workers after it.
-use Rattle.std.proofs.Common.{◌≡◌, ℕ, ◌+◌, ◌^◌, ◌<◌, ◌≤◌, Bool, true, false, List, [], ◌∷◌, ◌++◌, length, map, reverse, Option, Some, None, refl, sym, ap, subst, ◌∙◌, append_assoc, arith, slice_get}
+use Rattle.std.proofs.Common.{◌≡◌, ℕ, ◌+◌, ◌^◌, ◌<◌, ◌≤◌, nat_le, Bool, true, false, List, [], ◌∷◌, ◌++◌, length, map, reverse, Option, Some, None, refl, sym, ap, subst, ◌∙◌, append_assoc, arith, slice_get}
 use Rattle.std.specs.List.{AllByRecursion}
+use Rattle.std.proofs.lemmas.Bool.{leb-true, le-leb}
 use Rattle.std.proofs.lemmas.Option.{slice_get_within}
 use Rattle.std.proofs.lemmas.List.{length-map}
 use Rattle.list_facts.proofs.EachLemmas.{Each-weaker}
@@ -18,7 +19,7 @@ use Rattle.bus_core.specs.Bus.{Shape, shape_of, IsOf}
 use Rattle.bus_core.specs.Calls.{stamp_of}
 use Rattle.bus_core.proofs.Laws.{get_map, map_get}
 use Rattle.bus_segment.specs.Stands.{WorkerView, SegmentStands}
-use Rattle.bus_segment.specs.Steps.{AllItems}
+use Rattle.bus_segment.specs.Steps.{AllItems, StampsRise}
 use Rattle.bus_segment.proofs.Laws.{there_at}
 use Rattle.law_phases.specs.Engine.{AllInOrder}
 use Rattle.law_phases.proofs.Laws.{end_is_bus}
@@ -38,6 +39,17 @@ use Rattle.worker_phases.proofs.QuietLemmas.{complete_now, same_events}
 each_parts : {X : Type 0} (P : X → Type 0) (xs ys : List X) → AllByRecursion P (xs ++ ys) → AllByRecursion P xs × AllByRecursion P ys
 each_parts P [] ys each = (tt, each)
 each_parts P (x ∷ xs) ys each = let rest = each_parts P xs ys each.1 in ((each.0, rest.0), rest.1)
+
+-- stamps stay up to any number up to which they were, if those of the items that were got are below it
+stamps_up_to : {End : Type 0} (sent got : End → List Item) (old new : ℕ) (ends after : List End) → StampsRise sent got old new ends after → (most : ℕ) → old ≤ most → AllItems got (λ item. stamp_of item < most) after
+    → AllItems sent (λ item. stamp_of item ≤ most) ends → (new ≤ most) × AllItems sent (λ item. stamp_of item ≤ most) after
+stamps_up_to sent got old new ends after stamps most le below up =
+    let risen = stamps.rise (λ s. nat_le s most) (le-leb old most le)
+    (λ n end is. Each-weaker (λ (i : Item). stamp_of i < most) (λ (i : Item). nat_le (stamp_of i + 1) most ≡ true) (λ i less. le-leb (stamp_of i + 1) most (omega (arith, less))) (got end) (below n end is))
+    (λ n end is. Each-weaker (λ (i : Item). stamp_of i ≤ most) (λ (i : Item). nat_le (stamp_of i) most ≡ true) (λ i low. le-leb (stamp_of i) most low) (sent end) (up n end is)) in (
+      leb-true new most risen.0,
+      λ n end is. Each-weaker (λ (i : Item). nat_le (stamp_of i) most ≡ true) (λ (i : Item). stamp_of i ≤ most) (λ i low. leb-true (stamp_of i) most low) (sent end) (risen.1 n end is),
+    )
 
 module _ {End : Type 0} (had sent got : End → List Item) (kept : End → ℕ) (paired : End → End → Type 0) (board : Board) (valid : IsValid board) (workers : List (WorkerView End)) (phases : ℕ)
     (after : AfterPhases had sent got kept paired board workers phases) where
@@ -195,7 +207,7 @@ module _ {End : Type 0} (had sent got : End → List Item) (kept : End → ℕ) 
           let lane = lane_at n (slice_get_within w.ends n end there) in
           let at : EndAt w lane.0 end = record { port = n; lane_is = lane.1; end_is = there } in
           subst (AllByRecursion (λ (i : Item). stamp_of i ≤ phases + 1)) (sym (between_begun.emptied k w lane.0 end was.1 at).none_sent) tt in
-          one.stamps.up_to (phases + 1) stamp got_below none_sent
+          stamps_up_to sent got w.segment.stamp v.segment.stamp w.ends v.ends one.stamps (phases + 1) stamp got_below none_sent
 
       -- all ends are settled
       pub settled_after : (settled : List (WorkerView End)) → NoneStopped new → AllSettled had sent got kept paired new settled → busy ≡ true → AfterPhases had sent got kept paired board settled (phases + 1)

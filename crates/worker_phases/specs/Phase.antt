@@ -17,7 +17,7 @@ use Rattle.lane_items.specs.Lane.{in_hand, GotInOrder, left_count, Crosses, IsEm
 use Rattle.bus_core.specs.Bus.{shape_of}
 use Rattle.bus_core.specs.Calls.{stamp_of}
 use Rattle.bus_segment.specs.Stands.{WorkerView}
-use Rattle.bus_segment.specs.Steps.{StampsUpTo}
+use Rattle.bus_segment.specs.Steps.{StampsRise}
 use Rattle.bus_segment.specs.Turn.{Does, IsQuietAtZero}
 use Rattle.trace_merge.specs.Merged.{merged}
 use Rattle.worker_phases.specs.Workers.{EndAt, AreBetween}
@@ -61,7 +61,7 @@ pub record Turned {End : Type 0} (had sent got : End → List Item) (kept : End 
   pub does : Does had sent got kept paired board old.segment new.segment old.ends new.ends old.events new.events
   pub many : length new.events ≡ length old.events + count
   pub quiet : IsQuietAtZero had got board old.segment new.segment new.ends count
-  pub stamps : StampsUpTo sent got old.segment.stamp new.segment.stamp old.ends new.ends
+  pub stamps : StampsRise sent got old.segment.stamp new.segment.stamp old.ends new.ends
 
 -- each worker did its turn of the phase; if that was not busy, none made an event
 pub record AllTurned {End : Type 0} (had sent got : End → List Item) (kept : End → ℕ) (paired : End → End → Type 0) (board : Board) (phase : ℕ) (old new : List (WorkerView End)) (busy : Bool) : Type 0 where

@@ -3,7 +3,7 @@ use Rattle.std.proofs.lemmas.List.{with_items_is}
 use Rattle.lane_items.specs.declared.item.Item.{Item}
 use Rattle.bus_segment.specs.Ends.{ReceivesOne}
 use Rattle.bus_segment.specs.Turn.{Does, Takes}
-use Rattle.bus_segment.specs.Steps.{StampsUpTo, NothingCame}
+use Rattle.bus_segment.specs.Steps.{StampsRise, NothingCame}
 use Rattle.bus_segment.proofs.TakeLemmas.{received_nothing, received_does}
 use Rattle.bus_segment.proofs.StepLemmas.{nothing_stamps, nothing_came, takes_stamps, takes_most, takes_recorded}
 use Rattle.bus_segment.proofs.segment.Segment.receive.Goals as goal
@@ -38,7 +38,7 @@ returns-in-None-clause-stamps g c =
     let items = with_items_is c.args.self.now.ends c.receive_at.new.ends (omega arith) in
     let R : List End → Option Item → Type 0 = λ old item. ReceivesOne {End = End} E.had E.sent E.got E.kept E.paired c.args.place old item c.receive_at.new.ends in
     let received = subst (λ item. R c.args.self.now.ends.items item) c.in-None.is (subst (λ old. R old c.receive_at.result) c.as_mut_slice.ensures.value c.receive_at.ensures) in
-    subst (λ (after : List End). StampsUpTo {End = End} E.sent E.got c.args.self.now.stamp c.args.self.now.stamp c.args.self.now.ends.items after) (sym items)
+    subst (λ (after : List End). StampsRise {End = End} E.sent E.got c.args.self.now.stamp c.args.self.now.stamp c.args.self.now.ends.items after) (sym items)
     (nothing_stamps {End = End} E.had E.sent E.got E.kept E.paired c.args.place c.args.self.now.ends.items c.receive_at.new.ends c.args.self.now.stamp received)
 
 pub returns-in-None-clause-nothing : goal.returns-in-None-clause-nothing

@@ -2,7 +2,7 @@ use Rattle.std.proofs.Common.{ap, sym, subst, ◌∙◌}
 use Rattle.history_model.specs.declared.event.By.TheVariants.{Lane as ByLane}
 use Rattle.bus_core.specs.Bus.{BusView, shape_of}
 use Rattle.bus_core.specs.Serves.{Serves}
-use Rattle.bus_segment.specs.Steps.{StampsUpTo}
+use Rattle.bus_segment.specs.Steps.{StampsRise}
 use Rattle.bus_segment.proofs.DoesLemmas.{offer_does, there_at}
 use Rattle.bus_segment.proofs.StepLemmas.{finishes_stamps, finishes_most}
 use Rattle.bus_segment.proofs.RetryLemmas.{offer_retries}
@@ -23,7 +23,7 @@ returns-clause-stamps g c =
     let E = g.L.LaneEnd in
     let End : Type 0 = g.row.L.Denot in
     let served = c.serve_offer-presented in
-    subst (λ n. StampsUpTo {End = End} E.sent E.got c.args.self.now.stamp n c.args.self.now.ends.items c.finish.new.self.ends.items) (sym c.finish.ensures.stamp)
+    subst (λ n. StampsRise {End = End} E.sent E.got c.args.self.now.stamp n c.args.self.now.ends.items c.finish.new.self.ends.items) (sym c.finish.ensures.stamp)
     (finishes_stamps {End = End} E.had E.sent E.got E.kept E.paired served.result c.args.self.now.stamp c.args.self.now.ends.items c.finish.new.self.ends.items c.args.self.now.events.items c.finish.new.self.events.items c.finish.new.self.stopped
     c.finish.ensures.finishes served.ensures.stamped)
 
