@@ -1,35 +1,24 @@
 ghost use Rattle.std.specs.Prelude.{◌≡◌, ◌++◌, map, OnOk, string_bytes, [], ◌∷◌};
-ghost use Rattle.board_printer.specs.Lines.{spaced, line_text};
+ghost use Rattle.board_printer.specs.Lines.{spaced};
 ghost use Rattle.trace_text.specs.Words.{op_word, target_name};
-ghost use Rattle.audit_text.specs.Lines.{word_words, known_words, finding_line};
+ghost use Rattle.audit_text.specs.Lines.{word_words, known_words, finding_words};
 
+use crate::found::Found;
 use board_model::Board;
 use board_printer::{Address, HexWord, space_word};
 use pci_command::{OpId, Space};
 use std::alloc::AllocError;
 use trace_text::print_operation;
 
-/// The line of a read, behind a text.
-pub(crate) fn print_finding(
-    text: &mut String,
-    board: &Board,
-    read: OpId,
-    target: u16,
-    space: Space,
-    address: u64,
-    value: u32,
-    write: OpId,
-    chain: &[OpId],
-) -> Result<(), AllocError>
-    ensures { OnOk result
-        (string_bytes text.new ≡ string_bytes text.old ++ line_text (finding_line board.now (record { read = read; word = record { target = target; space = space; address = address }; value = value; write = write; chain = chain.now }))) }
+/// The words of the line of a read, behind a text.
+pub fn print_found(text: &mut String, board: &Board, found: &Found) -> Result<(), AllocError>
+    ensures { OnOk result (string_bytes text.new ≡ string_bytes text.old ++ finding_words board.now found.now) }
 {
-    print_operation(text, board, &read)?;
-    print_word(text, board, target, space, address)?;
-    print_known(text, board, value, write)?;
+    print_operation(text, board, &found.read)?;
+    print_word(text, board, found.target, found.space, found.address)?;
+    print_known(text, board, found.value, found.write)?;
     text.push_str(" by")?;
-    print_chain(text, board, chain)?;
-    writeln!(text)
+    print_chain(text, board, found.chain.as_slice())
 }
 
 fn print_word(

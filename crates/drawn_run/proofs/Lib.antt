@@ -1,0 +1,2 @@
+pub mod TrafficLemmas
+pub mod WaitLemmas
