@@ -12,7 +12,7 @@ use Rattle.drawn_columns.specs.declared.line.Line.{Line}
 use Rattle.drawn_columns.specs.declared.line.Line.TheVariants.{Left, Master, Target, Right}
 
 -- all buses but bus 0
-abbrev pub lower_buses : List ℕ
+unfoldable pub lower_buses : List ℕ
 lower_buses = range_with_len 1 255
 
 -- the buses below the bridges on a bus, by increasing number
@@ -26,8 +26,11 @@ children_of board parent = filter (is_child board parent) lower_buses
 -- the child up to the next one, since a bridge has the buses from its secondary to its subordinate bus behind it (PCI-to-PCI
 -- Bridge Architecture 1.1, section 3.2.5, from memory). So the wings are parted by one number: that of the first child in
 -- the right wing, or 256 where there is none.
+abbrev pub first_of_right : List ℕ → ℕ
+first_of_right children = option_map_or (λ bus. bus) (slice_get children (length children / 2)) 256
+
 unfoldable pub middle_of : Board → ℕ
-middle_of board = option_map_or (λ bus. bus) (slice_get (children_of board 0) (length (children_of board 0) / 2)) 256
+middle_of board = first_of_right (children_of board 0)
 
 -- the left wing from its last bus on, bus 0, and the right wing: what goes away from bus 0 goes outwards
 abbrev pub in_order : Board → ℕ → List ℕ

@@ -56,15 +56,11 @@ pub fn columns_of(
 ) -> Result<Columns, NoMemory>
     ensures { (items : List Item) → IsMost items most.now → IfOk result (λ columns. columns ≡ layout_of board.now items start) }
 {
-    let mut columns = Columns {
-        bands: Vec::new(alloc),
-        lines: Vec::new(alloc),
-        rows: 0,
-        past: start,
-    };
+    let mut columns = Columns::new(alloc, start);
     let middle = middle_of(alloc, board)?;
-    let buses = in_order(alloc, board, middle)?;
-    for bus in buses.as_slice() {
+    let order = in_order(alloc, board, middle)?;
+    let buses = order.as_slice();
+    for bus in buses {
         let lines = lines_on(alloc, board, middle, *bus)?;
         columns.add_bus(alloc, board, most, *bus, lines.as_slice())?;
     }
@@ -75,6 +71,18 @@ impl Columns {
     ghost use Rattle.std.specs.Prelude.{ℕ, ◌∷◌, [], Option};
     ghost use Rattle.drawn_columns.specs.Places.{with_bus, found_place, place_of, is_left, face_place, bar_place, width_of};
     ghost use Rattle.drawn_columns.specs.declared.line.Line.TheVariants as lines;
+
+    /// No bus, where a column would start there.
+    fn new(alloc: Global, start: u64) -> Columns
+        ensures { result ≡ record { bands = []; lines = []; rows = 0; past = start } }
+    {
+        Columns {
+            bands: Vec::new(alloc),
+            lines: Vec::new(alloc),
+            rows: 0,
+            past: start,
+        }
+    }
 
     /// One bus more.
     fn add_bus(

@@ -28,6 +28,7 @@ pub fn most_of(alloc: Global, items: &[Item]) -> Result<Most, NoMemory>
 {
     let mut most = Most::new(alloc)?;
     for item in items {
+        let _bus = item.lane.bus;
         most.see(item)?;
     }
     Ok(most)
@@ -44,16 +45,16 @@ fn slot_of(lane: Lane) -> usize
 }
 
 impl Most {
-    ghost use Rattle.std.specs.Prelude.{OnOk, replicate, length, ◌<◌, ◌++◌, ◌∷◌, []};
+    ghost use Rattle.std.specs.Prelude.{List, OnOk, replicate};
     ghost use Rattle.drawn_run.specs.declared.item.Item.{Item};
-    ghost use Rattle.drawn_columns.specs.Kept.{tracks_in, with_item};
+    ghost use Rattle.drawn_columns.specs.Kept.{with_item};
     ghost use Rattle.drawn_columns.specs.Places.{most};
 
     fn new(alloc: Global) -> Result<Most, NoMemory>
         ensures { IfOk result (λ most. most ≡ replicate 512 0) }
     {
         let mut tracks = Vec::new(alloc);
-        for _slot in 0..512 {
+        for _slot in 0..512usize {
             tracks.push(0)?;
         }
         Ok(Most { tracks })

@@ -1,18 +1,28 @@
-ghost use Rattle.std.specs.Prelude.{◌≡◌, ◌≤◌, ◌++◌, IfOk, OnOk};
-ghost use Rattle.drawn_columns.specs.Order.{children_of, is_child, middle_of, in_order, lines_on, masters_on, targets_on, left_faces, right_faces, own_left, own_right};
+ghost use Rattle.std.specs.Prelude.{◌≡◌, ◌++◌, ◌&&◌, nat_lt, nat_le, IfOk, OnOk};
+ghost use Rattle.std.specs.List.{filter};
+ghost use Rattle.board_model.specs.Valid.{has_bridge_to};
+ghost use Rattle.drawn_columns.specs.Order.{lower_buses, children_of, is_child, first_of_right, middle_of, in_order, lines_on, masters_on, targets_on, left_faces, right_faces, own_left, own_right};
 
 use crate::line::Line;
 use board_model::{Board, Lane, has_bridge_to, primary_of};
 use std::alloc::{AllocError, Global};
 
 /// The least bus of the right wing, or 256.
+#[tactic(auto, unfolding(crate::specs::Order::middle_of))]
 pub(crate) fn middle_of(alloc: Global, board: &Board) -> Result<u16, AllocError>
     ensures { IfOk result (λ middle. middle ≡ middle_of board.now) }
 {
     let children = children_of(alloc, board, 0)?;
-    match children.as_slice().get(children.len() / 2) {
-        Some(bus) => Ok(u16::from(*bus)),
-        None => Ok(256),
+    Ok(first_of_right(children.as_slice()))
+}
+
+/// The first bus behind the lesser half of these, or 256.
+fn first_of_right(children: &[u8]) -> u16
+    ensures { result ≡ first_of_right children.now }
+{
+    match children.get(children.len() / 2) {
+        Some(bus) => u16::from(*bus),
+        None => 256,
     }
 }
 
@@ -20,9 +30,24 @@ pub(crate) fn middle_of(alloc: Global, board: &Board) -> Result<u16, AllocError>
 fn children_of(alloc: Global, board: &Board, parent: u8) -> Result<Vec<u8>, AllocError>
     ensures { IfOk result (λ children. children.items ≡ children_of board.now parent) }
 {
-    (1..=255u8)
+    let buses = lower_buses(alloc)?;
+    buses
+        .as_slice()
+        .iter()
+        .copied()
         .filter(|bus| is_child(board, parent, *bus))
         .collect(alloc)
+}
+
+/// All buses but bus 0.
+fn lower_buses(alloc: Global) -> Result<Vec<u8>, AllocError>
+    ensures { IfOk result (λ buses. buses.items ≡ lower_buses) }
+{
+    let mut buses = Vec::new(alloc);
+    for above in 0..255u8 {
+        buses.push(above + 1)?;
+    }
+    Ok(buses)
 }
 
 fn is_child(board: &Board, parent: u8, bus: u8) -> bool
@@ -35,16 +60,43 @@ fn is_child(board: &Board, parent: u8, bus: u8) -> bool
 pub(crate) fn in_order(alloc: Global, board: &Board, middle: u16) -> Result<Vec<u8>, AllocError>
     ensures { IfOk result (λ buses. buses.items ≡ in_order board.now middle) }
 {
-    let mut buses: Vec<u8> = (1..=255u8)
-        .filter(|bus| u16::from(*bus) < middle && has_bridge_to(board, *bus))
-        .collect(alloc)?;
+    let lower = lower_buses(alloc)?;
+    let mut buses = left_wing(alloc, board, middle, lower.as_slice())?;
     buses.reverse();
     buses.push(0)?;
-    let right: Vec<u8> = (1..=255u8)
-        .filter(|bus| middle <= u16::from(*bus) && has_bridge_to(board, *bus))
-        .collect(alloc)?;
+    let right = right_wing(alloc, board, middle, lower.as_slice())?;
     buses.extend_from_slice(right.as_slice())?;
     Ok(buses)
+}
+
+fn left_wing(
+    alloc: Global,
+    board: &Board,
+    middle: u16,
+    lower: &[u8],
+) -> Result<Vec<u8>, AllocError>
+    ensures { IfOk result (λ buses. buses.items ≡ filter (λ bus. nat_lt bus middle && has_bridge_to board.now bus) lower.now) }
+{
+    lower
+        .iter()
+        .copied()
+        .filter(|bus| u16::from(*bus) < middle && has_bridge_to(board, *bus))
+        .collect(alloc)
+}
+
+fn right_wing(
+    alloc: Global,
+    board: &Board,
+    middle: u16,
+    lower: &[u8],
+) -> Result<Vec<u8>, AllocError>
+    ensures { IfOk result (λ buses. buses.items ≡ filter (λ bus. nat_le middle bus && has_bridge_to board.now bus) lower.now) }
+{
+    lower
+        .iter()
+        .copied()
+        .filter(|bus| middle <= u16::from(*bus) && has_bridge_to(board, *bus))
+        .collect(alloc)
 }
 
 /// The lines of a bus from left to right.
@@ -93,13 +145,14 @@ fn add_left_faces(
 ) -> Result<(), AllocError>
     ensures { OnOk result (lines.new.items ≡ lines.old.items ++ left_faces middle children.now) }
 {
-    let mut left: Vec<u8> = children
+    let mut found: Vec<u8> = children
         .iter()
         .copied()
         .filter(|child| u16::from(*child) < middle)
         .collect(alloc)?;
-    left.reverse();
-    for child in left.as_slice() {
+    found.reverse();
+    let left = found.as_slice();
+    for child in left {
         lines.push(Line::Left(Lane {
             bus: *child,
             up: true,
@@ -116,12 +169,13 @@ fn add_right_faces(
 ) -> Result<(), AllocError>
     ensures { OnOk result (lines.new.items ≡ lines.old.items ++ right_faces middle children.now) }
 {
-    let right: Vec<u8> = children
+    let found: Vec<u8> = children
         .iter()
         .copied()
         .filter(|child| middle <= u16::from(*child))
         .collect(alloc)?;
-    for child in right.as_slice() {
+    let right = found.as_slice();
+    for child in right {
         lines.push(Line::Right(Lane {
             bus: *child,
             up: true,

@@ -1,8 +1,8 @@
 -- What travels on the lanes in a trace. Events are numbered from 1 on; number 0 says that an item did not arrive, or did
 -- not leave.
-use Rattle.std.specs.Prelude.{ℕ, ◌+◌, ◌-◌, Bool, true, false, not, ◌&&◌, ◌||◌, ◌==◌, nat_lt, List, [], ◌∷◌, ◌++◌, length, Option, Some, None, if◌then◌else◌, slice_get}
-use Rattle.std.specs.List.{filter, find, flat_map, list_any, range_with_len}
-use Rattle.std.specs.Option.{option_map_or, option_and_then}
+use Rattle.std.specs.Prelude.{ℕ, zero, suc, ◌+◌, ◌-◌, Bool, true, false, not, ◌&&◌, ◌||◌, ◌==◌, nat_lt, List, [], ◌∷◌, ◌++◌, length, Option, Some, None, if◌then◌else◌, slice_get}
+use Rattle.std.specs.List.{filter, find, flat_map, list_any}
+use Rattle.std.specs.Option.{option_and_then}
 use Rattle.std.proofs.Math.ListN.{set}
 use Rattle.pci_command.specs.declared.op_id.OpId.{OpId}
 use Rattle.pci_command.specs.Same.{same_op}
@@ -119,9 +119,14 @@ tracks_on lane lanes = flat_map (λ number. track_on lane (slice_get lanes.items
 abbrev pub is_in : List ℕ → ℕ → Bool
 is_in tracks track = list_any (λ other. other == track) tracks
 
--- the least number that is none of these: less than so many there are, or just that
+-- the least number that is none of these, from this one on; more than so many need not be tried
+abbrev pub free_from : List ℕ → ℕ → ℕ → ℕ
+free_from tracks track zero = track
+free_from tracks track (suc more) = if is_in tracks track then free_from tracks (track + 1) more else track
+
+-- the least number that is none of these
 abbrev pub least_free : List ℕ → ℕ
-least_free tracks = option_map_or (λ track. track) (find (λ track. not (is_in tracks track)) (range_with_len 0 (length tracks))) (length tracks)
+least_free tracks = free_from tracks 0 (length tracks)
 
 -- Arrivals.
 

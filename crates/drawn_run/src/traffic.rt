@@ -1,5 +1,7 @@
-ghost use Rattle.std.specs.Prelude.{◌≡◌, ◌<◌, ◌^◌, ◌++◌, length, slice_get, IfOk, OnOk};
-ghost use Rattle.drawn_run.specs.Items.{traffic_of, track_on, least_free, passes, is_in_flight, is_presented, is_taken, ends, is_marked};
+ghost use Rattle.std.specs.Prelude.{◌≡◌, ◌<◌, ◌^◌, ◌++◌, ◌==◌, not, length, slice_get, IfOk, OnOk};
+ghost use Rattle.std.specs.List.{filter};
+ghost use Rattle.std.proofs.Math.ListN.{set};
+ghost use Rattle.drawn_run.specs.Items.{traffic_of, track_on, is_in, least_free, passes, is_in_flight, is_presented, is_taken, ends, is_marked};
 
 use crate::item::{Item, Kind, lane_back};
 use board_model::{Lane, Place};
@@ -53,7 +55,7 @@ impl Traffic {
     ghost use Rattle.std.specs.Prelude.{None};
     ghost use Rattle.std.specs.Option.{option_copied};
     ghost use Rattle.history_model.specs.declared.event.Event.{Event};
-    ghost use Rattle.drawn_run.specs.Items.{nothing, item_of, taken_by, happen, arrive, brought, arrived, dropped, act, acted, ended, sent_on, left, left_by, answered, sent, changed, touching, oldest, is_in_flight, presented, taken, tracks_on};
+    ghost use Rattle.drawn_run.specs.Items.{nothing, item_of, taken_by, happen, arrive, brought, arrived, dropped, act, acted, ended, sent_on, left, left_by, answered, sent, changed, touching, oldest, is_in_flight, is_presented, is_taken, presented, taken, tracks_on};
 
     fn new(alloc: Global) -> Traffic
         ensures { result ≡ nothing }
@@ -170,11 +172,9 @@ impl Traffic {
     fn change(&mut self, number: usize, item: Item)
         ensures { self.new ≡ changed number item self.old }
     {
-        if number < self.items.len() {
-            self.items[number] = item;
-        }
+        put_item(&mut self.items, number, item);
         if item.is_done() {
-            self.under_way.retain(|other| *other != number);
+            drop_number(&mut self.under_way, number);
         }
     }
 
@@ -293,15 +293,19 @@ impl Traffic {
     {
         match by {
             By::Master => None,
-            By::Lane(lane) => {
-                let items = self.items.as_slice();
-                let under_way = self.under_way.as_slice();
-                under_way
-                    .iter()
-                    .copied()
-                    .find(|number| is_presented_at(items, *number, lane, op))
-            }
+            By::Lane(lane) => self.first_presented(lane, op),
         }
+    }
+
+    fn first_presented(&self, lane: Lane, op: OpId) -> Option<usize>
+        ensures { result ≡ oldest (is_presented lane op) self.now }
+    {
+        let items = self.items.as_slice();
+        let under_way = self.under_way.as_slice();
+        under_way
+            .iter()
+            .copied()
+            .find(|number| is_presented_at(items, *number, lane, op))
     }
 
     /// What is taken: the completion of the operation that stands on the lane back.
@@ -309,17 +313,20 @@ impl Traffic {
         ensures { result ≡ taken op step place self.now }
     {
         match (step, place) {
-            (Step::Take(_), Place::Lane(lane)) => {
-                let items = self.items.as_slice();
-                let under_way = self.under_way.as_slice();
-                let back = lane_back(lane);
-                under_way
-                    .iter()
-                    .copied()
-                    .find(|number| is_taken_at(items, *number, back, op))
-            }
+            (Step::Take(_), Place::Lane(lane)) => self.first_taken(lane_back(lane), op),
             _ => None,
         }
+    }
+
+    fn first_taken(&self, lane: Lane, op: OpId) -> Option<usize>
+        ensures { result ≡ oldest (is_taken lane op) self.now }
+    {
+        let items = self.items.as_slice();
+        let under_way = self.under_way.as_slice();
+        under_way
+            .iter()
+            .copied()
+            .find(|number| is_taken_at(items, *number, lane, op))
     }
 
     /// The least track that nothing has that stands on the lane.
@@ -359,10 +366,32 @@ fn add_track(
 fn least_free(tracks: &[usize]) -> usize
     ensures { result ≡ least_free tracks.now }
 {
-    let count = tracks.len();
-    (0..count)
-        .find(|track| !tracks.iter().any(|other| *other == *track))
-        .unwrap_or(count)
+    for track in 0..tracks.len() {
+        if !is_in(tracks, track) {
+            return track;
+        }
+    }
+    tracks.len()
+}
+
+fn is_in(tracks: &[usize], track: usize) -> bool
+    ensures { result ≡ is_in tracks.now track }
+{
+    tracks.iter().any(|other| *other == track)
+}
+
+fn put_item(items: &mut Vec<Item>, number: usize, item: Item)
+    ensures { items.new.items ≡ set items.old.items number item }
+{
+    if number < items.len() {
+        items[number] = item;
+    }
+}
+
+fn drop_number(numbers: &mut Vec<usize>, number: usize)
+    ensures { numbers.new.items ≡ filter (λ other. not (other == number)) numbers.old.items }
+{
+    numbers.retain(|other| *other != number);
 }
 
 fn flies_at(items: &[Item], number: usize, lane: Lane) -> bool
