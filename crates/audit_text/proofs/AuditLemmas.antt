@@ -24,9 +24,9 @@ pub record SoFar (board : Board) (h : List Event) (notes : Notes) (all : List Fi
   pub tolds : ToldsFor (length board.masters) notes.whole notes.clocks.starts notes.landed notes.tolds
   pub found_is : all ≡ findings board h
 
-pub so_far_none : (board : Board) (notes : Notes)
-    → notes ≡ record { gone = []; landed = []; whole = []; readings = []; gots = []; clocks = record { known = replicate (length board.masters) (replicate (length board.masters) []); starts = []; taught = [] }; tolds = [] } → SoFar board [] notes []
-so_far_none board notes is = record { stands = stands_first board notes is; tolds = tolds_first (length board.masters) notes.whole notes.clocks.starts notes.landed notes.tolds (ap (λ (n : Notes). n.tolds) is); found_is = refl }
+pub so_far_none : (board : Board) (notes : Notes) (all : List Finding) → all ≡ []
+    → notes ≡ record { gone = []; landed = []; whole = []; readings = []; gots = []; clocks = record { known = replicate (length board.masters) (replicate (length board.masters) []); starts = []; taught = [] }; tolds = [] } → SoFar board [] notes all
+so_far_none board notes all none is = record { stands = stands_first board notes is; tolds = tolds_first (length board.masters) notes.whole notes.clocks.starts notes.landed notes.tolds (ap (λ (n : Notes). n.tolds) is); found_is = none }
 
 step : (board : Board) (valid : IsValid board) (h : List Event) (e : Event) (notes next : Notes) (all longer more : List Finding) (index : ℕ) → Run board (e ∷ h) → index ≡ length h → SoFar board h notes all
     → Happens board index e notes next

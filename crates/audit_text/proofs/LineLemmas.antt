@@ -22,3 +22,7 @@ line_parts word by xs ys zs old t1 t2 t3 t4 t5 e1 e2 e3 e4 e5 =
 -- a line is its words and a newline
 pub line_ends : (word : List ℕ) (words : Line) → (word ++ spaced words []) ++ 10 ∷ [] ≡ line_text (word ∷ words)
 line_ends word words = append_assoc word (spaced words []) (10 ∷ []) ∙ ap (λ (l : List ℕ). word ++ l) (sym (spaced-rest words (10 ∷ [])))
+
+pub line_done : (word : List ℕ) (words : Line) (old now next : List ℕ) → now ≡ old ++ (word ++ spaced words []) → next ≡ now ++ 10 ∷ [] → next ≡ old ++ line_text (word ∷ words)
+line_done word words old now next is ended =
+    ended ∙ ap (λ (l : List ℕ). l ++ 10 ∷ []) is ∙ append_assoc old (word ++ spaced words []) (10 ∷ []) ∙ ap (λ (l : List ℕ). old ++ l) (line_ends word words)

@@ -7,7 +7,7 @@ ghost use Rattle.audit_text.specs.Lines.{audit_of, findings_text};
 
 use crate::findings::findings_of;
 use crate::found::Found;
-use crate::lines::print_found;
+use crate::lines::print_line;
 use board_model::Board;
 use bus_tree::Tree;
 use history_model::Event;
@@ -40,8 +40,7 @@ fn print_findings(text: &mut String, board: &Board, found: &[Found]) -> Result<(
     ensures { OnOk result (string_bytes text.new ≡ string_bytes text.old ++ findings_text board.now found.now) }
 {
     for one in found {
-        print_found(text, board, one)?;
-        writeln!(text)?;
+        print_line(text, board, one)?;
     }
     Ok(())
 }

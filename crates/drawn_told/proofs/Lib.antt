@@ -1,0 +1,4 @@
+pub mod TouchLemmas
+pub mod LandingLemmas
+pub mod EndLemmas
+pub mod KeyLemmas

@@ -1,5 +1,10 @@
+ghost use Rattle.std.specs.Prelude.{◌≡◌, nat_lt, IfOk};
+ghost use Rattle.std.specs.List.{position_from};
+ghost use Rattle.drawn_told.specs.Brackets.{brackets_of};
+
 use crate::told::Span;
 use std::alloc::{AllocError, Global};
+use std::marker::Model;
 
 /// No more brackets than these stand side by side.
 const MOST: usize = 8;
@@ -12,12 +17,19 @@ pub struct Brackets {
     ends: Vec<u32>,
 }
 
+impl Model for Brackets {
+    ghost use Rattle.drawn_told.specs.Brackets.{Standing};
+
+    ghost Value = { Standing };
+
+    ghost view = { λ k. record { tracks = k.tracks.items; ends = k.ends.items } };
+}
+
 /// The brackets of these spans, in their order.
-pub fn brackets_of(alloc: Global, spans: &[Span]) -> Result<Brackets, AllocError> {
-    let mut brackets = Brackets {
-        tracks: Vec::new(alloc),
-        ends: Vec::new(alloc),
-    };
+pub fn brackets_of(alloc: Global, spans: &[Span]) -> Result<Brackets, AllocError>
+    ensures { IfOk result (λ brackets. brackets ≡ brackets_of spans.now) }
+{
+    let mut brackets = Brackets::new(alloc);
     for span in spans {
         brackets.stand(span.landed.min(span.read), span.landed.max(span.read))?;
     }
@@ -25,34 +37,70 @@ pub fn brackets_of(alloc: Global, spans: &[Span]) -> Result<Brackets, AllocError
 }
 
 impl Brackets {
+    ghost use Rattle.std.specs.Prelude.{OnOk, Some, [], length};
+    ghost use Rattle.drawn_told.specs.Brackets.{with_found, with_new};
+
+    fn new(alloc: Global) -> Brackets
+        ensures { result ≡ record { tracks = []; ends = [] } }
+    {
+        Brackets {
+            tracks: Vec::new(alloc),
+            ends: Vec::new(alloc),
+        }
+    }
+
     /// One more bracket, from row `low` to row `high`.
-    fn stand(&mut self, low: u32, high: u32) -> Result<(), AllocError> {
-        match self.ends.iter().position(|end| *end < low) {
-            Some(track) => {
-                if track < self.ends.len() {
-                    self.ends[track] = high;
-                }
-                self.tracks.push(Some(track))?;
-            }
-            None => {
-                if self.ends.len() < MOST {
-                    self.tracks.push(Some(self.ends.len()))?;
-                    self.ends.push(high)?;
-                } else {
-                    self.tracks.push(None)?;
-                }
-            }
+    fn stand(&mut self, low: u32, high: u32) -> Result<(), AllocError>
+        ensures { OnOk result (self.new ≡ with_found high (position_from (λ end. nat_lt end low) 0 self.old.ends) self.old) }
+    {
+        match first_before(self.ends.as_slice(), low) {
+            Some(track) => self.stand_on(track, high),
+            None => self.stand_aside(high),
+        }
+    }
+
+    fn stand_on(&mut self, track: usize, high: u32) -> Result<(), AllocError>
+        ensures { OnOk result (self.new ≡ with_found high (Some track) self.old) }
+    {
+        if track < self.ends.len() {
+            self.ends[track] = high;
+        }
+        self.tracks.push(Some(track))?;
+        Ok(())
+    }
+
+    /// On a track of its own, if there is room.
+    fn stand_aside(&mut self, high: u32) -> Result<(), AllocError>
+        ensures { OnOk result (self.new ≡ with_new high self.old) }
+    {
+        let count = self.ends.len();
+        if count < MOST {
+            self.tracks.push(Some(count))?;
+            self.ends.push(high)?;
+        } else {
+            self.tracks.push(None)?;
         }
         Ok(())
     }
 
     /// The track of each, where there was one free.
-    pub fn tracks(&self) -> &[Option<usize>] {
+    pub fn tracks(&self) -> &[Option<usize>]
+        ensures { result.now ≡ self.now.tracks }
+    {
         self.tracks.as_slice()
     }
 
     /// How many tracks are used.
-    pub fn count(&self) -> usize {
+    pub fn count(&self) -> usize
+        ensures { result ≡ length self.now.ends }
+    {
         self.ends.len()
     }
+}
+
+/// The first of these that is less.
+fn first_before(ends: &[u32], low: u32) -> Option<usize>
+    ensures { result ≡ position_from (λ end. nat_lt end low) 0 ends.now }
+{
+    ends.iter().position(|end| *end < low)
 }

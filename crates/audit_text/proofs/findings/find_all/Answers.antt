@@ -2,7 +2,7 @@ use Rattle.audit_text.proofs.AuditLemmas.{so_far_none, so_far_more, searchable_m
 use Rattle.audit_text.proofs.findings.find_all.Goals as goal
 
 pub loop-index-init : goal.loop-index-init
-loop-index-init c = so_far_none c.args.board.now _ c.in_ok-ledger.ensures
+loop-index-init c = so_far_none c.args.board.now _ _ c.new-all.ensures.items c.in_ok-ledger.ensures
 
 -- one event more
 pub loop-index-preserved : goal.loop-index-preserved
