@@ -1,12 +1,14 @@
-use crate::acts::{Act, begin_of, end_of, print_act, print_act_rim, print_head};
-use crate::items::{print_item, print_item_rim, route_of};
 use crate::labels::Label;
 use crate::picture::Picture;
 use crate::strips::Strips;
+use board_model::Place;
+use drawn_elements::{
+    Act, Route, faint, print_act, print_act_rim, print_head, print_item, print_item_rim,
+};
 use drawn_run::Kind;
 use drawn_told::Span;
-use history_model::{Event, Step};
-use pci_command::NoMemory;
+use history_model::{By, Event, Step};
+use pci_command::{NoMemory, OpId};
 use std::alloc::{AllocError, Global};
 
 /// All that is drawn, layer by layer.
@@ -24,7 +26,18 @@ pub(crate) fn draw_layers(
     draw_list(alloc, strips, picture)
 }
 
-fn act_of(picture: &Picture, n: u32) -> Option<Act> {
+/// An act, by its number.
+#[derive(Clone, Copy)]
+struct Shown {
+    n: u32,
+    bus: u8,
+    by: By,
+    op: OpId,
+    step: Step,
+    place: Place,
+}
+
+fn act_of(picture: &Picture, n: u32) -> Option<Shown> {
     match picture.events.get((n as usize).saturating_sub(1)) {
         Some(Event::Act {
             bus,
@@ -32,7 +45,7 @@ fn act_of(picture: &Picture, n: u32) -> Option<Act> {
             op,
             step,
             place,
-        }) => Some(Act {
+        }) => Some(Shown {
             n,
             bus: *bus,
             by: *by,
@@ -45,12 +58,25 @@ fn act_of(picture: &Picture, n: u32) -> Option<Act> {
 }
 
 /// An act other than `nobody`.
-fn claimed_act_of(picture: &Picture, n: u32) -> Option<Act> {
+fn claimed_act_of(picture: &Picture, n: u32) -> Option<Shown> {
     let act = act_of(picture, n)?;
     match act.step {
         Step::MasterAbort => None,
         _ => Some(act),
     }
+}
+
+/// Where it begins and ends.
+fn ends_of(picture: &Picture, act: &Shown) -> Result<Act, NoMemory> {
+    Act::of(
+        picture.columns,
+        act.by,
+        act.op,
+        act.step,
+        act.place,
+        picture.traffic.item_of(act.n).copied(),
+        picture.traffic.taken_by(act.n).copied(),
+    )
 }
 
 /// The marks of landings and reads that a line of the audit tells of.
@@ -83,15 +109,14 @@ fn print_key(text: &mut String, picture: &Picture, n: u32) -> Result<(), AllocEr
     )
 }
 
-fn print_key_line(text: &mut String, picture: &Picture, act: &Act) -> Result<(), NoMemory> {
-    let begin = begin_of(picture, act)?;
-    let end = end_of(picture, act)?;
+fn print_key_line(text: &mut String, picture: &Picture, act: &Shown) -> Result<(), NoMemory> {
+    let ends = ends_of(picture, act)?;
     writeln!(
         text,
         "<path class=\"u\" d=\"M{} {}H{}\"/>",
         picture.told_x,
         picture.y(act.n),
-        begin.min(end)
+        ends.begin.min(ends.end)
     )?;
     Ok(())
 }
@@ -108,10 +133,10 @@ fn draw_rims(alloc: Global, strips: &mut Strips, picture: &Picture) -> Result<()
             Kind::Credit | Kind::Gone => false,
         };
         if rim {
-            let route = route_of(picture, item)?;
+            let route = Route::of(picture.columns, picture.end(), item)?;
             if strips.sees(route.sent, route.left) {
                 let mut text = String::new(alloc);
-                print_item_rim(&mut text, picture, item, &route)?;
+                print_item_rim(&mut text, picture.first, &route)?;
                 strips.draw(route.sent, route.left, text.as_str())?;
             }
         }
@@ -120,7 +145,7 @@ fn draw_rims(alloc: Global, strips: &mut Strips, picture: &Picture) -> Result<()
         if let Some(act) = claimed_act_of(picture, n) {
             if picture.told.is_loud(act.op) {
                 let mut text = String::new(alloc);
-                print_act_rim(&mut text, picture, &act)?;
+                print_act_rim(&mut text, picture.first, n, &ends_of(picture, &act)?)?;
                 strips.draw(n, n, text.as_str())?;
             }
         }
@@ -136,7 +161,7 @@ fn draw_waiting(alloc: Global, strips: &mut Strips, picture: &Picture) -> Result
             writeln!(
                 text,
                 "<path class=\"w{}\" d=\"M{} {}V{}\"/>",
-                picture.faint(wait.op),
+                faint(picture.is_pale(wait.op)),
                 picture.columns.master(wait.op.master),
                 picture.y(wait.first),
                 picture.y(wait.last)
@@ -149,10 +174,10 @@ fn draw_waiting(alloc: Global, strips: &mut Strips, picture: &Picture) -> Result
 
 fn draw_items(alloc: Global, strips: &mut Strips, picture: &Picture) -> Result<(), NoMemory> {
     for item in picture.traffic.items() {
-        let route = route_of(picture, item)?;
+        let route = Route::of(picture.columns, picture.end(), item)?;
         if strips.sees(route.sent, route.left) {
             let mut text = String::new(alloc);
-            print_item(&mut text, picture, item, &route)?;
+            print_item(&mut text, picture.board, picture.first, picture.is_pale(item.op), item, &route)?;
             strips.draw(route.sent, route.left, text.as_str())?;
         }
     }
@@ -163,7 +188,7 @@ fn draw_acts(alloc: Global, strips: &mut Strips, picture: &Picture) -> Result<()
     for n in picture.first..picture.last + 1 {
         if let Some(act) = act_of(picture, n) {
             let mut text = String::new(alloc);
-            print_act(&mut text, picture, &act)?;
+            print_act(&mut text, picture.board, picture.columns, picture.first, n, picture.is_pale(act.op), act.bus, act.by, act.op, act.step, &ends_of(picture, &act)?)?;
             strips.draw(n, n, text.as_str())?;
         }
     }
@@ -208,7 +233,7 @@ fn print_bracket(
         x + 4,
         picture.y(span.landed)
     )?;
-    print_head(text, picture, x, span.read, false)?;
+    print_head(text, picture.first, span.read, x, false)?;
     text.push_str("</g>\n")
 }
 

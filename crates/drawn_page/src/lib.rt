@@ -1,11 +1,8 @@
 //! The picture of a run, as a page of HTML.
 #![tactic(auto)]
 
-mod acts;
 mod fixed;
 mod head;
-mod height;
-mod items;
 mod labels;
 mod layers;
 mod page;

@@ -1,11 +1,11 @@
-use crate::height::Height;
 use crate::labels::Label;
-use board_model::{Board, Lane};
+use board_model::Board;
 use drawn_columns::Columns;
-use drawn_run::{Item, Traffic, Tries, Wait, lane_back};
+use drawn_elements::Height;
+use drawn_run::{Traffic, Tries, Wait};
 use drawn_told::{Brackets, Told};
 use history_model::Event;
-use pci_command::{NoMemory, OpId};
+use pci_command::OpId;
 
 /// What is drawn of a run.
 #[derive(Drop)]
@@ -48,18 +48,8 @@ impl Picture<'_> {
         self.events.len() as u32 + 1
     }
 
-    /// Where what goes on a lane is sent.
-    pub(crate) fn near(&self, lane: Lane) -> u64 {
-        self.columns.face(lane_back(lane))
-    }
-
-    /// The bar of an item that stands.
-    pub(crate) fn bar(&self, item: &Item) -> Result<u64, NoMemory> {
-        self.columns.bar(item.lane, item.track)
-    }
-
-    /// ` f` behind a class, where the operation is pale.
-    pub(crate) fn faint(&self, op: OpId) -> &'static str {
-        if self.tries.is_pale(op) { " f" } else { "" }
+    /// Whether the operation is a fruitless try of a poll.
+    pub(crate) fn is_pale(&self, op: OpId) -> bool {
+        self.tries.is_pale(op)
     }
 }

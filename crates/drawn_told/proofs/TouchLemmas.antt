@@ -1,16 +1,36 @@
 -- Data phases of a write, one by one.
-use Rattle.std.proofs.Common.{◌≡◌, ℕ, suc, ◌+◌, ◌*◌, Bool, true, false, cond, List, [], ◌∷◌, ◌++◌, refl, sym, ap, ◌∙◌, arith, append-nil, append_assoc}
+use Rattle.std.proofs.Common.{◌≡◌, ℕ, suc, ◌+◌, ◌*◌, Bool, true, false, cond, List, [], ◌∷◌, ◌++◌, refl, sym, ap, ◌∙◌, arith, append-nil, append_assoc, Some}
+use Rattle.history_facts.proofs.RequestLemmas.{same_op_true}
+use Rattle.audit_clocks.specs.Tables.{value_of, list_in, Puts}
 use Rattle.pci_command.specs.declared.command.Space.{Space}
 use Rattle.pci_command.specs.declared.op_id.OpId.{OpId}
 use Rattle.pci_command.specs.Same.{same_op}
 use Rattle.drawn_told.specs.declared.touches.Touch.{Touch}
 use Rattle.drawn_told.specs.Kept.{touches_in, touches_from, Adds}
 
+no_touch : List Touch
+no_touch = []
+
+nothing : (b : Bool) → cond b no_touch no_touch ≡ no_touch
+nothing true = refl
+nothing false = refl
+
 pub adds_none : (n target : ℕ) (space : Space) (at : ℕ) (op : OpId) (old : List (OpId × List Touch)) → Adds old old (λ o. cond (same_op op o) (touches_from n target space at 0) [])
+unfolding no_touch
 adds_none n target space at op old = record {
+  each = λ o. sym (append-nil (touches_in o old)) ∙ ap (λ (l : List Touch). touches_in o old ++ l) (sym (nothing (same_op op o)));
+}
+
+-- the operation's list with one more
+pub adds_put : (op : OpId) (touch : Touch) (list : List Touch) (old new : List (OpId × List Touch)) → list ≡ touches_in op old ++ touch ∷ [] → Puts op list old new → Adds old new (λ o. cond (same_op op o) (touch ∷ []) [])
+adds_put op touch list old new is puts = record {
   each = λ o.
-      let nothing : (b : Bool) → cond b [] [] ≡ [] {A = Touch} = λ b. elim b as (λ c. cond c [] [] ≡ [] {A = Touch}) [ true ↦ refl | false ↦ refl ] in
-      sym (append-nil (touches_in o old)) ∙ ap (λ (l : List Touch). touches_in o old ++ l) (sym (nothing (same_op op o)));
+      let P : Bool → Type 0 = λ b. same_op op o ≡ b → list_in (cond b (Some list) (value_of o old)) ≡ touches_in o old ++ cond b (touch ∷ []) [] in
+      ap (λ x. list_in x) (puts.each o)
+      ∙ (elim (same_op op o) as P [
+        | true ↦ λ same. is ∙ ap (λ p. touches_in p old ++ touch ∷ []) (same_op_true op o same)
+        | false ↦ λ other. sym (append-nil (touches_in o old))
+      ]) refl;
 }
 
 more_by : (b : Bool) (old xs : List Touch) (x : Touch) → (old ++ cond b xs []) ++ cond b (x ∷ []) [] ≡ old ++ cond b (xs ++ x ∷ []) []

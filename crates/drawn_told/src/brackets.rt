@@ -31,14 +31,14 @@ pub fn brackets_of(alloc: Global, spans: &[Span]) -> Result<Brackets, AllocError
 {
     let mut brackets = Brackets::new(alloc);
     for span in spans {
-        brackets.stand(span.landed.min(span.read), span.landed.max(span.read))?;
+        brackets.stand(*span)?;
     }
     Ok(brackets)
 }
 
 impl Brackets {
     ghost use Rattle.std.specs.Prelude.{OnOk, Some, [], length};
-    ghost use Rattle.drawn_told.specs.Brackets.{with_found, with_new};
+    ghost use Rattle.drawn_told.specs.Brackets.{with_bracket, with_found, with_new};
 
     fn new(alloc: Global) -> Brackets
         ensures { result ≡ record { tracks = []; ends = [] } }
@@ -49,10 +49,12 @@ impl Brackets {
         }
     }
 
-    /// One more bracket, from row `low` to row `high`.
-    fn stand(&mut self, low: u32, high: u32) -> Result<(), AllocError>
-        ensures { OnOk result (self.new ≡ with_found high (position_from (λ end. nat_lt end low) 0 self.old.ends) self.old) }
+    /// One more bracket.
+    fn stand(&mut self, span: Span) -> Result<(), AllocError>
+        ensures { OnOk result (self.new ≡ with_bracket span self.old) }
     {
+        let low = span.landed.min(span.read);
+        let high = span.landed.max(span.read);
         match first_before(self.ends.as_slice(), low) {
             Some(track) => self.stand_on(track, high),
             None => self.stand_aside(high),

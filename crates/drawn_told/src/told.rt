@@ -132,8 +132,7 @@ fn keys_of(
 {
     let mut keys = no_keys(alloc, count)?;
     for line in 0..found.len() {
-        mark_span(&mut keys, spans[line]);
-        mark_chain(&mut keys, ends, found[line].chain.as_slice());
+        mark_line(&mut keys, ends, &found[line], spans[line]);
     }
     Ok(keys)
 }
@@ -146,6 +145,16 @@ fn no_keys(alloc: Global, count: usize) -> Result<Vec<bool>, NoMemory>
         keys.push(false)?;
     }
     Ok(keys)
+}
+
+/// The landing and the read of a line, and those of its chain.
+#[tactic(auto, using(crate::proofs::KeyLemmas::marks_then))]
+fn mark_line(keys: &mut Vec<bool>, ends: &Ends, found: &Found, span: Span)
+    ensures { (h : List Event) → TellsEnds h ends.now
+        → Marks keys.old.items keys.new.items (λ n. (span.landed == n || span.read == n) || list_any (is_event_of h n) found.now.chain) }
+{
+    mark_span(keys, span);
+    mark_chain(keys, ends, found.chain.as_slice());
 }
 
 fn mark_span(keys: &mut Vec<bool>, span: Span)

@@ -1,6 +1,6 @@
-ghost use Rattle.std.specs.Prelude.{◌≡◌, ◌≤◌, ◌^◌, ◌+◌, [], ◌++◌, ◌∷◌, if◌then◌else◌, length, OnOk};
-ghost use Rattle.pci_command.specs.Same.{same_op};
-ghost use Rattle.audit_clocks.specs.Tables.{list_in, Puts};
+ghost use Rattle.std.specs.Prelude.{◌≡◌, ◌≤◌, ◌^◌, ◌+◌, [], ◌++◌, ◌∷◌, if◌then◌else◌, ◌&&◌, nat_lt, length, IfOk, OnOk};
+ghost use Rattle.pci_command.specs.Same.{same_op, same_space};
+ghost use Rattle.audit_clocks.specs.Tables.{same_word, Puts};
 ghost use Rattle.audit_text.specs.Notes.{few_of, lands, Parted};
 ghost use Rattle.drawn_told.specs.Kept.{touches_in, touches_from, request_touches, place_touches, event_touches, last_before, Adds, Touches};
 
@@ -8,9 +8,8 @@ use audit_clocks::{OpTable, Word};
 use board_model::{Board, Place, request_of};
 use history_core::{brought_by, dword_address, left_of};
 use history_model::{Event, Step};
-use pci_command::{NoMemory, OpId, Request};
+use pci_command::{NoMemory, OpId, Request, Space};
 use std::alloc::Global;
-use std::collections::HashMap;
 use std::marker::Model;
 
 /// A data phase that landed in a dword, by an event.
@@ -38,7 +37,7 @@ impl Model for TouchList {
 /// The data phases that landed of each write.
 #[derive(Debug, Drop)]
 pub(crate) struct TouchTable {
-    entries: HashMap<OpId, TouchList>,
+    lists: OpTable<TouchList>,
 }
 
 impl Model for TouchTable {
@@ -48,7 +47,7 @@ impl Model for TouchTable {
 
     ghost Value = { List (OpId × List Touch) };
 
-    ghost view = { λ k. k.entries.entries };
+    ghost view = { λ k. k.lists };
 }
 
 /// What landed, and how much of each write went through.
@@ -72,7 +71,7 @@ impl TouchTable {
         ensures { result ≡ [] }
     {
         TouchTable {
-            entries: HashMap::new(alloc),
+            lists: OpTable::new(alloc),
         }
     }
 
@@ -80,33 +79,37 @@ impl TouchTable {
     fn of(&self, op: OpId) -> &[Touch]
         ensures { result.now ≡ touches_in op self.now }
     {
-        match self.entries.get(&op) {
-            Some(list) => list.touches.as_slice(),
+        match self.lists.get(op) {
+            Some(list) => list.as_slice(),
             None => &[],
         }
     }
 
     /// A data phase of the write landed.
+    #[tactic(auto, using(crate::proofs::TouchLemmas::adds_put))]
     fn add(&mut self, alloc: Global, op: OpId, touch: Touch) -> Result<(), NoMemory>
         ensures { OnOk result (Adds self.old self.new (λ o. if same_op op o then touch ∷ [] else [])) }
     {
-        let found = self.entries.remove(&op);
-        let mut list = list_or_new(alloc, found);
-        list.touches.push(touch)?;
-        self.entries.insert(op, list)?;
-        Ok(())
+        let list = longer(alloc, self.of(op), touch)?;
+        self.lists.put(op, list)
     }
 }
 
-fn list_or_new(alloc: Global, found: Option<TouchList>) -> TouchList
-    ensures { result ≡ list_in found }
-{
-    match found {
-        Some(list) => list,
-        None => TouchList {
-            touches: Vec::new(alloc),
-        },
+impl TouchList {
+    fn as_slice(&self) -> &[Touch]
+        ensures { result.now ≡ self.now }
+    {
+        self.touches.as_slice()
     }
+}
+
+/// These and one more. A write has eight at most.
+fn longer(alloc: Global, touches: &[Touch], touch: Touch) -> Result<TouchList, NoMemory>
+    ensures { IfOk result (λ list. list ≡ touches.now ++ touch ∷ []) }
+{
+    let mut touches = touches.to_vec(alloc)?;
+    touches.push(touch)?;
+    Ok(TouchList { touches })
 }
 
 impl Landed {
@@ -142,11 +145,35 @@ impl Landed {
         let touches = self.writes.of(write);
         let mut last = 0;
         for touch in touches {
-            if touch.word == word && touch.event < n {
-                last = touch.event;
-            }
+            last = later(*touch, word, n, last);
         }
         last
+    }
+}
+
+/// The event of a touch, if it is of this dword and before number n, or else the other.
+fn later(touch: Touch, word: Word, n: u32, found: u32) -> u32
+    ensures { result ≡ (if same_word touch.word word && nat_lt touch.event n then touch.event else found) }
+{
+    if is_same_word(touch.word, word) && touch.event < n {
+        touch.event
+    } else {
+        found
+    }
+}
+
+fn is_same_word(a: Word, b: Word) -> bool
+    ensures { result ≡ same_word a b }
+{
+    a.target == b.target && is_same_space(a.space, b.space) && a.address == b.address
+}
+
+fn is_same_space(a: Space, b: Space) -> bool
+    ensures { result ≡ same_space a b }
+{
+    match (a, b) {
+        (Space::Mem, Space::Mem) | (Space::Io, Space::Io) | (Space::Cfg, Space::Cfg) => true,
+        _ => false,
     }
 }
 
