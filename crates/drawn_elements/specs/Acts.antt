@@ -18,7 +18,7 @@ use Rattle.history_model.specs.declared.event.Step.TheVariants.{Land, Part, Read
 use Rattle.drawn_run.specs.declared.item.Item.{Item}
 use Rattle.drawn_columns.specs.declared.line.Line.TheVariants as lines
 use Rattle.drawn_columns.specs.Places.{Layout, place_of, face_place, bar_place, is_left}
-use Rattle.drawn_elements.specs.Heights.{y}
+use Rattle.drawn_elements.specs.Heights.{y, circle_element}
 use Rattle.drawn_elements.specs.Items.{faint}
 use Rattle.drawn_elements.specs.declared.acts.Act.{Act}
 
@@ -55,7 +55,7 @@ abbrev pub act_of : Layout → By → OpId → Step → Place → Option Item �
 act_of layout by o step place item taken = record { begin = begin_of layout by o item; end = end_of layout step place taken }
 
 -- an arrow head with its point at a place, to the right or to the left
-abbrev pub head_text : ℕ → ℕ → ℕ → Bool → List ℕ
+unfoldable pub head_text : ℕ → ℕ → ℕ → Bool → List ℕ
 head_text first n x right =
     codes "<path class=\"q\" d=\"M" ++ (decimal x ++ (32 ∷ (y first n ++ ((if right then codes "l-7" else codes "l7") ++ codes " -4v8z\"/>"))))
 
@@ -63,13 +63,12 @@ head_text first n x right =
 abbrev pub line_path : ℕ → ℕ → Act → List ℕ
 line_path first n act = 77 ∷ (decimal act.begin ++ (32 ∷ (y first n ++ (72 ∷ decimal act.end))))
 
-abbrev pub line_element : ℕ → ℕ → Act → List ℕ
+unfoldable pub line_element : ℕ → ℕ → Act → List ℕ
 line_element first n act = codes "<path d=\"" ++ (line_path first n act ++ codes "\"/>")
 
 -- a line with a circle at its end
-abbrev pub round_element : ℕ → ℕ → Act → ℕ → List ℕ
-round_element first n act radius =
-    line_element first n act ++ (codes "<circle cx=\"" ++ (decimal act.end ++ (codes "\" cy=\"" ++ (y first n ++ (codes "\" r=\"" ++ (decimal radius ++ codes "\"/>"))))))
+unfoldable pub round_element : ℕ → ℕ → Act → ℕ → List ℕ
+round_element first n act radius = line_element first n act ++ circle_element first n act.end radius
 
 -- it goes to the right
 abbrev pub goes_right : Act → Bool

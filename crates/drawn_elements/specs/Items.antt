@@ -10,7 +10,7 @@ use Rattle.drawn_run.specs.declared.item.Kind.TheVariants.{Post, Request, Comple
 use Rattle.drawn_run.specs.declared.item.Item.{Item}
 use Rattle.drawn_run.specs.Items.{has_stood}
 use Rattle.drawn_columns.specs.Places.{Layout, face_place, bar_place}
-use Rattle.drawn_elements.specs.Heights.{y, height_text}
+use Rattle.drawn_elements.specs.Heights.{y, height_text, circle_element}
 use Rattle.drawn_elements.specs.Labels.{kind_word}
 use Rattle.drawn_elements.specs.declared.items.Route.{Route}
 
@@ -43,7 +43,7 @@ route_of layout end item =
     }
 
 -- `M{x1} {y1}L{x2} {y2}`
-abbrev pub route_text : ℕ → Route → List ℕ
+unfoldable pub route_text : ℕ → Route → List ℕ
 route_text first route = 77 ∷ (decimal route.from ++ 32 ∷ (y first route.sent ++ 76 ∷ (decimal route.to ++ 32 ∷ y first route.came)))
 
 -- the rim: with `V{y3}` where it goes down
@@ -60,12 +60,12 @@ came_text item = if nat_lt 0 item.came then codes ", arrived " ++ decimal item.c
 abbrev pub left_text : Item → List ℕ
 left_text item = if nat_lt 0 item.left then codes ", left " ++ decimal item.left else []
 
-abbrev pub title_text : Board → Item → List ℕ
+unfoldable pub title_text : Board → Item → List ℕ
 title_text board item =
     codes "<title>" ++ (kind_word item.kind ++ (32 ∷ (op_word board item.op ++ (codes " on " ++ (lane_word item.lane ++ (codes ": sent " ++ (decimal item.sent ++ (came_text item ++ (left_text item ++ codes "</title>")))))))))
 
 -- a credit has none
-abbrev pub title_of : Board → Kind → Item → List ℕ
+unfoldable pub title_of : Board → Kind → Item → List ℕ
 title_of board Post item = title_text board item
 title_of board Request item = title_text board item
 title_of board Completion item = title_text board item
@@ -73,25 +73,32 @@ title_of board Credit item = []
 title_of board Gone item = title_text board item
 
 -- the bar
-abbrev pub bar_text : ℕ → Route → List ℕ
+unfoldable pub bar_text : ℕ → Route → List ℕ
 bar_text first route =
     if nat_lt route.came route.left
     then codes "<path class=\"s\" d=\"M" ++ (decimal route.to ++ (32 ∷ (y first route.came ++ (86 ∷ (y first route.left ++ codes "\"/>")))))
     else []
 
 -- a cross where its arrival was marked, else a small circle where it stood
-abbrev pub sign_text : ℕ → Item → Route → List ℕ
-sign_text first item route =
-    if item.marked
-    then codes "<path class=\"x\" d=\"M" ++ (decimal (route.to - 4) ++ (32 ∷ (height_text first route.came 4 ++ codes "l8 8m0 -8l-8 8\"/>")))
-    else if has_stood item
-    then codes "<circle cx=\"" ++ (decimal route.to ++ (codes "\" cy=\"" ++ (y first route.came ++ codes "\" r=\"3\"/>")))
-    else []
+unfoldable pub cross_sign : ℕ → Route → List ℕ
+cross_sign first route =
+    codes "<path class=\"x\" d=\"M" ++ (decimal (route.to - 4) ++ (32 ∷ (height_text first route.came 4 ++ codes "l8 8m0 -8l-8 8\"/>")))
+
+unfoldable pub sign_text : ℕ → Item → Route → List ℕ
+sign_text first item route = if item.marked then cross_sign first route else if has_stood item then circle_element first route.came route.to 3 else []
+
+-- the slanted line
+unfoldable pub slant_text : ℕ → Route → List ℕ
+slant_text first route = codes "<path d=\"" ++ (route_text first route ++ codes "\"/>")
+
+-- the group of its class
+unfoldable pub group_text : Kind → Bool → List ℕ
+group_text kind pale = codes "<g class=\"" ++ (kind_class kind ++ (faint pale ++ codes "\">"))
 
 abbrev pub item_text : Board → ℕ → Bool → Item → Route → List ℕ
 item_text board first pale item route =
-    codes "<g class=\"" ++ (kind_class item.kind ++ (faint pale ++ (codes "\">"
+    group_text item.kind pale
     ++ (title_of board item.kind item
-    ++ (codes "<path d=\"" ++ (route_text first route ++ (codes "\"/>"
+    ++ (slant_text first route
     ++ (bar_text first route
-    ++ (sign_text first item route ++ codes "</g>\n")))))))))
+    ++ (sign_text first item route ++ codes "</g>\n"))))

@@ -2,7 +2,7 @@ ghost use Rattle.std.specs.Prelude.{◌≡◌, ◌++◌, codes, if◌then◌else
 ghost use Rattle.board_model.specs.Requests.{request_of};
 ghost use Rattle.drawn_elements.specs.Acts.{bar_of, begin_of, end_at, end_of, act_of, head_text, line_path, line_element, round_element, goes_right, cross_element, aside, nobody_element, writes_memory, act_class, act_body, act_text, act_rim};
 
-use crate::height::Height;
+use crate::height::{Height, print_circle};
 use crate::words::faint;
 use board_model::{Board, Lane, Place, request_of};
 use drawn_columns::Columns;
@@ -115,6 +115,7 @@ fn y(first: u32, row: u32) -> Height
 }
 
 /// An arrow head with its point at a place of row n, to the right or to the left.
+#[tactic(auto, unfolding(crate::specs::Acts::head_text))]
 pub fn print_head(
     text: &mut String,
     first: u32,
@@ -138,6 +139,7 @@ fn print_path(text: &mut String, first: u32, n: u32, act: &Act) -> Result<(), Al
     write!(text, "M{} {}H{}", act.begin, y(first, n), act.end)
 }
 
+#[tactic(auto, unfolding(crate::specs::Acts::line_element))]
 fn print_line(text: &mut String, first: u32, n: u32, act: &Act) -> Result<(), AllocError>
     ensures { OnOk result (string_bytes text.new ≡ string_bytes text.old ++ line_element first n act.now) }
 {
@@ -147,6 +149,7 @@ fn print_line(text: &mut String, first: u32, n: u32, act: &Act) -> Result<(), Al
 }
 
 /// A line with a circle at its end.
+#[tactic(auto, unfolding(crate::specs::Acts::round_element))]
 fn print_round(
     text: &mut String,
     first: u32,
@@ -157,12 +160,7 @@ fn print_round(
     ensures { OnOk result (string_bytes text.new ≡ string_bytes text.old ++ round_element first n act.now radius) }
 {
     print_line(text, first, n, act)?;
-    write!(
-        text,
-        "<circle cx=\"{}\" cy=\"{}\" r=\"{radius}\"/>",
-        act.end,
-        y(first, n)
-    )
+    print_circle(text, first, n, act.end, radius)
 }
 
 fn print_cross(text: &mut String, first: u32, n: u32, act: &Act) -> Result<(), AllocError>

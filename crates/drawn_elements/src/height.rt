@@ -1,3 +1,7 @@
+ghost use Rattle.std.specs.Prelude.{◌≡◌, ◌++◌, string_bytes, OnOk};
+ghost use Rattle.drawn_elements.specs.Heights.{circle_rest, circle_element};
+
+use std::alloc::AllocError;
 use std::fmt;
 
 /// A height in a picture: so far below the upper edge of a row, 16 for each row from the first that is drawn on. It is
@@ -25,4 +29,36 @@ impl fmt::Display for Height {
             write!(f, "-{}", (16 * (first - row)).saturating_sub(down))
         }
     }
+}
+
+/// A circle in the middle of a row.
+#[tactic(auto, unfolding(crate::specs::Heights::circle_element))]
+pub(crate) fn print_circle(
+    text: &mut String,
+    first: u32,
+    row: u32,
+    x: u64,
+    radius: u8,
+) -> Result<(), AllocError>
+    ensures { OnOk result (string_bytes text.new ≡ string_bytes text.old ++ circle_element first row x radius) }
+{
+    write!(text, "<circle cx=\"{x}\" cy=\"")?;
+    print_circle_rest(text, first, row, radius)
+}
+
+#[tactic(auto, unfolding(crate::specs::Heights::circle_rest))]
+fn print_circle_rest(
+    text: &mut String,
+    first: u32,
+    row: u32,
+    radius: u8,
+) -> Result<(), AllocError>
+    ensures { OnOk result (string_bytes text.new ≡ string_bytes text.old ++ circle_rest first row radius) }
+{
+    let y = Height {
+        first,
+        row,
+        down: 8,
+    };
+    write!(text, "{y}\" r=\"{radius}\"/>")
 }

@@ -1,7 +1,7 @@
 ghost use Rattle.std.specs.Prelude.{◌≡◌, ◌++◌, string_bytes, IfOk, OnOk};
-ghost use Rattle.drawn_elements.specs.Items.{route_of, or_end, route_text, rim_down, item_rim, title_of, title_text, came_text, left_text, bar_text, sign_text, item_text};
+ghost use Rattle.drawn_elements.specs.Items.{route_of, or_end, route_text, rim_down, item_rim, title_of, title_text, came_text, left_text, bar_text, cross_sign, sign_text, slant_text, group_text, item_text};
 
-use crate::height::Height;
+use crate::height::{Height, print_circle};
 use crate::words::{faint, kind_class, kind_word};
 use board_model::Board;
 use drawn_columns::Columns;
@@ -65,6 +65,7 @@ fn y(first: u32, row: u32) -> Height
     }
 }
 
+#[tactic(auto, unfolding(crate::specs::Items::route_text))]
 fn print_route(text: &mut String, first: u32, route: &Route) -> Result<(), AllocError>
     ensures { OnOk result (string_bytes text.new ≡ string_bytes text.old ++ route_text first route.now) }
 {
@@ -109,16 +110,15 @@ pub fn print_item(
 ) -> Result<(), AllocError>
     ensures { OnOk result (string_bytes text.new ≡ string_bytes text.old ++ item_text board.now first pale item.now route.now) }
 {
-    write!(text, "<g class=\"{}{}\">", kind_class(item.kind), faint(pale))?;
+    print_group(text, item.kind, pale)?;
     print_title_of(text, board, item)?;
-    text.push_str("<path d=\"")?;
-    print_route(text, first, route)?;
-    text.push_str("\"/>")?;
+    print_slant(text, first, route)?;
     print_bar(text, first, route)?;
     print_sign(text, first, item, route)?;
     text.push_str("</g>\n")
 }
 
+#[tactic(auto, unfolding(crate::specs::Items::title_of))]
 fn print_title_of(text: &mut String, board: &Board, item: &Item) -> Result<(), AllocError>
     ensures { OnOk result (string_bytes text.new ≡ string_bytes text.old ++ title_of board.now item.now.kind item.now) }
 {
@@ -130,6 +130,7 @@ fn print_title_of(text: &mut String, board: &Board, item: &Item) -> Result<(), A
     }
 }
 
+#[tactic(auto, unfolding(crate::specs::Items::title_text))]
 fn print_title(text: &mut String, board: &Board, item: &Item) -> Result<(), AllocError>
     ensures { OnOk result (string_bytes text.new ≡ string_bytes text.old ++ title_text board.now item.now) }
 {
@@ -161,6 +162,7 @@ fn print_left(text: &mut String, item: &Item) -> Result<(), AllocError>
     }
 }
 
+#[tactic(auto, unfolding(crate::specs::Items::bar_text))]
 fn print_bar(text: &mut String, first: u32, route: &Route) -> Result<(), AllocError>
     ensures { OnOk result (string_bytes text.new ≡ string_bytes text.old ++ bar_text first route.now) }
 {
@@ -177,7 +179,24 @@ fn print_bar(text: &mut String, first: u32, route: &Route) -> Result<(), AllocEr
     }
 }
 
+#[tactic(auto, unfolding(crate::specs::Items::group_text))]
+fn print_group(text: &mut String, kind: Kind, pale: bool) -> Result<(), AllocError>
+    ensures { OnOk result (string_bytes text.new ≡ string_bytes text.old ++ group_text kind pale) }
+{
+    write!(text, "<g class=\"{}{}\">", kind_class(kind), faint(pale))
+}
+
+#[tactic(auto, unfolding(crate::specs::Items::slant_text))]
+fn print_slant(text: &mut String, first: u32, route: &Route) -> Result<(), AllocError>
+    ensures { OnOk result (string_bytes text.new ≡ string_bytes text.old ++ slant_text first route.now) }
+{
+    text.push_str("<path d=\"")?;
+    print_route(text, first, route)?;
+    text.push_str("\"/>")
+}
+
 /// What stands where the item arrived.
+#[tactic(auto, unfolding(crate::specs::Items::sign_text))]
 fn print_sign(
     text: &mut String,
     first: u32,
@@ -187,24 +206,26 @@ fn print_sign(
     ensures { OnOk result (string_bytes text.new ≡ string_bytes text.old ++ sign_text first item.now route.now) }
 {
     if item.marked {
-        let y = Height {
-            first,
-            row: route.came,
-            down: 4,
-        };
-        write!(
-            text,
-            "<path class=\"x\" d=\"M{} {y}l8 8m0 -8l-8 8\"/>",
-            route.to.saturating_sub(4)
-        )
+        print_cross_sign(text, first, route)
     } else if item.has_stood() {
-        write!(
-            text,
-            "<circle cx=\"{}\" cy=\"{}\" r=\"3\"/>",
-            route.to,
-            y(first, route.came)
-        )
+        print_circle(text, first, route.came, route.to, 3)
     } else {
         Ok(())
     }
+}
+
+#[tactic(auto, unfolding(crate::specs::Items::cross_sign))]
+fn print_cross_sign(text: &mut String, first: u32, route: &Route) -> Result<(), AllocError>
+    ensures { OnOk result (string_bytes text.new ≡ string_bytes text.old ++ cross_sign first route.now) }
+{
+    let y = Height {
+        first,
+        row: route.came,
+        down: 4,
+    };
+    write!(
+        text,
+        "<path class=\"x\" d=\"M{} {y}l8 8m0 -8l-8 8\"/>",
+        route.to.saturating_sub(4)
+    )
 }
