@@ -1,5 +1,5 @@
 -- The tracks that are used, item by item.
-use Rattle.std.proofs.Common.{◌≡◌, ◌≢◌, ℕ, zero, suc, ◌+◌, ◌*◌, ◌<◌, ◌≤◌, Bool, true, false, cond, ◌&&◌, ◌==◌, List, [], ◌∷◌, ◌++◌, length, max, replicate, refl, sym, ap, ◌∙◌, arith, slice_index}
+use Rattle.std.proofs.Common.{◌≡◌, ℕ, zero, suc, ◌+◌, ◌*◌, ◌<◌, Bool, true, false, cond, ◌&&◌, ◌==◌, List, [], ◌∷◌, ◌++◌, length, max, replicate, refl, sym, ap, ◌∙◌, arith, slice_index}
 use Rattle.std.proofs.Math.ListN.{set, length-set}
 use Rattle.std.proofs.lemmas.Bool.Decides.{nat_tests}
 use Rattle.list_facts.specs.Lists.{greatest}
@@ -91,12 +91,12 @@ most_more items item tracks on most_is =
     let P : Bool → Type 0 = λ b. has_stood item ≡ b → IsMost (items ++ item ∷ []) (cond b (set tracks (slot_of item.lane) (max (slice_index tracks (slot_of item.lane)) (item.track + 1))) tracks) in
     (elim (has_stood item) as P [
       | false ↦ λ not_so. record {
-          all = most_is.all;
-          each = λ lane within.
-              most_is.each lane within ∙ sym (greatest_push (tracks_used lane) items item ∙ ap (λ b. max (most items lane) (cond (b && same_lane item.lane lane) (item.track + 1) 0)) not_so ∙ max_zero (most items lane));
-        }
+        all = most_is.all;
+        each = λ lane within.
+            most_is.each lane within ∙ sym (greatest_push (tracks_used lane) items item ∙ ap (λ b. max (most items lane) (cond (b && same_lane item.lane lane) (item.track + 1) 0)) not_so ∙ max_zero (most items lane));
+      }
       | true ↦ λ so. record {
-          all = length-set tracks (slot_of item.lane) (max (slice_index tracks (slot_of item.lane)) (item.track + 1)) ∙ most_is.all;
-          each = λ lane within. stood_more items item tracks on most_is so lane within;
-        }
+        all = length-set tracks (slot_of item.lane) (max (slice_index tracks (slot_of item.lane)) (item.track + 1)) ∙ most_is.all;
+        each = λ lane within. stood_more items item tracks on most_is so lane within;
+      }
     ]) refl

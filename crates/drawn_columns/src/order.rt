@@ -69,12 +69,7 @@ pub(crate) fn in_order(alloc: Global, board: &Board, middle: u16) -> Result<Vec<
     Ok(buses)
 }
 
-fn left_wing(
-    alloc: Global,
-    board: &Board,
-    middle: u16,
-    lower: &[u8],
-) -> Result<Vec<u8>, AllocError>
+fn left_wing(alloc: Global, board: &Board, middle: u16, lower: &[u8]) -> Result<Vec<u8>, AllocError>
     ensures { IfOk result (λ buses. buses.items ≡ filter (λ bus. nat_lt bus middle && has_bridge_to board.now bus) lower.now) }
 {
     lower

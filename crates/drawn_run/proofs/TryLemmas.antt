@@ -1,17 +1,15 @@
 -- One try more is named.
 use Rattle.std.proofs.Common.{◌≡◌, ℕ, Bool, true, false, cond, ◌||◌, ◌&&◌, ◌==◌, List, [], ◌∷◌, ◌++◌, max, nat_lt, refl, sym, ap, ◌∙◌, arith}
-use Rattle.std.specs.List.{list_any}
 use Rattle.std.proofs.lemmas.List.Folds.{list_any-append}
 use Rattle.std.proofs.lemmas.Bool.Decides.{nat_tests}
 use Rattle.pci_command.specs.declared.op_id.OpId.{OpId}
-use Rattle.pci_command.specs.Same.{same_op}
 use Rattle.board_model.specs.declared.bridge.Place.{Place}
 use Rattle.history_model.specs.declared.event.By.{By}
 use Rattle.history_model.specs.declared.event.Step.{Step}
 use Rattle.history_model.specs.declared.event.Event.{Event}
-use Rattle.history_model.specs.declared.event.Event.TheVariants.{Act, Arrive}
+use Rattle.history_model.specs.declared.event.Event.TheVariants.{Act}
 use Rattle.drawn_run.specs.Tries.{is_later_try, names_later_try, is_pale}
-use Rattle.drawn_run.specs.Kept.{first_try, last_of, Raises, TellsTries}
+use Rattle.drawn_run.specs.Kept.{last_of, Raises, TellsTries}
 
 -- less than the greater of two is less than one of them
 lt_max : (a x y : ℕ) → nat_lt a (max x y) ≡ (nat_lt a x || nat_lt a y)

@@ -1,5 +1,5 @@
 -- The tries of polls.
-use Rattle.std.specs.Prelude.{ℕ, Bool, false, ◌&&◌, ◌==◌, nat_lt, List}
+use Rattle.std.specs.Prelude.{Bool, false, ◌&&◌, ◌==◌, nat_lt, List}
 use Rattle.std.specs.List.{list_any}
 use Rattle.pci_command.specs.declared.op_id.OpId.{OpId}
 use Rattle.history_model.specs.declared.event.Event.{Event}

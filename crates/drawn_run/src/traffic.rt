@@ -178,14 +178,7 @@ impl Traffic {
         }
     }
 
-    fn act(
-        &mut self,
-        n: u32,
-        by: By,
-        op: OpId,
-        step: Step,
-        place: Place,
-    ) -> Result<(), NoMemory>
+    fn act(&mut self, n: u32, by: By, op: OpId, step: Step, place: Place) -> Result<(), NoMemory>
         ensures { OnOk result (self.new ≡ act n by op step place self.old) }
     {
         let item = self.presented(by, op);

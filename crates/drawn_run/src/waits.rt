@@ -42,7 +42,9 @@ fn happen(
 {
     match *event {
         Event::Act {
-            by: By::Master, op, ..
+            by: By::Master,
+            op,
+            ..
         } => present(waits, places, n, op),
         Event::Act { .. } | Event::Arrive { .. } => Ok(()),
     }

@@ -1,5 +1,4 @@
-use Rattle.std.proofs.Common.{◌≡◌, ◌∙◌, refl, ap}
-use Rattle.drawn_columns.specs.Places.{Layout}
+use Rattle.std.proofs.Common.{◌∙◌}
 use Rattle.drawn_columns.proofs.LayoutLemmas.{layout_all}
 use Rattle.drawn_columns.proofs.columns.columns_of.Goals as goal
 

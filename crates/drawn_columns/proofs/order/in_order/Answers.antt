@@ -1,7 +1,7 @@
-use Rattle.std.proofs.Common.{◌≡◌, ℕ, ◌&&◌, nat_lt, nat_le, List, [], ◌∷◌, ◌++◌, reverse, sym, ap, ◌∙◌, append_assoc}
+use Rattle.std.proofs.Common.{◌≡◌, ℕ, ◌&&◌, nat_lt, nat_le, List, [], ◌∷◌, ◌++◌, reverse, ap, ◌∙◌, append_assoc}
 use Rattle.std.specs.List.{filter}
 use Rattle.board_model.specs.Valid.{has_bridge_to}
-use Rattle.drawn_columns.specs.Order.{lower_buses, in_order}
+use Rattle.drawn_columns.specs.Order.{lower_buses}
 use Rattle.drawn_columns.proofs.order.in_order.Goals as goal
 
 pub returns : goal.returns

@@ -1,5 +1,5 @@
 use Rattle.std.proofs.Common.{◌≡◌, ℕ, ◌+◌, ◌-◌, ◌<◌, suc, Bool, true, false, cond, length, List, sym, ap, ◌∙◌, arith}
-use Rattle.drawn_run.specs.Items.{is_in, free_from, least_free}
+use Rattle.drawn_run.specs.Items.{is_in, free_from}
 use Rattle.drawn_run.proofs.traffic.least_free.Goals as goal
 
 -- one more to be tried

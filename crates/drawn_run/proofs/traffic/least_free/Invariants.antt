@@ -1,4 +1,4 @@
-use Rattle.std.proofs.Common.{◌≡◌, ◌+◌, ◌-◌, length}
+use Rattle.std.proofs.Common.{◌≡◌, ◌-◌, length}
 use Rattle.drawn_run.specs.Items.{free_from, least_free}
 use Rattle.drawn_run.proofs.traffic.least_free.Given as goal
 

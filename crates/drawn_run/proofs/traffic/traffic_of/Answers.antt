@@ -1,4 +1,3 @@
-use Rattle.std.proofs.Common.{◌∙◌, sym, ap}
 use Rattle.drawn_run.specs.Items.{after, nothing, traffic_of}
 use Rattle.drawn_run.proofs.TrafficLemmas.{after_all}
 use Rattle.drawn_run.proofs.traffic.traffic_of.Goals as goal

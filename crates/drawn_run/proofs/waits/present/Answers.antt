@@ -1,8 +1,7 @@
-use Rattle.std.proofs.Common.{◌≡◌, ◌+◌, ◌<◌, ℕ, length, Option, Some, None, sym, ap, subst, ◌∙◌, arith, get_or, slice_set}
+use Rattle.std.proofs.Common.{◌≡◌, ◌<◌, ℕ, length, Some, None, sym, ap, subst, ◌∙◌, arith, get_or, slice_set}
 use Rattle.std.specs.List.{position_from}
 use Rattle.std.proofs.Math.ListN.{set}
 use Rattle.audit_clocks.specs.Tables.{value_of}
-use Rattle.pci_command.specs.declared.op_id.OpId.{OpId}
 use Rattle.drawn_run.specs.declared.waits.Wait.{Wait}
 use Rattle.drawn_run.specs.Kept.{is_wait_of, TellsPlaces}
 use Rattle.drawn_run.proofs.WaitLemmas.{Again, with_last, again_from, new_from, places_push, places_set}
