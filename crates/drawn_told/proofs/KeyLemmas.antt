@@ -1,5 +1,5 @@
 -- Which events are keys.
-use Rattle.std.proofs.Common.{◌≡◌, ℕ, ◌<◌, Bool, true, false, ◌||◌, List, refl, ap, ◌∙◌, arith}
+use Rattle.std.proofs.Common.{◌≡◌, ℕ, Bool, true, false, ◌||◌, List, refl, ap, ◌∙◌, arith}
 use Rattle.drawn_told.specs.Kept.{key_at, Marks}
 
 or_assoc : (a b c : Bool) → ((a || b) || c) ≡ (a || (b || c))

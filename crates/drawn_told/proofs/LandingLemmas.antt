@@ -1,5 +1,5 @@
 -- Where a write landed in a dword, event by event.
-use Rattle.std.proofs.Common.{◌≡◌, ℕ, zero, suc, ◌+◌, ◌*◌, ◌<◌, ◌≤◌, ◌^◌, Bool, true, false, cond, ◌&&◌, ◌||◌, ◌==◌, nat_lt, List, [], ◌∷◌, ◌++◌, length, map, Option, Some, None, refl, sym, ap, subst, ◌∙◌, arith}
+use Rattle.std.proofs.Common.{◌≡◌, ℕ, zero, suc, ◌+◌, ◌*◌, ◌<◌, ◌≤◌, ◌^◌, Bool, true, false, cond, ◌&&◌, ◌||◌, nat_lt, List, [], ◌∷◌, ◌++◌, length, map, Option, Some, None, refl, sym, ap, ◌∙◌, arith}
 use Rattle.std.specs.List.{list_any}
 use Rattle.std.proofs.lemmas.List.Folds.{list_any-append}
 use Rattle.pci_command.specs.declared.command.Space.{Space}
@@ -19,12 +19,12 @@ use Rattle.history_model.specs.Words.{Landing, through, without, brings, brought
 use Rattle.history_model.specs.Knowledge.{is_landing_of}
 use Rattle.audit_clocks.specs.declared.landings.Word.{Word}
 use Rattle.audit_clocks.specs.Tables.{same_word}
-use Rattle.audit_text.specs.Notes.{few_of, count_of, hits, request_hits, found_hits, place_hits, event_hits, lands, Parted}
+use Rattle.audit_text.specs.Notes.{few_of, count_of, hits, found_hits, place_hits, event_hits, lands}
 use Rattle.audit_text.specs.Stands.{dword, op_of_landing}
 use Rattle.audit_text.proofs.HitLemmas.{event_hit}
 use Rattle.drawn_told.specs.declared.touches.Touch.{Touch}
 use Rattle.drawn_told.specs.Told.{landing_event}
-use Rattle.drawn_told.specs.Kept.{TouchTables, Touches, TellsTouches, touches_in, touches_from, request_touches, found_touches, place_touches, event_touches, last_before}
+use Rattle.drawn_told.specs.Kept.{TouchTables, Touches, TellsTouches, touches_in, touches_from, found_touches, place_touches, event_touches, last_before}
 
 last_append : (word : Word) (m : ℕ) (xs ys : List Touch) (found : ℕ) → last_before word m (xs ++ ys) found ≡ last_before word m ys (last_before word m xs found)
 last_append word m [] ys found = refl
@@ -103,7 +103,7 @@ place_last : (word : Word) (board : Board) (m n gone on : ℕ) (step : Step) (p 
     → last_before word m (place_touches board n gone on p step place) found ≡ cond (nat_lt n m && list_any (λ q. same_op q o) (place_hits board gone on p step place word)) n found
 place_last word board m n gone on step p o (Target target) found same =
     elim (lands step) as (λ b. last_before word m (cond b (found_touches n gone step target (request_of board p on)) []) found
-        ≡ cond (nat_lt n m && list_any (λ q. same_op q o) (cond b (found_hits gone p step target (request_of board p on) word) [])) n found) [
+    ≡ cond (nat_lt n m && list_any (λ q. same_op q o) (cond b (found_hits gone p step target (request_of board p on) word) [])) n found) [
       | true ↦ found_last word m n gone step target p o (request_of board p on) found same
       | false ↦ sym (none_of (nat_lt n m) n found)
     ]
@@ -116,7 +116,7 @@ event_last : (word : Word) (board : Board) (m n : ℕ) (gone : List (OpId × ℕ
 event_last word board m n gone (Arrive lane mark) o found = sym (none_of (nat_lt n m) n found)
 event_last word board m n gone (Act on by p step place) o found =
     (elim (same_op p o) as (λ b. same_op p o ≡ b → last_before word m (cond b (place_touches board n (few_of p gone) on p step place) []) found
-        ≡ cond (nat_lt n m && list_any (λ q. same_op q o) (place_hits board (few_of p gone) on p step place word)) n found) [
+    ≡ cond (nat_lt n m && list_any (λ q. same_op q o) (place_hits board (few_of p gone) on p step place word)) n found) [
       | true ↦ λ same. place_last word board m n (few_of p gone) on step p o place found same
       | false ↦ λ other. sym (none_of (nat_lt n m) n found) ∙ ap (λ x. cond (nat_lt n m && x) n found) (sym (place_other word board (few_of p gone) on step p o place other))
     ]) refl

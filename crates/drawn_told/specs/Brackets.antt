@@ -1,5 +1,5 @@
 -- The brackets beside the list: one for each line of the audit, from its landing to its read.
-use Rattle.std.specs.Prelude.{ℕ, ◌+◌, Bool, nat_lt, min, max, List, [], ◌∷◌, ◌++◌, length, Option, Some, None, if◌then◌else◌}
+use Rattle.std.specs.Prelude.{ℕ, nat_lt, min, max, List, [], ◌∷◌, ◌++◌, length, Option, Some, None, if◌then◌else◌}
 use Rattle.std.specs.List.{position_from}
 use Rattle.std.proofs.Math.ListN.{set}
 use Rattle.drawn_told.specs.declared.told.Span.{Span}

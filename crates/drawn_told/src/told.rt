@@ -61,7 +61,13 @@ pub fn told_of(alloc: Global, tree: &Tree, events: &[Event]) -> Result<Told, NoM
     let found = findings_of(alloc, tree, events)?;
     let spans = spans_of(alloc, &ends, &landed, found.as_slice())?;
     let loud = loud_of(alloc, found.as_slice())?;
-    let keys = keys_of(alloc, &ends, events.len() + 1, found.as_slice(), spans.as_slice())?;
+    let keys = keys_of(
+        alloc,
+        &ends,
+        events.len() + 1,
+        found.as_slice(),
+        spans.as_slice(),
+    )?;
     Ok(Told {
         found,
         spans,

@@ -194,7 +194,17 @@ fn record_landed(
             step,
             place,
             ..
-        } => record_place(alloc, writes, board, n, gone_of(gone, op), bus, op, step, place),
+        } => record_place(
+            alloc,
+            writes,
+            board,
+            n,
+            gone_of(gone, op),
+            bus,
+            op,
+            step,
+            place,
+        ),
         Event::Arrive { .. } => Ok(()),
     }
 }

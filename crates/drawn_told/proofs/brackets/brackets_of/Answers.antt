@@ -1,4 +1,3 @@
-use Rattle.std.proofs.Common.{get_or}
 use Rattle.drawn_told.specs.declared.told.Span.{Span}
 use Rattle.drawn_told.specs.Brackets.{with_brackets}
 use Rattle.drawn_told.proofs.BracketLemmas.{brackets_more, brackets_all}
