@@ -1,28 +1,23 @@
 -- The line of an event in a picture, and what is noted behind it.
-use Rattle.std.specs.Prelude.{ℕ, ◌%◌, Bool, true, false, List, [], ◌∷◌, ◌++◌, length, codes, nat_lt, Option, Some, None, if◌then◌else◌}
-use Rattle.std.specs.Fmt.{decimal}
+use Rattle.std.specs.Prelude.{ℕ, ◌%◌, List, [], ◌∷◌, ◌++◌, length, codes, nat_lt, Option, Some, None, if◌then◌else◌}
 use Rattle.pci_command.specs.declared.command.Space.{Space}
 use Rattle.pci_command.specs.declared.command.Space.TheVariants.{Mem, Io, Cfg}
 use Rattle.pci_command.specs.declared.phases.Phase.{Phase}
 use Rattle.pci_command.specs.declared.request.Request.{Request}
 use Rattle.pci_command.specs.declared.op_id.OpId.{OpId}
 use Rattle.pci_command.specs.Command.{space_of}
-use Rattle.board_model.specs.declared.bridge.Lane.{Lane as BridgeLane}
 use Rattle.board_model.specs.declared.bridge.Place.{Place}
 use Rattle.board_model.specs.declared.bridge.Place.TheVariants.{Target, Header, Lane, Nobody}
 use Rattle.board_model.specs.declared.board.Board.{Board}
 use Rattle.board_model.specs.Requests.{request_of}
-use Rattle.board_model.specs.Ways.{end_of}
-use Rattle.history_model.specs.declared.event.By.{By}
-use Rattle.history_model.specs.declared.event.Mark.{Mark}
 use Rattle.history_model.specs.declared.event.Step.{Step}
 use Rattle.history_model.specs.declared.event.Step.TheVariants.{Land, Part, Read, Accept, Latch, Take, Stall, MasterAbort, TargetAbort}
 use Rattle.history_model.specs.declared.event.Event.{Event}
 use Rattle.history_model.specs.declared.event.Event.TheVariants.{Act, Arrive}
 use Rattle.board_printer.specs.Lines.{Line, spaced}
 use Rattle.board_printer.specs.Numbers.{address_text, phase_text}
-use Rattle.trace_text.specs.Words.{lane_word, by_word, op_word, place_words}
-use Rattle.trace_text.specs.Events.{step_word, result_words, mark_words, event_line}
+use Rattle.trace_text.specs.Words.{op_word}
+use Rattle.trace_text.specs.Events.{event_line}
 use Rattle.drawn_run.specs.declared.item.Kind.{Kind}
 use Rattle.drawn_run.specs.declared.item.Kind.TheVariants.{Post, Request as RequestItem, Completion, Credit, Gone}
 use Rattle.drawn_run.specs.declared.item.Item.{Item}

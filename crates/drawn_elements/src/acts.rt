@@ -53,12 +53,7 @@ fn bar_of(columns: &Columns, item: Option<Item>) -> Result<u64, NoMemory>
     }
 }
 
-fn begin_of(
-    columns: &Columns,
-    by: By,
-    op: OpId,
-    item: Option<Item>,
-) -> Result<u64, NoMemory>
+fn begin_of(columns: &Columns, by: By, op: OpId, item: Option<Item>) -> Result<u64, NoMemory>
     ensures { IfOk result (λ place. place ≡ begin_of columns.now by op item) }
 {
     match by {
@@ -67,12 +62,7 @@ fn begin_of(
     }
 }
 
-fn end_of(
-    columns: &Columns,
-    step: Step,
-    place: Place,
-    taken: Option<Item>,
-) -> Result<u64, NoMemory>
+fn end_of(columns: &Columns, step: Step, place: Place, taken: Option<Item>) -> Result<u64, NoMemory>
     ensures { IfOk result (λ end. end ≡ end_of columns.now step place taken) }
 {
     match place {
@@ -83,12 +73,7 @@ fn end_of(
     }
 }
 
-fn end_at(
-    columns: &Columns,
-    lane: Lane,
-    taken: Option<Item>,
-    step: Step,
-) -> Result<u64, NoMemory>
+fn end_at(columns: &Columns, lane: Lane, taken: Option<Item>, step: Step) -> Result<u64, NoMemory>
     ensures { IfOk result (λ end. end ≡ end_at columns.now lane taken step) }
 {
     match step {
@@ -177,13 +162,7 @@ fn aside(columns: &Columns, by: By) -> &'static str
 {
     match by {
         By::Master => "12",
-        By::Lane(lane) => {
-            if columns.is_left(lane) {
-                "12"
-            } else {
-                "-12"
-            }
-        }
+        By::Lane(lane) => { if columns.is_left(lane) { "12" } else { "-12" } }
     }
 }
 
@@ -224,12 +203,7 @@ fn print_class(
     }
 }
 
-fn print_landing(
-    text: &mut String,
-    board: &Board,
-    bus: u8,
-    op: OpId,
-) -> Result<(), AllocError>
+fn print_landing(text: &mut String, board: &Board, bus: u8, op: OpId) -> Result<(), AllocError>
     ensures { OnOk result (string_bytes text.new ≡ string_bytes text.old ++ (if writes_memory (request_of board.now op bus) then codes "p" else codes "a")) }
 {
     match request_of(board, op, bus) {

@@ -47,12 +47,7 @@ pub(crate) fn print_circle(
 }
 
 #[tactic(auto, unfolding(crate::specs::Heights::circle_rest))]
-fn print_circle_rest(
-    text: &mut String,
-    first: u32,
-    row: u32,
-    radius: u8,
-) -> Result<(), AllocError>
+fn print_circle_rest(text: &mut String, first: u32, row: u32, radius: u8) -> Result<(), AllocError>
     ensures { OnOk result (string_bytes text.new ≡ string_bytes text.old ++ circle_rest first row radius) }
 {
     let y = Height {

@@ -197,12 +197,7 @@ fn print_slant(text: &mut String, first: u32, route: &Route) -> Result<(), Alloc
 
 /// What stands where the item arrived.
 #[tactic(auto, unfolding(crate::specs::Items::sign_text))]
-fn print_sign(
-    text: &mut String,
-    first: u32,
-    item: &Item,
-    route: &Route,
-) -> Result<(), AllocError>
+fn print_sign(text: &mut String, first: u32, item: &Item, route: &Route) -> Result<(), AllocError>
     ensures { OnOk result (string_bytes text.new ≡ string_bytes text.old ++ sign_text first item.now route.now) }
 {
     if item.marked {

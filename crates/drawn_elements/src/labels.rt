@@ -126,12 +126,7 @@ fn print_arriving(text: &mut String, board: &Board, item: Option<Item>) -> Resul
     }
 }
 
-fn print_item_note(
-    text: &mut String,
-    board: &Board,
-    kind: Kind,
-    op: OpId,
-) -> Result<(), AllocError>
+fn print_item_note(text: &mut String, board: &Board, kind: Kind, op: OpId) -> Result<(), AllocError>
     ensures { OnOk result (string_bytes text.new ≡ string_bytes text.old ++ item_note board.now kind op) }
 {
     match kind {
