@@ -1,0 +1,55 @@
+ghost use Rattle.std.specs.Prelude.{◌≡◌, All};
+ghost use Rattle.segment_workers.specs.Loop.{seen};
+ghost use Rattle.threaded_workers.specs.Turns.{HasRoom, HasTurned, Ran, EachRan};
+
+use crate::Gate;
+use board_model::Board;
+use bus_segment::steps_go_on;
+use bus_turn::Worker;
+use lane_items::LaneEnd;
+use std::thread;
+use std::thread::Threads;
+
+/// Each bus does its turns of a phase, in a thread of its own: it meets the gate, and then does turns
+/// until one did nothing or there is no more room for the events of another.
+pub fn work_all<L: LaneEnd + Drop + Send, R: Threads + Sync, G: Gate + Sync>(
+    rt: &R,
+    gate: &G,
+    board: &Board,
+    workers: &mut [Worker<L>],
+)
+    requires { All (λ w. HasRoom board.now w) workers.old }
+    ensures { EachRan L.had L.sent L.got L.kept L.paired board.now workers.old workers.new }
+{
+    if workers.is_empty() {
+        return;
+    }
+    let threads = workers.len();
+    thread::for_each_mut(rt, workers, threads, &|_, worker| work(gate, board, worker));
+}
+
+/// The turns of one bus.
+fn work<L: LaneEnd + Drop, G: Gate>(gate: &G, board: &Board, worker: &mut Worker<L>)
+    requires { HasRoom board.now worker.old }
+    ensures { Ran L.had L.sent L.got L.kept L.paired board.now (seen worker.old) (seen worker.new) }
+{
+    steps_go_on::<L>();
+    gate.meet(worker.bus());
+    let mut goes_on = turn(gate, board, worker);
+    for _ in 0..worker.spare() {
+        if !goes_on {
+            return;
+        }
+        goes_on = turn(gate, board, worker);
+    }
+}
+
+/// One turn: whether another one follows it.
+fn turn<L: LaneEnd + Drop, G: Gate>(gate: &G, board: &Board, worker: &mut Worker<L>) -> bool
+    requires { HasRoom board.now worker.old }
+    ensures { HasTurned L.had L.sent L.got L.kept L.paired board.now (seen worker.old) worker.new result }
+{
+    let events = worker.turn(board);
+    gate.did(worker.bus(), events);
+    events > 0 && !worker.stopped() && worker.spare() >= 512
+}
