@@ -66,7 +66,7 @@ key_line v n (Some (Arrive lane mark)) = []
 key_line v n (Some (Act on by o step place)) =
     if is_claimed step
     then in_row n (codes "<path class=\"u\" d=\"M" ++ (decimal (told_x v) ++ (32 ∷ (y v.first n ++ (72 ∷ (decimal (min (ends_at v n by o step place).begin (ends_at v n by o step place).end) ++ codes "\"/>\n"))))))
-        ∷ []
+    ∷ []
     else []
 
 abbrev pub key_elements : View → ℕ → List Element
@@ -100,12 +100,12 @@ abbrev pub wait_elements : View → Wait → List Element
 wait_elements v wait =
     if nat_lt wait.first wait.last
     then record {
-        from = wait.first;
-        to = wait.last;
-        text =
-            codes "<path class=\"w" ++ (faint (is_pale v.events wait.op) ++ (codes "\" d=\"M" ++ (decimal (place_of (lines.Master wait.op.master) (layout v))
-            ++ (32 ∷ (y v.first wait.first ++ (86 ∷ (y v.first wait.last ++ codes "\"/>\n")))))));
-      } ∷ []
+      from = wait.first;
+      to = wait.last;
+      text =
+          codes "<path class=\"w" ++ (faint (is_pale v.events wait.op) ++ (codes "\" d=\"M" ++ (decimal (place_of (lines.Master wait.op.master) (layout v))
+          ++ (32 ∷ (y v.first wait.first ++ (86 ∷ (y v.first wait.last ++ codes "\"/>\n")))))));
+    } ∷ []
     else []
 
 -- Layer 4: items.

@@ -31,12 +31,7 @@ pub(crate) fn print_head(
     }
     text.push_str("<path class=\"l\" d=\"")?;
     for column in columns.lines() {
-        write!(
-            text,
-            "M{} {}V{height}",
-            column.place,
-            28 + 12 * column.row
-        )?;
+        write!(text, "M{} {}V{height}", column.place, 28 + 12 * column.row)?;
     }
     text.push_str("\"/>\n")?;
     for column in columns.lines() {
@@ -80,12 +75,7 @@ pub(crate) fn print_strips(
 }
 
 /// The begin of a strip: its size, the columns and the lines.
-fn print_strip(
-    text: &mut String,
-    columns: &Columns,
-    low: u64,
-    high: u64,
-) -> Result<(), NoMemory> {
+fn print_strip(text: &mut String, columns: &Columns, low: u64, high: u64) -> Result<(), NoMemory> {
     let width = columns.width()?;
     let height = high.saturating_sub(low);
     writeln!(

@@ -39,13 +39,15 @@ struct Shown {
 
 fn act_of(picture: &Picture, n: u32) -> Option<Shown> {
     match picture.events.get((n as usize).saturating_sub(1)) {
-        Some(Event::Act {
-            bus,
-            by,
-            op,
-            step,
-            place,
-        }) => Some(Shown {
+        Some(
+            Event::Act {
+                bus,
+                by,
+                op,
+                step,
+                place,
+            },
+        ) => Some(Shown {
             n,
             bus: *bus,
             by: *by,
@@ -177,7 +179,14 @@ fn draw_items(alloc: Global, strips: &mut Strips, picture: &Picture) -> Result<(
         let route = Route::of(picture.columns, picture.end(), item)?;
         if strips.sees(route.sent, route.left) {
             let mut text = String::new(alloc);
-            print_item(&mut text, picture.board, picture.first, picture.is_pale(item.op), item, &route)?;
+            print_item(
+                &mut text,
+                picture.board,
+                picture.first,
+                picture.is_pale(item.op),
+                item,
+                &route,
+            )?;
             strips.draw(route.sent, route.left, text.as_str())?;
         }
     }
@@ -188,7 +197,19 @@ fn draw_acts(alloc: Global, strips: &mut Strips, picture: &Picture) -> Result<()
     for n in picture.first..picture.last + 1 {
         if let Some(act) = act_of(picture, n) {
             let mut text = String::new(alloc);
-            print_act(&mut text, picture.board, picture.columns, picture.first, n, picture.is_pale(act.op), act.bus, act.by, act.op, act.step, &ends_of(picture, &act)?)?;
+            print_act(
+                &mut text,
+                picture.board,
+                picture.columns,
+                picture.first,
+                n,
+                picture.is_pale(act.op),
+                act.bus,
+                act.by,
+                act.op,
+                act.step,
+                &ends_of(picture, &act)?,
+            )?;
             strips.draw(n, n, text.as_str())?;
         }
     }

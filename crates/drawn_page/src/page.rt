@@ -97,7 +97,9 @@ fn print_top(
     first: u32,
     last: u32,
 ) -> Result<(), AllocError> {
-    text.push_str("<!DOCTYPE html>\n<html lang=\"en\">\n<meta charset=\"utf-8\">\n<meta name=\"viewport\" content=\"width=device-width\">\n<title>pcitree: ")?;
+    text.push_str(
+        "<!DOCTYPE html>\n<html lang=\"en\">\n<meta charset=\"utf-8\">\n<meta name=\"viewport\" content=\"width=device-width\">\n<title>pcitree: ",
+    )?;
     print_title(text, board, events, first, last)?;
     text.push_str("</title>\n<style>\n")?;
     text.push_str(STYLE)?;
@@ -143,10 +145,7 @@ fn print_told(text: &mut String, board: &Board, told: &Told) -> Result<(), Alloc
         writeln!(
             text,
             "</code>: landed at <a href=\"#e{}\">{}</a>, read at <a href=\"#e{}\">{}</a>",
-            span.landed,
-            span.landed,
-            span.read,
-            span.read
+            span.landed, span.landed, span.read, span.read
         )?;
     }
     text.push_str("</ol></details>\n")
