@@ -1,0 +1,100 @@
+use board_model::Window;
+use std::fmt;
+
+/// Why a bridge is left out. Buses are those of the text.
+#[derive(Clone, Copy, Debug, PartialEq, Eq, PartialOrd, Ord, Hash)]
+pub enum NoBridge {
+    /// No bridge that is taken leads to this bus, on which it is.
+    NoWay(u8),
+    /// It has the buses from this to this, which are none behind its own.
+    WrongBuses(u8, u8),
+    /// It has the buses from this to this, which are not all behind the bus on which it is.
+    OutsideBuses(u8, u8, u8),
+    /// It has the buses from this to this, of which a bridge before on its bus has some.
+    SharedBuses(u8, u8),
+    /// There are eight bridges on its bus, or 31 on the board.
+    Full,
+    /// No device number is free.
+    NoDevice,
+}
+
+/// Why a window of a bridge is closed.
+#[derive(Clone, Copy, Debug, PartialEq, Eq, PartialOrd, Ord, Hash)]
+pub enum NoWindow {
+    /// Its registers are zero.
+    Zero,
+    /// The command register turns it off.
+    Off,
+    /// The bridge to this bus, on which the bridge is, does not pass all of it.
+    InNone(u8),
+    /// The bridge to this bus, on the same bus, passes some of it.
+    Meets(u8),
+}
+
+#[derive(Clone, Copy, Debug, PartialEq, Eq, PartialOrd, Ord, Hash)]
+pub enum WindowFate {
+    /// The bridge has none.
+    Absent,
+    Open(Window),
+    Closed(Window, NoWindow),
+}
+
+/// A bridge of the board.
+#[derive(Clone, Copy, Debug, PartialEq, Eq, PartialOrd, Ord, Hash)]
+pub struct TakenBridge {
+    /// The bus on which it is, by the text.
+    pub parent: u8,
+    /// The bus below it, and the last bus behind it.
+    pub bus: u8,
+    pub last: u8,
+    /// Its device number on the board.
+    pub device: u8,
+    pub mem: WindowFate,
+    pub pref: WindowFate,
+    pub io: WindowFate,
+}
+
+#[derive(Clone, Copy, Debug, PartialEq, Eq, PartialOrd, Ord, Hash)]
+pub enum BridgeFate {
+    LeftOut(NoBridge),
+    Taken(TakenBridge),
+}
+
+impl fmt::Display for NoBridge {
+    ghost use Rattle.std.specs.Prelude.{Some};
+    ghost use Rattle.machine_bridges.specs.Reasons.{no_bridge_words};
+
+    ghost output = { λ reason. Some (no_bridge_words reason) };
+
+    fn fmt<W: fmt::Write>(&self, f: &mut fmt::Formatter<W>) -> fmt::Result {
+        match self {
+            NoBridge::NoWay(bus) => write!(f, "no bridge of this board leads to bus {bus}"),
+            NoBridge::WrongBuses(first, last) => write!(f, "its buses are {first} to {last}"),
+            NoBridge::OutsideBuses(first, last, bus) => {
+                write!(f, "its buses {first} to {last}")?;
+                write!(f, " are not those behind bus {bus}")
+            }
+            NoBridge::SharedBuses(first, last) => {
+                write!(f, "another bridge has buses of {first} to {last}")
+            }
+            NoBridge::Full => f.write_str("there are 8 bridges on its bus or 31 on the board"),
+            NoBridge::NoDevice => f.write_str("no device number is free"),
+        }
+    }
+}
+
+impl fmt::Display for NoWindow {
+    ghost use Rattle.std.specs.Prelude.{Some};
+    ghost use Rattle.machine_bridges.specs.Reasons.{no_window_words};
+
+    ghost output = { λ reason. Some (no_window_words reason) };
+
+    fn fmt<W: fmt::Write>(&self, f: &mut fmt::Formatter<W>) -> fmt::Result {
+        match self {
+            NoWindow::Zero => f.write_str("its registers are zero"),
+            NoWindow::Off => f.write_str("its decoding is off"),
+            NoWindow::InNone(bus) => write!(f, "it is in no window of bridge {bus}"),
+            NoWindow::Meets(bus) => write!(f, "it meets a window of bridge {bus}"),
+        }
+    }
+}
