@@ -5,7 +5,9 @@
 mod bridges;
 mod counts;
 mod devices;
+mod import;
 mod notes;
 mod text;
 
+pub use import::import_board;
 pub use text::import_text;

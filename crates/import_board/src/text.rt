@@ -3,7 +3,7 @@ ghost use Rattle.import_board.specs.Text.{import_text, head_lines, root_notes, d
 
 use crate::bridges::print_bridges;
 use crate::counts::{
-    bridges_taken, functions_left, has_far, own_ranges, ranges_left, ranges_taken, targets_taken,
+    bridges_taken, functions_left, has_far, ranges_left, ranges_taken, targets_taken,
     windows_left,
 };
 use crate::devices::print_devices;

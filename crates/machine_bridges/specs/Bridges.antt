@@ -3,6 +3,7 @@ use Rattle.std.specs.Prelude.{ℕ, Bool, zero, suc, ◌+◌, List, [], ◌∷◌
 use Rattle.std.specs.List.{find, list_any, count_by}
 use Rattle.lspci_text.specs.declared.function.Function.{Function}
 use Rattle.machine_bridges.specs.declared.machine.Machine.{Machine}
+use Rattle.machine_bridges.specs.declared.fate.Buses.{Buses}
 use Rattle.machine_bridges.specs.declared.fate.NoBridge.{NoBridge}
 use Rattle.machine_bridges.specs.declared.fate.NoBridge.TheVariants.{NoWay, WrongBuses, OutsideBuses, SharedBuses, Full, NoDevice}
 use Rattle.machine_bridges.specs.declared.fate.BridgeFate.{BridgeFate}
@@ -89,9 +90,10 @@ bridge_behind machine taken function (Some last) =
     let q : ℕ = function.slot.bus in
     let s : ℕ = secondary_of function in
     let u : ℕ = subordinate_of function in
-    if not (nat_lt q s && nat_le s u) then LeftOut (WrongBuses s u)
-    else if nat_lt last u then LeftOut (OutsideBuses s u q)
-    else if list_any (shares_buses q s u) taken then LeftOut (SharedBuses s u)
+    let buses : Buses = record { first = s; last = u } in
+    if not (nat_lt q s && nat_le s u) then LeftOut (WrongBuses buses)
+    else if nat_lt last u then LeftOut (OutsideBuses buses q)
+    else if list_any (shares_buses q s u) taken then LeftOut (SharedBuses buses)
     else if is_full taken q then LeftOut Full
     else bridge_with machine taken function (device_number machine (map place_of taken) q function.slot.device)
 

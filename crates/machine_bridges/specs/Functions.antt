@@ -1,7 +1,7 @@
 -- The functions of a machine that are looked at: those of one domain, by kind and in order. Registers are read by offset, low
 -- byte first (PCI Local Bus Specification 2.2, section 6.1; from memory).
-use Rattle.std.specs.Prelude.{ℕ, Bool, ◌+◌, ◌*◌, ◌-◌, ◌^◌, List, [], ◌∷◌, Option, Some, None, min, ◌==◌, ◌&&◌, not, nat_lt, slice_index}
-use Rattle.std.specs.List.{filter, insert, count_by, position_or_len}
+use Rattle.std.specs.Prelude.{ℕ, Bool, ◌+◌, ◌*◌, ◌-◌, ◌^◌, List, [], ◌∷◌, Option, Some, None, min, ◌==◌, ◌&&◌, not, nat_lt, if◌then◌else◌, slice_index}
+use Rattle.std.specs.List.{filter, insert, position_or_len}
 use Rattle.lspci_text.specs.declared.slot.Slot.{Slot}
 use Rattle.lspci_text.specs.declared.function.Function.{Function}
 use Rattle.bridge_header.specs.HeaderBytes.{bits}
@@ -50,22 +50,24 @@ slot_number function = 2 ^ 16 * function.slot.bus + 2 ^ 8 * function.slot.device
 abbrev pub bridge_number : Function → ℕ
 bridge_number function = 2 ^ 24 * slice_index function.header 0x19 + slot_number function
 
--- before the first of those with a greater number
+-- where a function with this number stands: before the first of those with a greater one
+abbrev pub place_in : (Function → ℕ) → ℕ → List Function → ℕ
+place_in number own functions = position_or_len (λ other. nat_lt own (number other)) functions
+
 abbrev pub put_in_order : (Function → ℕ) → Function → List Function → List Function
-put_in_order number function functions = insert functions (position_or_len (λ other. nat_lt (number function) (number other)) functions) function
+put_in_order number function functions = insert functions (place_in number (number function) functions) function
 
--- one after the other, behind those that are in order
-abbrev pub in_order : (Function → ℕ) → List Function → List Function → List Function
-in_order number ordered [] = ordered
-in_order number ordered (function ∷ functions) = in_order number (put_in_order number function ordered) functions
+-- one more function: of another domain it only counts; a bridge and any other stand in their order
+abbrev pub with_function : Function → Machine → Machine
+with_function function machine =
+    if not (is_in machine.root.domain function) then record machine { elsewhere = machine.elsewhere + 1 }
+    else if is_bridge function then record machine { bridges = put_in_order bridge_number function machine.bridges }
+    else record machine { others = put_in_order slot_number function machine.others }
 
--- the bridges and the other functions of the root's domain, each in their order, and how many functions there are besides
+-- the functions that were read, one after the other
+abbrev pub with_functions : List Function → Machine → Machine
+with_functions [] machine = machine
+with_functions (function ∷ functions) machine = with_functions functions (with_function function machine)
+
 abbrev pub machine_by : Root → List Function → Machine
-machine_by root functions =
-    let here : List Function = filter (is_in root.domain) functions in
-    record {
-      root = root;
-      elsewhere = count_by (λ function. not (is_in root.domain function)) functions;
-      bridges = in_order bridge_number [] (filter is_bridge here);
-      others = in_order slot_number [] (filter (λ function. not (is_bridge function)) here);
-    }
+machine_by root functions = with_functions functions (record { root = root; elsewhere = 0; bridges = []; others = [] })

@@ -7,7 +7,7 @@ ghost use Rattle.machine_bridges.specs.Bridges.{secondary_of, subordinate_of, pl
 use crate::devices::device_number;
 use crate::header::byte_at;
 use crate::windows::{io_fate, memory_fate, prefetchable_fate};
-use crate::{BridgeFate, DevicePlace, Machine, NoBridge, TakenBridge};
+use crate::{BridgeFate, Buses, DevicePlace, Machine, NoBridge, TakenBridge};
 use lspci_text::Function;
 use pci_command::{List, NoMemory};
 use std::alloc::Global;
@@ -131,14 +131,15 @@ fn bridge_behind(
     let bus = function.slot.bus;
     let first = secondary_of(function);
     let end = subordinate_of(function);
+    let buses = Buses { first, last: end };
     if !(bus < first && first <= end) {
-        return BridgeFate::LeftOut(NoBridge::WrongBuses(first, end));
+        return BridgeFate::LeftOut(NoBridge::WrongBuses(buses));
     }
     if last < end {
-        return BridgeFate::LeftOut(NoBridge::OutsideBuses(first, end, bus));
+        return BridgeFate::LeftOut(NoBridge::OutsideBuses(buses, bus));
     }
     if some_shares_buses(taken, bus, first, end) {
-        return BridgeFate::LeftOut(NoBridge::SharedBuses(first, end));
+        return BridgeFate::LeftOut(NoBridge::SharedBuses(buses));
     }
     if is_full(taken, bus) {
         return BridgeFate::LeftOut(NoBridge::Full);

@@ -1,17 +1,24 @@
 use board_model::Window;
 use std::fmt;
 
+/// The buses from the first to the last.
+#[derive(Clone, Copy, Debug, PartialEq, Eq, PartialOrd, Ord, Hash)]
+pub struct Buses {
+    pub first: u8,
+    pub last: u8,
+}
+
 /// Why a bridge is left out. Buses are those of the text.
 #[derive(Clone, Copy, Debug, PartialEq, Eq, PartialOrd, Ord, Hash)]
 pub enum NoBridge {
     /// No bridge that is taken leads to this bus, on which it is.
     NoWay(u8),
-    /// It has the buses from this to this, which are none behind its own.
-    WrongBuses(u8, u8),
-    /// It has the buses from this to this, which are not all behind the bus on which it is.
-    OutsideBuses(u8, u8, u8),
-    /// It has the buses from this to this, of which a bridge before on its bus has some.
-    SharedBuses(u8, u8),
+    /// It has these buses, which are none behind its own.
+    WrongBuses(Buses),
+    /// It has these buses, which are not all behind this bus, on which it is.
+    OutsideBuses(Buses, u8),
+    /// It has these buses, of which a bridge before on its bus has some.
+    SharedBuses(Buses),
     /// There are eight bridges on its bus, or 31 on the board.
     Full,
     /// No device number is free.
@@ -60,6 +67,18 @@ pub enum BridgeFate {
     Taken(TakenBridge),
 }
 
+impl fmt::Display for Buses {
+    ghost use Rattle.std.specs.Prelude.{Some};
+    ghost use Rattle.machine_bridges.specs.Reasons.{buses_words};
+
+    ghost output = { λ buses. Some (buses_words buses) };
+
+    fn fmt<W: fmt::Write>(&self, f: &mut fmt::Formatter<W>) -> fmt::Result {
+        let Buses { first, last } = self;
+        write!(f, "{first} to {last}")
+    }
+}
+
 impl fmt::Display for NoBridge {
     ghost use Rattle.std.specs.Prelude.{Some};
     ghost use Rattle.machine_bridges.specs.Reasons.{no_bridge_words};
@@ -69,14 +88,11 @@ impl fmt::Display for NoBridge {
     fn fmt<W: fmt::Write>(&self, f: &mut fmt::Formatter<W>) -> fmt::Result {
         match self {
             NoBridge::NoWay(bus) => write!(f, "no bridge of this board leads to bus {bus}"),
-            NoBridge::WrongBuses(first, last) => write!(f, "its buses are {first} to {last}"),
-            NoBridge::OutsideBuses(first, last, bus) => {
-                write!(f, "its buses {first} to {last}")?;
-                write!(f, " are not those behind bus {bus}")
+            NoBridge::WrongBuses(buses) => write!(f, "its buses are {buses}"),
+            NoBridge::OutsideBuses(buses, bus) => {
+                write!(f, "its buses {buses} are not those behind bus {bus}")
             }
-            NoBridge::SharedBuses(first, last) => {
-                write!(f, "another bridge has buses of {first} to {last}")
-            }
+            NoBridge::SharedBuses(buses) => write!(f, "another bridge has buses of {buses}"),
             NoBridge::Full => f.write_str("there are 8 bridges on its bus or 31 on the board"),
             NoBridge::NoDevice => f.write_str("no device number is free"),
         }

@@ -11,7 +11,7 @@ mod windows;
 
 pub use bridges::{bridge_fates, is_led_to, place_of, taken_among};
 pub use devices::{DevicePlace, device_number};
-pub use fate::{BridgeFate, NoBridge, NoWindow, TakenBridge, WindowFate};
+pub use fate::{BridgeFate, Buses, NoBridge, NoWindow, TakenBridge, WindowFate};
 pub use header::{byte_at, decodes, header_type, register_2, register_4};
 pub use machine::{Machine, Root, machine_of};
 pub use windows::{first_passing, is_reached, shares};

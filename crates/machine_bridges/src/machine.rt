@@ -1,6 +1,5 @@
-ghost use Rattle.std.specs.Prelude.{◌≡◌, ◌<◌, ◌-◌, ◌^◌, ◌≤◌, filter, length, nat_lt, IfOk};
-ghost use Rattle.std.specs.List.{position_or_len};
-ghost use Rattle.machine_bridges.specs.Functions.{least, bus_of, least_domain, is_in, first_root, root_by, slot_number, bridge_number, put_in_order, machine_by};
+ghost use Rattle.std.specs.Prelude.{◌≡◌, ◌<◌, ◌+◌, ◌-◌, ◌^◌, ◌≤◌, filter, length, IfOk};
+ghost use Rattle.machine_bridges.specs.Functions.{least, bus_of, least_domain, is_in, first_root, root_by, slot_number, bridge_number, place_in, put_in_order, with_function, machine_by};
 
 use crate::header::{byte_at, is_bridge};
 use lspci_text::Function;
@@ -27,6 +26,7 @@ pub struct Machine {
 }
 
 /// The machine below a root, or where none is asked for below the least bus of the least domain.
+#[tactic(auto, using(crate::proofs::ListLemmas::with_one_more))]
 pub fn machine_of(
     alloc: Global,
     root: Option<Root>,
@@ -36,17 +36,38 @@ pub fn machine_of(
     ensures { IfOk result (λ machine. machine ≡ machine_by (root_by root functions) functions) }
 {
     let root = root_by(root, functions.as_slice());
-    let mut elsewhere = 0;
-    let mut bridges = Vec::new(alloc);
-    let mut others = Vec::new(alloc);
+    let mut machine = Machine {
+        root,
+        elsewhere: 0,
+        bridges: List::from_vec(Vec::new(alloc)),
+        others: List::from_vec(Vec::new(alloc)),
+    };
     for function in functions.into_vec() {
-        if function.slot.domain != root.domain {
-            elsewhere += 1;
-        } else if is_bridge(&function) {
-            put_bridge(&mut bridges, function)?;
-        } else {
-            put_other(&mut others, function)?;
-        }
+        machine = with_function(machine, function)?;
+    }
+    Ok(machine)
+}
+
+/// The machine with one more function.
+fn with_function(machine: Machine, function: Function) -> Result<Machine, NoMemory>
+    requires { machine.elsewhere < 2 ^ 31 }
+    ensures value { IfOk result (λ more. more ≡ with_function function machine) }
+    ensures few { IfOk result (λ more. more.elsewhere ≤ machine.elsewhere + 1) }
+{
+    let Machine {
+        root,
+        mut elsewhere,
+        bridges,
+        others,
+    } = machine;
+    let mut bridges = bridges.into_vec();
+    let mut others = others.into_vec();
+    if function.slot.domain != root.domain {
+        elsewhere += 1;
+    } else if is_bridge(&function) {
+        put_bridge(&mut bridges, function)?;
+    } else {
+        put_other(&mut others, function)?;
     }
     Ok(Machine {
         root,
@@ -102,7 +123,8 @@ fn least_bus(domain: u32, functions: &[Function]) -> u8
 }
 
 fn slot_number(function: &Function) -> u32
-    ensures { result ≡ slot_number function.now }
+    ensures value { result ≡ slot_number function.now }
+    ensures few { result < 2 ^ 24 }
 {
     let bus = u32::from(function.slot.bus);
     let device = u32::from(function.slot.device);
@@ -134,21 +156,33 @@ fn put_other(others: &mut Vec<Function>, function: Function) -> Result<(), NoMem
 
 /// Before the first of those with a greater number.
 fn place_of_bridge(bridges: &[Function], number: u32) -> usize
-    ensures value { result ≡ position_or_len (λ other. nat_lt number (bridge_number other)) bridges.now }
+    ensures value { result ≡ place_in bridge_number number bridges.now }
     ensures within { result ≤ length bridges.now }
 {
-    bridges
-        .iter()
-        .position(|other| number < bridge_number(other))
-        .unwrap_or(bridges.len())
+    let mut place = 0;
+    let mut left = bridges;
+    while let [other, behind @ ..] = left {
+        if number < bridge_number(other) {
+            return place;
+        }
+        place += 1;
+        left = behind;
+    }
+    place
 }
 
 fn place_of_other(others: &[Function], number: u32) -> usize
-    ensures value { result ≡ position_or_len (λ other. nat_lt number (slot_number other)) others.now }
+    ensures value { result ≡ place_in slot_number number others.now }
     ensures within { result ≤ length others.now }
 {
-    others
-        .iter()
-        .position(|other| number < slot_number(other))
-        .unwrap_or(others.len())
+    let mut place = 0;
+    let mut left = others;
+    while let [other, behind @ ..] = left {
+        if number < slot_number(other) {
+            return place;
+        }
+        place += 1;
+        left = behind;
+    }
+    place
 }

@@ -123,6 +123,15 @@ joined function ([] ∷ devices) = (function ∷ []) ∷ devices
 joined function ((first ∷ more) ∷ devices) =
     if same_device function first then (function ∷ first ∷ more) ∷ devices else (function ∷ []) ∷ (first ∷ more) ∷ devices
 
+abbrev pub begins_with : Function → List Function → Bool
+begins_with function [] = false
+begins_with function (first ∷ more) = same_device function first
+
+-- how many, from the first on, are of one device
+abbrev pub run_length : List Function → ℕ
+run_length [] = 0
+run_length (function ∷ functions) = 1 + (if begins_with function functions then run_length functions else 0)
+
 abbrev pub by_device : List Function → List (List Function)
 by_device [] = []
 by_device (function ∷ functions) = joined function (by_device functions)

@@ -27,6 +27,9 @@ is_io value = bits 0 1 value == 1
 abbrev pub is_wide : ℕ → Bool
 is_wide value = not (is_io value) && bits 1 2 value == 2
 
+abbrev pub space_by : ℕ → Space
+space_by value = if is_io value then Io else Mem
+
 abbrev pub low_base : ℕ → ℕ
 low_base value = if is_io value then 2 ^ 2 * bits 2 30 value else 2 ^ 4 * bits 4 28 value
 
@@ -53,7 +56,7 @@ found_at function many n =
     if is_there (value_at function n) (size_at function n)
     then record {
       number = n;
-      space = if is_io (value_at function n) then Io else Mem;
+      space = space_by (value_at function n);
       base = base_at function many n;
       size = size_at function n;
       flaw = flaw_at function many n;

@@ -1,7 +1,7 @@
-ghost use Rattle.std.specs.Prelude.{◌≡◌, ◌++◌, ◌<◌, ◌≤◌, ◌^◌, ◌==◌, length, map, not, IfOk};
-ghost use Rattle.std.specs.List.{list_any, count_by, position_or_len};
+ghost use Rattle.std.specs.Prelude.{◌≡◌, ◌++◌, ◌<◌, ◌≤◌, ◌^◌, ◌==◌, length, map, IfOk};
+ghost use Rattle.std.specs.List.{list_any, count_by};
 ghost use Rattle.machine_bridges.specs.Bridges.{place_of};
-ghost use Rattle.machine_targets.specs.Devices.{is_placed, claims_something, device_fate, same_device, judged_device, target_place, placed_by, devices_of};
+ghost use Rattle.machine_targets.specs.Devices.{is_placed, claims_something, device_fate, same_device, begins_with, run_length, judged_device, target_place, placed_by, devices_of};
 
 use crate::functions::functions_behind;
 use crate::{Device, DeviceFate, Judged, Placed, RangeFate};
@@ -11,6 +11,7 @@ use pci_command::{List, NoMemory};
 use std::alloc::Global;
 
 /// The devices of a machine, and which of them are targets of a board that has these bridges.
+#[tactic(auto, using(crate::proofs::DeviceLemmas::first_device))]
 pub fn devices_of(
     alloc: Global,
     machine: &Machine,
@@ -27,7 +28,7 @@ pub fn devices_of(
     let mut devices = Vec::new(alloc);
     let mut left = machine.others.as_slice();
     while let [first, ..] = left {
-        let (functions, behind) = left.split_at(length_of_device(first, left));
+        let (functions, behind) = left.split_at(run_length(left));
         devices.push(judged_device(alloc, machine, bridges, &mut taken, first, functions)?)?;
         left = behind;
     }
@@ -35,6 +36,7 @@ pub fn devices_of(
 }
 
 /// What was taken by now: the device numbers that were given, those of targets, and ranges.
+#[derive(Drop)]
 struct Taken {
     given: Vec<DevicePlace>,
     targets: Vec<DevicePlace>,
@@ -132,15 +134,31 @@ fn count_on(targets: &[DevicePlace], bus: u8) -> usize
     targets.iter().filter(|target| target.bus == bus).count()
 }
 
-/// How many of the functions, from the first on, are of its device.
-fn length_of_device(first: &Function, functions: &[Function]) -> usize
-    ensures value { result ≡ position_or_len (λ other. not (same_device first.now other)) functions.now }
+/// How many of the functions, from the first on, are of one device.
+fn run_length(functions: &[Function]) -> usize
+    ensures value { result ≡ run_length functions.now }
     ensures within { result ≤ length functions.now }
 {
-    functions
-        .iter()
-        .position(|other| !same_device(first, other))
-        .unwrap_or(functions.len())
+    let mut place = 0;
+    let mut left = functions;
+    while let [function, behind @ ..] = left {
+        place += 1;
+        if !begins_with(behind, function) {
+            return place;
+        }
+        left = behind;
+    }
+    place
+}
+
+/// Whether the first of the functions is of the same device.
+fn begins_with(functions: &[Function], function: &Function) -> bool
+    ensures { result ≡ begins_with function.now functions.now }
+{
+    match functions.first() {
+        Some(first) => same_device(function, first),
+        None => false,
+    }
 }
 
 fn same_device(function: &Function, other: &Function) -> bool

@@ -31,8 +31,16 @@ pub enum RangeFate {
     LeftOut(NoRange),
 }
 
+impl Default for RangeFate {
+    ghost is_default = { λ fate. fate ≡ RangeFate.LeftOut NoRange.OfBridge };
+
+    fn default() -> RangeFate {
+        RangeFate::LeftOut(NoRange::OfBridge)
+    }
+}
+
 /// What a base address register asks for, and what becomes of it.
-#[derive(Clone, Copy, Debug, PartialEq, Eq, PartialOrd, Ord, Hash)]
+#[derive(Clone, Copy, Debug, Default, PartialEq, Eq, PartialOrd, Ord, Hash)]
 pub struct Judged {
     pub found: Found,
     pub fate: RangeFate,

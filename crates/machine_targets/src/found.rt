@@ -1,5 +1,5 @@
-ghost use Rattle.std.specs.Prelude.{◌≡◌, ◌<◌, ◌+◌, ◌++◌, ◌^◌, option_to_list, length};
-ghost use Rattle.machine_targets.specs.Registers.{value_at, size_at, is_io, is_wide, low_base, is_there, base_at, flaw_at, found_at, behind, found_from, registers_of, found_in};
+ghost use Rattle.std.specs.Prelude.{◌≡◌, ◌<◌, ◌≤◌, ◌+◌, ◌++◌, ◌^◌, option_to_list, length};
+ghost use Rattle.machine_targets.specs.Registers.{value_at, size_at, is_io, is_wide, low_base, is_there, base_at, space_by, flaw_at, found_at, behind, found_from, registers_of, found_in};
 
 use arrayvec::ArrayVec;
 use lspci_text::Function;
@@ -19,7 +19,7 @@ pub enum Flaw {
 }
 
 /// What a base address register asks for.
-#[derive(Clone, Copy, Debug, PartialEq, Eq, PartialOrd, Ord, Hash)]
+#[derive(Clone, Copy, Debug, Default, PartialEq, Eq, PartialOrd, Ord, Hash)]
 pub struct Found {
     /// The number of the register, from 0.
     pub number: u8,
@@ -34,20 +34,35 @@ pub struct Found {
 pub(crate) fn found_in(function: &Function) -> ArrayVec<Found, 6>
     ensures { result.items ≡ found_in function.now }
 {
-    let many = registers_of(function);
     let mut found = ArrayVec::new();
-    let mut n = 0;
-    while n < many {
-        if let Some(one) = found_at(function, many, n) {
-            found.push(one);
-        }
-        n = behind(function, n);
-    }
+    push_from(&mut found, function, registers_of(function), 0, 6);
     found
 }
 
+/// Of so many registers those from this number on, in so many steps at most.
+fn push_from(
+    found: &mut ArrayVec<Found, 6>,
+    function: &Function,
+    many: u8,
+    n: u8,
+    steps: u8,
+)
+    requires few { many ≤ 6 }
+    requires room { length found.old.items + steps ≤ 6 }
+    ensures { found.new.items ≡ found.old.items ++ found_from steps function.now many n }
+{
+    if steps == 0 || n >= many {
+        return;
+    }
+    if let Some(one) = found_at(function, many, n) {
+        found.push(one);
+    }
+    push_from(found, function, many, behind(function, n), steps - 1);
+}
+
 fn registers_of(function: &Function) -> u8
-    ensures { result ≡ registers_of function.now }
+    ensures value { result ≡ registers_of function.now }
+    ensures few { result ≤ 6 }
 {
     match header_type(function) {
         0 => 6,
@@ -129,7 +144,7 @@ fn flaw_at(function: &Function, many: u8, n: u8) -> Option<Flaw>
 }
 
 fn space_of(value: u32) -> Space
-    ensures { result ≡ (if is_io value then Io else Mem) }
+    ensures { result ≡ space_by value }
 {
     if is_io(value) {
         Space::Io

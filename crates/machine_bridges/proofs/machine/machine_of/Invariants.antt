@@ -1,13 +1,10 @@
-use Rattle.std.proofs.Common.{◌≡◌, ◌≤◌, [], filter, length, not}
-use Rattle.std.specs.List.{count_by}
-use Rattle.machine_bridges.specs.Functions.{is_in, is_bridge, slot_number, bridge_number, in_order}
+use Rattle.std.proofs.Common.{◌≡◌, ◌≤◌, [], length}
+use Rattle.machine_bridges.specs.Functions.{root_by, with_functions}
 use Rattle.machine_bridges.proofs.machine.machine_of.Given as goal
 
--- those so far, each kind in its order
+-- the machine with those so far
 abbrev pub invariant-loop-function : goal.invariant-loop-function
 invariant-loop-function l = record {
-  elsewhere : l.elsewhere ≡ count_by (λ function. not (is_in l.root.domain function)) l.yielded;
-  few : l.elsewhere ≤ length l.yielded;
-  bridges : l.bridges.items ≡ in_order bridge_number [] (filter is_bridge (filter (is_in l.root.domain) l.yielded));
-  others : l.others.items ≡ in_order slot_number [] (filter (λ function. not (is_bridge function)) (filter (is_in l.root.domain) l.yielded));
+  machine : l.machine ≡ with_functions l.yielded (record { root = root_by l.fn.root l.fn.functions; elsewhere = 0; bridges = []; others = [] });
+  few : l.machine.elsewhere ≤ length l.yielded;
 }
