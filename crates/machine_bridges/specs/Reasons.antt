@@ -10,10 +10,13 @@ use Rattle.machine_bridges.specs.declared.fate.NoWindow.TheVariants.{Zero, Off, 
 abbrev pub buses_words : Buses → List ℕ
 buses_words buses = decimal buses.first ++ (codes " to " ++ decimal buses.last)
 
+abbrev pub not_behind_words : ℕ → List ℕ
+not_behind_words q = codes " are not those behind bus " ++ decimal q
+
 abbrev pub no_bridge_words : NoBridge → List ℕ
 no_bridge_words (NoWay q) = codes "no bridge of this board leads to bus " ++ decimal q
 no_bridge_words (WrongBuses buses) = codes "its buses are " ++ buses_words buses
-no_bridge_words (OutsideBuses buses q) = codes "its buses " ++ (buses_words buses ++ (codes " are not those behind bus " ++ decimal q))
+no_bridge_words (OutsideBuses buses q) = codes "its buses " ++ (buses_words buses ++ not_behind_words q)
 no_bridge_words (SharedBuses buses) = codes "another bridge has buses of " ++ buses_words buses
 no_bridge_words Full = codes "there are 8 bridges on its bus or 31 on the board"
 no_bridge_words NoDevice = codes "no device number is free"

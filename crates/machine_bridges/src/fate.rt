@@ -79,6 +79,22 @@ impl fmt::Display for Buses {
     }
 }
 
+/// That buses are not behind a bus.
+#[derive(Clone, Copy)]
+struct NotBehind(u8);
+
+impl fmt::Display for NotBehind {
+    ghost use Rattle.std.specs.Prelude.{Some};
+    ghost use Rattle.machine_bridges.specs.Reasons.{not_behind_words};
+
+    ghost output = { λ bus. Some (not_behind_words bus.0) };
+
+    fn fmt<W: fmt::Write>(&self, f: &mut fmt::Formatter<W>) -> fmt::Result {
+        let bus = self.0;
+        write!(f, " are not those behind bus {bus}")
+    }
+}
+
 impl fmt::Display for NoBridge {
     ghost use Rattle.std.specs.Prelude.{Some};
     ghost use Rattle.machine_bridges.specs.Reasons.{no_bridge_words};
@@ -90,7 +106,8 @@ impl fmt::Display for NoBridge {
             NoBridge::NoWay(bus) => write!(f, "no bridge of this board leads to bus {bus}"),
             NoBridge::WrongBuses(buses) => write!(f, "its buses are {buses}"),
             NoBridge::OutsideBuses(buses, bus) => {
-                write!(f, "its buses {buses} are not those behind bus {bus}")
+                let behind = NotBehind(*bus);
+                write!(f, "its buses {buses}{behind}")
             }
             NoBridge::SharedBuses(buses) => write!(f, "another bridge has buses of {buses}"),
             NoBridge::Full => f.write_str("there are 8 bridges on its bus or 31 on the board"),
