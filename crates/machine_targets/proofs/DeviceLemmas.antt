@@ -1,5 +1,5 @@
 -- The functions of the first device, and then the others.
-use Rattle.std.proofs.Common.{◌≡◌, ℕ, ◌+◌, Bool, true, false, cond, List, [], ◌∷◌, take, drop, refl, sym, ap, ◌∙◌}
+use Rattle.std.proofs.Common.{◌≡◌, ℕ, suc, Bool, true, false, cond, List, [], ◌∷◌, take, drop, refl, sym, ap, ◌∙◌}
 use Rattle.lspci_text.specs.declared.function.Function.{Function}
 use Rattle.machine_targets.specs.Devices.{same_device, joined, begins_with, run_length, by_device}
 
@@ -11,5 +11,5 @@ first_device function (first ∷ more) =
     let behind = first_device first more in
     let P : Bool → Type 0 = λ same.
       cond same ((function ∷ first ∷ take n more) ∷ by_device (drop n more)) ((function ∷ []) ∷ (first ∷ take n more) ∷ by_device (drop n more))
-      ≡ take (1 + cond same (run_length (first ∷ more)) 0) (function ∷ first ∷ more) ∷ by_device (drop (1 + cond same (run_length (first ∷ more)) 0) (function ∷ first ∷ more)) in
+      ≡ take (suc (cond same (run_length (first ∷ more)) 0)) (function ∷ first ∷ more) ∷ by_device (drop (suc (cond same (run_length (first ∷ more)) 0)) (function ∷ first ∷ more)) in
     ap (joined function) behind ∙ (elim (same_device function first) as P [ true ↦ refl | false ↦ ap (λ devices. (function ∷ []) ∷ devices) (sym behind) ])

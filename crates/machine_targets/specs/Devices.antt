@@ -1,5 +1,5 @@
 -- The devices of a machine as targets of a board: all functions with one bus and device number are one target.
-use Rattle.std.specs.Prelude.{ℕ, Bool, ◌+◌, List, [], ◌∷◌, ◌++◌, Option, Some, None, true, false, is_none, map, length, not, ◌==◌, ◌&&◌, if◌then◌else◌}
+use Rattle.std.specs.Prelude.{ℕ, suc, Bool, ◌+◌, List, [], ◌∷◌, ◌++◌, Option, Some, None, true, false, is_none, map, length, not, ◌==◌, ◌&&◌, if◌then◌else◌}
 use Rattle.std.specs.List.{list_any, count_by, flat_map}
 use Rattle.lspci_text.specs.declared.function.Function.{Function}
 use Rattle.machine_bridges.specs.declared.machine.Machine.{Machine}
@@ -34,11 +34,11 @@ registers_used (LeftOut reason) = 0
 -- One function.
 
 -- what becomes of each of its registers, behind the ranges that were placed before and the registers that its target used
-abbrev pub judged_behind : ℕ → List TakenBridge → Function → List Placed → ℕ → List Found → List Judged
-judged_behind root bridges function placed used [] = []
-judged_behind root bridges function placed used (found ∷ more) =
-    let judged : Judged = record { found = found; fate = range_fate root bridges placed used function found } in
-    judged ∷ judged_behind root bridges function (placed ++ placed_of function.slot.bus found.space judged.fate) (used + registers_used judged.fate) more
+abbrev pub judged_behind : ℕ → List TakenBridge → ℕ → Function → List Placed → ℕ → List Found → List Judged
+judged_behind root bridges bus function placed used [] = []
+judged_behind root bridges bus function placed used (found ∷ more) =
+    let judged : Judged = record { found = found; fate = range_fate root bridges placed used bus function found } in
+    judged ∷ judged_behind root bridges bus function (placed ++ placed_of bus found.space judged.fate) (used + registers_used judged.fate) more
 
 -- all ranges of a bridge itself are left out
 abbrev pub why_of_bridge : Option Flaw → NoRange
@@ -58,11 +58,11 @@ used_in [] = 0
 used_in (judged ∷ more) = registers_used judged.fate + used_in more
 
 -- what becomes of the registers of its functions
-abbrev pub functions_behind : ℕ → List TakenBridge → List Placed → ℕ → List Function → List (List Judged)
-functions_behind root bridges placed used [] = []
-functions_behind root bridges placed used (function ∷ functions) =
-    let judged : List Judged = judged_behind root bridges function placed used (found_in function) in
-    judged ∷ functions_behind root bridges (placed ++ placed_in function.slot.bus judged) (used + used_in judged) functions
+abbrev pub functions_behind : ℕ → List TakenBridge → ℕ → List Placed → ℕ → List Function → List (List Judged)
+functions_behind root bridges bus placed used [] = []
+functions_behind root bridges bus placed used (function ∷ functions) =
+    let judged : List Judged = judged_behind root bridges bus function placed used (found_in function) in
+    judged ∷ functions_behind root bridges bus (placed ++ placed_in bus judged) (used + used_in judged) functions
 
 -- a function without a range on the board
 abbrev pub is_placed : RangeFate → Bool
@@ -86,7 +86,7 @@ device_fate machine bridges targets bus own functions =
 
 abbrev pub judged_device : Machine → List TakenBridge → List Placed → List DevicePlace → Function → List Function → Device
 judged_device machine bridges placed targets first functions =
-    let judged : List (List Judged) = functions_behind machine.root.bus bridges placed 0 functions in
+    let judged : List (List Judged) = functions_behind machine.root.bus bridges first.slot.bus placed 0 functions in
     record {
       bus = first.slot.bus;
       device = first.slot.device;
@@ -130,7 +130,7 @@ begins_with function (first ∷ more) = same_device function first
 -- how many, from the first on, are of one device
 abbrev pub run_length : List Function → ℕ
 run_length [] = 0
-run_length (function ∷ functions) = 1 + (if begins_with function functions then run_length functions else 0)
+run_length (function ∷ functions) = suc (if begins_with function functions then run_length functions else 0)
 
 abbrev pub by_device : List Function → List (List Function)
 by_device [] = []

@@ -68,23 +68,23 @@ why_not_placed root bridges placed used bus space span =
     else if not (is_reached root bridges bus space span) then Some (InNone bus)
     else meeting (find (passes_some bus space span) bridges) (list_any (meets bus space span) placed)
 
-abbrev pub why_unflawed : ℕ → List TakenBridge → List Placed → ℕ → Function → Found → Option NoRange
-why_unflawed root bridges placed used function found =
+abbrev pub why_unflawed : ℕ → List TakenBridge → List Placed → ℕ → ℕ → Function → Found → Option NoRange
+why_unflawed root bridges placed used bus function found =
     if not (decodes found.space function) then Some Off
     else if not (does_fit found) then Some PassesEnd
-    else why_not_placed root bridges placed used function.slot.bus found.space (span_of found)
+    else why_not_placed root bridges placed used bus found.space (span_of found)
 
 abbrev pub why_by : Option Flaw → Option NoRange → Option NoRange
 why_by (Some flaw) reason = Some (Flawed flaw)
 why_by None reason = reason
 
-abbrev pub why_no_range : ℕ → List TakenBridge → List Placed → ℕ → Function → Found → Option NoRange
-why_no_range root bridges placed used function found = why_by found.flaw (why_unflawed root bridges placed used function found)
+abbrev pub why_no_range : ℕ → List TakenBridge → List Placed → ℕ → ℕ → Function → Found → Option NoRange
+why_no_range root bridges placed used bus function found = why_by found.flaw (why_unflawed root bridges placed used bus function found)
 
 abbrev pub taken_unless : Window → Option NoRange → RangeFate
 taken_unless span None = Taken span
 taken_unless span (Some reason) = LeftOut reason
 
--- what becomes of the range that a register asks for
-abbrev pub range_fate : ℕ → List TakenBridge → List Placed → ℕ → Function → Found → RangeFate
-range_fate root bridges placed used function found = taken_unless (span_of found) (why_no_range root bridges placed used function found)
+-- what becomes of the range that a register of a function on the bus asks for
+abbrev pub range_fate : ℕ → List TakenBridge → List Placed → ℕ → ℕ → Function → Found → RangeFate
+range_fate root bridges placed used bus function found = taken_unless (span_of found) (why_no_range root bridges placed used bus function found)

@@ -63,7 +63,14 @@ fn judged_device(
         device: first.slot.device,
     };
     let before = taken.placed.len();
-    let judged = functions_behind(alloc, machine.root.bus, bridges, &mut taken.placed, functions)?;
+    let judged = functions_behind(
+        alloc,
+        machine.root.bus,
+        bridges,
+        place.bus,
+        &mut taken.placed,
+        functions,
+    )?;
     let fate = device_fate(machine, bridges, taken, place, judged.as_slice());
     if let DeviceFate::Target(device) = fate {
         let bus = place.bus;

@@ -1,3 +1,7 @@
+ghost use Rattle.std.specs.Prelude.{◌≡◌};
+ghost use Rattle.machine_targets.specs.declared.fate.RangeFate.TheVariants.{LeftOut};
+ghost use Rattle.machine_targets.specs.declared.fate.NoRange.TheVariants.{OfBridge};
+
 use crate::{Flaw, Found};
 use board_model::Window;
 use pci_command::{List, Space};
@@ -32,7 +36,7 @@ pub enum RangeFate {
 }
 
 impl Default for RangeFate {
-    ghost is_default = { λ fate. fate ≡ RangeFate.LeftOut NoRange.OfBridge };
+    ghost is_default = { λ fate. fate ≡ LeftOut OfBridge };
 
     fn default() -> RangeFate {
         RangeFate::LeftOut(NoRange::OfBridge)

@@ -40,6 +40,7 @@ pub(crate) fn found_in(function: &Function) -> ArrayVec<Found, 6>
 }
 
 /// Of so many registers those from this number on, in so many steps at most.
+#[tactic(auto, using(crate::proofs::FoundLemmas::found_none, crate::proofs::FoundLemmas::found_end, crate::proofs::FoundLemmas::found_step))]
 fn push_from(
     found: &mut ArrayVec<Found, 6>,
     function: &Function,
@@ -51,7 +52,10 @@ fn push_from(
     requires room { length found.old.items + steps ≤ 6 }
     ensures { found.new.items ≡ found.old.items ++ found_from steps function.now many n }
 {
-    if steps == 0 || n >= many {
+    if steps == 0 {
+        return;
+    }
+    if n >= many {
         return;
     }
     if let Some(one) = found_at(function, many, n) {

@@ -1,4 +1,5 @@
 ghost use Rattle.std.specs.Prelude.{◌≡◌, ◌+◌, ◌++◌, ◌<◌, ◌≤◌, ◌^◌, length, IfOk};
+ghost use Rattle.std.specs.List.{flat_map};
 ghost use Rattle.machine_targets.specs.declared.fate.RangeFate.TheVariants.{LeftOut};
 ghost use Rattle.machine_targets.specs.Registers.{found_in};
 ghost use Rattle.machine_targets.specs.Devices.{judged_behind, why_of_bridge, judged_of_bridge, placed_in, used_in, functions_behind};
@@ -42,17 +43,19 @@ pub(crate) fn functions_behind(
     alloc: Global,
     root: u8,
     bridges: &[TakenBridge],
+    bus: u8,
     placed: &mut Vec<Placed>,
     functions: &[Function],
 ) -> Result<List<List<Judged>>, NoMemory>
     requires { length functions.now < 2 ^ 24 }
-    ensures judged { IfOk result (λ judged. judged ≡ functions_behind root bridges.now placed.old.items 0 functions.now) }
+    ensures judged { IfOk result (λ judged. judged ≡ functions_behind root bridges.now bus placed.old.items 0 functions.now) }
+    ensures placed { IfOk result (λ judged. placed.new.items ≡ placed.old.items ++ flat_map (placed_in bus) judged) }
 {
     let mut judged = Vec::new(alloc);
     let mut used = 0;
     let mut left = functions;
     while let [function, behind @ ..] = left {
-        judged.push(judged_behind(alloc, root, bridges, placed, &mut used, function)?)?;
+        judged.push(judged_behind(alloc, root, bridges, bus, placed, &mut used, function)?)?;
         left = behind;
     }
     Ok(List::from_vec(judged))
@@ -64,13 +67,14 @@ fn judged_behind(
     alloc: Global,
     root: u8,
     bridges: &[TakenBridge],
+    bus: u8,
     placed: &mut Vec<Placed>,
     used: &mut u32,
     function: &Function,
 ) -> Result<List<Judged>, NoMemory>
     requires { used.old < 2 ^ 30 }
-    ensures judged { IfOk result (λ judged. judged ≡ judged_behind root bridges.now function.now placed.old.items used.old (found_in function.now)) }
-    ensures placed { IfOk result (λ judged. placed.new.items ≡ placed.old.items ++ placed_in function.now.slot.bus judged) }
+    ensures judged { IfOk result (λ judged. judged ≡ judged_behind root bridges.now bus function.now placed.old.items used.old (found_in function.now)) }
+    ensures placed { IfOk result (λ judged. placed.new.items ≡ placed.old.items ++ placed_in bus judged) }
     ensures used { IfOk result (λ judged. used.new ≡ used.old + used_in judged) }
     ensures few { used.new ≤ used.old + 12 }
 {
@@ -84,11 +88,11 @@ fn judged_behind(
             placed: placed.as_slice(),
             used: *used,
         };
-        let fate = range_fate(before, function, one);
+        let fate = range_fate(before, bus, function, one);
         if let RangeFate::Taken(span) = fate {
             *used += registers_for(span);
             placed.push(Placed {
-                bus: function.slot.bus,
+                bus,
                 space: one.space,
                 span,
             })?;

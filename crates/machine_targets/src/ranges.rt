@@ -103,7 +103,7 @@ pub(crate) struct Before<'a> {
 }
 
 fn why_not_placed(before: Before<'_>, bus: u8, space: Space, span: Window) -> Option<NoRange>
-    requires { before.entry.used < 2 ^ 31 }
+    requires { before.used < 2 ^ 31 }
     ensures { result ≡ why_not_placed before.entry.root before.entry.bridges.now before.entry.placed.now before.entry.used bus space span }
 {
     if before.used + registers_for(span) > 6 {
@@ -120,11 +120,16 @@ fn why_not_placed(before: Before<'_>, bus: u8, space: Space, span: Window) -> Op
 }
 
 /// What becomes of the range that a register asks for.
-pub(crate) fn range_fate(before: Before<'_>, function: &Function, found: &Found) -> RangeFate
-    requires { before.entry.used < 2 ^ 31 }
-    ensures { result ≡ range_fate before.entry.root before.entry.bridges.now before.entry.placed.now before.entry.used function.now found.now }
+pub(crate) fn range_fate(
+    before: Before<'_>,
+    bus: u8,
+    function: &Function,
+    found: &Found,
+) -> RangeFate
+    requires { before.used < 2 ^ 31 }
+    ensures { result ≡ range_fate before.entry.root before.entry.bridges.now before.entry.placed.now before.entry.used bus function.now found.now }
 {
-    match why_no_range(before, function, found) {
+    match why_no_range(before, bus, function, found) {
         Some(reason) => RangeFate::LeftOut(reason),
         None => RangeFate::Taken(span_of(found)),
     }
@@ -132,11 +137,12 @@ pub(crate) fn range_fate(before: Before<'_>, function: &Function, found: &Found)
 
 fn why_no_range(
     before: Before<'_>,
+    bus: u8,
     function: &Function,
     found: &Found,
 ) -> Option<NoRange>
-    requires { before.entry.used < 2 ^ 31 }
-    ensures reason { result ≡ why_no_range before.entry.root before.entry.bridges.now before.entry.placed.now before.entry.used function.now found.now }
+    requires { before.used < 2 ^ 31 }
+    ensures reason { result ≡ why_no_range before.entry.root before.entry.bridges.now before.entry.placed.now before.entry.used bus function.now found.now }
     ensures fits { IfNone result (IsTrue (does_fit found.now)) }
 {
     if let Some(flaw) = found.flaw {
@@ -148,5 +154,5 @@ fn why_no_range(
     if !does_fit(found) {
         return Some(NoRange::PassesEnd);
     }
-    why_not_placed(before, function.slot.bus, found.space, span_of(found))
+    why_not_placed(before, bus, found.space, span_of(found))
 }
