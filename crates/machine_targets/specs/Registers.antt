@@ -77,5 +77,5 @@ found_from (suc steps) function many n =
 abbrev pub registers_of : Function → ℕ
 registers_of function = if header_type function == 0 then 6 else if header_type function == 1 then 2 else 0
 
-abbrev pub found_in : Function → List Found
+unfoldable pub found_in : Function → List Found
 found_in function = found_from 6 function (registers_of function) 0

@@ -1,7 +1,7 @@
 ghost use Rattle.std.specs.Prelude.{◌≡◌, ◌++◌, ◌<◌, ◌≤◌, ◌^◌, ◌==◌, length, map, IfOk};
 ghost use Rattle.std.specs.List.{list_any, count_by};
 ghost use Rattle.machine_bridges.specs.Bridges.{place_of};
-ghost use Rattle.machine_targets.specs.Devices.{is_placed, claims_something, device_fate, same_device, begins_with, run_length, judged_device, target_place, placed_by, devices_of};
+ghost use Rattle.machine_targets.specs.Devices.{is_placed, claims_something, device_fate, same_device, begins_with, run_length, judged_device, target_place, placed_by, by_device, devices_behind, devices_of};
 
 use crate::functions::functions_behind;
 use crate::{Device, DeviceFate, Judged, Placed, RangeFate};
@@ -11,7 +11,6 @@ use pci_command::{List, NoMemory};
 use std::alloc::Global;
 
 /// The devices of a machine, and which of them are targets of a board that has these bridges.
-#[tactic(auto, using(crate::proofs::DeviceLemmas::first_device))]
 pub fn devices_of(
     alloc: Global,
     machine: &Machine,
@@ -26,13 +25,39 @@ pub fn devices_of(
         placed: Vec::new(alloc),
     };
     let mut devices = Vec::new(alloc);
-    let mut left = machine.others.as_slice();
-    while let [first, ..] = left {
-        let (functions, behind) = left.split_at(run_length(left));
-        devices.push(judged_device(alloc, machine, bridges, &mut taken, first, functions)?)?;
-        left = behind;
-    }
+    push_devices(
+        alloc,
+        &mut devices,
+        machine,
+        bridges,
+        &mut taken,
+        machine.others.as_slice(),
+    )?;
     Ok(List::from_vec(devices))
+}
+
+/// Those of the functions that are left.
+#[tactic(auto, using(crate::proofs::DeviceLemmas::step_devices))]
+fn push_devices(
+    alloc: Global,
+    devices: &mut Vec<Device>,
+    machine: &Machine,
+    bridges: &[TakenBridge],
+    taken: &mut Taken,
+    functions: &[Function],
+) -> Result<(), NoMemory>
+    requires few { length functions.now < 2 ^ 24 }
+    requires given { taken.old.given.items ≡ map place_of bridges.now ++ taken.old.targets.items }
+    ensures { IfOk result (λ _. devices.new.items ≡ devices.old.items ++ devices_behind machine.now bridges.now taken.old.placed.items taken.old.targets.items (by_device functions.now)) }
+{
+    match functions.split_first() {
+        None => Ok(()),
+        Some((first, _)) => {
+            let (own, behind) = functions.split_at(run_length(functions));
+            devices.push(judged_device(alloc, machine, bridges, taken, first, own)?)?;
+            push_devices(alloc, devices, machine, bridges, taken, behind)
+        }
+    }
 }
 
 /// What was taken by now: the device numbers that were given, those of targets, and ranges.
@@ -145,6 +170,7 @@ fn count_on(targets: &[DevicePlace], bus: u8) -> usize
 fn run_length(functions: &[Function]) -> usize
     ensures value { result ≡ run_length functions.now }
     ensures within { result ≤ length functions.now }
+    ensures some { 0 < length functions.now → 0 < result }
 {
     let mut place = 0;
     let mut left = functions;

@@ -31,6 +31,7 @@ pub struct Found {
 }
 
 /// What the registers of a function ask for, in their order.
+#[tactic(auto, unfolding(crate::specs::Registers::found_in))]
 pub(crate) fn found_in(function: &Function) -> ArrayVec<Found, 6>
     ensures { result.items ≡ found_in function.now }
 {
@@ -40,14 +41,8 @@ pub(crate) fn found_in(function: &Function) -> ArrayVec<Found, 6>
 }
 
 /// Of so many registers those from this number on, in so many steps at most.
-#[tactic(auto, using(crate::proofs::FoundLemmas::found_none, crate::proofs::FoundLemmas::found_end, crate::proofs::FoundLemmas::found_step))]
-fn push_from(
-    found: &mut ArrayVec<Found, 6>,
-    function: &Function,
-    many: u8,
-    n: u8,
-    steps: u8,
-)
+#[tactic(auto, using(crate::proofs::FoundLemmas::found_none, crate::proofs::FoundLemmas::found_end))]
+fn push_from(found: &mut ArrayVec<Found, 6>, function: &Function, many: u8, n: u8, steps: u8)
     requires few { many ≤ 6 }
     requires room { length found.old.items + steps ≤ 6 }
     ensures { found.new.items ≡ found.old.items ++ found_from steps function.now many n }
@@ -58,10 +53,17 @@ fn push_from(
     if n >= many {
         return;
     }
-    if let Some(one) = found_at(function, many, n) {
+    push_found(found, found_at(function, many, n));
+    push_from(found, function, many, behind(function, n), steps - 1);
+}
+
+fn push_found(found: &mut ArrayVec<Found, 6>, one: Option<Found>)
+    requires { length found.old.items < 6 }
+    ensures { found.new.items ≡ found.old.items ++ option_to_list one }
+{
+    if let Some(one) = one {
         found.push(one);
     }
-    push_from(found, function, many, behind(function, n), steps - 1);
 }
 
 fn registers_of(function: &Function) -> u8
@@ -150,11 +152,7 @@ fn flaw_at(function: &Function, many: u8, n: u8) -> Option<Flaw>
 fn space_of(value: u32) -> Space
     ensures { result ≡ space_by value }
 {
-    if is_io(value) {
-        Space::Io
-    } else {
-        Space::Mem
-    }
+    if is_io(value) { Space::Io } else { Space::Mem }
 }
 
 fn found_at(function: &Function, many: u8, n: u8) -> Option<Found>

@@ -78,19 +78,13 @@ pub(crate) fn registers_for(span: Window) -> u32
     ensures value { result ≡ registers_for span }
     ensures few { result ≤ 2 }
 {
-    if span.base < 0x1_0000_0000 {
-        1
-    } else {
-        2
-    }
+    if span.base < 0x1_0000_0000 { 1 } else { 2 }
 }
 
 fn meets_placed(placed: &[Placed], bus: u8, space: Space, span: Window) -> bool
     ensures { result ≡ list_any (meets bus space span) placed.now }
 {
-    placed
-        .iter()
-        .any(|one| one.bus == bus && one.space == space && shares(span, one.span))
+    placed.iter().any(|one| one.bus == bus && one.space == space && shares(span, one.span))
 }
 
 /// What was taken before a range: bridges, the ranges on all buses, and the registers of its own target.
@@ -135,12 +129,7 @@ pub(crate) fn range_fate(
     }
 }
 
-fn why_no_range(
-    before: Before<'_>,
-    bus: u8,
-    function: &Function,
-    found: &Found,
-) -> Option<NoRange>
+fn why_no_range(before: Before<'_>, bus: u8, function: &Function, found: &Found) -> Option<NoRange>
     requires { before.used < 2 ^ 31 }
     ensures reason { result ≡ why_no_range before.entry.root before.entry.bridges.now before.entry.placed.now before.entry.used bus function.now found.now }
     ensures fits { IfNone result (IsTrue (does_fit found.now)) }
