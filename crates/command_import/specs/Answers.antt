@@ -1,5 +1,5 @@
 -- import: what is written for what `lspci` wrote.
-use Rattle.std.specs.Prelude.{◌≡◌, ℕ, List, Option, Some, None, Result, Ok, Err, ◌×◌}
+use Rattle.std.specs.Prelude.{◌≡◌, ℕ, List, Option, Some, None, Result, Ok, Err}
 use Rattle.lspci_text.specs.declared.function.Function.{Function}
 use Rattle.lspci_text.specs.declared.fault.LspciFault.{LspciFault}
 use Rattle.lspci_text.specs.Functions.{functions_read}

@@ -67,7 +67,7 @@ is_lost (Target device) = false
 -- all other ranges of a device that are told
 abbrev pub ranges_left : Device → ℕ
 ranges_left device =
-    if is_target device.fate then total (count_by (λ (one : Judged). not (is_placed one))) device.functions
+    if is_target device.fate then total (count_by (λ (one : Judged). not (is_placed one.fate))) device.functions
     else one_if (not (is_lost device.fate)) * total length device.functions
 
 -- the functions without a range on the board

@@ -1,5 +1,5 @@
 -- From what `lspci` wrote to a board text.
-use Rattle.std.specs.Prelude.{◌≡◌, ℕ, List, Option, Result, Ok, Err, ◌×◌}
+use Rattle.std.specs.Prelude.{◌≡◌, ℕ, List, Option, Result, Ok, Err}
 use Rattle.lspci_text.specs.declared.function.Function.{Function}
 use Rattle.lspci_text.specs.declared.fault.LspciFault.{LspciFault}
 use Rattle.lspci_text.specs.declared.fault.ReadFault.{ReadFault}
