@@ -52,6 +52,9 @@ own_ranges functions fates = 0
 abbrev pub ranges_placed : List Judged → ℕ
 ranges_placed judged = count_by (λ (one : Judged). is_placed one.fate) judged
 
+abbrev pub ranges_not_placed : List Judged → ℕ
+ranges_not_placed judged = count_by (λ (one : Judged). not (is_placed one.fate)) judged
+
 -- the ranges of a target
 abbrev pub ranges_taken : Device → ℕ
 ranges_taken device = one_if (is_target device.fate) * total ranges_placed device.functions
@@ -67,7 +70,7 @@ is_lost (Target device) = false
 -- all other ranges of a device that are told
 abbrev pub ranges_left : Device → ℕ
 ranges_left device =
-    if is_target device.fate then total (count_by (λ (one : Judged). not (is_placed one.fate))) device.functions
+    if is_target device.fate then total ranges_not_placed device.functions
     else one_if (not (is_lost device.fate)) * total length device.functions
 
 -- the functions without a range on the board
@@ -93,6 +96,8 @@ abbrev pub is_far_range : RangeFate → Bool
 is_far_range (Placed span) = is_far span
 is_far_range (NotPlaced reason) = false
 
+abbrev pub has_far_range : List Judged → Bool
+has_far_range judged = list_any (λ (one : Judged). is_far_range one.fate) judged
+
 abbrev pub is_far_device : Device → Bool
-is_far_device device =
-    is_target device.fate && list_any (λ (judged : List Judged). list_any (λ (one : Judged). is_far_range one.fate) judged) device.functions
+is_far_device device = is_target device.fate && list_any has_far_range device.functions

@@ -1,13 +1,13 @@
 -- The board text that a machine is written as, line by line.
-use Rattle.std.specs.Prelude.{ℕ, Bool, ◌+◌, ◌-◌, ◌^◌, take, drop, length, map, nat_lt, nat_le, List, [], ◌∷◌, ◌++◌, Option, Some, None, codes, not, ◌==◌, ◌&&◌, ◌||◌, if◌then◌else◌, slice_index}
+use Rattle.std.specs.Prelude.{ℕ, Bool, false, ◌+◌, ◌-◌, ◌/◌, ◌%◌, ◌^◌, take, drop, length, map, nat_lt, nat_le, List, [], ◌∷◌, ◌++◌, Option, Some, None, codes, not, ◌==◌, ◌&&◌, ◌||◌, if◌then◌else◌, slice_index}
 use Rattle.std.specs.List.{list_any, count_by, flat_map}
-use Rattle.std.specs.Fmt.{decimal}
+use Rattle.std.specs.Fmt.{decimal, digit_glyph}
 use Rattle.list_facts.specs.Lists.{total}
 use Rattle.pci_command.specs.declared.command.Space.{Space}
 use Rattle.board_model.specs.declared.bridge.Window.{Window}
 use Rattle.bridge_header.specs.HeaderBytes.{register_2}
 use Rattle.bridge_header.specs.Windows.{has_bit}
-use Rattle.board_printer.specs.Numbers.{hex, half_text, address_text}
+use Rattle.board_printer.specs.Numbers.{word_text, half_text, address_text}
 use Rattle.board_printer.specs.Spaces.{space_word}
 use Rattle.lspci_text.specs.declared.capability.Kind.{Kind}
 use Rattle.lspci_text.specs.declared.capability.Kind.TheVariants.{Express, PciX}
@@ -32,15 +32,12 @@ use Rattle.machine_targets.specs.Devices.{judged_of_bridge, is_placed, claims_so
 use Rattle.machine_targets.specs.Reasons.{no_range_words}
 use Rattle.import_board.specs.Counts.{capped, is_taken, windows_left, own_ranges, is_lost, ranges_taken, ranges_left, functions_left, is_far_bridge, is_far_device}
 
-abbrev pub line : List ℕ → List ℕ
-line text = text ++ 10 ∷ []
+abbrev pub newline : List ℕ
+newline = 10 ∷ []
 
 -- a comment where it holds
 abbrev pub note_if : Bool → List ℕ → List ℕ
-note_if holds text = if holds then line (codes "# " ++ text) else []
-
-abbrev pub left_out : List ℕ → List ℕ
-left_out text = line (codes "# left out: " ++ text)
+note_if holds note = if holds then note else []
 
 -- the root is bus 0 of the board
 abbrev pub bus_on_board : Machine → ℕ → List ℕ
@@ -53,6 +50,10 @@ kind_words None = []
 kind_words (Some Express) = codes " (PCI Express)"
 kind_words (Some PciX) = codes " (PCI-X)"
 
+-- two hexadecimal digits
+abbrev pub hex_byte : ℕ → List ℕ
+hex_byte byte = digit_glyph false (byte / 16) ∷ digit_glyph false (byte % 16) ∷ []
+
 -- what is no printing character is shown as a question mark
 abbrev pub shown : ℕ → ℕ
 shown byte = if nat_le 0x20 byte && nat_lt byte 0x7f then byte else 0x3f
@@ -62,8 +63,8 @@ name_words name = map shown name
 
 abbrev pub title : Function → List ℕ
 title function =
-    line (codes "# " ++ (hex 2 function.slot.bus ++ (codes ":" ++ (hex 2 function.slot.device ++ (codes "." ++ (decimal function.slot.function
-    ++ (codes " " ++ (name_words function.name ++ kind_words function.kind))))))))
+    codes "# " ++ (hex_byte function.slot.bus ++ (codes ":" ++ (hex_byte function.slot.device ++ (codes "." ++ (decimal function.slot.function
+    ++ (codes " " ++ (name_words function.name ++ (kind_words function.kind ++ newline))))))))
 
 -- Bridges.
 
@@ -78,17 +79,21 @@ open_words word (Closed window reason) = []
 abbrev pub closed_note : List ℕ → WindowFate → List ℕ
 closed_note word Absent = []
 closed_note word (Open window) = []
-closed_note word (Closed window reason) = left_out (window_words word window ++ (codes ", " ++ no_window_words reason))
+closed_note word (Closed window reason) = codes "# left out: " ++ (window_words word window ++ (codes ", " ++ (no_window_words reason ++ newline)))
 
 -- Bridge Control, bits by number (PCI-to-PCI Bridge Architecture Specification 1.1, section 3.2.5.18; from memory)
 abbrev pub control_bit : ℕ → Function → Bool
 control_bit bit function = has_bit bit (register_2 function.header 0x3e)
 
+-- master abort mode
+abbrev pub abort_words : Bool → List ℕ
+abort_words mode = if mode then codes " abort 1" else []
+
 abbrev pub bridge_line : Machine → Function → TakenBridge → List ℕ
 bridge_line machine function bridge =
-    line (codes "bridge " ++ (decimal bridge.bus ++ (codes " on " ++ (bus_on_board machine bridge.parent ++ (codes " dev " ++ (decimal bridge.device
+    codes "bridge " ++ (decimal bridge.bus ++ (codes " on " ++ (bus_on_board machine bridge.parent ++ (codes " dev " ++ (decimal bridge.device
     ++ (codes " last " ++ (decimal bridge.last ++ (open_words (codes "mem") bridge.mem ++ (open_words (codes "pref") bridge.pref ++ (open_words (codes "io") bridge.io
-    ++ (if control_bit 5 function then codes " abort 1" else []))))))))))))
+    ++ (abort_words (control_bit 5 function) ++ newline)))))))))))
 
 -- a range: its space, its base, and its size where that is told; or the register that has no address
 abbrev pub size_words : Option ℕ → List ℕ
@@ -103,11 +108,11 @@ range_words found =
 -- as the board has it
 abbrev pub range_line : Space → Window → List ℕ
 range_line space span =
-    line (codes "range " ++ (space_word space ++ (codes " " ++ (address_text span.base ++ (codes " " ++ address_text (capped (span.limit - span.base + 1)))))))
+    codes "range " ++ (space_word space ++ (codes " " ++ (address_text span.base ++ (codes " " ++ (address_text (capped (span.limit - span.base + 1)) ++ newline)))))
 
 abbrev pub judged_by : Found → RangeFate → List ℕ
 judged_by found (Placed span) = range_line found.space span
-judged_by found (NotPlaced reason) = left_out (range_words found ++ (codes ", " ++ no_range_words reason))
+judged_by found (NotPlaced reason) = codes "# left out: " ++ (range_words found ++ (codes ", " ++ (no_range_words reason ++ newline)))
 
 abbrev pub judged_line : Judged → List ℕ
 judged_line judged = judged_by judged.found judged.fate
@@ -115,20 +120,47 @@ judged_line judged = judged_by judged.found judged.fate
 abbrev pub own_range_lines : Function → List ℕ
 own_range_lines function = flat_map judged_line (judged_of_bridge function)
 
+abbrev pub device_note : ℕ → ℕ → List ℕ
+device_note number own = if number == own then [] else codes "# its device number was " ++ (decimal own ++ newline)
+
+abbrev pub primary_note : ℕ → ℕ → List ℕ
+primary_note primary bus = if primary == bus then [] else codes "# its register has primary bus " ++ (decimal primary ++ newline)
+
 -- where its numbers are others than those of the text
 abbrev pub number_notes : Function → TakenBridge → List ℕ
 number_notes function bridge =
-    note_if (not (bridge.device == function.slot.device)) (codes "its device number was " ++ decimal function.slot.device)
-    ++ note_if (not (slice_index function.header 0x18 == function.slot.bus)) (codes "its register has primary bus " ++ decimal (slice_index function.header 0x18))
+    device_note bridge.device function.slot.device ++ primary_note (slice_index function.header 0x18) function.slot.bus
 
--- what its registers say and a board cannot
+-- what its registers say and a board cannot, one note each
+
+unfoldable pub master_words : List ℕ
+master_words = codes "# bus master is off: the real bridge passes nothing upwards" ++ newline
+
+unfoldable pub vga_words : List ℕ
+vga_words = codes "# VGA enable is on: its addresses do not pass here" ++ newline
+
+unfoldable pub isa_words : List ℕ
+isa_words = codes "# ISA enable is on: the real bridge passes 256 bytes of each KiB of its I/O window" ++ newline
+
+unfoldable pub reset_words : List ℕ
+reset_words = codes "# secondary reset is on" ++ newline
+
+unfoldable pub decoding_words : List ℕ
+decoding_words = codes "# subtractive decoding: what nobody claims does not pass down here" ++ newline
+
+abbrev pub enable_notes : Function → List ℕ
+enable_notes function =
+    note_if (control_bit 3 function) vga_words ++ (note_if (control_bit 2 function) isa_words ++ note_if (control_bit 6 function) reset_words)
+
+-- bit 2 of the command register, and bit 0 of the programming interface
+abbrev pub is_master : Function → Bool
+is_master function = has_bit 2 (register_2 function.header 0x04)
+
+abbrev pub is_subtractive : Function → Bool
+is_subtractive function = has_bit 0 (slice_index function.header 0x09)
+
 abbrev pub control_notes : Function → List ℕ
-control_notes function =
-    note_if (not (has_bit 2 (register_2 function.header 0x04))) (codes "bus master is off: the real bridge passes nothing upwards")
-    ++ (note_if (control_bit 3 function) (codes "VGA enable is on: its addresses do not pass here")
-    ++ (note_if (control_bit 2 function) (codes "ISA enable is on: the real bridge passes 256 bytes of each KiB of its I/O window")
-    ++ (note_if (control_bit 6 function) (codes "secondary reset is on")
-    ++ note_if (has_bit 0 (slice_index function.header 0x09)) (codes "subtractive decoding: what nobody claims does not pass down here"))))
+control_notes function = note_if (not (is_master function)) master_words ++ (enable_notes function ++ note_if (is_subtractive function) decoding_words)
 
 abbrev pub bridge_notes : Function → TakenBridge → List ℕ
 bridge_notes function bridge =
@@ -136,7 +168,7 @@ bridge_notes function bridge =
     ++ (own_range_lines function ++ (number_notes function bridge ++ control_notes function))))
 
 abbrev pub bridge_body : Machine → Function → BridgeFate → List ℕ
-bridge_body machine function (LeftOut reason) = left_out (no_bridge_words reason)
+bridge_body machine function (LeftOut reason) = codes "# left out: " ++ (no_bridge_words reason ++ newline)
 bridge_body machine function (Taken bridge) = bridge_line machine function bridge ++ bridge_notes function bridge
 
 abbrev pub bridge_lines : Machine → List Function → List BridgeFate → List ℕ
@@ -147,22 +179,22 @@ bridge_lines machine functions fates = []
 
 -- four digits, where they are enough
 abbrev pub domain_text : ℕ → List ℕ
-domain_text domain = if nat_lt domain (2 ^ 16) then hex 4 domain else hex 8 domain
+domain_text domain = if nat_lt domain (2 ^ 16) then half_text domain else word_text domain
 
 abbrev pub target_name : Device → List ℕ
-target_name device = codes "target d" ++ (hex 2 device.bus ++ (codes "-" ++ hex 2 device.device))
+target_name device = codes "target d" ++ (hex_byte device.bus ++ (codes "-" ++ hex_byte device.device))
 
 -- vendor and device of its first function, where a board would say 1234 0001
 abbrev pub id_line : Function → List ℕ
 id_line first =
     let vendor : ℕ = register_2 first.header 0x00 in
     let model : ℕ = register_2 first.header 0x02 in
-    if vendor == 0x1234 && model == 1 then [] else line (codes "id " ++ (half_text vendor ++ (codes " " ++ half_text model)))
+    if vendor == 0x1234 && model == 1 then [] else codes "id " ++ (half_text vendor ++ (codes " " ++ (half_text model ++ newline)))
 
 abbrev pub target_lines : Machine → Function → Device → ℕ → List ℕ
 target_lines machine first device number =
-    line (target_name device ++ (codes " on " ++ (bus_on_board machine device.bus ++ (codes " dev " ++ decimal number))))
-    ++ (id_line first ++ note_if (not (number == device.device)) (codes "its device number was " ++ decimal device.device))
+    target_name device ++ (codes " on " ++ (bus_on_board machine device.bus ++ (codes " dev " ++ (decimal number ++ (newline
+    ++ (id_line first ++ device_note number device.device))))))
 
 -- why a device is no target, where its ranges could be taken
 abbrev pub why_no_target : Device → DeviceFate → List ℕ
@@ -174,8 +206,8 @@ why_no_target device (Target number) = []
 
 abbrev pub head_by : Machine → Function → Device → DeviceFate → List ℕ
 head_by machine first device (Target number) = target_lines machine first device number
-head_by machine first device SixTargets = left_out (target_name device ++ (codes ", " ++ why_no_target device SixTargets))
-head_by machine first device NoNumber = left_out (target_name device ++ (codes ", " ++ why_no_target device NoNumber))
+head_by machine first device SixTargets = codes "# left out: " ++ (target_name device ++ (codes ", " ++ (why_no_target device SixTargets ++ newline)))
+head_by machine first device NoNumber = codes "# left out: " ++ (target_name device ++ (codes ", " ++ (why_no_target device NoNumber ++ newline)))
 head_by machine first device NoWay = []
 head_by machine first device NoRanges = []
 
@@ -183,17 +215,20 @@ head_by machine first device NoRanges = []
 abbrev pub range_of_device : Device → Judged → List ℕ
 range_of_device device judged =
     if is_placed judged.fate && not (is_target device.fate)
-    then left_out (range_words judged.found ++ (codes ", " ++ why_no_target device device.fate))
+    then codes "# left out: " ++ (range_words judged.found ++ (codes ", " ++ (why_no_target device device.fate ++ newline)))
     else judged_line judged
+
+abbrev pub silence_note : Bool → List ℕ
+silence_note claims = if claims then [] else codes "# left out: it claims nothing here" ++ newline
 
 abbrev pub body_of_function : Device → Function → List Judged → List ℕ
 body_of_function device function judged =
-    (if nat_lt 1 (header_type function) then left_out (codes "its header is of type " ++ decimal (header_type function))
-     else flat_map (range_of_device device) judged ++ (if claims_something judged then [] else left_out (codes "it claims nothing here")))
+    if nat_lt 1 (header_type function) then codes "# left out: its header is of type " ++ (decimal (header_type function) ++ newline)
+    else flat_map (range_of_device device) judged ++ silence_note (claims_something judged)
 
 abbrev pub function_lines : Device → Function → List Judged → List ℕ
 function_lines device function judged =
-    title function ++ (if is_lost device.fate then left_out (why_no_target device NoWay) else body_of_function device function judged)
+    title function ++ (if is_lost device.fate then codes "# left out: " ++ (why_no_target device NoWay ++ newline) else body_of_function device function judged)
 
 abbrev pub functions_lines : Device → List Function → List (List Judged) → List ℕ
 functions_lines device (function ∷ functions) (judged ∷ more) = function_lines device function judged ++ functions_lines device functions more
@@ -215,20 +250,31 @@ devices_lines machine functions (device ∷ devices) =
 -- what is said of the root and of other domains
 abbrev pub root_notes : Machine → List ℕ
 root_notes machine =
-    note_if (not (machine.root.bus == 0)) (codes "bus 0 is bus " ++ (decimal machine.root.bus ++ codes " of the text"))
-    ++ note_if (not (machine.elsewhere == 0))
-       (decimal machine.elsewhere ++ (codes " functions of other domains than " ++ (domain_text machine.root.domain ++ codes " are left out")))
+    (if machine.root.bus == 0 then [] else codes "# bus 0 is bus " ++ (decimal machine.root.bus ++ (codes " of the text" ++ newline)))
+    ++ (if machine.elsewhere == 0 then []
+        else codes "# " ++ (decimal machine.elsewhere ++ (codes " functions of other domains than " ++ (domain_text machine.root.domain ++ (codes " are left out" ++ newline)))))
+
+abbrev pub version_line : Bool → List ℕ
+version_line far = (if far then codes "pciboard 2" else codes "pciboard 1") ++ newline
+
+abbrev pub taken_line : List BridgeFate → List Device → List ℕ
+taken_line fates devices =
+    codes "# import: " ++ (decimal (count_by is_taken fates) ++ (codes " bridges, " ++ (decimal (count_by (λ (device : Device). is_target device.fate) devices)
+    ++ (codes " targets, " ++ (decimal (capped (total ranges_taken devices)) ++ (codes " ranges" ++ newline))))))
+
+abbrev pub left_line : Machine → List BridgeFate → List Device → List ℕ
+left_line machine fates devices =
+    codes "# left out: " ++ (decimal (capped (count_by (λ (fate : BridgeFate). not (is_taken fate)) fates + total functions_left devices))
+    ++ (codes " functions, " ++ (decimal (capped (total windows_left fates)) ++ (codes " windows, "
+    ++ (decimal (capped (own_ranges machine.bridges fates + total ranges_left devices)) ++ (codes " ranges" ++ newline))))))
+
+abbrev pub not_told_line : List ℕ
+not_told_line = codes "# not told by the text: main memory, masters, depths of bridges" ++ newline
 
 abbrev pub head_lines : Machine → List BridgeFate → List Device → List ℕ
 head_lines machine fates devices =
-    line (if list_any is_far_bridge fates || list_any is_far_device devices then codes "pciboard 2" else codes "pciboard 1")
-    ++ (line (codes "# import: " ++ (decimal (count_by is_taken fates) ++ (codes " bridges, " ++ (decimal (count_by (λ (device : Device). is_target device.fate) devices)
-    ++ (codes " targets, " ++ (decimal (capped (total ranges_taken devices)) ++ codes " ranges"))))))
-    ++ (line (codes "# left out: " ++ (decimal (capped (count_by (λ (fate : BridgeFate). not (is_taken fate)) fates + total functions_left devices))
-    ++ (codes " functions, " ++ (decimal (capped (total windows_left fates)) ++ (codes " windows, "
-    ++ (decimal (capped (own_ranges machine.bridges fates + total ranges_left devices)) ++ codes " ranges"))))))
-    ++ (line (codes "# not told by the text: main memory, masters, depths of bridges")
-    ++ root_notes machine)))
+    version_line (list_any is_far_bridge fates || list_any is_far_device devices)
+    ++ (taken_line fates devices ++ (left_line machine fates devices ++ (not_told_line ++ root_notes machine)))
 
 pub import_text : Machine → List BridgeFate → List Device → List ℕ
 import_text machine fates devices =

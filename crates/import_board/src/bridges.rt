@@ -1,5 +1,5 @@
-ghost use Rattle.std.specs.Prelude.{◌≡◌, ◌++◌, ◌<◌, OnOk, string_bytes};
-ghost use Rattle.import_board.specs.Text.{window_words, open_words, closed_note, control_bit, bridge_line, own_range_lines, number_notes, control_notes, note_if, bridge_notes, bridge_body, bridge_lines};
+ghost use Rattle.std.specs.Prelude.{◌≡◌, ◌++◌, ◌<◌, OnOk, not, string_bytes};
+ghost use Rattle.import_board.specs.Text.{window_words, open_words, closed_note, control_bit, bridge_line, own_range_lines, number_notes, control_notes, master_words, vga_words, isa_words, reset_words, decoding_words, enable_notes, is_master, is_subtractive, abort_words, note_if, bridge_notes, bridge_body, bridge_lines};
 
 use crate::notes::{print_bus, print_judged, print_title};
 use board_model::Window;
@@ -59,10 +59,18 @@ fn print_bridge(
     print_open(text, "mem", bridge.mem)?;
     print_open(text, "pref", bridge.pref)?;
     print_open(text, "io", bridge.io)?;
-    if control_bit(5, function) {
-        text.push_str(" abort 1")?;
-    }
+    print_abort(text, control_bit(5, function))?;
     writeln!(text)
+}
+
+fn print_abort(text: &mut String, mode: bool) -> Result<(), AllocError>
+    ensures { OnOk result (string_bytes text.new ≡ string_bytes text.old ++ abort_words mode) }
+{
+    if mode {
+        text.push_str(" abort 1")
+    } else {
+        Ok(())
+    }
 }
 
 fn print_window(text: &mut String, word: &str, window: Window) -> Result<(), AllocError>
@@ -155,41 +163,89 @@ fn control_bit(bit: u8, function: &Function) -> bool
     (register_2(function.header.as_slice(), 0x3e) >> bit) & 1 == 1
 }
 
-fn print_note_if(text: &mut String, holds: bool, note: &str) -> Result<(), AllocError>
-    ensures { OnOk result (string_bytes text.new ≡ string_bytes text.old ++ note_if holds note.now) }
-{
-    if holds {
-        writeln!(text, "# {note}")
-    } else {
-        Ok(())
-    }
-}
-
 fn print_control(text: &mut String, function: &Function) -> Result<(), AllocError>
     ensures { OnOk result (string_bytes text.new ≡ string_bytes text.old ++ control_notes function.now) }
 {
-    let header = function.header.as_slice();
-    let is_master = (register_2(header, 0x04) >> 2) & 1 == 1;
-    print_note_if(
+    print_master(text, !is_master(function))?;
+    print_enables(text, function)?;
+    print_decoding(text, is_subtractive(function))
+}
+
+fn is_master(function: &Function) -> bool
+    ensures { result ≡ is_master function.now }
+{
+    (register_2(function.header.as_slice(), 0x04) >> 2) & 1 == 1
+}
+
+fn is_subtractive(function: &Function) -> bool
+    ensures { result ≡ is_subtractive function.now }
+{
+    byte_at(function.header.as_slice(), 0x09) & 1 == 1
+}
+
+#[tactic(auto, unfolding(crate::specs::Text::master_words))]
+fn print_master(text: &mut String, holds: bool) -> Result<(), AllocError>
+    ensures { OnOk result (string_bytes text.new ≡ string_bytes text.old ++ note_if holds master_words) }
+{
+    if !holds {
+        return Ok(());
+    }
+    writeln!(
         text,
-        !is_master,
-        "bus master is off: the real bridge passes nothing upwards",
-    )?;
-    print_note_if(
+        "# bus master is off: the real bridge passes nothing upwards"
+    )
+}
+
+fn print_enables(text: &mut String, function: &Function) -> Result<(), AllocError>
+    ensures { OnOk result (string_bytes text.new ≡ string_bytes text.old ++ enable_notes function.now) }
+{
+    print_vga(text, control_bit(3, function))?;
+    print_isa(text, control_bit(2, function))?;
+    print_reset(text, control_bit(6, function))
+}
+
+#[tactic(auto, unfolding(crate::specs::Text::vga_words))]
+fn print_vga(text: &mut String, holds: bool) -> Result<(), AllocError>
+    ensures { OnOk result (string_bytes text.new ≡ string_bytes text.old ++ note_if holds vga_words) }
+{
+    if !holds {
+        return Ok(());
+    }
+    writeln!(text, "# VGA enable is on: its addresses do not pass here")
+}
+
+#[tactic(auto, unfolding(crate::specs::Text::isa_words))]
+fn print_isa(text: &mut String, holds: bool) -> Result<(), AllocError>
+    ensures { OnOk result (string_bytes text.new ≡ string_bytes text.old ++ note_if holds isa_words) }
+{
+    if !holds {
+        return Ok(());
+    }
+    writeln!(
         text,
-        control_bit(3, function),
-        "VGA enable is on: its addresses do not pass here",
-    )?;
-    print_note_if(
+        "# ISA enable is on: the real bridge passes 256 bytes of each KiB of its I/O window"
+    )
+}
+
+#[tactic(auto, unfolding(crate::specs::Text::reset_words))]
+fn print_reset(text: &mut String, holds: bool) -> Result<(), AllocError>
+    ensures { OnOk result (string_bytes text.new ≡ string_bytes text.old ++ note_if holds reset_words) }
+{
+    if !holds {
+        return Ok(());
+    }
+    writeln!(text, "# secondary reset is on")
+}
+
+#[tactic(auto, unfolding(crate::specs::Text::decoding_words))]
+fn print_decoding(text: &mut String, holds: bool) -> Result<(), AllocError>
+    ensures { OnOk result (string_bytes text.new ≡ string_bytes text.old ++ note_if holds decoding_words) }
+{
+    if !holds {
+        return Ok(());
+    }
+    writeln!(
         text,
-        control_bit(2, function),
-        "ISA enable is on: the real bridge passes 256 bytes of each KiB of its I/O window",
-    )?;
-    print_note_if(text, control_bit(6, function), "secondary reset is on")?;
-    let is_subtractive = byte_at(header, 0x09) & 1 == 1;
-    print_note_if(
-        text,
-        is_subtractive,
-        "subtractive decoding: what nobody claims does not pass down here",
+        "# subtractive decoding: what nobody claims does not pass down here"
     )
 }

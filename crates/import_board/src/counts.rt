@@ -3,7 +3,7 @@ ghost use Rattle.std.specs.List.{list_any, count_by};
 ghost use Rattle.list_facts.specs.Lists.{total};
 ghost use Rattle.machine_targets.specs.Devices.{is_target, is_placed, claims_something};
 ghost use Rattle.machine_targets.specs.Registers.{found_in};
-ghost use Rattle.import_board.specs.Counts.{capped, is_taken, is_closed, one_if, windows_left, own_ranges, ranges_placed, ranges_taken, is_lost, ranges_left, functions_left, is_far, has_far_window, is_far_bridge, is_far_range, is_far_device};
+ghost use Rattle.import_board.specs.Counts.{capped, is_taken, is_closed, one_if, windows_left, own_ranges, ranges_placed, ranges_not_placed, ranges_taken, is_lost, ranges_left, functions_left, is_far, has_far_window, is_far_bridge, is_far_range, has_far_range, is_far_device};
 
 use board_model::Window;
 use lspci_text::Function;
@@ -70,6 +70,7 @@ fn windows_left_of(fate: &BridgeFate) -> u64
     }
 }
 
+#[tactic(auto, using(crate::proofs::CountLemmas::capped_small, crate::proofs::CountLemmas::capped_more, crate::proofs::CountLemmas::capped_inner))]
 pub(crate) fn windows_left(fates: &[BridgeFate]) -> u64
     ensures { result ≡ capped (total windows_left fates.now) }
 {
@@ -106,11 +107,12 @@ fn count_placed(judged: &[Judged]) -> usize
 }
 
 fn count_not_placed(judged: &[Judged]) -> usize
-    ensures { result ≡ count_by (λ one. not (is_placed one.fate)) judged.now }
+    ensures { result ≡ ranges_not_placed judged.now }
 {
     judged.iter().filter(|one| !is_placed(one.fate)).count()
 }
 
+#[tactic(auto, using(crate::proofs::CountLemmas::capped_small, crate::proofs::CountLemmas::capped_more, crate::proofs::CountLemmas::capped_inner))]
 fn placed_in(functions: &[List<Judged>]) -> u64
     ensures { result ≡ capped (total ranges_placed functions.now) }
 {
@@ -123,8 +125,9 @@ fn placed_in(functions: &[List<Judged>]) -> u64
     count
 }
 
+#[tactic(auto, using(crate::proofs::CountLemmas::capped_small, crate::proofs::CountLemmas::capped_more, crate::proofs::CountLemmas::capped_inner))]
 fn not_placed_in(functions: &[List<Judged>]) -> u64
-    ensures { result ≡ capped (total (count_by (λ one. not (is_placed one.fate))) functions.now) }
+    ensures { result ≡ capped (total ranges_not_placed functions.now) }
 {
     let mut count = 0_u64;
     let mut left = functions;
@@ -135,6 +138,7 @@ fn not_placed_in(functions: &[List<Judged>]) -> u64
     count
 }
 
+#[tactic(auto, using(crate::proofs::CountLemmas::capped_small, crate::proofs::CountLemmas::capped_more, crate::proofs::CountLemmas::capped_inner))]
 fn all_in(functions: &[List<Judged>]) -> u64
     ensures { result ≡ capped (total length functions.now) }
 {
@@ -170,6 +174,7 @@ fn left_of(device: &Device) -> u64
     }
 }
 
+#[tactic(auto, using(crate::proofs::CountLemmas::capped_small, crate::proofs::CountLemmas::capped_more, crate::proofs::CountLemmas::capped_inner))]
 pub(crate) fn ranges_taken(devices: &[Device]) -> u64
     ensures { result ≡ capped (total ranges_taken devices.now) }
 {
@@ -182,6 +187,7 @@ pub(crate) fn ranges_taken(devices: &[Device]) -> u64
     count
 }
 
+#[tactic(auto, using(crate::proofs::CountLemmas::capped_small, crate::proofs::CountLemmas::capped_more, crate::proofs::CountLemmas::capped_inner))]
 fn ranges_left_in(devices: &[Device]) -> u64
     ensures { result ≡ capped (total ranges_left devices.now) }
 {
@@ -220,6 +226,7 @@ fn functions_left_of(device: &Device) -> usize
     }
 }
 
+#[tactic(auto, using(crate::proofs::CountLemmas::capped_small, crate::proofs::CountLemmas::capped_more, crate::proofs::CountLemmas::capped_inner))]
 fn functions_left_in(devices: &[Device]) -> u64
     ensures { result ≡ capped (total functions_left devices.now) }
 {
@@ -265,7 +272,7 @@ fn is_far_bridge(fate: &BridgeFate) -> bool
 }
 
 fn has_far_range(judged: &[Judged]) -> bool
-    ensures { result ≡ list_any (λ one. is_far_range one.fate) judged.now }
+    ensures { result ≡ has_far_range judged.now }
 {
     judged.iter().any(|one| is_far_range(one.fate))
 }
@@ -282,17 +289,32 @@ fn is_far_range(fate: RangeFate) -> bool
 fn is_far_device(device: &Device) -> bool
     ensures { result ≡ is_far_device device.now }
 {
-    is_target(device.fate)
-        && device
-            .functions
-            .as_slice()
-            .iter()
-            .any(|judged| has_far_range(judged.as_slice()))
+    is_target(device.fate) && some_far(device.functions.as_slice())
+}
+
+fn some_far(functions: &[List<Judged>]) -> bool
+    ensures { result ≡ list_any has_far_range functions.now }
+{
+    functions
+        .iter()
+        .any(|judged| has_far_range(judged.as_slice()))
 }
 
 /// Whether a window or a range of the board reaches 2^32.
 pub(crate) fn has_far(fates: &[BridgeFate], devices: &[Device]) -> bool
     ensures { result ≡ (list_any is_far_bridge fates.now || list_any is_far_device devices.now) }
 {
-    fates.iter().any(|fate| is_far_bridge(fate)) || devices.iter().any(|device| is_far_device(device))
+    has_far_bridge(fates) || has_far_device(devices)
+}
+
+fn has_far_bridge(fates: &[BridgeFate]) -> bool
+    ensures { result ≡ list_any is_far_bridge fates.now }
+{
+    fates.iter().any(|fate| is_far_bridge(fate))
+}
+
+fn has_far_device(devices: &[Device]) -> bool
+    ensures { result ≡ list_any is_far_device devices.now }
+{
+    devices.iter().any(|device| is_far_device(device))
 }

@@ -1,8 +1,8 @@
 ghost use Rattle.std.specs.Prelude.{◌≡◌, ◌++◌, ◌≤◌, OnOk, length, string_bytes};
-ghost use Rattle.import_board.specs.Text.{target_name, id_line, target_lines, why_no_target, head_by, range_of_device, body_of_function, function_lines, functions_lines, device_lines, devices_lines};
+ghost use Rattle.import_board.specs.Text.{target_name, id_line, target_lines, why_no_target, head_by, range_of_device, silence_note, body_of_function, function_lines, functions_lines, device_lines, devices_lines};
 
 use crate::counts::{is_lost, is_target};
-use crate::notes::{print_bus, print_judged, print_range, print_title};
+use crate::notes::{HexByte, print_bus, print_judged, print_range, print_title};
 use board_printer::HexHalf;
 use lspci_text::Function;
 use machine_bridges::{Machine, header_type, register_2};
@@ -71,9 +71,9 @@ fn print_head(
 fn print_target_name(text: &mut String, device: &Device) -> Result<(), AllocError>
     ensures { OnOk result (string_bytes text.new ≡ string_bytes text.old ++ target_name device.now) }
 {
-    let bus = device.bus;
-    let number = device.device;
-    write!(text, "target d{bus:02x}-{number:02x}")
+    let bus = HexByte(device.bus);
+    let number = HexByte(device.device);
+    write!(text, "target d{bus}-{number}")
 }
 
 fn print_target(
@@ -176,7 +176,13 @@ fn print_function_body(
         print_range_of_device(text, device, one)?;
         left = behind;
     }
-    if claims_something(judged) {
+    print_silence(text, claims_something(judged))
+}
+
+fn print_silence(text: &mut String, claims: bool) -> Result<(), AllocError>
+    ensures { OnOk result (string_bytes text.new ≡ string_bytes text.old ++ silence_note claims) }
+{
+    if claims {
         Ok(())
     } else {
         writeln!(text, "# left out: it claims nothing here")

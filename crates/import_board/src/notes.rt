@@ -9,6 +9,25 @@ use machine_bridges::Machine;
 use machine_targets::{Found, Judged, RangeFate};
 use pci_command::Space;
 use std::alloc::AllocError;
+use std::fmt;
+
+/// Two hexadecimal digits.
+#[derive(Clone, Copy)]
+pub(crate) struct HexByte(pub(crate) u8);
+
+impl fmt::Display for HexByte {
+    ghost use Rattle.std.specs.Prelude.{Some};
+    ghost use Rattle.import_board.specs.Text.{hex_byte};
+
+    ghost output = { λ byte. Some (hex_byte byte.0) };
+
+    #[tactic(auto, using(crate::proofs::DigitLemmas::one_digit))]
+    fn fmt<W: fmt::Write>(&self, f: &mut fmt::Formatter<W>) -> fmt::Result {
+        let high = self.0 / 16;
+        let low = self.0 % 16;
+        write!(f, "{high:x}{low:x}")
+    }
+}
 
 /// The root is bus 0 of the board.
 pub(crate) fn print_bus(text: &mut String, machine: &Machine, bus: u8) -> Result<(), AllocError>
@@ -22,10 +41,10 @@ pub(crate) fn print_bus(text: &mut String, machine: &Machine, bus: u8) -> Result
 pub(crate) fn print_title(text: &mut String, function: &Function) -> Result<(), AllocError>
     ensures { OnOk result (string_bytes text.new ≡ string_bytes text.old ++ title function.now) }
 {
-    let bus = function.slot.bus;
-    let device = function.slot.device;
+    let bus = HexByte(function.slot.bus);
+    let device = HexByte(function.slot.device);
     let number = function.slot.function;
-    write!(text, "# {bus:02x}:{device:02x}.{number} ")?;
+    write!(text, "# {bus}:{device}.{number} ")?;
     print_name(text, function.name.as_slice())?;
     print_kind(text, function.kind)?;
     writeln!(text)

@@ -1,5 +1,5 @@
 ghost use Rattle.std.specs.Prelude.{◌≡◌, ◌++◌, ◌<◌, ◌^◌, IfOk, OnOk, length, string_bytes};
-ghost use Rattle.import_board.specs.Text.{import_text, head_lines, root_notes, domain_text};
+ghost use Rattle.import_board.specs.Text.{import_text, head_lines, version_line, taken_line, left_line, root_notes, domain_text};
 
 use crate::bridges::print_bridges;
 use crate::counts::{
@@ -37,27 +37,57 @@ fn print_head(
 ) -> Result<(), AllocError>
     ensures { OnOk result (string_bytes text.new ≡ string_bytes text.old ++ head_lines machine.now fates.now devices.now) }
 {
-    let version = if has_far(fates, devices) { 2 } else { 1 };
-    writeln!(text, "pciboard {version}")?;
-    writeln!(
-        text,
-        "# import: {} bridges, {} targets, {} ranges",
-        bridges_taken(fates),
-        targets_taken(devices),
-        ranges_taken(devices)
-    )?;
-    writeln!(
-        text,
-        "# left out: {} functions, {} windows, {} ranges",
-        functions_left(fates, devices),
-        windows_left(fates),
-        ranges_left(machine, fates, devices)
-    )?;
+    print_version(text, has_far(fates, devices))?;
+    print_taken(text, fates, devices)?;
+    print_left(text, machine, fates, devices)?;
     writeln!(
         text,
         "# not told by the text: main memory, masters, depths of bridges"
     )?;
     print_root(text, machine)
+}
+
+fn print_version(text: &mut String, far: bool) -> Result<(), AllocError>
+    ensures { OnOk result (string_bytes text.new ≡ string_bytes text.old ++ version_line far) }
+{
+    if far {
+        writeln!(text, "pciboard 2")
+    } else {
+        writeln!(text, "pciboard 1")
+    }
+}
+
+fn print_taken(
+    text: &mut String,
+    fates: &[BridgeFate],
+    devices: &[Device],
+) -> Result<(), AllocError>
+    ensures { OnOk result (string_bytes text.new ≡ string_bytes text.old ++ taken_line fates.now devices.now) }
+{
+    let bridges = bridges_taken(fates);
+    let targets = targets_taken(devices);
+    let ranges = ranges_taken(devices);
+    writeln!(
+        text,
+        "# import: {bridges} bridges, {targets} targets, {ranges} ranges"
+    )
+}
+
+fn print_left(
+    text: &mut String,
+    machine: &Machine,
+    fates: &[BridgeFate],
+    devices: &[Device],
+) -> Result<(), AllocError>
+    ensures { OnOk result (string_bytes text.new ≡ string_bytes text.old ++ left_line machine.now fates.now devices.now) }
+{
+    let functions = functions_left(fates, devices);
+    let windows = windows_left(fates);
+    let ranges = ranges_left(machine, fates, devices);
+    writeln!(
+        text,
+        "# left out: {functions} functions, {windows} windows, {ranges} ranges"
+    )
 }
 
 /// What is said of the root and of other domains.
