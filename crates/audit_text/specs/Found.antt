@@ -11,6 +11,11 @@ use Rattle.audit_text.specs.declared.readings.Reading.{Reading}
 use Rattle.audit_text.specs.declared.ends.Ended.{Ended}
 use Rattle.audit_text.specs.Notes.{Notes, flat, word_of}
 
+-- one, or none
+abbrev pub listed : {X : Type 0} → Option X → List X
+listed None = []
+listed (Some x) = x ∷ []
+
 -- with which of its operations the master came to know of the write
 abbrev pub since_of : Notes → OpId → ℕ → Option OpId
 since_of notes w master = since_at notes.clocks.known master w

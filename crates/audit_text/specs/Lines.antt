@@ -4,7 +4,7 @@ use Rattle.std.specs.Fmt.{decimal}
 use Rattle.pci_command.specs.declared.command.Space.{Space}
 use Rattle.pci_command.specs.declared.op_id.OpId.{OpId}
 use Rattle.board_model.specs.declared.board.Board.{Board}
-use Rattle.board_printer.specs.Lines.{Line, line_text, text_of}
+use Rattle.board_printer.specs.Lines.{Line, spaced, line_text, text_of}
 use Rattle.board_printer.specs.Numbers.{word_text, address_text}
 use Rattle.board_printer.specs.Spaces.{space_word}
 use Rattle.trace_text.specs.Words.{op_word, target_name}
@@ -25,6 +25,14 @@ finding_line board found =
     ∷ (word_words board found.word.target found.word.space found.word.address
     ++ (known_words board found.value found.write
     ++ codes "by" ∷ map (op_word board) found.chain))
+
+-- the same without the newline
+abbrev pub finding_words : Board → Finding → List ℕ
+finding_words board found =
+    op_word board found.read
+    ++ spaced (word_words board found.word.target found.word.space found.word.address
+    ++ (known_words board found.value found.write
+    ++ codes "by" ∷ map (op_word board) found.chain)) []
 
 abbrev pub findings_text : Board → List Finding → List ℕ
 findings_text board found = text_of (map (finding_line board) found)

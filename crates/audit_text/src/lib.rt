@@ -6,6 +6,8 @@
 mod audit;
 mod chains;
 mod ends;
+mod findings;
+mod found;
 mod landed;
 mod ledger;
 mod lines;
@@ -14,3 +16,6 @@ mod search;
 mod told;
 
 pub use audit::audit_text;
+pub use findings::findings_of;
+pub use found::Found;
+pub use lines::print_found;

@@ -1,16 +1,41 @@
 ghost use Rattle.std.specs.Prelude.{◌≡◌, ◌++◌, map, OnOk, string_bytes, [], ◌∷◌};
 ghost use Rattle.board_printer.specs.Lines.{spaced, line_text};
 ghost use Rattle.trace_text.specs.Words.{op_word, target_name};
-ghost use Rattle.audit_text.specs.Lines.{word_words, known_words, finding_line};
+ghost use Rattle.audit_text.specs.Lines.{word_words, known_words, finding_words, finding_line};
 
+use crate::found::Found;
 use board_model::Board;
 use board_printer::{Address, HexWord, space_word};
 use pci_command::{OpId, Space};
 use std::alloc::AllocError;
 use trace_text::print_operation;
 
+/// The line of a read without its newline, behind a text.
+pub fn print_found(text: &mut String, board: &Board, found: &Found) -> Result<(), AllocError>
+    ensures { OnOk result (string_bytes text.new ≡ string_bytes text.old ++ finding_words board.now found.now) }
+{
+    print_finding(
+        text,
+        board,
+        found.read,
+        found.target,
+        found.space,
+        found.address,
+        found.value,
+        found.write,
+        found.chain.as_slice(),
+    )
+}
+
 /// The line of a read, behind a text.
-pub(crate) fn print_finding(
+pub(crate) fn print_line(text: &mut String, board: &Board, found: &Found) -> Result<(), AllocError>
+    ensures { OnOk result (string_bytes text.new ≡ string_bytes text.old ++ line_text (finding_line board.now found.now)) }
+{
+    print_found(text, board, found)?;
+    writeln!(text)
+}
+
+fn print_finding(
     text: &mut String,
     board: &Board,
     read: OpId,
@@ -22,14 +47,13 @@ pub(crate) fn print_finding(
     chain: &[OpId],
 ) -> Result<(), AllocError>
     ensures { OnOk result
-        (string_bytes text.new ≡ string_bytes text.old ++ line_text (finding_line board.now (record { read = read; word = record { target = target; space = space; address = address }; value = value; write = write; chain = chain.now }))) }
+        (string_bytes text.new ≡ string_bytes text.old ++ finding_words board.now (record { read = read; word = record { target = target; space = space; address = address }; value = value; write = write; chain = chain.now })) }
 {
     print_operation(text, board, &read)?;
     print_word(text, board, target, space, address)?;
     print_known(text, board, value, write)?;
     text.push_str(" by")?;
-    print_chain(text, board, chain)?;
-    writeln!(text)
+    print_chain(text, board, chain)
 }
 
 fn print_word(

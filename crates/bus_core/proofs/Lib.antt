@@ -9,3 +9,4 @@ pub mod TellLemmas
 pub mod OfferLemmas
 pub mod ComesLemmas
 pub mod LineLemmas
+pub mod Laws

@@ -33,6 +33,15 @@ one_map {X} f place old new before after one same =
     ]) refl in
     slice_get-map f new n ∙ (kept ∙ sym (slice_get-map f old n)))
 
+-- a change of one element, seen through a map
+pub one_mapped : {X Y : Type 0} (f : X → Y) (place : ℕ) (old new : List X) (before after : X) → OneChanged place old new before after → OneChanged place (map f old) (map f new) (f before) (f after)
+one_mapped f place old new before after one =
+    record {
+      was = slice_get-map f old place ∙ ap (option_map f) one.was;
+      is = slice_get-map f new place ∙ ap (option_map f) one.is;
+      others = λ n apart. slice_get-map f new n ∙ (ap (option_map f) (one.others n apart) ∙ sym (slice_get-map f old n));
+    }
+
 -- of each element after the change: it is the changed one, or was there before
 pub one_each : {X : Type 0} (P : ℕ → X → Type 0) (place : ℕ) (old new : List X) (before after : X) → OneChanged place old new before after → P place after
     → ((n : ℕ) (x : X) → n ≢ place → slice_get old n ≡ Some x → P n x) → (n : ℕ) (x : X) → slice_get new n ≡ Some x → P n x

@@ -1,6 +1,6 @@
 -- What comes of an initiator that is granted the bus, and of an item that comes to a port, wherever the bus stands for what
 -- is on the lanes and for its past.
-use Rattle.std.specs.Prelude.{◌≡◌, ◌≢◌, ℕ, Bool, true, false, not, ◌&&◌, List, [], ◌∷◌, ◌++◌, map, option_to_list, Option, Some, None, slice_get, ◌==◌, if◌then◌else◌}
+use Rattle.std.specs.Prelude.{◌≡◌, ◌≢◌, ℕ, ◌+◌, Bool, true, false, not, ◌&&◌, List, [], ◌∷◌, ◌++◌, map, option_to_list, Option, Some, None, slice_get, ◌==◌, if◌then◌else◌}
 use Rattle.std.specs.List.{list_any}
 use Rattle.pci_command.specs.declared.request.Request.{Request}
 use Rattle.pci_command.specs.declared.op_id.OpId.{OpId}
@@ -35,7 +35,7 @@ use Rattle.bus_core.specs.declared.given.Presented.{Presented}
 use Rattle.bus_core.specs.declared.given.Presented.TheVariants.{Nothing, Retried, TurnsBack as Back, Did}
 use Rattle.master_agents.specs.Turns.{MasterView}
 use Rattle.bus_core.specs.Bus.{BusView, shape_of, BusStands}
-use Rattle.bus_core.specs.Places.{TestsAt}
+use Rattle.bus_core.specs.Places.{OneChanged, TestsAt}
 use Rattle.bus_core.specs.Calls.{past_after, stamp_of, items_at, IsStamped, Flights, ClaimedBack}
 
 -- Acts.
@@ -139,6 +139,11 @@ pub record IsTested (board : Board) (place : ℕ) (s : BusView) (item : Carried)
 abbrev pub HasStamp : ℕ → Option Item → Type 0
 HasStamp stamp None = Unit {0}
 HasStamp stamp (Some item) = stamp_of item ≡ stamp
+
+-- one more item arrived at the port of this place, and none at the others
+pub record OneMoreAt (place : ℕ) (old new : List ℕ) : Type 0 where
+  pub before : ℕ
+  pub one : OneChanged place old new before (before + 1)
 
 -- an item that is not taken
 pub record BusRefuses (board : Board) (place : ℕ) (old : BusView) (item : Item) : Type 0 where

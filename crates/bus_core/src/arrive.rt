@@ -1,8 +1,8 @@
 ghost use Rattle.std.specs.Prelude.{◌≡◌, ◌+◌, ◌<◌, ◌^◌, ◌&&◌, length, slice_get, true, IfSome, IfNone};
 ghost use Rattle.bridge_face.specs.Arrivals.{carried, is_taken, HasRequest};
-ghost use Rattle.bus_core.specs.Bus.{shape_of};
+ghost use Rattle.bus_core.specs.Bus.{shape_of, arrivals_at};
 ghost use Rattle.bus_core.specs.Places.{ComesAt, TestsAt, ask_request};
-ghost use Rattle.bus_core.specs.Serves.{is_there_as, names_its_kind, HasStamp, IsTested, BusRefuses, BusArrives};
+ghost use Rattle.bus_core.specs.Serves.{is_there_as, names_its_kind, HasStamp, IsTested, OneMoreAt, BusRefuses, BusArrives};
 
 use crate::Bus;
 use board_model::{Board, request_of};
@@ -18,6 +18,7 @@ impl Bus {
         requires place { place < length self.old.ports }
         requires counts { IfSome (slice_get self.old.ports place) (λ port. port.face.arrivals + 1 < 2 ^ 64) }
         ensures shape { shape_of self.new ≡ shape_of self.old }
+        ensures arrivals { IfSome result (λ _. OneMoreAt place (arrivals_at self.old) (arrivals_at self.new)) }
         ensures stamped { IfSome result (λ arrival. HasStamp stamp arrival.back) }
         ensures arrives { IfSome result (λ arrival. BusArrives board.now place self.old item arrival.mark arrival.back self.new) }
         ensures refuses { IfNone result (BusRefuses board.now place self.old item) }

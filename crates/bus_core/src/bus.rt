@@ -6,7 +6,9 @@ ghost use Rattle.history_model.specs.Answers.{header_answer, bridge_to};
 ghost use Rattle.board_model.specs.WellFormed.{is_well_formed};
 
 use crate::Given;
-use crate::places::{access_at, note_part, offers_at, port_back, respond_at, target_place};
+use crate::places::{
+    access_at, note_part, offers_at, port_back, respond_at, target_place, want_at,
+};
 use crate::steps::{as_answer, nobody, rest_of, sent_over, step_of};
 use arrayvec::ArrayVec;
 use board_claim::claim;
@@ -42,6 +44,7 @@ impl Bus {
     ghost use Rattle.bus_core.specs.Bus.{shape_of, arrivals_at, StandsAtFirst};
     ghost use Rattle.bus_core.specs.Calls.{IsStamped, IsElsewhere, BusAnswers, TurnsBack};
     ghost use Rattle.bridge_face.specs.Offers.{offers_of};
+    ghost use Rattle.bus_core.specs.Places.{WantsAt};
     ghost use Rattle.bus_core.specs.Serves.{BusOffers};
     ghost use Rattle.bus_core.specs.Parts.{PlaceAnswers, PlaceTurns, RequestAnswers, RequestTurns};
     ghost use Rattle.master_agents.specs.Through.{count_in};
@@ -107,6 +110,14 @@ impl Bus {
         ensures offers { BusOffers place self.now result.items }
     {
         offers_at(self.ports.as_slice(), place)
+    }
+
+    /// The operation that the master at this place presents, if its program did not end.
+    pub fn wants(&self, place: usize) -> Option<OpId>
+        requires { place < length self.now.masters }
+        ensures { WantsAt place self.now.masters result }
+    {
+        want_at(self.masters.as_slice(), place)
     }
 
     /// What the operation is answered that the initiator of this line presents, with what that does

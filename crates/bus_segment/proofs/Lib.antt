@@ -5,3 +5,6 @@ pub mod EndLemmas
 pub mod DoesLemmas
 pub mod TakeLemmas
 pub mod TurnLemmas
+pub mod StepLemmas
+pub mod RetryLemmas
+pub mod Laws

@@ -43,8 +43,7 @@ took had sent got kept paired board place item old new stamp later new_stamp fal
       back_is = refl;
       arrives = arrives;
       stamped = subst (λ n. HasStamp n back) (sym same) stamped;
-      rises = omega (arith, same, later_is);
-      above = omega (arith, same, later_is);
+      stamp_is = same ∙ later_is;
       goes_on = refl;
       event = done.event ∙ ap (λ n. events ++ record { stamp = n; event = Arrive lane mark } ∷ []) (sym same);
       sends = done.sends;
@@ -126,7 +125,7 @@ module _ {End : Type 0} (had sent got : End → List Item) (kept : End → ℕ) 
         puts = λ n. cond (place == n) (option_to_list done.back_item) [];
         goes = subst (λ b. SegmentGoes board (record { bus = old; stamp = stamp; stopped = false }) (record { bus = new; stamp = new_stamp; stopped = b })
             (record { stamp = new_stamp; event = e } ∷ []) (λ n. cond (place == n) (item ∷ []) []) (λ n. cond (place == n) (option_to_list done.back_item) [])) (sym done.goes_on)
-            (arrival_goes board place done.lane item done.mark done.back_item old new stamp new_stamp valid done.there done.arrives shape done.rises done.above done.stamped);
+            (arrival_goes board place done.lane item done.mark done.back_item old new stamp new_stamp valid done.there done.arrives shape (omega (arith, done.stamp_is)) (omega (arith, done.stamp_is)) done.stamped);
         recorded = done.event;
         many = done.sends.many ∙ received.many;
         at_ends = λ n end end_after was is.

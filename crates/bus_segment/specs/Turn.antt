@@ -1,5 +1,5 @@
 -- A turn of a segment, and when it stops.
-use Rattle.std.specs.Prelude.{◌≡◌, ℕ, ◌^◌, ◌<◌, ◌≤◌, Bool, true, false, ◌&&◌, nat_lt, List, [], ◌∷◌, ◌++◌, length, reverse, Option, Some, None, option_to_list, slice_get, ◌⊎◌}
+use Rattle.std.specs.Prelude.{◌≡◌, ℕ, ◌+◌, ◌^◌, ◌<◌, ◌≤◌, max, Bool, true, false, ◌&&◌, nat_lt, List, [], ◌∷◌, ◌++◌, length, reverse, Option, Some, None, option_to_list, slice_get, ◌⊎◌}
 use Rattle.pci_command.specs.declared.request.Request.{Request}
 use Rattle.pci_command.specs.declared.op_id.OpId.{OpId}
 use Rattle.board_model.specs.declared.bridge.Lane.{Lane as BridgeLane}
@@ -148,8 +148,7 @@ pub record IsArrived {End : Type 0} (had sent got : End → List Item) (paired :
   pub back_is : back ≡ sent_at place back_item
   pub arrives : BusArrives board place old.bus item mark back_item new.bus
   pub stamped : HasStamp new.stamp back_item
-  pub rises : old.stamp ≤ new.stamp
-  pub above : stamp_of item < new.stamp
+  pub stamp_is : new.stamp ≡ max old.stamp (stamp_of item + 1)
   pub goes_on : new.stopped ≡ false
   pub event : kept_events ≡ events ++ record { stamp = new.stamp; event = Arrive lane mark } ∷ []
   pub sends : SendsAt had sent got paired ends back after

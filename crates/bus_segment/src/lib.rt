@@ -4,6 +4,7 @@
 
 mod ends;
 mod segment;
+mod settle;
 
 ghost use Rattle.std.specs.Prelude.{◌≡◌, ◌==◌, ◌<◌, ◌≤◌, ℕ, false, List, [], ◌∷◌, ◌++◌, Option, Some, None, option_to_list, slice_get, if◌then◌else◌};
 ghost use Rattle.pci_command.specs.declared.op_id.OpId.{OpId};

@@ -1,4 +1,4 @@
-ghost use Rattle.std.specs.Prelude.{◌≡◌, ◌+◌, ◌-◌, ◌<◌, ◌≤◌, ◌^◌, ◌++◌, [], ◌∷◌, false, length, max, slice_get, vec_len, IfSome, IsTrue};
+ghost use Rattle.std.specs.Prelude.{◌≡◌, ◌+◌, ◌-◌, ◌<◌, ◌≤◌, ◌^◌, ◌++◌, [], ◌∷◌, true, false, length, max, slice_get, vec_len, IfOk, IfSome, IsTrue};
 ghost use Rattle.std.specs.List.{Contains};
 ghost use Rattle.std.specs.Vec.{vec_capacity};
 ghost use Rattle.bus_core.specs.declared.given.Presented.TheVariants.{Did};
@@ -6,7 +6,8 @@ ghost use Rattle.board_model.specs.Valid.{IsValid};
 ghost use Rattle.board_model.specs.WellFormed.{is_well_formed};
 ghost use Rattle.bridge_face.specs.Offers.{offers_of};
 ghost use Rattle.bus_core.specs.Bus.{shape_of, arrivals_at};
-ghost use Rattle.bus_core.specs.Serves.{SendsApart};
+ghost use Rattle.bus_core.specs.Serves.{SendsApart, OneMoreAt};
+ghost use Rattle.bus_segment.specs.Steps.{StampsRise, NothingCame, IsOfMaster, IsOfLane, Retries};
 ghost use Rattle.bus_segment.specs.Turn.{Does, Records, Finishes, Keeps, Takes};
 
 use crate::ends::{has_room, receive_at, send_at, send_both, sent_at, stamp_of};
@@ -16,14 +17,14 @@ use bus_core::{Acted, Bus, Presented};
 use bus_port::Arrival;
 use history_model::{Event, Stamped};
 use lane_items::{Item, LaneEnd};
-use pci_command::List;
+use pci_command::{List, NoMemory};
 use std::alloc::Global;
 
 /// One bus between the ends of its bridges' lanes.
 #[derive(Drop)]
 pub struct Segment<L: LaneEnd + Drop> {
     bus: Bus,
-    ends: Vec<L>,
+    pub(crate) ends: Vec<L>,
     stamp: u32,
     stopped: bool,
     events: Vec<Stamped>,
@@ -46,6 +47,13 @@ impl<L: LaneEnd + Drop> Segment<L> {
             stopped: false,
             events: Vec::new(alloc),
         }
+    }
+
+    /// The bus, and all that is on it.
+    pub fn bus(&self) -> &Bus
+        ensures { result.now ≡ self.now.bus }
+    {
+        &self.bus
     }
 
     /// The stamp of its last event, or the one with which it began.
@@ -74,9 +82,30 @@ impl<L: LaneEnd + Drop> Segment<L> {
         self.stamp = self.stamp.max(stamp);
     }
 
+    /// Takes memory for 512 more events, which is more than a turn can make.
+    pub fn reserve(&mut self) -> Result<(), NoMemory>
+        ensures spare { IfOk result (λ _. 512 ≤ vec_capacity self.new.events - vec_len self.new.events) }
+        ensures bus { self.new.bus ≡ self.old.bus }
+        ensures ends { self.new.ends.items ≡ self.old.ends.items }
+        ensures stamp { self.new.stamp ≡ self.old.stamp }
+        ensures stopped { self.new.stopped ≡ self.old.stopped }
+        ensures events { self.new.events.items ≡ self.old.events.items }
+    {
+        self.events.reserve(512)?;
+        Ok(())
+    }
+
+    /// How many events it recorded.
+    pub fn recorded(&self) -> usize
+        ensures { result ≡ length self.now.events.items }
+    {
+        self.events.len()
+    }
+
     /// For how many more events there is room.
     pub fn spare(&self) -> usize
-        ensures { result ≡ vec_capacity self.now.events - vec_len self.now.events }
+        ensures spare { result ≡ vec_capacity self.now.events - vec_len self.now.events }
+        ensures counted { vec_capacity self.now.events < 2 ^ 64 }
     {
         self.events.capacity() - self.events.len()
     }
@@ -109,6 +138,11 @@ impl<L: LaneEnd + Drop> Segment<L> {
         ensures shape { shape_of self.new.bus ≡ shape_of self.old.bus }
         ensures arrivals { arrivals_at self.new.bus ≡ arrivals_at self.old.bus }
         ensures stamp { self.new.stamp ≡ self.old.stamp }
+        ensures stamps { StampsRise L.sent L.got self.old.stamp self.new.stamp self.old.ends.items self.new.ends.items }
+        ensures most { length self.new.events.items ≤ length self.old.events.items + 1 }
+        ensures spare { vec_capacity self.old.events ≤ vec_capacity self.new.events }
+        ensures quiet { length self.new.events.items ≡ length self.old.events.items → self.new.stopped ≡ false →
+            Retries board.now self.old.bus self.new.bus self.old.ends.items self.new.ends.items (IsOfMaster (shape_of self.old.bus) place) }
     {
         let presented = self.bus.serve_master(board, place, self.stamp);
         self.finish(presented);
@@ -128,6 +162,11 @@ impl<L: LaneEnd + Drop> Segment<L> {
         ensures shape { shape_of self.new.bus ≡ shape_of self.old.bus }
         ensures arrivals { arrivals_at self.new.bus ≡ arrivals_at self.old.bus }
         ensures stamp { self.new.stamp ≡ self.old.stamp }
+        ensures stamps { StampsRise L.sent L.got self.old.stamp self.new.stamp self.old.ends.items self.new.ends.items }
+        ensures most { length self.new.events.items ≤ length self.old.events.items + 1 }
+        ensures spare { vec_capacity self.old.events ≤ vec_capacity self.new.events }
+        ensures quiet { length self.new.events.items ≡ length self.old.events.items → self.new.stopped ≡ false →
+            Retries board.now self.old.bus self.new.bus self.old.ends.items self.new.ends.items (IsOfLane (shape_of self.old.bus) place offer.now.op) }
     {
         let presented = self.bus.serve_offer(board, place, offer, self.stamp);
         self.finish(presented);
@@ -146,6 +185,14 @@ impl<L: LaneEnd + Drop> Segment<L> {
             (record { bus = self.old.bus; stamp = self.old.stamp; stopped = false }) (record { bus = self.new.bus; stamp = self.new.stamp; stopped = self.new.stopped })
             self.old.ends.items self.new.ends.items self.old.events.items self.new.events.items }
         ensures shape { shape_of self.new.bus ≡ shape_of self.old.bus }
+        ensures stamps { StampsRise L.sent L.got self.old.stamp self.new.stamp self.old.ends.items self.new.ends.items }
+        ensures most { length self.new.events.items ≤ length self.old.events.items + 1 }
+        ensures spare { vec_capacity self.old.events ≤ vec_capacity self.new.events }
+        ensures recorded { result ≡ true → self.new.stopped ≡ false → length self.new.events.items ≡ length self.old.events.items + 1 }
+        ensures arrives { result ≡ true → self.new.stopped ≡ false → OneMoreAt place (arrivals_at self.old.bus) (arrivals_at self.new.bus) }
+        ensures nothing { result ≡ false → NothingCame L.had L.got place self.old.ends.items self.new.ends.items }
+        ensures same_bus { result ≡ false → self.new.bus ≡ self.old.bus }
+        ensures same_events { result ≡ false → self.new.events.items ≡ self.old.events.items }
     {
         match receive_at(self.ends.as_mut_slice(), place) {
             None => false,
@@ -167,6 +214,8 @@ impl<L: LaneEnd + Drop> Segment<L> {
             (record { bus = self.old.bus; stamp = self.old.stamp; stopped = false }) self.old.ends.items self.old.events.items
             (record { bus = self.new.bus; stamp = self.new.stamp; stopped = self.new.stopped }) self.new.ends.items self.new.events.items }
         ensures shape { shape_of self.new.bus ≡ shape_of self.old.bus }
+        ensures arrives { self.new.stopped ≡ false → OneMoreAt place (arrivals_at self.old.bus) (arrivals_at self.new.bus) }
+        ensures spare { vec_capacity self.old.events ≤ vec_capacity self.new.events }
     {
         let sent = stamp_of(item);
         if sent >= 0x8000_0000 {
@@ -186,6 +235,7 @@ impl<L: LaneEnd + Drop> Segment<L> {
         requires goes { self.old.stopped ≡ false }
         requires spare { vec_len self.old.events < vec_capacity self.old.events }
         ensures bus { self.new.bus ≡ self.old.bus }
+        ensures spare { vec_capacity self.old.events ≤ vec_capacity self.new.events }
         ensures keeps { Keeps L.had L.sent L.got L.kept L.paired lane place later arrival self.old.stamp self.old.ends.items self.old.events.items self.new.stamp self.new.ends.items self.new.events.items self.new.stopped }
     {
         let back = sent_at(place, arrival.back);
@@ -217,6 +267,7 @@ impl<L: LaneEnd + Drop> Segment<L> {
         ensures finishes { Finishes L.had L.sent L.got L.kept L.paired presented self.old.stamp self.old.ends.items self.new.ends.items self.old.events.items self.new.events.items self.new.stopped }
         ensures bus { self.new.bus ≡ self.old.bus }
         ensures stamp { self.new.stamp ≡ self.old.stamp }
+        ensures spare { vec_capacity self.old.events ≤ vec_capacity self.new.events }
     {
         match presented {
             Presented::Nothing | Presented::Retried => {}
@@ -232,6 +283,7 @@ impl<L: LaneEnd + Drop> Segment<L> {
         ensures records { Records L.had L.sent L.got L.kept L.paired acted self.old.stamp self.old.ends.items self.new.ends.items self.old.events.items self.new.events.items self.new.stopped }
         ensures bus { self.new.bus ≡ self.old.bus }
         ensures stamp { self.new.stamp ≡ self.old.stamp }
+        ensures spare { vec_capacity self.old.events ≤ vec_capacity self.new.events }
     {
         let over = has_room(self.ends.as_slice(), acted.over);
         let back = has_room(self.ends.as_slice(), acted.back);

@@ -11,7 +11,7 @@ use program_status::{BoardFault, Status};
 use roundtrip_runs::run_has_lines;
 use roundtrip_trace::printed_trace_is_read;
 use std::alloc::Global;
-use trace_finish::finish;
+use steady_runs::steady_run;
 use trace_text::print_trace;
 
 /// The trace of the run of the board whose devices these bytes tell. It is refused as the text of no
@@ -52,15 +52,13 @@ fn read_devices(alloc: Global, input: &[u8]) -> Result<Tree, Status>
     }
 }
 
-/// The trace text of the run of a board, from no events on, which delivers.
+/// The trace text of the run of a board, which delivers.
 fn trace_of(alloc: Global, input: &[u8], tree: &Tree) -> Result<List<u8>, NoMemory>
     requires { IsMade tree.now (made_read input.now) }
     ensures { IfOk result (DeliversTo input.now tree.now) }
 {
     let board = tree.board();
-    let Ok(events) = finish(alloc, tree, List::from_vec(Vec::new(alloc))) else {
-        return Err(NoMemory);
-    };
+    let events = steady_run(alloc, tree)?;
     run_has_lines(board, events.as_slice());
     printed_trace_is_read(board, events.as_slice());
     let _always = delivered(input, tree, events.as_slice());

@@ -9,7 +9,7 @@ use std::alloc::Global;
 /// The board text of the machine of which `lspci -vvxxx` wrote these bytes, below the least bus of its
 /// least domain.
 pub fn answer_import(alloc: Global, input: &[u8]) -> Result<Vec<u8>, Status>
-    requires { length input.now < 2 ^ 24 }
+    requires { length input.now < 2 ^ 31 }
     ensures ok { IfOk result (λ text. AnswersImport input.now text.items) }
     ensures err { IfErr result (RefusesImport input.now) }
 {

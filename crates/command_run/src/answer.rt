@@ -9,11 +9,11 @@ use program_status::Status;
 use roundtrip_runs::run_has_lines;
 use roundtrip_trace::printed_trace_is_read;
 use std::alloc::Global;
-use trace_finish::finish;
+use steady_runs::steady_run;
 use trace_text::print_trace;
 
-/// The trace of the run of the board whose text these bytes are. It is refused as the text of no
-/// valid board.
+/// The trace of a run of the board whose text these bytes are, in which the buses work phase by
+/// phase. It is refused as the text of no valid board.
 pub fn answer_run(alloc: Global, input: &[u8]) -> Result<Vec<u8>, Status>
     requires { length input.now < 2 ^ 31 }
     ensures ok { IfOk result (λ trace. AnswersRun input.now trace.items) }
@@ -26,14 +26,12 @@ pub fn answer_run(alloc: Global, input: &[u8]) -> Result<Vec<u8>, Status>
     }
 }
 
-/// The trace text of the run of a board, from no events on.
+/// The trace text of the run of a board.
 fn trace_of(alloc: Global, tree: &Tree) -> Result<List<u8>, NoMemory>
     ensures { IfOk result (RunsTo tree.now) }
 {
     let board = tree.board();
-    let Ok(events) = finish(alloc, tree, List::from_vec(Vec::new(alloc))) else {
-        return Err(NoMemory);
-    };
+    let events = steady_run(alloc, tree)?;
     run_has_lines(board, events.as_slice());
     printed_trace_is_read(board, events.as_slice());
     print_trace(alloc, board, events.as_slice())

@@ -15,7 +15,7 @@ pub fn import_board(
     text: &[u8],
     root: Option<Root>,
 ) -> Result<List<u8>, ReadFault>
-    requires { length text.now < 2 ^ 24 }
+    requires { length text.now < 2 ^ 31 }
     ensures { TellsBoard result (imported root text.now) }
 {
     let functions = read_functions(alloc, text)?;
@@ -27,7 +27,6 @@ fn board_of(
     root: Option<Root>,
     functions: List<Function>,
 ) -> Result<List<u8>, NoMemory>
-    requires { length functions < 2 ^ 24 }
     ensures { IfOk result (λ text. text ≡ board_of root functions) }
 {
     let machine = machine_of(alloc, root, functions)?;

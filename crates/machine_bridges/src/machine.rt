@@ -18,7 +18,7 @@ pub struct Root {
 pub struct Machine {
     pub root: Root,
     /// How many functions there are in other domains.
-    pub elsewhere: u32,
+    pub elsewhere: u64,
     /// The bridges by secondary bus, then by bus, device and function.
     pub bridges: List<Function>,
     /// All others by bus, device and function.
@@ -32,7 +32,6 @@ pub fn machine_of(
     root: Option<Root>,
     functions: List<Function>,
 ) -> Result<Machine, NoMemory>
-    requires { length functions < 2 ^ 31 }
     ensures { IfOk result (λ machine. machine ≡ machine_by (root_by root functions) functions) }
 {
     let root = root_by(root, functions.as_slice());
@@ -42,6 +41,7 @@ pub fn machine_of(
         bridges: List::from_vec(Vec::new(alloc)),
         others: List::from_vec(Vec::new(alloc)),
     };
+    let _few = functions.as_slice().len();
     for function in functions.into_vec() {
         machine = with_function(machine, function)?;
     }
@@ -50,7 +50,7 @@ pub fn machine_of(
 
 /// The machine with one more function.
 fn with_function(machine: Machine, function: Function) -> Result<Machine, NoMemory>
-    requires { machine.elsewhere < 2 ^ 31 }
+    requires { machine.elsewhere + 1 < 2 ^ 64 }
     ensures value { IfOk result (λ more. more ≡ with_function function machine) }
     ensures few { IfOk result (λ more. more.elsewhere ≤ machine.elsewhere + 1) }
 {

@@ -1,5 +1,5 @@
 -- Which ranges of a device a board can have, and why the others are left out.
-use Rattle.std.specs.Prelude.{ℕ, Bool, ◌+◌, ◌-◌, ◌*◌, ◌/◌, ◌^◌, List, [], ◌∷◌, ◌++◌, Option, Some, None, not, ◌==◌, ◌&&◌, ◌||◌, nat_lt, nat_le, if◌then◌else◌}
+use Rattle.std.specs.Prelude.{◌≤◌, ℕ, Bool, ◌+◌, ◌-◌, ◌*◌, ◌/◌, ◌^◌, List, [], ◌∷◌, ◌++◌, Option, Some, None, not, ◌==◌, ◌&&◌, ◌||◌, nat_lt, nat_le, if◌then◌else◌}
 use Rattle.std.specs.List.{find, list_any}
 use Rattle.pci_command.specs.declared.command.Space.{Space}
 use Rattle.pci_command.specs.declared.command.Space.TheVariants.{Mem, Io, Cfg}
@@ -88,3 +88,8 @@ taken_unless span (Some reason) = LeftOut reason
 -- what becomes of the range that a register of a function on the bus asks for
 abbrev pub range_fate : ℕ → List TakenBridge → List Placed → ℕ → ℕ → Function → Found → RangeFate
 range_fate root bridges placed used bus function found = taken_unless (span_of found) (why_no_range root bridges placed used bus function found)
+
+-- a target takes no more than its six registers
+abbrev pub TakesFew : ℕ → RangeFate → Type 0
+TakesFew used (Taken span) = used + registers_for span ≤ 6
+TakesFew used (LeftOut reason) = Unit {0}

@@ -16,7 +16,6 @@ pub fn devices_of(
     machine: &Machine,
     bridges: &[TakenBridge],
 ) -> Result<List<Device>, NoMemory>
-    requires { length machine.now.others < 2 ^ 24 }
     ensures { IfOk result (λ devices. devices ≡ devices_of machine.now bridges.now) }
 {
     let mut taken = Taken {
@@ -46,7 +45,6 @@ fn push_devices(
     taken: &mut Taken,
     functions: &[Function],
 ) -> Result<(), NoMemory>
-    requires few { length functions.now < 2 ^ 24 }
     requires given { taken.old.given.items ≡ map place_of bridges.now ++ taken.old.targets.items }
     ensures { IfOk result (λ _. devices.new.items ≡ devices.old.items ++ devices_behind machine.now bridges.now taken.old.placed.items taken.old.targets.items (by_device functions.now)) }
 {
@@ -76,7 +74,6 @@ fn judged_device(
     first: &Function,
     functions: &[Function],
 ) -> Result<Device, NoMemory>
-    requires few { length functions.now < 2 ^ 24 }
     requires given { taken.old.given.items ≡ map place_of bridges.now ++ taken.old.targets.items }
     ensures device { IfOk result (λ device. device ≡ judged_device machine.now bridges.now taken.old.placed.items taken.old.targets.items first.now functions.now) }
     ensures placed { IfOk result (λ device. taken.new.placed.items ≡ taken.old.placed.items ++ placed_by device) }

@@ -2,6 +2,7 @@ ghost use Rattle.std.specs.Prelude.{◌≡◌, ◌+◌, ◌*◌, ◌++◌, ◌<�
 ghost use Rattle.std.specs.List.{flat_map};
 ghost use Rattle.machine_targets.specs.declared.fate.RangeFate.TheVariants.{LeftOut};
 ghost use Rattle.machine_targets.specs.Registers.{found_in};
+ghost use Rattle.machine_targets.specs.Ranges.{TakesFew};
 ghost use Rattle.machine_targets.specs.Devices.{judged_behind, why_of_bridge, judged_of_bridge, placed_of, registers_used, placed_in, used_in, functions_behind};
 
 use crate::found::found_in;
@@ -48,7 +49,6 @@ pub(crate) fn functions_behind(
     placed: &mut Vec<Placed>,
     functions: &[Function],
 ) -> Result<List<List<Judged>>, NoMemory>
-    requires { length functions.now < 2 ^ 24 }
     ensures judged { IfOk result (λ judged. judged ≡ functions_behind root bridges.now bus placed.old.items 0 functions.now) }
     ensures placed { IfOk result (λ judged. placed.new.items ≡ placed.old.items ++ flat_map (placed_in bus) judged) }
 {
@@ -68,7 +68,7 @@ fn push_functions(
     used: u32,
     functions: &[Function],
 ) -> Result<(), NoMemory>
-    requires { used + 12 * length functions.now < 2 ^ 30 }
+    requires { used ≤ 6 }
     ensures judged { IfOk result (λ _. judged.new.items ≡ judged.old.items ++ functions_behind root bridges.now bus placed.old.items used functions.now) }
     ensures placed { IfOk result (λ _. placed.new.items ≡ placed.old.items ++ flat_map (placed_in bus) (functions_behind root bridges.now bus placed.old.items used functions.now)) }
 {
@@ -94,15 +94,14 @@ fn judged_behind(
     used: &mut u32,
     function: &Function,
 ) -> Result<List<Judged>, NoMemory>
-    requires { used.old < 2 ^ 30 }
+    requires { used.old ≤ 6 }
     ensures judged { IfOk result (λ judged. judged ≡ judged_behind root bridges.now bus function.now placed.old.items used.old (found_in function.now)) }
     ensures placed { IfOk result (λ judged. placed.new.items ≡ placed.old.items ++ placed_in bus judged) }
     ensures used { IfOk result (λ judged. used.new ≡ used.old + used_in judged) }
-    ensures few { used.new ≤ used.old + 12 }
+    ensures few { used.new ≤ 6 }
 {
     let found = found_in(function);
     let mut judged = Vec::new(alloc);
-    let _few = found.len();
     push_judged(
         &mut judged,
         root,
@@ -127,11 +126,11 @@ fn push_judged(
     function: &Function,
     found: &[Found],
 ) -> Result<(), NoMemory>
-    requires { used.old + 2 * length found.now < 2 ^ 31 }
+    requires { used.old ≤ 6 }
     ensures judged { IfOk result (λ _. judged.new.items ≡ judged.old.items ++ judged_behind root bridges.now bus function.now placed.old.items used.old found.now) }
     ensures placed { IfOk result (λ _. placed.new.items ≡ placed.old.items ++ placed_in bus (judged_behind root bridges.now bus function.now placed.old.items used.old found.now)) }
     ensures used { IfOk result (λ _. used.new ≡ used.old + used_in (judged_behind root bridges.now bus function.now placed.old.items used.old found.now)) }
-    ensures few { used.new ≤ used.old + 2 * length found.now }
+    ensures few { used.new ≤ 6 }
 {
     match found.split_first() {
         None => Ok(()),
@@ -158,10 +157,11 @@ fn place(
     space: Space,
     fate: RangeFate,
 ) -> Result<(), NoMemory>
-    requires { used.old < 2 ^ 31 }
+    requires small { used.old ≤ 6 }
+    requires few { TakesFew used.old fate }
     ensures placed { IfOk result (λ _. placed.new.items ≡ placed.old.items ++ placed_of bus space fate) }
     ensures used { IfOk result (λ _. used.new ≡ used.old + registers_used fate) }
-    ensures few { used.new ≤ used.old + 2 }
+    ensures few { used.new ≤ 6 }
 {
     if let RangeFate::Taken(span) = fate {
         *used += registers_for(span);

@@ -1,7 +1,7 @@
 ghost use Rattle.std.specs.Prelude.{◌≡◌, ◌<◌, ◌≤◌, ◌+◌, ◌*◌, ◌^◌, IsTrue, IfNone};
 ghost use Rattle.std.specs.List.{list_any};
 ghost use Rattle.std.specs.Option.{option_copied};
-ghost use Rattle.machine_targets.specs.Ranges.{unit_of, rounded_base, rounded_end, end_of_space, size_or_zero, fits, does_fit, span_of, registers_for, meets, meeting, why_not_placed, why_unflawed, why_by, why_no_range, range_fate};
+ghost use Rattle.machine_targets.specs.Ranges.{unit_of, rounded_base, rounded_end, end_of_space, size_or_zero, fits, does_fit, span_of, registers_for, meets, meeting, why_not_placed, why_unflawed, why_by, why_no_range, range_fate, TakesFew};
 
 use crate::{Found, NoRange, Placed, RangeFate};
 use board_model::Window;
@@ -97,8 +97,9 @@ pub(crate) struct Before<'a> {
 }
 
 fn why_not_placed(before: Before<'_>, bus: u8, space: Space, span: Window) -> Option<NoRange>
-    requires { before.used < 2 ^ 31 }
-    ensures { result ≡ why_not_placed before.entry.root before.entry.bridges.now before.entry.placed.now before.entry.used bus space span }
+    requires { before.used ≤ 6 }
+    ensures few { IfNone result (before.entry.used + registers_for span ≤ 6) }
+    ensures reason { result ≡ why_not_placed before.entry.root before.entry.bridges.now before.entry.placed.now before.entry.used bus space span }
 {
     if before.used + registers_for(span) > 6 {
         return Some(NoRange::SixRegisters);
@@ -120,8 +121,9 @@ pub(crate) fn range_fate(
     function: &Function,
     found: &Found,
 ) -> RangeFate
-    requires { before.used < 2 ^ 31 }
-    ensures { result ≡ range_fate before.entry.root before.entry.bridges.now before.entry.placed.now before.entry.used bus function.now found.now }
+    requires { before.used ≤ 6 }
+    ensures few { TakesFew before.entry.used result }
+    ensures fate { result ≡ range_fate before.entry.root before.entry.bridges.now before.entry.placed.now before.entry.used bus function.now found.now }
 {
     match why_no_range(before, bus, function, found) {
         Some(reason) => RangeFate::LeftOut(reason),
@@ -130,9 +132,10 @@ pub(crate) fn range_fate(
 }
 
 fn why_no_range(before: Before<'_>, bus: u8, function: &Function, found: &Found) -> Option<NoRange>
-    requires { before.used < 2 ^ 31 }
+    requires { before.used ≤ 6 }
     ensures reason { result ≡ why_no_range before.entry.root before.entry.bridges.now before.entry.placed.now before.entry.used bus function.now found.now }
     ensures fits { IfNone result (IsTrue (does_fit found.now)) }
+    ensures few { IfNone result (before.entry.used + registers_for (span_of found.now) ≤ 6) }
 {
     if let Some(flaw) = found.flaw {
         return Some(NoRange::Flawed(flaw));

@@ -79,7 +79,8 @@ const RUN_STEADY: Row = Row {
     parts: &[Part::Word("run"), Part::Word("--steady"), Part::File],
     limit: BOARD,
     line: "the same, with one and the same schedule each time",
-    more: "For now there is no other schedule, so that `run` alone writes the same trace.",
+    more: "The buses work phase by phase: in a phase each bus takes what came to it, and then serves each of its\n\
+        initiators once. What it sends comes to the next bus in the next phase.",
 };
 
 const HEADERS: Row = Row {

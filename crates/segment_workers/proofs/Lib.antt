@@ -1,3 +1,7 @@
-pub mod StandLemmas
-pub mod WorkerLemmas
-pub mod StopLemmas
+pub mod SettleLemmas
+pub mod LayLemmas
+pub mod OneLemmas
+pub mod WorkLemmas
+pub mod SteadyLemmas
+pub mod FirstLemmas
+pub mod Laws

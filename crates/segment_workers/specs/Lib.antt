@@ -1,2 +1,4 @@
-pub mod Stands
-pub mod Workers
+pub mod Loop
+pub mod Settling
+pub mod Steady
+pub mod First

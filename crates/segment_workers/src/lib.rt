@@ -1,62 +1,18 @@
-//! The buses of a board, each worked as a segment, phase by phase.
+//! The engine that works the buses of a board one after another, phase by phase: in each phase each
+//! bus does one turn, and then all lanes are settled, so that what is sent in a phase arrives in the
+//! next one. What all buses did is a complete run of the board.
 #![tactic(auto)]
 
-ghost use Rattle.std.specs.Prelude.{◌≡◌, ℕ, ◌^◌, ◌≤◌, List, ◌++◌, length, Option, Some, option_to_list};
-ghost use Rattle.board_model.specs.declared.board.Board.{Board};
-ghost use Rattle.board_model.specs.declared.bridge.Lane.{Lane as BridgeLane};
-ghost use Rattle.board_model.specs.declared.bridge.Bridge.{Bridge};
-ghost use Rattle.board_model.specs.Valid.{IsValid};
-ghost use Rattle.board_model.specs.Ways.{end_of, lane_back};
-ghost use Rattle.history_model.specs.Answers.{bridge_to};
-ghost use Rattle.history_model.specs.declared.event.Stamped.{Stamped};
-ghost use Rattle.lane_items.specs.declared.item.Item.{Item};
-ghost use Rattle.bridge_face.specs.Arrivals.{carried};
-ghost use Rattle.bus_core.specs.Bus.{shape_of, IsOf};
-ghost use Rattle.bus_core.specs.Calls.{stamp_of};
-ghost use Rattle.bus_segment.specs.Segment.{SegmentView, SegmentGoes};
-ghost use Rattle.bus_segment.specs.Turn.{StopsAt};
-ghost use Rattle.law_local.specs.Stamps.{IsMerged};
-ghost use Rattle.law_phases.specs.Engine.{Stands, Engine, Worked, AllInOrder, ending_on, put_up_to};
-ghost use Rattle.segment_workers.specs.Stands.{SegmentStands, IsAtPorts};
-ghost use Rattle.segment_workers.specs.Workers.{WorkerView, AreBetween, AllDidPhase, IsStampedBelow};
+mod first;
+mod merging;
+mod phase;
+mod settling;
+mod steady;
 
-use lane_items::LaneEnd;
+pub use first::{all_above, all_workers};
+pub use merging::merge_all;
+pub use settling::{Above, settle_all};
+pub use steady::run_steady;
 
-/// What a segment stands for is what the laws of phases suppose of its bus.
-pub fn segments_stand()
-    ensures { (board : Board) (s : SegmentView) (p : List Stamped) (received_at sent_at : ℕ → List Item) (received put : BridgeLane → List Item) →
-        IsOf board (shape_of s.bus) → IsAtPorts board s received_at sent_at received put → SegmentStands board s p received_at sent_at →
-        Stands carried stamp_of board s.bus.bus received put p }
-{}
-
-/// A segment stands after a turn for what it did before and in the turn.
-pub fn turns_keep_standing()
-    ensures { (board : Board) (old new : SegmentView) (p later : List Stamped) (received sent taken puts : ℕ → List Item) →
-        shape_of new.bus ≡ shape_of old.bus → SegmentStands board old p received sent → SegmentGoes board old new later taken puts →
-        SegmentStands board new (later ++ p) (λ n. received n ++ taken n) (λ n. sent n ++ puts n) }
-{}
-
-/// What holds of all segments between two phases is what the laws of phases suppose of an engine.
-pub fn segments_are_an_engine<L: LaneEnd>()
-    ensures { (board : Board) (workers : List (WorkerView L)) (received hand : BridgeLane → List Item) (part : ℕ → List Stamped) →
-        AreBetween L.had L.sent L.got L.kept L.paired board workers received hand part → Engine carried stamp_of board received hand part }
-{}
-
-/// What all segments did in a phase is what the laws of phases suppose of a phase.
-pub fn segments_work_a_phase<L: LaneEnd>()
-    ensures { (board : Board) (old new : List (WorkerView L)) (received hand taken not_taken sent : BridgeLane → List Item) (part later : ℕ → List Stamped) →
-        AreBetween L.had L.sent L.got L.kept L.paired board old received hand part → AllDidPhase board old new taken not_taken sent part later →
-        (worked : Worked carried stamp_of board received hand (λ lane. taken lane ++ not_taken lane) sent (λ bus. later bus ++ part bus)) × ((lane : BridgeLane) → worked.not_taken lane ≡ not_taken lane) }
-{}
-
-/// In a phase in which all lanes brought their items in order no segment has a cause to stop, at any
-/// port of a bridge's lane, where all that was put comes to its bus and stamps are below 2^31.
-pub fn segments_do_not_stop<L: LaneEnd>()
-    ensures { (board : Board) (old new : List (WorkerView L)) (received hand taken not_taken sent : BridgeLane → List Item) (kept : BridgeLane → ℕ) (part later : ℕ → List Stamped) (all : List Stamped)
-        (lane : BridgeLane) (bridge : Bridge) (refused : Option Item) → IsValid board →
-        AreBetween L.had L.sent L.got L.kept L.paired board old received hand part → AllDidPhase board old new taken not_taken sent part later →
-        AllInOrder board hand (λ l. taken l ++ not_taken l) sent kept → IsMerged board (λ bus. later bus ++ part bus) all →
-        bridge_to board lane.bus ≡ Some bridge → not_taken lane ≡ option_to_list refused → IsStampedBelow (2 ^ 31) refused →
-        kept (lane_back lane) ≤ length (sent (lane_back lane)) →
-        StopsAt board (end_of board lane) (ending_on board (end_of board lane) (put_up_to received hand sent)) (later (end_of board lane) ++ part (end_of board lane)) lane refused (kept (lane_back lane)) → ⊥ }
-{}
+#[cfg(test)]
+mod tests;

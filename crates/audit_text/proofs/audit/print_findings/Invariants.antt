@@ -1,9 +1,8 @@
-use Rattle.std.proofs.Common.{take, string_bytes}
-use Rattle.history_model.specs.Runs.{history_of}
-use Rattle.audit_text.proofs.AuditLemmas.{SoFar}
+use Rattle.std.proofs.Common.{◌≡◌, ◌++◌, drop, string_bytes}
+use Rattle.audit_text.specs.Lines.{findings_text}
 use Rattle.audit_text.proofs.audit.print_findings.Given as goal
 
--- what was noted down and found of the events so far
-abbrev pub invariant-loop-index : goal.invariant-loop-index
-invariant-loop-index l =
-    SoFar l.board (history_of (take l.index l.events)) l.ledger (string_bytes l.initial.text) (string_bytes l.text) l.told l.index
+-- the lines so far, and those to come
+abbrev pub invariant-loop-one : goal.invariant-loop-one
+invariant-loop-one l =
+    string_bytes l.text ++ findings_text l.board (drop l.one-index l.found) ≡ string_bytes l.initial.text ++ findings_text l.board l.found

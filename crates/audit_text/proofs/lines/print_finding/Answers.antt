@@ -9,6 +9,6 @@ pub returns : goal.returns
 returns c =
     IfOk-weaker _ _ _
     (λ _ ended. line_parts (op_word c.args.board.now c.args.read) (codes "by") (word_words c.args.board.now c.args.target c.args.space c.args.address) (known_words c.args.board.now c.args.value c.args.write) (map (op_word c.args.board.now) c.args.chain.now)
-    (string_bytes c.args.text.now) (string_bytes c.print_operation.new.text) (string_bytes c.print_word.new.text) (string_bytes c.print_known.new.text) (string_bytes c.push_str.new.self) (string_bytes c.print_chain.new.text) (string_bytes c.writeln.new.self)
-    c.in_ok-print_operation.ensures c.in_ok-print_word.ensures c.in_ok-print_known.ensures c.in_ok-push_str.ensures.bytes c.in_ok-print_chain.ensures ended)
-    c.writeln.ensures.bytes
+    (string_bytes c.args.text.now) (string_bytes c.print_operation.new.text) (string_bytes c.print_word.new.text) (string_bytes c.print_known.new.text) (string_bytes c.push_str.new.self) (string_bytes c.print_chain.new.text)
+    c.in_ok-print_operation.ensures c.in_ok-print_word.ensures c.in_ok-print_known.ensures c.in_ok-push_str.ensures.bytes ended)
+    c.print_chain.ensures

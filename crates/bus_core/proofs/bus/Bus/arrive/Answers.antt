@@ -1,14 +1,14 @@
-use Rattle.std.proofs.Common.{◌≡◌, ◌&&◌, true, false, List, map, Option, ap, subst, sym, ◌∙◌, arith}
+use Rattle.std.proofs.Common.{◌≡◌, ℕ, ◌+◌, ◌&&◌, true, false, List, map, Option, ap, subst, sym, ◌∙◌, arith}
 use Rattle.std.proofs.lemmas.Bool.{and_parts}
 use Rattle.std.proofs.lemmas.List.{with_items_is}
 use Rattle.board_model.specs.declared.bridge.Lane.{Lane as BridgeLane}
 use Rattle.pci_command.specs.declared.request.Request.{Request}
 use Rattle.bridge_face.specs.Arrivals.{carried}
 use Rattle.bus_port.specs.Port.{PortView}
-use Rattle.bus_core.specs.Bus.{BusView, Shape, shape_of}
-use Rattle.bus_core.specs.Places.{ComesAt}
-use Rattle.bus_core.specs.Serves.{names_its_kind, BusArrives}
-use Rattle.bus_core.proofs.ListLemmas.{one_map}
+use Rattle.bus_core.specs.Bus.{BusView, Shape, shape_of, arrivals_at}
+use Rattle.bus_core.specs.Places.{OneChanged, ComesAt}
+use Rattle.bus_core.specs.Serves.{names_its_kind, OneMoreAt, BusArrives}
+use Rattle.bus_core.proofs.ListLemmas.{one_map, one_mapped}
 use Rattle.bus_core.proofs.ComesLemmas.{refused, bus_arrives}
 use Rattle.bus_core.proofs.bus.Bus.arrive.Goals as goal
 
@@ -25,6 +25,19 @@ returns-clause-shape c =
     let comes = subst (λ (old : List PortView). ComesAt c.args.place old (carried c.args.item) c.request_for-request.result c.arrive_at.result.mark c.arrive_at.result.back c.arrive_at.new.ports) c.as_mut_slice.ensures.value c.arrive_at.ensures.comes in
     let items = with_items_is c.self.inside.ports c.arrive_at.new.ports (omega arith) in
     ap S (ap (map f) items ∙ one_map f c.args.place was.ports c.arrive_at.new.ports comes.before comes.after comes.one comes.lane) ∙ ap shape_of c.self.view_is
+
+pub returns-clause-arrivals : goal.returns-clause-arrivals
+returns-clause-arrivals c =
+    let was : BusView = record { bus = c.self.inside.bus; ports = c.self.inside.ports.items; masters = c.self.inside.masters.items; targets = c.self.inside.targets.items; through = c.self.inside.through } in
+    let f : PortView → ℕ = λ port. port.face.arrivals in
+    let comes = subst (λ (old : List PortView). ComesAt c.args.place old (carried c.args.item) c.request_for-request.result c.arrive_at.result.mark c.arrive_at.result.back c.arrive_at.new.ports) c.as_mut_slice.ensures.value c.arrive_at.ensures.comes in
+    let items = with_items_is c.self.inside.ports c.arrive_at.new.ports (omega arith) in
+    let one = one_mapped f c.args.place was.ports c.arrive_at.new.ports comes.before comes.after comes.one in
+    let counted : OneChanged c.args.place (map f was.ports) (map f c.arrive_at.new.ports) comes.before.face.arrivals (comes.before.face.arrivals + 1) =
+    subst (λ (n : ℕ). OneChanged c.args.place (map f was.ports) (map f c.arrive_at.new.ports) comes.before.face.arrivals n) comes.arrivals one in
+    let base : OneMoreAt c.args.place (arrivals_at was) (map f c.arrive_at.new.ports) = record { before = comes.before.face.arrivals; one = counted } in
+    let P : List ℕ → List ℕ → Type 0 = λ old new. OneMoreAt c.args.place old new in
+    subst (λ new. P (arrivals_at c.args.self.now) new) (sym (ap (map f) items)) (subst (λ old. P old (map f c.arrive_at.new.ports)) (ap arrivals_at c.self.view_is) base)
 
 pub returns-clause-arrives : goal.returns-clause-arrives
 returns-clause-arrives c =

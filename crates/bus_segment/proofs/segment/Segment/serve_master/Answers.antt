@@ -1,7 +1,10 @@
 use Rattle.std.proofs.Common.{ap, sym, subst, ◌∙◌}
 use Rattle.bus_core.specs.Bus.{BusView, shape_of}
 use Rattle.bus_core.specs.Serves.{ServesMaster}
+use Rattle.bus_segment.specs.Steps.{StampsRise}
 use Rattle.bus_segment.proofs.DoesLemmas.{master_does}
+use Rattle.bus_segment.proofs.StepLemmas.{finishes_stamps, finishes_most}
+use Rattle.bus_segment.proofs.RetryLemmas.{master_retries}
 use Rattle.bus_segment.proofs.segment.Segment.serve_master.Goals as goal
 
 pub returns-clause-does : goal.returns-clause-does
@@ -12,3 +15,28 @@ returns-clause-does g c =
     let serves = subst (λ (s : BusView). ServesMaster c.args.board.now c.args.place c.args.self.now.bus served.result s) (sym c.finish.ensures.bus) served.ensures.serves in
     master_does E.had E.sent E.got E.kept E.paired c.args.board.now c.args.self.now.bus c.finish.new.self.bus c.args.self.now.stamp c.args.self.now.ends.items c.args.self.now.events.items shape
     c.args.place served.result c.finish.new.self.stopped c.finish.new.self.ends.items c.finish.new.self.events.items serves served.ensures.stamped c.requires.ends c.finish.ensures.finishes
+
+pub returns-clause-stamps : goal.returns-clause-stamps
+returns-clause-stamps g c =
+    let E = g.L.LaneEnd in
+    let End : Type 0 = g.row.L.Denot in
+    let served = c.serve_master-presented in
+    subst (λ n. StampsRise {End = End} E.sent E.got c.args.self.now.stamp n c.args.self.now.ends.items c.finish.new.self.ends.items) (sym c.finish.ensures.stamp)
+    (finishes_stamps {End = End} E.had E.sent E.got E.kept E.paired served.result c.args.self.now.stamp c.args.self.now.ends.items c.finish.new.self.ends.items c.args.self.now.events.items c.finish.new.self.events.items c.finish.new.self.stopped
+    c.finish.ensures.finishes served.ensures.stamped)
+
+pub returns-clause-most : goal.returns-clause-most
+returns-clause-most g c =
+    let E = g.L.LaneEnd in
+    let End : Type 0 = g.row.L.Denot in
+    finishes_most {End = End} E.had E.sent E.got E.kept E.paired c.serve_master-presented.result c.args.self.now.stamp c.args.self.now.ends.items c.finish.new.self.ends.items c.args.self.now.events.items c.finish.new.self.events.items
+    c.finish.new.self.stopped c.finish.ensures.finishes
+
+pub returns-clause-quiet : goal.returns-clause-quiet
+returns-clause-quiet g c = λ same on.
+    let E = g.L.LaneEnd in
+    let End : Type 0 = g.row.L.Denot in
+    let served = c.serve_master-presented in
+    let serves = subst (λ (s : BusView). ServesMaster c.args.board.now c.args.place c.args.self.now.bus served.result s) (sym c.finish.ensures.bus) served.ensures.serves in
+    master_retries {End = End} E.had E.sent E.got E.kept E.paired c.args.board.now c.args.self.now.bus c.finish.new.self.bus c.args.place served.result c.args.self.now.stamp c.args.self.now.ends.items c.finish.new.self.ends.items
+    c.args.self.now.events.items c.finish.new.self.events.items c.finish.new.self.stopped serves c.finish.ensures.finishes same on

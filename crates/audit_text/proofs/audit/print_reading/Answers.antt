@@ -1,8 +1,0 @@
-use Rattle.std.proofs.Common.{◌≡◌, Some, sym, ◌∙◌, rules}
-use Rattle.audit_text.proofs.SearchLemmas.{last_tells}
-use Rattle.audit_text.proofs.audit.print_reading.Goals as goal
-
-pub print_known-requires : goal.print_known-requires
-print_known-requires c =
-    let found : c.last_known.result ≡ Some c.in-Some.write = search rules in
-    last_tells c.args.ledger.now c.args.reading.now c.args.read c.in-Some.write c.requires (sym c.last_known.ensures ∙ found)

@@ -1,0 +1,2 @@
+pub mod MostLemmas
+pub mod LayoutLemmas

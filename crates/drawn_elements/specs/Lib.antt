@@ -1,0 +1,4 @@
+pub mod Heights
+pub mod Labels
+pub mod Items
+pub mod Acts

@@ -1,0 +1,3 @@
+pub mod TrafficLemmas
+pub mod WaitLemmas
+pub mod TryLemmas

@@ -1,0 +1,4 @@
+pub mod Items
+pub mod Tries
+pub mod Waits
+pub mod Kept

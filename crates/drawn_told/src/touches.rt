@@ -1,0 +1,341 @@
+ghost use Rattle.std.specs.Prelude.{◌≡◌, ◌≤◌, ◌^◌, ◌+◌, [], ◌++◌, ◌∷◌, if◌then◌else◌, ◌&&◌, nat_lt, length, IfOk, OnOk};
+ghost use Rattle.pci_command.specs.Same.{same_op, same_space};
+ghost use Rattle.audit_clocks.specs.Tables.{same_word, Puts};
+ghost use Rattle.audit_text.specs.Notes.{few_of, lands, Parted};
+ghost use Rattle.drawn_told.specs.Kept.{touches_in, touches_from, request_touches, place_touches, event_touches, last_before, Adds, Touches};
+
+use audit_clocks::{OpTable, Word};
+use board_model::{Board, Place, request_of};
+use history_core::{brought_by, dword_address, left_of};
+use history_model::{Event, Step};
+use pci_command::{NoMemory, OpId, Request, Space};
+use std::alloc::Global;
+use std::marker::Model;
+
+/// A data phase that landed in a dword, by an event.
+#[derive(Clone, Copy, Debug)]
+pub(crate) struct Touch {
+    pub(crate) word: Word,
+    pub(crate) event: u32,
+}
+
+/// Data phases that landed, in their order.
+#[derive(Debug, Drop)]
+pub(crate) struct TouchList {
+    touches: Vec<Touch>,
+}
+
+impl Model for TouchList {
+    ghost use Rattle.std.specs.Prelude.{List};
+    ghost use Rattle.drawn_told.specs.declared.touches.Touch.{Touch};
+
+    ghost Value = { List Touch };
+
+    ghost view = { λ k. k.touches.items };
+}
+
+/// The data phases that landed of each write.
+#[derive(Debug, Drop)]
+pub(crate) struct TouchTable {
+    lists: OpTable<TouchList>,
+}
+
+impl Model for TouchTable {
+    ghost use Rattle.std.specs.Prelude.{List};
+    ghost use Rattle.pci_command.specs.declared.op_id.OpId.{OpId};
+    ghost use Rattle.drawn_told.specs.declared.touches.Touch.{Touch};
+
+    ghost Value = { List (OpId × List Touch) };
+
+    ghost view = { λ k. k.lists };
+}
+
+/// What landed, and how much of each write went through.
+#[derive(Debug, Drop)]
+pub(crate) struct Landed {
+    gone: OpTable<u128>,
+    writes: TouchTable,
+}
+
+impl Model for Landed {
+    ghost use Rattle.drawn_told.specs.Kept.{TouchTables};
+
+    ghost Value = { TouchTables };
+
+    ghost view = { λ k. record { gone = k.gone; writes = k.writes } };
+}
+
+impl TouchTable {
+    /// Nothing landed.
+    fn new(alloc: Global) -> TouchTable
+        ensures { result ≡ [] }
+    {
+        TouchTable {
+            lists: OpTable::new(alloc),
+        }
+    }
+
+    /// What landed of a write.
+    fn of(&self, op: OpId) -> &[Touch]
+        ensures { result.now ≡ touches_in op self.now }
+    {
+        match self.lists.get(op) {
+            Some(list) => list.as_slice(),
+            None => &[],
+        }
+    }
+
+    /// A data phase of the write landed.
+    #[tactic(auto, using(crate::proofs::TouchLemmas::adds_put))]
+    fn add(&mut self, alloc: Global, op: OpId, touch: Touch) -> Result<(), NoMemory>
+        ensures { OnOk result (Adds self.old self.new (λ o. if same_op op o then touch ∷ [] else [])) }
+    {
+        let list = longer(alloc, self.of(op), touch)?;
+        self.lists.put(op, list)
+    }
+}
+
+impl TouchList {
+    fn as_slice(&self) -> &[Touch]
+        ensures { result.now ≡ self.now }
+    {
+        self.touches.as_slice()
+    }
+}
+
+/// These and one more. A write has eight at most.
+fn longer(alloc: Global, touches: &[Touch], touch: Touch) -> Result<TouchList, NoMemory>
+    ensures { IfOk result (λ list. list ≡ touches.now ++ touch ∷ []) }
+{
+    let mut touches = touches.to_vec(alloc)?;
+    touches.push(touch)?;
+    Ok(TouchList { touches })
+}
+
+impl Landed {
+    ghost use Rattle.drawn_told.specs.Kept.{TouchTables};
+
+    pub(crate) fn new(alloc: Global) -> Landed
+        ensures { result ≡ record { gone = []; writes = [] } }
+    {
+        Landed {
+            gone: OpTable::new(alloc),
+            writes: TouchTable::new(alloc),
+        }
+    }
+
+    /// Event number n happens.
+    pub(crate) fn happen(
+        &mut self,
+        alloc: Global,
+        board: &Board,
+        n: u32,
+        event: &Event,
+    ) -> Result<(), NoMemory>
+        ensures { OnOk result (Touches board.now n event.now self.old self.new) }
+    {
+        record_landed(alloc, &mut self.writes, board, &self.gone, n, event)?;
+        record_parted(&mut self.gone, event)
+    }
+
+    /// The last event before number n in which a data phase of the write landed in the dword, or 0.
+    pub(crate) fn last_before(&self, write: OpId, word: Word, n: u32) -> u32
+        ensures { result ≡ last_before word n (touches_in write self.now.writes) 0 }
+    {
+        let touches = self.writes.of(write);
+        let mut last = 0;
+        for touch in touches {
+            last = later(*touch, word, n, last);
+        }
+        last
+    }
+}
+
+/// The event of a touch, if it is of this dword and before number n, or else the other.
+fn later(touch: Touch, word: Word, n: u32, found: u32) -> u32
+    ensures { result ≡ (if same_word touch.word word && nat_lt touch.event n then touch.event else found) }
+{
+    if is_same_word(touch.word, word) && touch.event < n {
+        touch.event
+    } else {
+        found
+    }
+}
+
+fn is_same_word(a: Word, b: Word) -> bool
+    ensures { result ≡ same_word a b }
+{
+    a.target == b.target && is_same_space(a.space, b.space) && a.address == b.address
+}
+
+fn is_same_space(a: Space, b: Space) -> bool
+    ensures { result ≡ same_space a b }
+{
+    match (a, b) {
+        (Space::Mem, Space::Mem) | (Space::Io, Space::Io) | (Space::Cfg, Space::Cfg) => true,
+        _ => false,
+    }
+}
+
+fn record_landed(
+    alloc: Global,
+    writes: &mut TouchTable,
+    board: &Board,
+    gone: &OpTable<u128>,
+    n: u32,
+    event: &Event,
+) -> Result<(), NoMemory>
+    ensures { OnOk result (Adds writes.old writes.new (event_touches board.now n gone.now event.now)) }
+{
+    match *event {
+        Event::Act {
+            bus,
+            op,
+            step,
+            place,
+            ..
+        } => record_place(
+            alloc,
+            writes,
+            board,
+            n,
+            gone_of(gone, op),
+            bus,
+            op,
+            step,
+            place,
+        ),
+        Event::Arrive { .. } => Ok(()),
+    }
+}
+
+fn record_place(
+    alloc: Global,
+    writes: &mut TouchTable,
+    board: &Board,
+    n: u32,
+    gone: u128,
+    bus: u8,
+    op: OpId,
+    step: Step,
+    place: Place,
+) -> Result<(), NoMemory>
+    requires { gone ≤ 2 ^ 100 }
+    ensures { OnOk result (Adds writes.old writes.new (λ o. if same_op op o then place_touches board.now n gone bus op step place else [])) }
+{
+    match place {
+        Place::Target(target) => {
+            if !lands(step) {
+                return Ok(());
+            }
+            match request_of(board, op, bus) {
+                None => Ok(()),
+                Some(request) => record_request(alloc, writes, &request, n, gone, op, step, target),
+            }
+        }
+        Place::Header(_) | Place::Lane(_) | Place::Nobody => Ok(()),
+    }
+}
+
+/// How many data phases of the write went through; never as many as 2^100.
+fn gone_of(gone: &OpTable<u128>, op: OpId) -> u128
+    ensures few { result ≡ few_of op gone.now }
+    ensures fits { result ≤ 2 ^ 100 }
+{
+    match gone.get(op) {
+        Some(count) => (*count).min(1 << 100),
+        None => 0,
+    }
+}
+
+/// Whether a step may bring data phases to its target.
+fn lands(step: Step) -> bool
+    ensures { result ≡ lands step }
+{
+    match step {
+        Step::Land | Step::Part(_) => true,
+        Step::Read(_)
+        | Step::Accept
+        | Step::Latch
+        | Step::Take(_)
+        | Step::Stall
+        | Step::MasterAbort
+        | Step::TargetAbort => false,
+    }
+}
+
+fn record_request(
+    alloc: Global,
+    writes: &mut TouchTable,
+    request: &Request,
+    n: u32,
+    gone: u128,
+    op: OpId,
+    step: Step,
+    target: u16,
+) -> Result<(), NoMemory>
+    requires { gone ≤ 2 ^ 100 }
+    ensures { OnOk result (Adds writes.old writes.new (λ o. if same_op op o then request_touches n gone step target request.now else [])) }
+{
+    let space = request.command.space();
+    let first = Word {
+        target,
+        space,
+        address: dword_address(space, u128::from(request.address) + 4 * gone),
+    };
+    let phases = brought_by(step, left_of(request.phases.as_slice(), gone));
+    record_phases(alloc, writes, n, first, op, phases.len())
+}
+
+#[tactic(auto, using(crate::proofs::TouchLemmas::adds_none, crate::proofs::TouchLemmas::adds_more))]
+fn record_phases(
+    alloc: Global,
+    writes: &mut TouchTable,
+    n: u32,
+    first: Word,
+    op: OpId,
+    count: usize,
+) -> Result<(), NoMemory>
+    requires { first.address ≤ 2 ^ 120 }
+    ensures { OnOk result (Adds writes.old writes.new (λ o. if same_op op o then touches_from n first.target first.space first.address count else [])) }
+{
+    for phase in 0..count {
+        let address = first.address + 4 * phase as u128;
+        let touch = Touch {
+            word: Word { address, ..first },
+            event: n,
+        };
+        writes.add(alloc, op, touch)?;
+    }
+    Ok(())
+}
+
+/// The data phases of a write that the event is a part of went through too.
+#[tactic(auto, using(audit_text::proofs::HitLemmas::parted_puts))]
+fn record_parted(gone: &mut OpTable<u128>, event: &Event) -> Result<(), NoMemory>
+    ensures { OnOk result (Parted event.now gone.old gone.new) }
+{
+    match *event {
+        Event::Act {
+            op,
+            step: Step::Part(phases),
+            ..
+        } => add_part(gone, op, phases),
+        Event::Act { .. } | Event::Arrive { .. } => Ok(()),
+    }
+}
+
+fn add_part(gone: &mut OpTable<u128>, op: OpId, phases: u8) -> Result<(), NoMemory>
+    ensures puts { OnOk result (Puts op (few_of op gone.old + phases) gone.old gone.new) }
+    ensures small { phases ≤ 255 }
+{
+    let count = with_more(gone_of(gone, op), phases);
+    gone.put(op, count)
+}
+
+fn with_more(count: u128, more: u8) -> u128
+    requires { count ≤ 2 ^ 100 }
+    ensures { result ≡ count + more }
+{
+    count + u128::from(more)
+}

@@ -1,0 +1,16 @@
+pub mod ForgetLemmas
+pub mod SameLemmas
+pub mod StepLemmas
+pub mod ApartLemmas
+pub mod RunLemmas
+pub mod OrderLemmas
+pub mod HeardLemmas
+pub mod ToldLemmas
+pub mod MoveLemmas
+pub mod UntaggedOrderLemmas
+pub mod CarryLemmas
+pub mod ReturnLemmas
+pub mod StaleLemmas
+pub mod LastLemmas
+pub mod ApartTestLemmas
+pub mod Laws

@@ -1,0 +1,21 @@
+use Rattle.law_slots.proofs.WellFormedLemmas.{WellFormed-numbers, WellFormed-single}
+use Rattle.board_laws.proofs.ValidLemmas.{IsTree-valid}
+use Rattle.board_model.proofs.Laws.{op_formed}
+use Rattle.law_untagged.proofs.RunLemmas.{runs_alike}
+use Rattle.law_untagged.proofs.LastLemmas.{fresh_same}
+use Rattle.law_untagged.proofs.StaleLemmas.{stale_exactly}
+use Rattle.law_untagged.proofs.apart_runs_are_sound.Goals as goal
+
+pub returns : goal.returns
+returns c = λ board h valid apart plain. (
+    let formed = valid.well_formed in
+    let alike = runs_alike board (IsTree-valid board valid) (WellFormed-numbers board formed) (WellFormed-single board formed) (λ q op is. op_formed board q op formed is) apart h in
+    let run = alike.run plain in
+    let fresh = c.runs_are_fresh.ensures board h valid run in
+    record {
+      run = run;
+      fresh = fresh;
+      matched = c.matched.ensures.every_run board h (WellFormed-numbers board formed) (WellFormed-single board formed) run;
+      bounded = c.runs_end.ensures.bounded board h valid run;
+      none_stale = (stale_exactly board h plain).0 (fresh_same board valid apart h run plain fresh);
+    })

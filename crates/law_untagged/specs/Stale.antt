@@ -1,0 +1,68 @@
+-- The reads that break freshness, in the order in which their masters ended them.
+use Rattle.std.specs.Prelude.{◌≡◌, ℕ, Bool, true, false, Contains, ◌+◌, List, [], ◌∷◌, ◌++◌, length, Option, Some, None, not, ◌&&◌, ◌==◌, if◌then◌else◌}
+use Rattle.std.specs.List.{find, list_any}
+use Rattle.pci_command.specs.declared.op_id.OpId.{OpId}
+use Rattle.pci_command.specs.Same.{same_space}
+use Rattle.board_model.specs.declared.op.Op.{Op}
+use Rattle.board_model.specs.declared.agents.Master.{Master}
+use Rattle.board_model.specs.declared.board.Board.{Board}
+use Rattle.board_model.specs.Ways.{Dword}
+use Rattle.history_model.specs.declared.event.Event.{Event}
+use Rattle.history_model.specs.Program.{Ending, ended}
+use Rattle.history_model.specs.Knowledge.{Reading, has_landed, words_named}
+use Rattle.law_untagged.specs.Origins.{untagged_got, UntaggedTold}
+use Rattle.law_untagged.specs.Heard.{untagged_was_told}
+
+-- a read that breaks freshness, the first write for which it does, and the number, from 1, of the event that read
+pub record StaleRead : Type 0 where
+  pub read : OpId
+  pub write : OpId
+  pub event : ℕ
+
+abbrev pub same_dword : Dword → Dword → Bool
+same_dword a b = a.target == b.target && same_space a.space b.space && a.address == b.address
+
+abbrev pub breaks_in : Board → List Event → OpId → OpId → Option Reading → Bool
+breaks_in board h w r None = false
+breaks_in board h w r (Some reading) =
+    list_any (same_dword reading.word) (words_named board w) && not (has_landed reading.before w) && untagged_was_told board h w r
+
+-- the read breaks freshness for the write
+abbrev pub breaks : Board → List Event → OpId → OpId → Bool
+breaks board h w r = breaks_in board h w r (untagged_got board h r)
+
+-- a read that was told of a write, and got a word of it from a reading before the write had landed
+pub record Breaks (board : Board) (h : List Event) (w r : OpId) : Type 0 where
+  pub reading : Reading
+  pub got : untagged_got board h r ≡ Some reading
+  pub told : UntaggedTold board h w r
+  pub of_word : Contains (words_named board w) reading.word
+  pub not_landed : has_landed reading.before w ≡ false
+
+-- the operations of a board by master, then index; of a poll the first try
+abbrev pub ops_from : ℕ → ℕ → List Op → List OpId
+ops_from master index [] = []
+ops_from master index (op ∷ ops) = record { master = master; index = index; attempt = 0 } ∷ ops_from master (index + 1) ops
+
+abbrev pub ops_by : ℕ → List Master → List OpId
+ops_by master [] = []
+ops_by master (first ∷ masters) = ops_from master 0 first.ops ++ ops_by (master + 1) masters
+
+abbrev pub stale_by : OpId → Option OpId → Option Reading → List StaleRead
+stale_by r None reading = []
+stale_by r (Some w) None = []
+stale_by r (Some w) (Some reading) = record { read = r; write = w; event = length reading.before + 1 } ∷ []
+
+abbrev pub stale_at : Board → List Event → OpId → List StaleRead
+stale_at board h r = stale_by r (find (λ w. breaks board h w r) (ops_by 0 board.masters)) (untagged_got board h r)
+
+abbrev pub stale_ending : Board → List Event → Option Ending → List StaleRead
+stale_ending board h None = []
+stale_ending board h (Some ending) = stale_at board h ending.op
+
+abbrev pub stale_in : Board → List Event → List Event → List StaleRead
+stale_in board h [] = []
+stale_in board h (e ∷ g) = stale_in board h g ++ stale_ending board h (ended e)
+
+abbrev pub stale_of : Board → List Event → List StaleRead
+stale_of board h = stale_in board h h

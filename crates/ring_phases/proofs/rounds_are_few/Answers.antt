@@ -1,0 +1,7 @@
+use Rattle.ring_phases.proofs.RoundLemmas.{few_rounds}
+use Rattle.ring_phases.proofs.rounds_are_few.Goals as goal
+
+pub returns : goal.returns
+returns g c =
+    let E = g.L.LaneEnd in
+    λ board workers phases valid after. few_rounds E.had E.sent E.got E.kept E.paired board valid workers phases after (record { bounded = c.runs_end.ensures.bounded })

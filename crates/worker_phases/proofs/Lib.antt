@@ -1,0 +1,13 @@
+pub mod StandLemmas
+pub mod WorkerLemmas
+pub mod StopLemmas
+pub mod SpotLemmas
+pub mod PortLemmas
+pub mod MergeLemmas
+pub mod RunLemmas
+pub mod DidLemmas
+pub mod GoingLemmas
+pub mod NextLemmas
+pub mod QuietLemmas
+pub mod SteadyLemmas
+pub mod Laws
