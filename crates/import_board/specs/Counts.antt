@@ -1,5 +1,5 @@
 -- What of a machine a board has, and what is left out, counted.
-use Rattle.std.specs.Prelude.{ℕ, Bool, true, false, ◌+◌, ◌-◌, ◌*◌, ◌^◌, min, List, [], ◌∷◌, length, not, ◌&&◌, ◌||◌, nat_le, if◌then◌else◌}
+use Rattle.std.specs.Prelude.{ℕ, Bool, true, false, ◌+◌, ◌-◌, ◌*◌, ◌^◌, min, List, ◌∷◌, length, not, ◌&&◌, ◌||◌, nat_le, if◌then◌else◌}
 use Rattle.std.specs.List.{list_any, count_by}
 use Rattle.list_facts.specs.Lists.{total}
 use Rattle.board_model.specs.declared.bridge.Window.{Window}
@@ -8,7 +8,6 @@ use Rattle.machine_bridges.specs.declared.fate.BridgeFate.{BridgeFate}
 use Rattle.machine_bridges.specs.declared.fate.BridgeFate.TheVariants.{LeftOut, Taken}
 use Rattle.machine_bridges.specs.declared.fate.WindowFate.{WindowFate}
 use Rattle.machine_bridges.specs.declared.fate.WindowFate.TheVariants.{Absent, Open, Closed}
-use Rattle.machine_bridges.specs.declared.fate.TakenBridge.{TakenBridge}
 use Rattle.machine_targets.specs.declared.fate.RangeFate.{RangeFate}
 use Rattle.machine_targets.specs.declared.fate.RangeFate.TheVariants.{Taken as Placed, LeftOut as NotPlaced}
 use Rattle.machine_targets.specs.declared.fate.Judged.{Judged}

@@ -13,7 +13,6 @@ use Rattle.lspci_text.specs.declared.capability.Kind.{Kind}
 use Rattle.lspci_text.specs.declared.capability.Kind.TheVariants.{Express, PciX}
 use Rattle.lspci_text.specs.declared.function.Function.{Function}
 use Rattle.machine_bridges.specs.declared.machine.Machine.{Machine}
-use Rattle.machine_bridges.specs.declared.fate.NoWindow.{NoWindow}
 use Rattle.machine_bridges.specs.declared.fate.BridgeFate.{BridgeFate}
 use Rattle.machine_bridges.specs.declared.fate.BridgeFate.TheVariants.{LeftOut, Taken}
 use Rattle.machine_bridges.specs.declared.fate.WindowFate.{WindowFate}
@@ -34,6 +33,10 @@ use Rattle.import_board.specs.Counts.{capped, is_taken, windows_left, own_ranges
 
 abbrev pub newline : List ℕ
 newline = 10 ∷ []
+
+-- how a comment on what the board does not have begins
+unfoldable pub left_out_words : List ℕ
+left_out_words = codes "# left out: "
 
 -- a comment where it holds
 abbrev pub note_if : Bool → List ℕ → List ℕ
@@ -79,7 +82,7 @@ open_words word (Closed window reason) = []
 abbrev pub closed_note : List ℕ → WindowFate → List ℕ
 closed_note word Absent = []
 closed_note word (Open window) = []
-closed_note word (Closed window reason) = codes "# left out: " ++ (window_words word window ++ (codes ", " ++ (no_window_words reason ++ newline)))
+closed_note word (Closed window reason) = left_out_words ++ (window_words word window ++ (codes ", " ++ (no_window_words reason ++ newline)))
 
 -- Bridge Control, bits by number (PCI-to-PCI Bridge Architecture Specification 1.1, section 3.2.5.18; from memory)
 abbrev pub control_bit : ℕ → Function → Bool
@@ -89,11 +92,18 @@ control_bit bit function = has_bit bit (register_2 function.header 0x3e)
 abbrev pub abort_words : Bool → List ℕ
 abort_words mode = if mode then codes " abort 1" else []
 
+abbrev pub bridge_place : Machine → TakenBridge → List ℕ
+bridge_place machine bridge =
+    codes "bridge " ++ (decimal bridge.bus ++ (codes " on " ++ (bus_on_board machine bridge.parent ++ (codes " dev " ++ (decimal bridge.device
+    ++ (codes " last " ++ decimal bridge.last))))))
+
+abbrev pub bridge_windows : TakenBridge → List ℕ
+bridge_windows bridge =
+    open_words (codes "mem") bridge.mem ++ (open_words (codes "pref") bridge.pref ++ open_words (codes "io") bridge.io)
+
 abbrev pub bridge_line : Machine → Function → TakenBridge → List ℕ
 bridge_line machine function bridge =
-    codes "bridge " ++ (decimal bridge.bus ++ (codes " on " ++ (bus_on_board machine bridge.parent ++ (codes " dev " ++ (decimal bridge.device
-    ++ (codes " last " ++ (decimal bridge.last ++ (open_words (codes "mem") bridge.mem ++ (open_words (codes "pref") bridge.pref ++ (open_words (codes "io") bridge.io
-    ++ (abort_words (control_bit 5 function) ++ newline)))))))))))
+    bridge_place machine bridge ++ (bridge_windows bridge ++ (abort_words (control_bit 5 function) ++ newline))
 
 -- a range: its space, its base, and its size where that is told; or the register that has no address
 abbrev pub size_words : Option ℕ → List ℕ
@@ -112,7 +122,7 @@ range_line space span =
 
 abbrev pub judged_by : Found → RangeFate → List ℕ
 judged_by found (Placed span) = range_line found.space span
-judged_by found (NotPlaced reason) = codes "# left out: " ++ (range_words found ++ (codes ", " ++ (no_range_words reason ++ newline)))
+judged_by found (NotPlaced reason) = left_out_words ++ (range_words found ++ (codes ", " ++ (no_range_words reason ++ newline)))
 
 abbrev pub judged_line : Judged → List ℕ
 judged_line judged = judged_by judged.found judged.fate
@@ -191,10 +201,13 @@ id_line first =
     let model : ℕ = register_2 first.header 0x02 in
     if vendor == 0x1234 && model == 1 then [] else codes "id " ++ (half_text vendor ++ (codes " " ++ (half_text model ++ newline)))
 
+abbrev pub target_line : Machine → Device → ℕ → List ℕ
+target_line machine device number =
+    target_name device ++ (codes " on " ++ (bus_on_board machine device.bus ++ (codes " dev " ++ (decimal number ++ newline))))
+
 abbrev pub target_lines : Machine → Function → Device → ℕ → List ℕ
 target_lines machine first device number =
-    target_name device ++ (codes " on " ++ (bus_on_board machine device.bus ++ (codes " dev " ++ (decimal number ++ (newline
-    ++ (id_line first ++ device_note number device.device))))))
+    target_line machine device number ++ (id_line first ++ device_note number device.device)
 
 -- why a device is no target, where its ranges could be taken
 abbrev pub why_no_target : Device → DeviceFate → List ℕ
@@ -204,31 +217,57 @@ why_no_target device NoWay = codes "no bridge of this board leads to bus " ++ de
 why_no_target device NoRanges = []
 why_no_target device (Target number) = []
 
+abbrev pub why_line : Device → List ℕ
+why_line device = codes ", " ++ (why_no_target device device.fate ++ newline)
+
+abbrev pub left_target : Device → List ℕ
+left_target device = left_out_words ++ (target_name device ++ why_line device)
+
 abbrev pub head_by : Machine → Function → Device → DeviceFate → List ℕ
 head_by machine first device (Target number) = target_lines machine first device number
-head_by machine first device SixTargets = codes "# left out: " ++ (target_name device ++ (codes ", " ++ (why_no_target device SixTargets ++ newline)))
-head_by machine first device NoNumber = codes "# left out: " ++ (target_name device ++ (codes ", " ++ (why_no_target device NoNumber ++ newline)))
+head_by machine first device SixTargets = left_target device
+head_by machine first device NoNumber = left_target device
 head_by machine first device NoWay = []
 head_by machine first device NoRanges = []
+
+abbrev pub left_with_target : Device → Found → List ℕ
+left_with_target device found = left_out_words ++ (range_words found ++ why_line device)
 
 -- a range that could be taken is left out with its target
 abbrev pub range_of_device : Device → Judged → List ℕ
 range_of_device device judged =
     if is_placed judged.fate && not (is_target device.fate)
-    then codes "# left out: " ++ (range_words judged.found ++ (codes ", " ++ (why_no_target device device.fate ++ newline)))
+    then left_with_target device judged.found
     else judged_line judged
+
+abbrev pub ranges_lines : Device → List Judged → List ℕ
+ranges_lines device judged = flat_map (range_of_device device) judged
 
 abbrev pub silence_note : Bool → List ℕ
 silence_note claims = if claims then [] else codes "# left out: it claims nothing here" ++ newline
 
+abbrev pub registers_lines : Device → List Judged → List ℕ
+registers_lines device judged = ranges_lines device judged ++ silence_note (claims_something judged)
+
+abbrev pub kind_line : ℕ → List ℕ
+kind_line kind = codes "# left out: its header is of type " ++ (decimal kind ++ newline)
+
+-- only headers of the types 0 and 1 are known here
+abbrev pub body_by_kind : Device → ℕ → List Judged → List ℕ
+body_by_kind device kind judged = if nat_lt 1 kind then kind_line kind else registers_lines device judged
+
 abbrev pub body_of_function : Device → Function → List Judged → List ℕ
-body_of_function device function judged =
-    if nat_lt 1 (header_type function) then codes "# left out: its header is of type " ++ (decimal (header_type function) ++ newline)
-    else flat_map (range_of_device device) judged ++ silence_note (claims_something judged)
+body_of_function device function judged = body_by_kind device (header_type function) judged
+
+abbrev pub lost_line : ℕ → List ℕ
+lost_line bus = codes "# left out: no bridge of this board leads to bus " ++ (decimal bus ++ newline)
+
+-- what stands below the title of a function
+abbrev pub function_body : Device → Function → List Judged → List ℕ
+function_body device function judged = if is_lost device.fate then lost_line device.bus else body_of_function device function judged
 
 abbrev pub function_lines : Device → Function → List Judged → List ℕ
-function_lines device function judged =
-    title function ++ (if is_lost device.fate then codes "# left out: " ++ (why_no_target device NoWay ++ newline) else body_of_function device function judged)
+function_lines device function judged = title function ++ function_body device function judged
 
 abbrev pub functions_lines : Device → List Function → List (List Judged) → List ℕ
 functions_lines device (function ∷ functions) (judged ∷ more) = function_lines device function judged ++ functions_lines device functions more
@@ -247,12 +286,23 @@ devices_lines machine functions (device ∷ devices) =
 
 -- The whole.
 
+-- which bus of the text the root is
+abbrev pub root_note : ℕ → List ℕ
+root_note bus = if bus == 0 then [] else codes "# bus 0 is bus " ++ (decimal bus ++ (codes " of the text" ++ newline))
+
+-- how many functions are of other domains than that of the root
+unfoldable pub elsewhere_words : ℕ → List ℕ
+elsewhere_words many = codes "# " ++ (decimal many ++ codes " functions of other domains than ")
+
+abbrev pub elsewhere_line : ℕ → ℕ → List ℕ
+elsewhere_line many domain = elsewhere_words many ++ (domain_text domain ++ (codes " are left out" ++ newline))
+
+abbrev pub elsewhere_note : ℕ → ℕ → List ℕ
+elsewhere_note many domain = if many == 0 then [] else elsewhere_line many domain
+
 -- what is said of the root and of other domains
 abbrev pub root_notes : Machine → List ℕ
-root_notes machine =
-    (if machine.root.bus == 0 then [] else codes "# bus 0 is bus " ++ (decimal machine.root.bus ++ (codes " of the text" ++ newline)))
-    ++ (if machine.elsewhere == 0 then []
-        else codes "# " ++ (decimal machine.elsewhere ++ (codes " functions of other domains than " ++ (domain_text machine.root.domain ++ (codes " are left out" ++ newline)))))
+root_notes machine = root_note machine.root.bus ++ elsewhere_note machine.elsewhere machine.root.domain
 
 abbrev pub version_line : Bool → List ℕ
 version_line far = (if far then codes "pciboard 2" else codes "pciboard 1") ++ newline
@@ -262,11 +312,17 @@ taken_line fates devices =
     codes "# import: " ++ (decimal (count_by is_taken fates) ++ (codes " bridges, " ++ (decimal (count_by (λ (device : Device). is_target device.fate) devices)
     ++ (codes " targets, " ++ (decimal (capped (total ranges_taken devices)) ++ (codes " ranges" ++ newline))))))
 
+-- so many functions, windows and ranges
+abbrev pub left_counts : ℕ → ℕ → ℕ → List ℕ
+left_counts functions windows ranges =
+    codes "# left out: " ++ (decimal functions ++ (codes " functions, " ++ (decimal windows ++ (codes " windows, " ++ (decimal ranges ++ (codes " ranges" ++ newline))))))
+
 abbrev pub left_line : Machine → List BridgeFate → List Device → List ℕ
 left_line machine fates devices =
-    codes "# left out: " ++ (decimal (capped (count_by (λ (fate : BridgeFate). not (is_taken fate)) fates + total functions_left devices))
-    ++ (codes " functions, " ++ (decimal (capped (total windows_left fates)) ++ (codes " windows, "
-    ++ (decimal (capped (own_ranges machine.bridges fates + total ranges_left devices)) ++ (codes " ranges" ++ newline))))))
+    left_counts
+    (capped (count_by (λ (fate : BridgeFate). not (is_taken fate)) fates + total functions_left devices))
+    (capped (total windows_left fates))
+    (capped (own_ranges machine.bridges fates + total ranges_left devices))
 
 abbrev pub not_told_line : List ℕ
 not_told_line = codes "# not told by the text: main memory, masters, depths of bridges" ++ newline
@@ -276,6 +332,6 @@ head_lines machine fates devices =
     version_line (list_any is_far_bridge fates || list_any is_far_device devices)
     ++ (taken_line fates devices ++ (left_line machine fates devices ++ (not_told_line ++ root_notes machine)))
 
-pub import_text : Machine → List BridgeFate → List Device → List ℕ
+unfoldable pub import_text : Machine → List BridgeFate → List Device → List ℕ
 import_text machine fates devices =
     head_lines machine fates devices ++ (bridge_lines machine machine.bridges fates ++ devices_lines machine machine.others devices)

@@ -1,11 +1,14 @@
 ghost use Rattle.std.specs.Prelude.{◌≡◌, ◌++◌, ◌<◌, OnOk, not, string_bytes};
-ghost use Rattle.import_board.specs.Text.{window_words, open_words, closed_note, control_bit, bridge_line, own_range_lines, number_notes, control_notes, master_words, vga_words, isa_words, reset_words, decoding_words, enable_notes, is_master, is_subtractive, abort_words, note_if, bridge_notes, bridge_body, bridge_lines};
+ghost use Rattle.machine_bridges.specs.declared.fate.WindowFate.TheVariants.{Closed};
+ghost use Rattle.import_board.specs.Text.{window_words, open_words, closed_note, control_bit, bridge_place, bridge_windows, bridge_line, own_range_lines, primary_note, number_notes, control_notes, master_words, vga_words, isa_words, reset_words, decoding_words, enable_notes, is_master, is_subtractive, abort_words, note_if, bridge_notes, bridge_body, bridge_lines};
 
-use crate::notes::{print_bus, print_judged, print_title};
+use crate::notes::{print_bus, print_device_note, print_judged, print_left_out, print_title};
 use board_model::Window;
 use board_printer::Address;
 use lspci_text::Function;
-use machine_bridges::{BridgeFate, Machine, TakenBridge, WindowFate, byte_at, register_2};
+use machine_bridges::{
+    BridgeFate, Machine, NoWindow, TakenBridge, WindowFate, byte_at, register_2,
+};
 use machine_targets::judged_of_bridge;
 use std::alloc::AllocError;
 
@@ -53,14 +56,26 @@ fn print_bridge(
 ) -> Result<(), AllocError>
     ensures { OnOk result (string_bytes text.new ≡ string_bytes text.old ++ bridge_line machine.now function.now bridge.now) }
 {
-    write!(text, "bridge {} on ", bridge.bus)?;
-    print_bus(text, machine, bridge.parent)?;
-    write!(text, " dev {} last {}", bridge.device, bridge.last)?;
-    print_open(text, "mem", bridge.mem)?;
-    print_open(text, "pref", bridge.pref)?;
-    print_open(text, "io", bridge.io)?;
+    print_place(text, machine, bridge)?;
+    print_windows(text, bridge)?;
     print_abort(text, control_bit(5, function))?;
     writeln!(text)
+}
+
+fn print_place(text: &mut String, machine: &Machine, bridge: &TakenBridge) -> Result<(), AllocError>
+    ensures { OnOk result (string_bytes text.new ≡ string_bytes text.old ++ bridge_place machine.now bridge.now) }
+{
+    write!(text, "bridge {} on ", bridge.bus)?;
+    print_bus(text, machine, bridge.parent)?;
+    write!(text, " dev {} last {}", bridge.device, bridge.last)
+}
+
+fn print_windows(text: &mut String, bridge: &TakenBridge) -> Result<(), AllocError>
+    ensures { OnOk result (string_bytes text.new ≡ string_bytes text.old ++ bridge_windows bridge.now) }
+{
+    print_open(text, "mem", bridge.mem)?;
+    print_open(text, "pref", bridge.pref)?;
+    print_open(text, "io", bridge.io)
 }
 
 fn print_abort(text: &mut String, mode: bool) -> Result<(), AllocError>
@@ -100,13 +115,22 @@ fn print_closed(text: &mut String, word: &str, fate: WindowFate) -> Result<(), A
     ensures { OnOk result (string_bytes text.new ≡ string_bytes text.old ++ closed_note word.now fate) }
 {
     match fate {
-        WindowFate::Closed(window, reason) => {
-            text.push_str("# left out: ")?;
-            print_window(text, word, window)?;
-            writeln!(text, ", {reason}")
-        }
+        WindowFate::Closed(window, reason) => print_left_window(text, word, window, reason),
         WindowFate::Absent | WindowFate::Open(_) => Ok(()),
     }
+}
+
+fn print_left_window(
+    text: &mut String,
+    word: &str,
+    window: Window,
+    reason: NoWindow,
+) -> Result<(), AllocError>
+    ensures { OnOk result (string_bytes text.new ≡ string_bytes text.old ++ closed_note word.now (Closed window reason)) }
+{
+    print_left_out(text)?;
+    print_window(text, word, window)?;
+    writeln!(text, ", {reason}")
 }
 
 /// What a board cannot say of a bridge.
@@ -144,15 +168,21 @@ fn print_numbers(
 ) -> Result<(), AllocError>
     ensures { OnOk result (string_bytes text.new ≡ string_bytes text.old ++ number_notes function.now bridge.now) }
 {
-    let device = function.slot.device;
-    if bridge.device != device {
-        writeln!(text, "# its device number was {device}")?;
+    print_device_note(text, bridge.device, function.slot.device)?;
+    print_primary_note(
+        text,
+        byte_at(function.header.as_slice(), 0x18),
+        function.slot.bus,
+    )
+}
+
+fn print_primary_note(text: &mut String, primary: u8, bus: u8) -> Result<(), AllocError>
+    ensures { OnOk result (string_bytes text.new ≡ string_bytes text.old ++ primary_note primary bus) }
+{
+    if primary == bus {
+        return Ok(());
     }
-    let primary = byte_at(function.header.as_slice(), 0x18);
-    if primary != function.slot.bus {
-        writeln!(text, "# its register has primary bus {primary}")?;
-    }
-    Ok(())
+    writeln!(text, "# its register has primary bus {primary}")
 }
 
 /// Whether the bit of Bridge Control is set.

@@ -8,7 +8,9 @@ ghost use Rattle.import_board.specs.Counts.{capped, is_taken, is_closed, one_if,
 use board_model::Window;
 use lspci_text::Function;
 use machine_bridges::{BridgeFate, Machine, WindowFate};
-use machine_targets::{Device, DeviceFate, Judged, RangeFate, claims_something, found_count, is_placed};
+use machine_targets::{
+    Device, DeviceFate, Judged, RangeFate, claims_something, found_count, is_placed,
+};
 use pci_command::List;
 
 pub(crate) fn is_taken(fate: &BridgeFate) -> bool

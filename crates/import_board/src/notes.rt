@@ -1,12 +1,13 @@
 ghost use Rattle.std.specs.Prelude.{◌≡◌, ◌++◌, ◌==◌, [], OnOk, string_bytes, codes};
 ghost use Rattle.std.specs.Fmt.{decimal};
-ghost use Rattle.import_board.specs.Text.{bus_on_board, kind_words, title, name_words, size_words, range_words, range_line, judged_by, judged_line};
+ghost use Rattle.machine_targets.specs.declared.fate.RangeFate.TheVariants.{LeftOut};
+ghost use Rattle.import_board.specs.Text.{left_out_words, bus_on_board, kind_words, title, name_words, size_words, range_words, range_line, judged_by, judged_line, device_note};
 
 use board_model::Window;
 use board_printer::{Address, space_word};
 use lspci_text::{Function, Kind};
 use machine_bridges::Machine;
-use machine_targets::{Found, Judged, RangeFate};
+use machine_targets::{Found, Judged, NoRange, RangeFate};
 use pci_command::Space;
 use std::alloc::AllocError;
 use std::fmt;
@@ -27,6 +28,14 @@ impl fmt::Display for HexByte {
         let low = self.0 % 16;
         write!(f, "{high:x}{low:x}")
     }
+}
+
+/// How a comment on what the board does not have begins.
+#[tactic(auto, unfolding(crate::specs::Text::left_out_words))]
+pub(crate) fn print_left_out(text: &mut String) -> Result<(), AllocError>
+    ensures { OnOk result (string_bytes text.new ≡ string_bytes text.old ++ left_out_words) }
+{
+    text.push_str("# left out: ")
 }
 
 /// The root is bus 0 of the board.
@@ -55,7 +64,11 @@ fn print_name(text: &mut String, name: &[u8]) -> Result<(), AllocError>
     ensures { OnOk result (string_bytes text.new ≡ string_bytes text.old ++ name_words name.now) }
 {
     for byte in name {
-        let shown = if (0x20..0x7f).contains(byte) { *byte } else { b'?' };
+        let shown = if (0x20..0x7f).contains(byte) {
+            *byte
+        } else {
+            b'?'
+        };
         text.push(char::from(shown))?;
     }
     Ok(())
@@ -110,10 +123,24 @@ pub(crate) fn print_judged(text: &mut String, judged: &Judged) -> Result<(), All
 {
     match judged.fate {
         RangeFate::Taken(span) => print_range_line(text, judged.found.space, span),
-        RangeFate::LeftOut(reason) => {
-            write!(text, "# left out: ")?;
-            print_range(text, &judged.found)?;
-            writeln!(text, ", {reason}")
-        }
+        RangeFate::LeftOut(reason) => print_left_range(text, &judged.found, reason),
     }
+}
+
+fn print_left_range(text: &mut String, found: &Found, reason: NoRange) -> Result<(), AllocError>
+    ensures { OnOk result (string_bytes text.new ≡ string_bytes text.old ++ judged_by found.now (LeftOut reason)) }
+{
+    print_left_out(text)?;
+    print_range(text, found)?;
+    writeln!(text, ", {reason}")
+}
+
+/// Where a device number is another than that of the text.
+pub(crate) fn print_device_note(text: &mut String, number: u8, own: u8) -> Result<(), AllocError>
+    ensures { OnOk result (string_bytes text.new ≡ string_bytes text.old ++ device_note number own) }
+{
+    if number == own {
+        return Ok(());
+    }
+    writeln!(text, "# its device number was {own}")
 }

@@ -1,10 +1,9 @@
 ghost use Rattle.std.specs.Prelude.{◌≡◌, ◌++◌, ◌<◌, ◌^◌, IfOk, OnOk, length, string_bytes};
-ghost use Rattle.import_board.specs.Text.{import_text, head_lines, version_line, taken_line, left_line, root_notes, domain_text};
+ghost use Rattle.import_board.specs.Text.{import_text, head_lines, version_line, taken_line, left_counts, left_line, root_note, elsewhere_words, elsewhere_line, elsewhere_note, root_notes, domain_text};
 
 use crate::bridges::print_bridges;
 use crate::counts::{
-    bridges_taken, functions_left, has_far, ranges_left, ranges_taken, targets_taken,
-    windows_left,
+    bridges_taken, functions_left, has_far, ranges_left, ranges_taken, targets_taken, windows_left,
 };
 use crate::devices::print_devices;
 use board_printer::{HexHalf, HexWord};
@@ -23,10 +22,22 @@ pub fn import_text(
     ensures { IfOk result (λ text. text ≡ import_text machine.now fates.now devices.now) }
 {
     let mut text = String::new(alloc);
-    print_head(&mut text, machine, fates, devices)?;
-    print_bridges(&mut text, machine, machine.bridges.as_slice(), fates)?;
-    print_devices(&mut text, machine, machine.others.as_slice(), devices)?;
+    print_text(&mut text, machine, fates, devices)?;
     Ok(List::from_vec(text.into_bytes()))
+}
+
+#[tactic(auto, unfolding(crate::specs::Text::import_text))]
+fn print_text(
+    text: &mut String,
+    machine: &Machine,
+    fates: &[BridgeFate],
+    devices: &[Device],
+) -> Result<(), AllocError>
+    ensures { OnOk result (string_bytes text.new ≡ string_bytes text.old ++ import_text machine.now fates.now devices.now) }
+{
+    print_head(text, machine, fates, devices)?;
+    print_bridges(text, machine, machine.bridges.as_slice(), fates)?;
+    print_devices(text, machine, machine.others.as_slice(), devices)
 }
 
 fn print_head(
@@ -84,6 +95,17 @@ fn print_left(
     let functions = functions_left(fates, devices);
     let windows = windows_left(fates);
     let ranges = ranges_left(machine, fates, devices);
+    print_left_counts(text, functions, windows, ranges)
+}
+
+fn print_left_counts(
+    text: &mut String,
+    functions: u64,
+    windows: u64,
+    ranges: u64,
+) -> Result<(), AllocError>
+    ensures { OnOk result (string_bytes text.new ≡ string_bytes text.old ++ left_counts functions windows ranges) }
+{
     writeln!(
         text,
         "# left out: {functions} functions, {windows} windows, {ranges} ranges"
@@ -94,20 +116,41 @@ fn print_left(
 fn print_root(text: &mut String, machine: &Machine) -> Result<(), AllocError>
     ensures { OnOk result (string_bytes text.new ≡ string_bytes text.old ++ root_notes machine.now) }
 {
-    let bus = machine.root.bus;
-    if bus != 0 {
-        writeln!(text, "# bus 0 is bus {bus} of the text")?;
-    }
-    if machine.elsewhere == 0 {
+    print_root_bus(text, machine.root.bus)?;
+    print_elsewhere(text, machine.elsewhere, machine.root.domain)
+}
+
+fn print_root_bus(text: &mut String, bus: u8) -> Result<(), AllocError>
+    ensures { OnOk result (string_bytes text.new ≡ string_bytes text.old ++ root_note bus) }
+{
+    if bus == 0 {
         return Ok(());
     }
-    write!(
-        text,
-        "# {} functions of other domains than ",
-        machine.elsewhere
-    )?;
-    print_domain(text, machine.root.domain)?;
+    writeln!(text, "# bus 0 is bus {bus} of the text")
+}
+
+fn print_elsewhere(text: &mut String, many: u64, domain: u32) -> Result<(), AllocError>
+    ensures { OnOk result (string_bytes text.new ≡ string_bytes text.old ++ elsewhere_note many domain) }
+{
+    if many == 0 {
+        return Ok(());
+    }
+    print_elsewhere_line(text, many, domain)
+}
+
+fn print_elsewhere_line(text: &mut String, many: u64, domain: u32) -> Result<(), AllocError>
+    ensures { OnOk result (string_bytes text.new ≡ string_bytes text.old ++ elsewhere_line many domain) }
+{
+    print_elsewhere_words(text, many)?;
+    print_domain(text, domain)?;
     writeln!(text, " are left out")
+}
+
+#[tactic(auto, unfolding(crate::specs::Text::elsewhere_words))]
+fn print_elsewhere_words(text: &mut String, many: u64) -> Result<(), AllocError>
+    ensures { OnOk result (string_bytes text.new ≡ string_bytes text.old ++ elsewhere_words many) }
+{
+    write!(text, "# {many} functions of other domains than ")
 }
 
 fn print_domain(text: &mut String, domain: u32) -> Result<(), AllocError>
