@@ -1,0 +1,14 @@
+use Rattle.std.proofs.Common.{◌≡◌, ◌+◌, ◌-◌, ◌^◌, ◌≤◌, length}
+use Rattle.list_facts.specs.Lists.{total}
+use Rattle.import_board.specs.Counts.{capped, functions_left}
+use Rattle.import_board.proofs.counts.functions_left_in.Given as goal
+
+-- those so far, and then those that are left
+abbrev pub invariant-loop-left : goal.invariant-loop-left
+invariant-loop-left l = record {
+  sum : capped (l.count + total functions_left l.left) ≡ capped (total functions_left l.devices);
+  few : l.count ≤ 2 ^ 64 - 1;
+}
+
+abbrev pub decreases-loop-left : goal.decreases-loop-left
+decreases-loop-left l = length l.left

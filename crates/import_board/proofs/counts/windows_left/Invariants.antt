@@ -1,0 +1,14 @@
+use Rattle.std.proofs.Common.{◌≡◌, ◌+◌, ◌-◌, ◌^◌, ◌≤◌, length}
+use Rattle.list_facts.specs.Lists.{total}
+use Rattle.import_board.specs.Counts.{capped, windows_left}
+use Rattle.import_board.proofs.counts.windows_left.Given as goal
+
+-- those so far, and then those that are left
+abbrev pub invariant-loop-left : goal.invariant-loop-left
+invariant-loop-left l = record {
+  sum : capped (l.count + total windows_left l.left) ≡ capped (total windows_left l.fates);
+  few : l.count ≤ 2 ^ 64 - 1;
+}
+
+abbrev pub decreases-loop-left : goal.decreases-loop-left
+decreases-loop-left l = length l.left

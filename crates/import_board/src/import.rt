@@ -1,0 +1,33 @@
+ghost use Rattle.std.specs.Prelude.{◌≡◌, ◌<◌, ◌^◌, IfOk, length};
+ghost use Rattle.import_board.specs.Import.{board_of, imported, TellsBoard};
+
+use crate::text::import_text;
+use lspci_text::{Function, ReadFault, read_functions};
+use machine_bridges::{Root, bridge_fates, machine_of, taken_among};
+use machine_targets::devices_of;
+use pci_command::{List, NoMemory};
+use std::alloc::Global;
+
+/// The board text of the machine of which `lspci -vvxxx` wrote this, below the root that is asked for,
+/// or else below the least bus of the least domain; or the first fault of what `lspci` wrote.
+pub fn import_board(alloc: Global, text: &[u8], root: Option<Root>) -> Result<List<u8>, ReadFault>
+    requires { length text.now < 2 ^ 31 }
+    ensures { TellsBoard result (imported root text.now) }
+{
+    let functions = read_functions(alloc, text)?;
+    Ok(board_of(alloc, root, functions)?)
+}
+
+fn board_of(
+    alloc: Global,
+    root: Option<Root>,
+    functions: List<Function>,
+) -> Result<List<u8>, NoMemory>
+    ensures { IfOk result (λ text. text ≡ board_of root functions) }
+{
+    let machine = machine_of(alloc, root, functions)?;
+    let fates = bridge_fates(alloc, &machine)?;
+    let taken = taken_among(alloc, fates.as_slice())?;
+    let devices = devices_of(alloc, &machine, taken.as_slice())?;
+    import_text(alloc, &machine, fates.as_slice(), devices.as_slice())
+}

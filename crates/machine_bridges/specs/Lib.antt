@@ -1,0 +1,4 @@
+pub mod Functions
+pub mod Windows
+pub mod Bridges
+pub mod Reasons

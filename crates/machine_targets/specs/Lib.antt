@@ -1,0 +1,4 @@
+pub mod Registers
+pub mod Ranges
+pub mod Devices
+pub mod Reasons

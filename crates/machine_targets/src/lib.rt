@@ -1,0 +1,14 @@
+//! What the devices of a machine ask for in their base address registers, and which of them a board can
+//! have as targets, with which ranges.
+#![tactic(auto)]
+
+mod devices;
+mod fate;
+mod found;
+mod functions;
+mod ranges;
+
+pub use devices::{claims_something, devices_of, is_placed};
+pub use fate::{Device, DeviceFate, Judged, NoRange, Placed, RangeFate};
+pub use found::{Flaw, Found, found_count};
+pub use functions::judged_of_bridge;
