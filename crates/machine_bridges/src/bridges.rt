@@ -174,9 +174,7 @@ fn bridge_with(
 fn some_shares_buses(taken: &[TakenBridge], bus: u8, first: u8, last: u8) -> bool
     ensures { result ≡ list_any (shares_buses bus first last) taken.now }
 {
-    taken
-        .iter()
-        .any(|bridge| bridge.parent == bus && bridge.bus <= last && first <= bridge.last)
+    taken.iter().any(|bridge| bridge.parent == bus && bridge.bus <= last && first <= bridge.last)
 }
 
 fn is_full(taken: &[TakenBridge], bus: u8) -> bool

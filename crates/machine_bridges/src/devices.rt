@@ -62,7 +62,5 @@ fn is_in_text(machine: &Machine, bus: u8, device: u8) -> bool
 fn some_has_device(functions: &[Function], bus: u8, device: u8) -> bool
     ensures { result ≡ list_any (has_device bus device) functions.now }
 {
-    functions
-        .iter()
-        .any(|function| function.slot.bus == bus && function.slot.device == device)
+    functions.iter().any(|function| function.slot.bus == bus && function.slot.device == device)
 }

@@ -86,9 +86,7 @@ pub fn is_reached(root: u8, taken: &[TakenBridge], bus: u8, space: Space, window
 fn some_leads_to(taken: &[TakenBridge], bus: u8, space: Space, window: Window) -> bool
     ensures { result ≡ list_any (leads_to bus space window) taken.now }
 {
-    taken
-        .iter()
-        .any(|bridge| bridge.bus == bus && lies_in_windows(space, window, bridge))
+    taken.iter().any(|bridge| bridge.bus == bus && lies_in_windows(space, window, bridge))
 }
 
 /// The first bridge on the bus that passes some of the window.
@@ -100,9 +98,7 @@ pub fn first_passing(
 ) -> Option<&TakenBridge>
     ensures { option_copied result ≡ find (passes_some bus space window) taken.now }
 {
-    taken
-        .iter()
-        .find(|bridge| bridge.parent == bus && shares_windows(space, window, bridge))
+    taken.iter().find(|bridge| bridge.parent == bus && shares_windows(space, window, bridge))
 }
 
 fn meeting(bridge: Option<&TakenBridge>) -> Option<NoWindow>
@@ -123,12 +119,7 @@ struct Side {
     is_on: bool,
 }
 
-fn why_closed(
-    taken: &[TakenBridge],
-    side: Side,
-    is_zero: bool,
-    window: Window,
-) -> Option<NoWindow>
+fn why_closed(taken: &[TakenBridge], side: Side, is_zero: bool, window: Window) -> Option<NoWindow>
     ensures { result ≡ why_closed side.root taken.now side.bus side.space is_zero side.is_on window }
 {
     if is_zero {
