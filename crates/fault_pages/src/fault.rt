@@ -2,6 +2,7 @@ use board_faults::TreeFault;
 use board_statements::LineFault;
 use device_faults::DeviceFault;
 use history_model::Why;
+use lspci_text::LspciFault;
 use program_status::{BoardFault, Status};
 use std::fmt;
 use trace_reader::TraceLineFault;
@@ -19,6 +20,8 @@ pub enum Fault {
     Device(DeviceFault),
     /// A fault of a trace outside its board.
     Trace(TraceLineFault),
+    /// A fault of what `lspci` wrote of a machine.
+    Machine(LspciFault),
     /// An event is not allowed.
     Cause(Why),
 }
@@ -34,6 +37,7 @@ impl Fault {
                 BoardFault::Device(fault) => Fault::Device(*fault),
             }),
             Status::BadTrace { fault, .. } => Some(Fault::Trace(*fault)),
+            Status::BadMachine { fault, .. } => Some(Fault::Machine(*fault)),
             Status::NotRun { why, .. } => Some(Fault::Cause(*why)),
             _ => None,
         }
@@ -48,6 +52,7 @@ impl fmt::Display for Fault {
             Fault::Bound => write!(f, "a run may have more than 500,000 events"),
             Fault::Device(fault) => write!(f, "{fault}"),
             Fault::Trace(fault) => write!(f, "{fault}"),
+            Fault::Machine(fault) => write!(f, "{fault}"),
             Fault::Cause(why) => f.write_str(sentence_of(*why)),
         }
     }

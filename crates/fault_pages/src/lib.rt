@@ -4,11 +4,13 @@
 
 mod device_pages;
 mod fault;
+mod machine_pages;
 mod page;
 mod pages;
 
 pub use device_pages::DEVICE_PAGES;
 pub use fault::Fault;
+pub use machine_pages::MACHINE_PAGES;
 pub use page::{Page, explain, find_page};
 pub use pages::PAGES;
 

@@ -2,7 +2,7 @@ ghost use Rattle.std.specs.Prelude.{◌≡◌, IsTrue, IfSome, find};
 ghost use Rattle.std.specs.Option.{option_map};
 ghost use Rattle.fault_pages.specs.Pages.{has_code};
 
-use crate::{DEVICE_PAGES, Fault, PAGES};
+use crate::{DEVICE_PAGES, Fault, MACHINE_PAGES, PAGES};
 use std::fmt;
 
 /// What one code means.
@@ -14,7 +14,7 @@ pub struct Page {
     pub fault: Fault,
     /// The rule that is broken.
     pub rule: &'static str,
-    /// A board or a trace text that has this fault first.
+    /// A text that has this fault first.
     pub example: &'static str,
 }
 
@@ -24,7 +24,10 @@ pub fn explain(code: &str) -> Option<&'static Page>
 {
     match find_page(&PAGES, code) {
         Some(page) => Some(page),
-        None => find_page(&DEVICE_PAGES, code),
+        None => match find_page(&DEVICE_PAGES, code) {
+            Some(page) => Some(page),
+            None => find_page(&MACHINE_PAGES, code),
+        },
     }
 }
 

@@ -1,11 +1,12 @@
-use crate::{DEVICE_PAGES, Fault, PAGES, explain};
+use crate::{DEVICE_PAGES, Fault, MACHINE_PAGES, PAGES, explain};
 use history_model::Why;
 use program_status::Status;
 use std::test::Fail;
 
 #[test]
 fn pages_are_found_by_code(rt: HostRuntime) -> Result<(), Fail> {
-    for page in PAGES.iter().chain(DEVICE_PAGES.iter()) {
+    let others = DEVICE_PAGES.iter().chain(MACHINE_PAGES.iter());
+    for page in PAGES.iter().chain(others) {
         let found = explain(page.code).ok_or("no page")?;
         assert_eq!(rt; found.fault, page.fault);
     }

@@ -13,6 +13,7 @@ use Rattle.command_finish.proofs.ServedLemmas.{finish_refusing}
 use Rattle.program_input.proofs.RunLemmas.{run_refusing}
 use Rattle.command_generate.proofs.ServedLemmas.{generate_refusing}
 use Rattle.command_devices.proofs.ServedLemmas.{devices_refusing}
+use Rattle.command_import.proofs.ServedLemmas.{import_refusing}
 use Rattle.program_words.specs.declared.Form.{Form}
 use Rattle.program_words.specs.declared.Form.TheVariants as forms
 use Rattle.pcitree.specs.Words.{command_of}
@@ -72,6 +73,7 @@ refusing forms.Waves = run_refusing
 refusing forms.Combine = board_refusing
 refusing forms.Generate = generate_refusing
 refusing forms.Devices = devices_refusing
+refusing forms.Import = import_refusing
 
 -- an input that was read, and is refused
 pub refused_answer : (form : Form) (held left : Option (List ℕ)) (before now : ℕ) (input : List ℕ) (status : Status) → ReadsInput form held left input → Refuses form input status → StopsAnswering form held left before now status

@@ -16,6 +16,7 @@ use Rattle.command_combine.specs.Answers.{AnswersCombine}
 use Rattle.command_generate.specs.Answers.{names_rounds, AnswersGenerate, RefusesGenerate, NamesRounds}
 use Rattle.command_devices.specs.Answers.{AnswersDevices}
 use Rattle.command_devices.specs.Refusals.{RefusesDevices, IsDeviceText}
+use Rattle.command_import.specs.Answers.{AnswersImport, RefusesImport, IsMachineText}
 use Rattle.program_words.specs.declared.Form.{Form}
 use Rattle.program_words.specs.declared.Form.TheVariants as forms
 use Rattle.program_words.specs.declared.TheConstants.{FORMS}
@@ -97,6 +98,12 @@ command_of forms.Devices = record {
   Refuses = RefusesDevices;
   IsFaultless = IsDeviceText;
   writes_run = true;
+}
+command_of forms.Import = record {
+  Answers = AnswersImport;
+  Refuses = RefusesImport;
+  IsFaultless = IsMachineText;
+  writes_run = false;
 }
 
 abbrev pub names_file : List ℕ → Bool

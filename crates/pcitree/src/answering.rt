@@ -25,5 +25,6 @@ pub(crate) fn answer(alloc: Global, form: Form, input: &[u8]) -> Result<Vec<u8>,
         Form::Combine => command_combine::answer_combine(alloc, input),
         Form::Generate => command_generate::answer_generate(alloc, input),
         Form::Devices => command_devices::answer_devices(alloc, input),
+        Form::Import => command_import::answer_import(alloc, input),
     }
 }

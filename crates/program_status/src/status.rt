@@ -5,6 +5,7 @@ use board_faults::TreeFault;
 use board_statements::{Family, LineFault};
 use device_faults::DeviceFault;
 use history_model::Why;
+use lspci_text::LspciFault;
 use std::alloc::AllocError;
 use std::fmt;
 use trace_reader::TraceLineFault;
@@ -42,6 +43,8 @@ pub enum Status {
     BadBoard { line: u32, fault: BoardFault },
     /// The text of the trace has a fault outside its board, at this line from 1 on.
     BadTrace { line: u32, fault: TraceLineFault },
+    /// What `lspci` wrote has a fault, at this line from 1 on.
+    BadMachine { line: u32, fault: LspciFault },
     /// This event, from 1 on, is not allowed after those before it.
     NotRun { event: u32, why: Why },
     /// The run has not ended: at most so many events are left.
@@ -65,6 +68,7 @@ impl Status {
             Status::TooLong => 5,
             Status::BadBoard { .. } => 6,
             Status::BadTrace { .. } => 7,
+            Status::BadMachine { .. } => 6,
             Status::NotRun { .. } => 8,
             Status::Incomplete { .. } => 9,
         }
@@ -128,6 +132,10 @@ impl fmt::Display for Status {
             Status::BadTrace { line, fault } => {
                 let code = fault.code();
                 write!(f, "pcitree: trace line {line} fault X{code}")
+            }
+            Status::BadMachine { line, fault } => {
+                let code = fault.code();
+                write!(f, "pcitree: import line {line} fault I{code}")
             }
             Status::NotRun { event, why } => {
                 write!(f, "pcitree: event {event} is not allowed: {why}")

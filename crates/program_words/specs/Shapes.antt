@@ -36,8 +36,9 @@ parts_of forms.Waves = Word (codes "waves") ∷ File ∷ []
 parts_of forms.Combine = Word (codes "combine") ∷ File ∷ []
 parts_of forms.Generate = Word (codes "generate") ∷ Rounds ∷ []
 parts_of forms.Devices = Word (codes "devices") ∷ File ∷ []
+parts_of forms.Import = Word (codes "import") ∷ File ∷ []
 
--- how many bytes the input may have: 1 MiB for a board text, 64 MiB for a trace text, and 10 for a number
+-- how many bytes the input may have: 1 MiB for a board text and for what lspci wrote, 64 MiB for a trace text, and 10 for a number
 abbrev pub input_limit : Form → ℕ
 input_limit forms.Run = 2 ^ 20
 input_limit forms.RunSteady = 2 ^ 20
@@ -50,3 +51,4 @@ input_limit forms.Waves = 2 ^ 26
 input_limit forms.Combine = 2 ^ 20
 input_limit forms.Generate = 10
 input_limit forms.Devices = 2 ^ 20
+input_limit forms.Import = 2 ^ 20

@@ -29,6 +29,7 @@ pub enum Form {
     Combine,
     Generate,
     Devices,
+    Import,
 }
 
 /// A row of the table of words.
@@ -54,7 +55,7 @@ const TRACE: usize = 0x400_0000;
 const NUMBER: usize = 10;
 
 /// All forms, in the order in which they are told.
-pub const FORMS: [Form; 11] = [
+pub const FORMS: [Form; 12] = [
     Form::Run,
     Form::RunSteady,
     Form::Headers,
@@ -66,6 +67,7 @@ pub const FORMS: [Form; 11] = [
     Form::Combine,
     Form::Generate,
     Form::Devices,
+    Form::Import,
 ];
 
 const RUN: Row = Row {
@@ -156,6 +158,15 @@ const DEVICES: Row = Row {
         the trace of the run, as `run` writes it.",
 };
 
+const IMPORT: Row = Row {
+    parts: &[Part::Word("import"), Part::File],
+    limit: BOARD,
+    line: "writes the board of a machine, from what `lspci -vvxxx` wrote",
+    more: "Bridges, windows and the ranges of devices as the machine has them, below the least bus of its least\n\
+        domain; comments say what is left out and why, and that buffers, delays and programs are not known.\n\
+        What is written is a board text without masters.",
+};
+
 impl Form {
     /// The table of words: the row of each form.
     pub fn row(self) -> Row
@@ -180,6 +191,7 @@ impl Form {
             Form::Combine => COMBINE,
             Form::Generate => GENERATE,
             Form::Devices => DEVICES,
+            Form::Import => IMPORT,
         }
     }
 }

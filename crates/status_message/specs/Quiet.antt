@@ -1,6 +1,6 @@
 -- Of which statuses nothing is said behind the first line.
 use Rattle.program_status.specs.declared.status.Status.{Status}
-use Rattle.program_status.specs.declared.status.Status.TheVariants.{Done, NoMemory, Usage, ReadFault, WriteFault, TooLong, BadBoard, BadTrace, NotRun, Incomplete}
+use Rattle.program_status.specs.declared.status.Status.TheVariants.{Done, NoMemory, Usage, ReadFault, WriteFault, TooLong, BadBoard, BadTrace, BadMachine, NotRun, Incomplete}
 
 abbrev pub IsQuiet : Status → Type 0
 IsQuiet Done = Unit {0}
@@ -11,5 +11,6 @@ IsQuiet WriteFault = Unit {0}
 IsQuiet TooLong = Unit {0}
 IsQuiet (BadBoard _ _) = ⊥
 IsQuiet (BadTrace _ _) = ⊥
+IsQuiet (BadMachine _ _) = ⊥
 IsQuiet (NotRun _ _) = ⊥
 IsQuiet (Incomplete _) = ⊥

@@ -3,6 +3,7 @@
 #![tactic(auto)]
 
 mod board;
+mod machine;
 mod telling;
 mod trace;
 

@@ -4,6 +4,7 @@ ghost use Rattle.shown_lines.specs.Shown.{is_shown};
 ghost use Rattle.status_message.specs.Quiet.{IsQuiet};
 
 use crate::board::tell_board;
+use crate::machine::tell_machine_line;
 use crate::trace::tell_trace_line;
 use event_message::tell_event;
 use pci_command::NoMemory;
@@ -26,6 +27,7 @@ pub fn message(
     match status {
         Status::BadBoard { .. }
         | Status::BadTrace { .. }
+        | Status::BadMachine { .. }
         | Status::NotRun { .. }
         | Status::Incomplete { .. } => told(alloc, name, input, status),
         _ => Ok(Message::new(alloc)),
@@ -48,6 +50,9 @@ fn told(alloc: Global, name: &str, input: &[u8], status: &Status) -> Result<Mess
     match *status {
         Status::BadBoard { line, fault } => tell_board(&mut teller, input, status, line, fault)?,
         Status::BadTrace { line, fault } => tell_trace_line(&mut teller, input, line, fault)?,
+        Status::BadMachine { line, fault } => {
+            tell_machine_line(&mut teller, input, line, fault)?;
+        }
         Status::NotRun { .. } => tell_event(&mut teller, input)?,
         Status::Incomplete { .. } => {
             teller.say("the events are a run that has not ended: `finish` goes on with it")?;

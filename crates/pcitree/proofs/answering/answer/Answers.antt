@@ -38,6 +38,9 @@ returns-in-Generate-clause-ok c = subst (λ (form : Form). IfOk c.answer_generat
 pub returns-in-Devices-clause-ok : goal.returns-in-Devices-clause-ok
 returns-in-Devices-clause-ok c = subst (λ (form : Form). IfOk c.answer_devices.result (λ text. AnswersTo form c.args.input.now text.items)) (sym c.in-Devices.is) c.answer_devices.ensures.ok
 
+pub returns-in-Import-clause-ok : goal.returns-in-Import-clause-ok
+returns-in-Import-clause-ok c = subst (λ (form : Form). IfOk c.answer_import.result (λ text. AnswersTo form c.args.input.now text.items)) (sym c.in-Import.is) c.answer_import.ensures.ok
+
 -- a number is answered only where it names rounds
 pub answer_generate-requires : goal.answer_generate-requires
 answer_generate-requires c = subst (λ (form : Form). IsGiven form c.args.input.now) c.in-Generate.is c.requires.given

@@ -1,0 +1,19 @@
+use fault_pages::Fault;
+use lspci_text::LspciFault;
+use pci_command::NoMemory;
+use refused_text::line_at;
+use shown_lines::Teller;
+
+/// A line of what `lspci` wrote is at fault.
+pub(crate) fn tell_machine_line(
+    teller: &mut Teller,
+    input: &[u8],
+    number: u32,
+    fault: LspciFault,
+) -> Result<(), NoMemory> {
+    let sentence = Fault::Machine(fault).to_string(teller.alloc())?;
+    match line_at(input, number) {
+        Some((_, line)) => teller.point(number, line, 0, sentence.as_str()),
+        None => teller.say(sentence.as_str()),
+    }
+}
