@@ -66,7 +66,7 @@ fn record_step(
 }
 
 /// How many data phases of the write went through; never as many as 2^100.
-fn gone_of(gone: &OpTable<u128>, op: OpId) -> u128
+pub fn gone_of(gone: &OpTable<u128>, op: OpId) -> u128
     ensures few { result ≡ few_of op gone.now }
     ensures fits { result ≤ 2 ^ 100 }
 {
@@ -77,7 +77,7 @@ fn gone_of(gone: &OpTable<u128>, op: OpId) -> u128
 }
 
 /// Whether a step may bring data phases to its target.
-fn lands(step: Step) -> bool
+pub fn lands(step: Step) -> bool
     ensures { result ≡ lands step }
 {
     match step {

@@ -18,4 +18,5 @@ mod told;
 pub use audit::audit_text;
 pub use findings::findings_of;
 pub use found::Found;
+pub use landed::{gone_of, lands};
 pub use lines::print_found;

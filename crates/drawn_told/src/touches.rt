@@ -5,6 +5,7 @@ ghost use Rattle.audit_text.specs.Notes.{few_of, lands, Parted};
 ghost use Rattle.drawn_told.specs.Kept.{touches_in, touches_from, request_touches, place_touches, event_touches, last_before, Adds, Touches};
 
 use audit_clocks::{OpTable, Word};
+use audit_text::{gone_of, lands};
 use board_model::{Board, Place, request_of};
 use history_core::{brought_by, dword_address, left_of};
 use history_model::{Event, Step};
@@ -234,33 +235,6 @@ fn record_place(
             }
         }
         Place::Header(_) | Place::Lane(_) | Place::Nobody => Ok(()),
-    }
-}
-
-/// How many data phases of the write went through; never as many as 2^100.
-fn gone_of(gone: &OpTable<u128>, op: OpId) -> u128
-    ensures few { result ≡ few_of op gone.now }
-    ensures fits { result ≤ 2 ^ 100 }
-{
-    match gone.get(op) {
-        Some(count) => (*count).min(1 << 100),
-        None => 0,
-    }
-}
-
-/// Whether a step may bring data phases to its target.
-fn lands(step: Step) -> bool
-    ensures { result ≡ lands step }
-{
-    match step {
-        Step::Land | Step::Part(_) => true,
-        Step::Read(_)
-        | Step::Accept
-        | Step::Latch
-        | Step::Take(_)
-        | Step::Stall
-        | Step::MasterAbort
-        | Step::TargetAbort => false,
     }
 }
 

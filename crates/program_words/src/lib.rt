@@ -163,8 +163,8 @@ const IMPORT: Row = Row {
     limit: BOARD,
     line: "writes the board of a machine, from what `lspci -vvxxx` wrote",
     more: "Bridges, windows and the ranges of devices as the machine has them, below the least bus of its least\n\
-        domain; comments say what is left out and why, and that buffers, delays and programs are not known.\n\
-        What is written is a board text without masters.",
+        domain; comments say what is left out and why, and what the text does not tell: main memory, masters,\n\
+        depths of bridges. What is written is a board text without masters.",
 };
 
 impl Form {

@@ -27,7 +27,7 @@ use Rattle.bus_core.specs.Bus.{Shape, shape_of, arrivals_at, HasPlace}
 use Rattle.bus_core.proofs.Laws.{get_map, map_get}
 use Rattle.bus_segment.specs.Stands.{WorkerView}
 use Rattle.bus_segment.proofs.Laws.{there_at}
-use Rattle.board_segments.specs.First.{buses_of, up_from as from_below, children_of, own_lane, lanes_to, ends_alike, AreAtFirst}
+use Rattle.board_segments.specs.First.{buses_of, down_to, up_from, children_of, own_lane, lanes_to, ends_alike, AreAtFirst}
 use Rattle.board_segments.proofs.NumberLemmas.{one_place, passes_at}
 use Rattle.board_segments.proofs.LaneLemmas.{of_bridge_at}
 use Rattle.worker_phases.specs.Workers.{at_port, at_ports, back_at_ports, AreBetween}
@@ -36,7 +36,7 @@ use Rattle.worker_phases.proofs.Laws.{same_there, stands_at_ports}
 use Rattle.segment_workers.specs.declared.settling.Above.{Above}
 use Rattle.segment_workers.specs.First.{IsAboveOf, AreAboveOf, AreLinked}
 use Rattle.segment_workers.specs.Loop.{AreReady}
-use Rattle.segment_workers.specs.Settling.{down_to, up_from, AreAbove, HangBelow}
+use Rattle.segment_workers.specs.Settling.{AreAbove, HangBelow}
 use Rattle.segment_workers.specs.Steady.{IsSteady}
 
 -- the bridges to the first so many buses behind bus 0
@@ -224,7 +224,7 @@ module _ {End : Type 0} (board : Board) (valid : IsValid board) (ends : List (Li
         let upper = worker_at up.worker (primary_of board is.bus) is.primary in
         let lower = worker_at (k + 1) is.bus is.bus_is in
         let own : own_lane board is.bus ≡ down_to is.bus ∷ [] = ap (λ (b : Bool). cond b (down_to is.bus ∷ []) []) (has_own k is.bus is.bus_is) in
-        let down : slice_get (lanes_to board is.bus) 0 ≡ Some (down_to is.bus) = ap (λ (l : List BridgeLane). slice_get (l ++ map from_below (children_of board is.bus)) 0) own in
+        let down : slice_get (lanes_to board is.bus) 0 ≡ Some (down_to is.bus) = ap (λ (l : List BridgeLane). slice_get (l ++ map up_from (children_of board is.bus)) 0) own in
         record {
           earlier = is.earlier;
           upper = upper.0;

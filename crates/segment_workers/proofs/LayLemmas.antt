@@ -14,7 +14,8 @@ use Rattle.worker_phases.specs.Workers.{AreWorkers}
 use Rattle.worker_phases.specs.Phase.{AreApart}
 use Rattle.worker_phases.proofs.Laws.{same_there}
 use Rattle.segment_workers.specs.declared.settling.Above.{Above}
-use Rattle.segment_workers.specs.Settling.{down_to, up_from, AreAbove, HangBelow}
+use Rattle.board_segments.specs.First.{down_to, up_from}
+use Rattle.segment_workers.specs.Settling.{AreAbove, HangBelow}
 use Rattle.segment_workers.specs.Steady.{SameLay}
 
 module _ {End : Type 0} (old new : List (WorkerView End)) (same : SameLay old new) where

@@ -14,7 +14,8 @@ use Rattle.worker_phases.specs.Workers.{EndAt}
 use Rattle.worker_phases.specs.Phase.{OnlyEnds, LaneSettled, AllMaySettle, AllSettled}
 use Rattle.worker_phases.proofs.Laws.{same_there, same_port}
 use Rattle.segment_workers.specs.declared.settling.Above.{Above}
-use Rattle.segment_workers.specs.Settling.{down_to, up_from, IsAbove, AreAbove, AreLaidOut, CanMeet, SettlesOne, SettledSoFar}
+use Rattle.board_segments.specs.First.{down_to, up_from}
+use Rattle.segment_workers.specs.Settling.{IsAbove, AreAbove, AreLaidOut, CanMeet, SettlesOne, SettledSoFar}
 
 -- the same end, at a worker whose ends alone changed
 only_none : {End : Type 0} (w : WorkerView End) → OnlyEnds w w

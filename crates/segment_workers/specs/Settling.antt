@@ -1,5 +1,5 @@
 -- How all lanes are settled: bridge by bridge, from the worker of its secondary bus.
-use Rattle.std.specs.Prelude.{◌≡◌, ◌≢◌, ℕ, ◌+◌, ◌<◌, true, false, List, length, Some, slice_get}
+use Rattle.std.specs.Prelude.{◌≡◌, ◌≢◌, ℕ, ◌+◌, ◌<◌, List, length, Some, slice_get}
 use Rattle.board_model.specs.declared.bridge.Lane.{Lane as BridgeLane}
 use Rattle.board_model.specs.declared.board.Board.{Board}
 use Rattle.board_model.specs.Ways.{lane_back}
@@ -7,16 +7,10 @@ use Rattle.lane_items.specs.declared.item.Item.{Item}
 use Rattle.bus_core.specs.Bus.{shape_of}
 use Rattle.bus_segment.specs.Settle.{MaySettle, SettlesAt}
 use Rattle.bus_segment.specs.Stands.{WorkerView}
+use Rattle.board_segments.specs.First.{down_to, up_from}
 use Rattle.worker_phases.specs.Phase.{AreApart, OnlyEnds, LaneSettled}
 use Rattle.worker_phases.specs.Workers.{EndAt, AreWorkers}
 use Rattle.segment_workers.specs.declared.settling.Above.{Above}
-
--- the lane of a bridge down to its secondary bus, and that up to its primary bus
-abbrev pub down_to : ℕ → BridgeLane
-down_to bus = record { bus = bus; up = false }
-
-abbrev pub up_from : ℕ → BridgeLane
-up_from bus = record { bus = bus; up = true }
 
 -- the bridge to the bus of the worker at this place hangs below an earlier worker, at this port; its own port is the first
 pub record IsAbove {End : Type 0} (workers : List (WorkerView End)) (place : ℕ) (above : Above) : Type 0 where
