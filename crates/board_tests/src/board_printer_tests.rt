@@ -1,5 +1,5 @@
-use board_printer::print_board;
 use board_model::{Board, Bridge, Master, Name, Op, Opening, Planned, Range, Target, Window};
+use board_printer::print_board;
 use pci_command::{Command, List, Phase, Phases, Space};
 use std::alloc::Global;
 use std::test::Fail;

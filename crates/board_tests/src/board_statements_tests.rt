@@ -1,5 +1,5 @@
-use board_statements::{LineFault, Statement, first_line, has_words, statement_of};
 use board_model::{Bridge, Op, Window};
+use board_statements::{LineFault, Statement, first_line, has_words, statement_of};
 use pci_command::{Command, Phase};
 use std::test::Fail;
 

@@ -2,8 +2,8 @@ ghost use Rattle.std.specs.Prelude.{IsTrue};
 ghost use Rattle.board_model.specs.WellFormed.{is_well_formed_bridge};
 ghost use Rattle.board_model.specs.Valid.{is_numbered};
 
-use bridge_header::{HeaderFault, Windows, decode, encode, read_back};
 use board_model::{Bridge, Window};
+use bridge_header::{HeaderFault, Windows, decode, encode, read_back};
 use std::process::Abort;
 use std::test::Fail;
 

@@ -4,11 +4,11 @@ ghost use Rattle.board_laws.specs.WayEnds.{WayEnds};
 ghost use Rattle.board_laws.specs.Claimants.{OneClaimant, claimants, one_of};
 ghost use Rattle.bus_tree.specs.Hops.{hop_of};
 
-use bus_tree::{Hop, Tree, TreeRefusal, next_hop, validate, way_length};
 use board_faults::TreeFault;
 use board_forms::well_formed;
 use board_laws::{one_claimant, ways_end};
 use board_model::{Board, Bridge, Master, Name, Op, Range, Target, Window, op_of};
+use bus_tree::{Hop, Tree, TreeRefusal, next_hop, validate, way_length};
 use pci_command::{Command, List, OpId, Phase, Phases, Request, Space};
 use std::alloc::Global;
 use std::test::Fail;

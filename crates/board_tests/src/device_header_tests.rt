@@ -1,8 +1,6 @@
-use board_model::{Range, Target};
+use board_model::{Name, Range, Target};
 use device_header::{merge, opening, write_mask};
-use pci_command::{Phase, Space};
-use board_model::Name;
-use pci_command::List;
+use pci_command::{List, Phase, Space};
 use std::alloc::Global;
 use std::test::Fail;
 

@@ -1,5 +1,5 @@
-use header_text::print_headers;
 use board_model::{Board, Bridge, Window};
+use header_text::print_headers;
 use pci_command::List;
 use std::test::Fail;
 

@@ -1,6 +1,5 @@
 use delayed_requests::AskTable;
-use pci_command::{OpId, Request};
-use pci_command::Command;
+use pci_command::{Command, OpId, Request};
 
 fn read_of(address: u64) -> Request {
     Request {

@@ -1,8 +1,8 @@
 ghost use Rattle.std.specs.Prelude.{◌≡◌, []};
 ghost use Rattle.lane_items.specs.Lane.{IsEmptied};
 
-use lane_plain::PlainEnd;
 use lane_items::{Item, LaneEnd};
+use lane_plain::PlainEnd;
 
 /// What the far end receives before and after a settle, where the near end sends one item.
 fn received_round_settle<L: LaneEnd>(

@@ -1,5 +1,5 @@
-use lane_ring::{RingEnd, ring_pair};
 use lane_items::{Item, LaneEnd};
+use lane_ring::{RingEnd, ring_pair};
 use pci_command::NoMemory;
 use std::thread;
 

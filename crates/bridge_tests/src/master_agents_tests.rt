@@ -1,6 +1,6 @@
-use master_agents::{MasterState, Through};
 use board_forms::well_formed;
 use board_model::{Board, Master, Name, Op};
+use master_agents::{MasterState, Through};
 use pci_command::{Command, List, OpId, Outcome, Phase, Phases, Space};
 use std::alloc::Global;
 use std::test::Fail;

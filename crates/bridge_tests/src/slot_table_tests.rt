@@ -1,6 +1,5 @@
 use delayed_requests::SlotTable;
-use pci_command::{OpId, Request};
-use pci_command::{Command, Phase};
+use pci_command::{Command, OpId, Phase, Request};
 
 fn read_of(address: u64) -> Request {
     let mut request = Request {

@@ -1,8 +1,8 @@
-use target_agents::{Access, TargetState};
 use board_model::{Board, Master, Name, Op, Range, Target};
 use pci_command::{Command, List, Phase, Phases, Request, Space};
 use std::alloc::Global;
 use std::test::Fail;
+use target_agents::{Access, TargetState};
 
 fn read(address: u64) -> Op {
     Op::Read {

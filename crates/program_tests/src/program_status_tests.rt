@@ -1,8 +1,8 @@
-use program_status::{BoardFault, Status};
 use board_faults::TreeFault;
 use board_statements::LineFault;
 use device_faults::DeviceFault;
 use history_model::Why;
+use program_status::{BoardFault, Status};
 use std::test::Fail;
 use trace_reader::TraceLineFault;
 

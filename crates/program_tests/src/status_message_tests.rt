@@ -1,4 +1,3 @@
-use status_message::message;
 use board_faults::TreeFault;
 use board_statements::LineFault;
 use dma_agents::{MakeFault, make};
@@ -6,6 +5,7 @@ use fault_pages::{DEVICE_PAGES, Fault, PAGES, Page};
 use history_model::Why;
 use program_input::{read_tree, read_tree_trace};
 use program_status::{BoardFault, Status};
+use status_message::message;
 use std::alloc::Global;
 use std::test::Fail;
 use trace_check::first_refused;

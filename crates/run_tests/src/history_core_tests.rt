@@ -2,9 +2,9 @@ ghost use Rattle.std.specs.Prelude.{IfNone, IsTrue};
 ghost use Rattle.board_model.specs.WellFormed.{is_well_formed};
 ghost use Rattle.history_model.specs.Runs.{Run, history_of};
 
-use history_core::{allowed, complete};
 use board_forms::well_formed;
 use board_model::{Board, Bridge, Lane, Master, Name, Op, Place, Planned, Range, Target, Window};
+use history_core::{allowed, complete};
 use history_model::{By, Event, Mark, Step, Why};
 use pci_command::{Command, List, OpId, Outcome, Phase, Phases, Space};
 use std::alloc::Global;

@@ -1,10 +1,10 @@
 ghost use Rattle.kept_state.specs.Stands.{Stands};
 
-use kept_left::{is_complete, left};
 use board_forms::well_formed;
 use board_model::{Board, Master, Name, Op, Place, Range, Target};
 use bus_tree::{Tree, validate};
 use history_model::{By, Event, Step, Why};
+use kept_left::{is_complete, left};
 use kept_state::Kept;
 use pci_command::{Command, List, OpId, Phase, Phases, Space};
 use std::alloc::Global;

@@ -1,11 +1,11 @@
 ghost use Rattle.history_model.specs.Runs.{Run, history_of};
 
-use next_event::next_event;
 use board_forms::well_formed;
 use board_model::{Board, Bridge, Lane, Master, Name, Op, Place, Range, Target, Window};
 use bus_tree::{Tree, validate};
 use history_core::allowed;
 use history_model::{By, Event, Mark, Step};
+use next_event::next_event;
 use pci_command::{Command, List, OpId, Outcome, Phase, Phases, Space};
 use std::alloc::Global;
 use std::process::Abort;

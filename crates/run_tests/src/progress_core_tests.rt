@@ -1,12 +1,12 @@
 ghost use Rattle.history_model.specs.Runs.{Run, history_of};
 
-use progress_core::left;
 use board_forms::well_formed;
 use board_model::{Board, Bridge, Lane, Master, Name, Op, Place, Range, Target, Window};
 use bus_tree::{Tree, validate};
 use history_core::allowed;
 use history_model::{By, Event, Mark, Step};
 use pci_command::{Command, List, OpId, Outcome, Phase, Phases, Space};
+use progress_core::left;
 use std::alloc::Global;
 use std::process::Abort;
 use std::test::Fail;

@@ -1,9 +1,8 @@
-use history_model::{Event, Stamped};
-use pci_command::{List, NoMemory};
-use trace_merge::merge;
 use board_model::Place;
-use history_model::{By, Step};
-use pci_command::OpId;
+use history_model::{By, Event, Stamped, Step};
+use pci_command::{List, NoMemory, OpId};
+use std::alloc::Global;
+use trace_merge::merge;
 
 fn event_on(bus: u8, index: u16) -> Event {
     Event::Act {
@@ -41,10 +40,9 @@ fn two_parts(alloc: Global) -> Result<List<Event>, NoMemory> {
 #[test]
 fn stamps_come_first_then_buses(rt: HostRuntime) {
     if let Ok(events) = two_parts(rt.alloc()) {
-        let wanted = [(0, 0), (1, 0), (1, 1), (0, 1), (0, 2), (1, 2)].map(|(
-            bus,
-            index,
-        )| event_on(bus, index));
+        let wanted = [(0, 0), (1, 0), (1, 1), (0, 1), (0, 2), (1, 2)].map(|(bus, index)| event_on(
+            bus, index,
+        ));
         assert_eq!(rt; events.as_slice(), &wanted[..]);
     }
 }

@@ -1,13 +1,13 @@
 ghost use Rattle.std.specs.Prelude.{◌↔◌, All, IsTrue};
 ghost use Rattle.trace_text.specs.Events.{HasLine};
 
-use trace_text::{has_line, print_trace};
 use board_model::{Board, Bridge, Lane, Master, Name, Op, Place, Range, Target};
 use history_model::{By, Event, Mark, Step};
 use pci_command::{Command, List, OpId, Outcome, Phase, Phases, Space};
 use std::alloc::Global;
 use std::process::Abort;
 use std::test::Fail;
+use trace_text::{has_line, print_trace};
 
 fn name(text: &str) -> Result<Name, Fail> {
     Ok(Name::new(text.as_bytes()).ok_or("a name")?)

@@ -1,6 +1,6 @@
-use traffic_generator::{Rounds, generate};
 use board_model::Op;
 use std::test::Fail;
+use traffic_generator::{Rounds, generate};
 
 /// One round begins with a write of block 6 of the target on bus 2, of seven words.
 #[test]
