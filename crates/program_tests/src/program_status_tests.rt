@@ -53,6 +53,11 @@ fn statuses_are_printed(rt: HostRuntime) -> Result<(), Fail> {
             "pcitree: trace line 11 fault X7",
         ),
         (
+            Status::TooManyEvents { events: 5000 },
+            5,
+            "pcitree: 5000 events are too many to draw",
+        ),
+        (
             Status::NotRun {
                 event: 16,
                 why: Why::NotPresented,
