@@ -5,15 +5,16 @@ use Rattle.std.proofs.Math.Seq.{drop-cons}
 use Rattle.board_model.specs.declared.board.Board.{Board}
 use Rattle.history_model.specs.declared.event.Event.{Event}
 use Rattle.history_model.specs.declared.why.Why.{Why}
-use Rattle.history_model.specs.Runs.{Run, history_of}
+use Rattle.history_model.specs.declared.rule.Rule.{Rule}
+use Rattle.history_model.specs.Runs.{RunBy, Run, history_of}
 use Rattle.history_core.proofs.VerdictLemmas.{allowed_exactly}
-use Rattle.history_core.specs.Verdicts.{Holds}
-use Rattle.trace_check.specs.Verdicts.{FirstRefused}
+use Rattle.history_core.specs.Verdicts.{HoldsBy}
+use Rattle.trace_check.specs.Verdicts.{FirstRefusedBy, FirstRefused}
 use Rattle.law_slots.proofs.Laws.{Run-before}
 
-pub refused_by : (board : Board) (events : List Event) (i : ℕ) (d : Event) (why : Why) → i < length events → Run board (history_of (take i events))
-    → Holds board (history_of (take i events)) (get_or events i d) (Some why) → FirstRefused board events (i + 1) why
-refused_by board events i d why within run cause =
+pub refused_by : (rule : Rule) (board : Board) (events : List Event) (i : ℕ) (d : Event) (why : Why) → i < length events → RunBy rule board (history_of (take i events))
+    → HoldsBy rule board (history_of (take i events)) (get_or events i d) (Some why) → FirstRefusedBy rule board events (i + 1) why
+refused_by rule board events i d why within run cause =
     let whole = take-append-drop i events in
     let next = drop-cons events i d within in
     record {
