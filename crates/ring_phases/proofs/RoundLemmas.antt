@@ -55,10 +55,13 @@ in_either a b c d is less = grind (arith, nat_tests)
 
 module _ {End : Type 0} (had sent got : End → List Item) (kept : End → ℕ) (paired : End → End → Type 0) (board : Board) (valid : IsValid board) (workers : List (WorkerView End)) (phases : ℕ)
     (after : AfterRounds had sent got kept paired board workers phases) where
-  -- the phases are few
+  -- the events are few, and so are the phases
+  pub few_before : RunsEnd → count_all workers ≤ 500000
+  few_before ends = count_between had sent got kept paired board valid workers after.received after.hand after.part after.between after.apart ends
+
   pub few_rounds : RunsEnd → phases ≤ 500000
   few_rounds ends =
-      let count = count_between had sent got kept paired board valid workers after.received after.hand after.part after.between after.apart ends in
+      let count = few_before ends in
       let many = after.many in
       omega (arith, count, many)
 

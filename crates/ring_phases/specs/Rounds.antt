@@ -1,6 +1,6 @@
 -- Phases of all segments in which what is sent may come across before the phase ends: each worker does turns of its own, as
 -- many as it will, and then all ends of lanes are settled. That the lanes brought their items in order is learnt there.
-use Rattle.std.specs.Prelude.{◌≡◌, ℕ, ◌+◌, ◌≤◌, Bool, true, List, Some, slice_get}
+use Rattle.std.specs.Prelude.{◌≡◌, ℕ, ◌+◌, ◌≤◌, Bool, List, Some, slice_get}
 use Rattle.std.specs.List.{AllByRecursion}
 use Rattle.board_model.specs.declared.bridge.Lane.{Lane as BridgeLane}
 use Rattle.board_model.specs.declared.board.Board.{Board}
@@ -8,9 +8,8 @@ use Rattle.history_model.specs.declared.event.Stamped.{Stamped}
 use Rattle.lane_items.specs.declared.item.Item.{Item}
 use Rattle.bus_core.specs.Calls.{stamp_of}
 use Rattle.bus_segment.specs.Stands.{WorkerView}
-use Rattle.bus_segment.specs.Steps.{AllItems}
 use Rattle.worker_phases.specs.Workers.{AreBetween}
-use Rattle.worker_phases.specs.Phase.{AreApart, AllTurned, begun, count_all}
+use Rattle.worker_phases.specs.Phase.{AreApart, AllTurned, count_all}
 
 -- After so many phases, each of which made an event: no stamp is above the number of phases and of events so far.
 pub record AfterRounds {End : Type 0} (had sent got : End → List Item) (kept : End → ℕ) (paired : End → End → Type 0) (board : Board) (workers : List (WorkerView End)) (phases : ℕ) : Type 0 where

@@ -7,16 +7,17 @@ ghost use Rattle.std.specs.Prelude.{◌≡◌, ℕ, ◌+◌, ◌≤◌, Bool, tr
 ghost use Rattle.board_model.specs.declared.board.Board.{Board};
 ghost use Rattle.board_model.specs.Valid.{IsValid};
 ghost use Rattle.bus_segment.specs.Stands.{WorkerView};
-ghost use Rattle.worker_phases.specs.Phase.{AllMaySettle, AllSettled, NoneStopped, IsCompleteRun, history_of_all};
+ghost use Rattle.worker_phases.specs.Phase.{AllMaySettle, AllSettled, NoneStopped, IsCompleteRun, count_all, history_of_all};
 ghost use Rattle.ring_phases.specs.Rounds.{AfterRounds, AllRan};
 
 use lane_items::LaneEnd;
 use law_bound::runs_end;
 
 /// Each phase before made an event, and no run of a valid board has more events than the board's bound:
-/// so there were at most 500,000 phases.
+/// so there were at most 500,000 events, and as many phases.
 pub fn rounds_are_few<L: LaneEnd>()
-    ensures { (board : Board) (workers : List (WorkerView L)) (phases : ℕ) → IsValid board → AfterRounds L.had L.sent L.got L.kept L.paired board workers phases → phases ≤ 500000 }
+    ensures events { (board : Board) (workers : List (WorkerView L)) (phases : ℕ) → IsValid board → AfterRounds L.had L.sent L.got L.kept L.paired board workers phases → count_all workers ≤ 500000 }
+    ensures phases { (board : Board) (workers : List (WorkerView L)) (phases : ℕ) → IsValid board → AfterRounds L.had L.sent L.got L.kept L.paired board workers phases → phases ≤ 500000 }
 {
     runs_end();
 }

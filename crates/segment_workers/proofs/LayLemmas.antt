@@ -1,5 +1,5 @@
--- Where lanes end stays as long as the buses of the workers are the same.
-use Rattle.std.proofs.Common.{◌≡◌, ℕ, ◌+◌, List, length, Some, sym, ap, subst, ◌∙◌, arith, slice_get}
+-- Where lanes end stays as long as the buses of the workers are the same, and so each may do its next turn.
+use Rattle.std.proofs.Common.{◌≡◌, ℕ, ◌+◌, false, List, length, Some, sym, ap, subst, ◌∙◌, arith, slice_get}
 use Rattle.std.proofs.lemmas.List.{length-map}
 use Rattle.std.proofs.lemmas.Option.{slice_get_within}
 use Rattle.board_model.specs.declared.bridge.Lane.{Lane as BridgeLane}
@@ -7,14 +7,18 @@ use Rattle.board_model.specs.declared.board.Board.{Board}
 use Rattle.board_model.specs.Valid.{is_bus}
 use Rattle.bus_port.specs.Port.{PortView}
 use Rattle.bus_core.specs.Bus.{Shape, shape_of, IsOf}
+use Rattle.lane_items.specs.declared.item.Item.{Item}
+use Rattle.bus_segment.specs.Segment.{SegmentView}
 use Rattle.bus_segment.specs.Stands.{WorkerView}
+use Rattle.bus_segment.specs.Steps.{ArrivedUpTo}
 use Rattle.bus_segment.proofs.Laws.{there_at}
 use Rattle.master_agents.specs.Turns.{MasterView}
 use Rattle.worker_phases.specs.Workers.{AreWorkers}
-use Rattle.worker_phases.specs.Phase.{AreApart}
+use Rattle.worker_phases.specs.Phase.{AreApart, NoneStopped, AllSettled}
 use Rattle.worker_phases.proofs.Laws.{same_there}
 use Rattle.segment_workers.specs.declared.settling.Above.{Above}
 use Rattle.board_segments.specs.First.{down_to, up_from}
+use Rattle.segment_workers.specs.Loop.{IsReady, AreReady}
 use Rattle.segment_workers.specs.Settling.{AreAbove, HangBelow}
 use Rattle.segment_workers.specs.Steady.{SameLay}
 
@@ -98,3 +102,53 @@ masters_same v w shape =
     let mine : length (shape_of v.segment.bus).masters ≡ length v.segment.bus.masters = length-map v.segment.bus.masters (λ (m : MasterView). m.master) in
     let other : length (shape_of w.segment.bus).masters ≡ length w.segment.bus.masters = length-map w.segment.bus.masters (λ (m : MasterView). m.master) in
     sym mine ∙ (ap (λ (x : Shape). length x.masters) shape ∙ other)
+
+-- each may do its next turn, where none stopped
+pub ready_still : {End : Type 0} (old new : List (WorkerView End)) → SameLay old new → AreReady old
+    → ((k : ℕ) (v : WorkerView End) → slice_get new k ≡ Some v → v.segment.stopped ≡ false → ArrivedUpTo (length v.events) v.segment.bus) → NoneStopped new → AreReady new
+ready_still old new same ready counts none = record {
+  each = λ k v here.
+      let was = then old new same k v here in
+      let is = ready.each k was.0 was.1 in
+      let ports = ports_same v was.0 was.2 in
+      let masters = masters_same v was.0 was.2 in
+      let few_ports = is.few_ports in
+      let few_masters = is.few_masters in
+      let going = none.going k v here in
+      record {
+        going = going;
+        one_a_port = was.3 ∙ (is.one_a_port ∙ sym ports);
+        few_ports = omega (arith, ports, few_ports);
+        few_masters = omega (arith, masters, few_masters);
+        counts = counts k v here going;
+      };
+}
+
+-- When all ends are settled, nothing else changed.
+module _ {End : Type 0} (had sent got : End → List Item) (kept : End → ℕ) (paired : End → End → Type 0) (new settled : List (WorkerView End)) (settles : AllSettled had sent got kept paired new settled) where
+  pub lay_settled : SameLay new settled
+  lay_settled = record {
+    many = settles.many;
+    each = λ k w here.
+        let found = settles.each k w here in
+        (found.0, found.1, ap (λ (s : SegmentView). shape_of s.bus) found.2.segment, found.2.many);
+  }
+
+  pub ready_settled : AreReady new → AreReady settled
+  ready_settled ready = record {
+    each = λ k u here.
+        let was = then new settled lay_settled k u here in
+        let found = settles.each k was.0 was.1 in
+        let is = ready.each k was.0 was.1 in
+        let one : found.0 ≡ u = same_there settled k found.0 u found.1 here in
+        let segment = found.2.segment in
+        let many = found.2.many in
+        let events = found.2.events in
+        subst IsReady one (record {
+          going = ap (λ (s : SegmentView). s.stopped) segment ∙ is.going;
+          one_a_port = many ∙ (is.one_a_port ∙ sym (ap (λ (s : SegmentView). length s.bus.ports) segment));
+          few_ports = let same = ap (λ (s : SegmentView). length s.bus.ports) segment in let few = is.few_ports in omega (arith, same, few);
+          few_masters = let same = ap (λ (s : SegmentView). length s.bus.masters) segment in let few = is.few_masters in omega (arith, same, few);
+          counts = subst (λ (s : SegmentView). ArrivedUpTo (length found.0.events) s.bus) (sym segment) (subst (λ (n : ℕ). ArrivedUpTo n was.0.segment.bus) (sym (ap length events)) is.counts);
+        });
+  }

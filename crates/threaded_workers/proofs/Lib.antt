@@ -1,1 +1,4 @@
 pub mod TurnLemmas
+pub mod BeginLemmas
+pub mod RoundLemmas
+pub mod FirstLemmas

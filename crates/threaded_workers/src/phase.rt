@@ -12,7 +12,7 @@ use std::thread::Threads;
 
 /// Each bus does its turns of a phase, in a thread of its own: it meets the gate, and then does turns
 /// until one did nothing or there is no more room for the events of another.
-pub fn work_all<L: LaneEnd + Drop + Send, R: Threads + Sync, G: Gate + Sync>(
+pub(crate) fn work_all<L: LaneEnd + Drop + Send, R: Threads + Sync, G: Gate + Sync>(
     rt: &R,
     gate: &G,
     board: &Board,
