@@ -15,21 +15,26 @@ use crate::words::{form_of, misfit, number_of};
 use crate::writing::write_all;
 use command_devices::written_devices_are_complete;
 use command_finish::finished_traces_are_complete;
-use command_run::written_runs_are_complete;
+use command_run::{Gate, written_runs_are_complete};
 use io_ports::{Sink, Source};
 use program_status::Status;
 use program_words::Form;
 use std::alloc::Global;
+use std::thread::Threads;
 
 /// Does what the words say: reads the source to its end, or takes the number among the words in its
 /// place, and writes the text that answers it to the sink. The first of these that holds is the answer: `Usage`, `ReadFault`, `TooLong`,
 /// `BadTrace` or `BadBoard`, `NotRun`, `Incomplete`, `WriteFault`; `NoMemory` may come at any
 /// moment.
-pub fn pcitree<S: Source, K: Sink>(
+///
+/// `run` works each bus in a thread of its own, and the gate is told of the turns of each.
+pub fn pcitree<R: Threads + Sync, S: Source, K: Sink, G: Gate + Sync>(
+    rt: &R,
     alloc: Global,
     words: &[String],
     source: &mut S,
     sink: &mut K,
+    gate: &G,
 ) -> Status
     // Usage, exactly where the words are of no form. Then nothing was read.
     ensures usage { IsUsage result ↔ (form_of (map string_bytes words.now) ≡ None) }
@@ -74,17 +79,19 @@ pub fn pcitree<S: Source, K: Sink>(
     written_runs_are_complete();
     finished_traces_are_complete();
     written_devices_are_complete();
-    match run(alloc, words, source, sink) {
+    match run(rt, alloc, words, source, sink, gate) {
         Ok(()) => Status::Done,
         Err(status) => status,
     }
 }
 
-fn run<S: Source, K: Sink>(
+fn run<R: Threads + Sync, S: Source, K: Sink, G: Gate + Sync>(
+    rt: &R,
     alloc: Global,
     words: &[String],
     source: &mut S,
     sink: &mut K,
+    gate: &G,
 ) -> Result<(), Status>
     ensures form { OnOk result (IsSome (form_of (map string_bytes words.now))) }
     ensures done { OnOk result (IfSome (form_of (map string_bytes words.now)) (λ form. Finishes form
@@ -99,17 +106,19 @@ fn run<S: Source, K: Sink>(
         None => Err(Status::Usage {
             word: misfit(words),
         }),
-        Some(form) => serve(alloc, form, words, source, sink),
+        Some(form) => serve(rt, alloc, form, words, source, sink, gate),
     }
 }
 
 /// Takes the input, from the words or from the source, and writes the text that answers it.
-fn serve<S: Source, K: Sink>(
+fn serve<R: Threads + Sync, S: Source, K: Sink, G: Gate + Sync>(
+    rt: &R,
     alloc: Global,
     form: Form,
     words: &[String],
     source: &mut S,
     sink: &mut K,
+    gate: &G,
 ) -> Result<(), Status>
     requires { is_of (parts_of form) (map string_bytes words.now) ≡ true }
     ensures done { OnOk result (Finishes form
@@ -118,7 +127,7 @@ fn serve<S: Source, K: Sink>(
         form (number_of form (map string_bytes words.now)) source.old source.new sink.old sink.new) }
     ensures unasked { IsSome (number_of form (map string_bytes words.now)) → source.new ≡ source.old }
 {
-    let text = text_of(alloc, form, words, source)?;
+    let text = text_of(rt, alloc, form, words, source, gate)?;
     match write_all(sink, &text) {
         Ok(()) => Ok(()),
         Err(_) => Err(Status::WriteFault),
@@ -126,11 +135,13 @@ fn serve<S: Source, K: Sink>(
 }
 
 /// The text that answers the number among the words, or what the source holds.
-fn text_of<S: Source>(
+fn text_of<R: Threads + Sync, S: Source, G: Gate + Sync>(
+    rt: &R,
     alloc: Global,
     form: Form,
     words: &[String],
     source: &mut S,
+    gate: &G,
 ) -> Result<Vec<u8>, Status>
     requires { is_of (parts_of form) (map string_bytes words.now) ≡ true }
     ensures ok { IfOk result (λ text. AnswersInput form (given form (map string_bytes words.now) (S.held source.old)) (left form (map string_bytes words.now) (S.held source.new)) text.items) }
@@ -138,20 +149,26 @@ fn text_of<S: Source>(
     ensures unasked { IsSome (number_of form (map string_bytes words.now)) → source.new ≡ source.old }
 {
     match number_of(form, words) {
-        Some(number) => answer(alloc, form, number.as_bytes()),
-        None => read_and_answer(alloc, form, source),
+        Some(number) => answer(rt, alloc, form, number.as_bytes(), gate),
+        None => read_and_answer(rt, alloc, form, source, gate),
     }
 }
 
 /// Reads an input, and makes the text that answers it.
-fn read_and_answer<S: Source>(alloc: Global, form: Form, source: &mut S) -> Result<Vec<u8>, Status>
+fn read_and_answer<R: Threads + Sync, S: Source, G: Gate + Sync>(
+    rt: &R,
+    alloc: Global,
+    form: Form,
+    source: &mut S,
+    gate: &G,
+) -> Result<Vec<u8>, Status>
     requires { reads_file form ≡ true }
     ensures ok { IfOk result (λ text. AnswersInput form (S.held source.old) (S.held source.new) text.items) }
     ensures stopped { IfErr result (StopsAnswering form
         (S.held source.old) (S.held source.new) (S.faults source.old) (S.faults source.new)) }
 {
     let input = read_input(alloc, form, source)?;
-    answer(alloc, form, &input)
+    answer(rt, alloc, form, &input, gate)
 }
 
 /// Reads an input to its end.

@@ -5,18 +5,22 @@ ghost use Rattle.pcitree.specs.Given.{given};
 ghost use Rattle.pcitree.specs.Answers.{IsServed, Causes};
 
 use crate::program::pcitree;
+use command_run::Gate;
 use io_ports::{SureSink, SureSource};
 use program_status::Status;
 use std::alloc::Global;
+use std::thread::Threads;
 
 /// `pcitree` over ports that never fail. What is left of its answers are `Done`, `NoMemory` and
 /// the refusals of the words and of the input, and an input that is served is answered wherever
 /// there is memory.
-pub fn pcitree_surely(
+pub fn pcitree_surely<R: Threads + Sync, G: Gate + Sync>(
+    rt: &R,
     alloc: Global,
     words: &[String],
     source: &mut SureSource,
     sink: &mut SureSink,
+    gate: &G,
 ) -> Status
     ensures reads { result ≢ Status.ReadFault }
     ensures writes { result ≢ Status.WriteFault }
@@ -28,5 +32,5 @@ pub fn pcitree_surely(
         → given form (map string_bytes words.now) (Some source.old) ≡ Some input
         → IsServed form input → (result ≡ Status.Done) ⊎ (result ≡ Status.NoMemory) }
 {
-    pcitree(alloc, words, source, sink)
+    pcitree(rt, alloc, words, source, sink, gate)
 }

@@ -9,7 +9,7 @@ pub returns-in-Run-clause-ok : goal.returns-in-Run-clause-ok
 returns-in-Run-clause-ok c = subst (λ (form : Form). IfOk c.answer_run.result (λ text. AnswersTo form c.args.input.now text.items)) (sym c.in-Run.is) c.answer_run.ensures.ok
 
 pub returns-in-RunSteady-clause-ok : goal.returns-in-RunSteady-clause-ok
-returns-in-RunSteady-clause-ok c = subst (λ (form : Form). IfOk c.answer_run-in-RunSteady.result (λ text. AnswersTo form c.args.input.now text.items)) (sym c.in-RunSteady.is) c.answer_run-in-RunSteady.ensures.ok
+returns-in-RunSteady-clause-ok c = subst (λ (form : Form). IfOk c.answer_run_steady.result (λ text. AnswersTo form c.args.input.now text.items)) (sym c.in-RunSteady.is) c.answer_run_steady.ensures.ok
 
 pub returns-in-Headers-clause-ok : goal.returns-in-Headers-clause-ok
 returns-in-Headers-clause-ok c = subst (λ (form : Form). IfOk c.answer_headers.result (λ text. AnswersTo form c.args.input.now text.items)) (sym c.in-Headers.is) c.answer_headers.ensures.ok
