@@ -5,7 +5,7 @@ use Rattle.history_model.specs.declared.event.Event.{Event}
 use Rattle.history_model.specs.declared.why.Why.{Why}
 use Rattle.kept_state.specs.State.{KeptState}
 use Rattle.kept_state.specs.Stands.{StandsFor, Stands}
-use Rattle.kept_left.proofs.tests.step.Goals as goal
+use Rattle.run_tests.proofs.kept_left_tests.step.Goals as goal
 
 stands_still : (board : Board) (h : List Event) (e : Event) (old new : KeptState) (r : Result (Unit {0}) Why) → StandsFor board h old → OnOk r (StandsFor board (e ∷ h) new) → OnErr r (new ≡ old) → Stands board new
 stands_still board h e old new (Ok value) stands goes_on refused = (e ∷ h, goes_on)
