@@ -55,10 +55,10 @@ pub fn pcitree<R: Threads + Sync, S: Source, K: Sink, G: Gate + Sync>(
     // What the sink has.
     ensures unwritten { IsBeforeWriting result → sink.new ≡ sink.old }
     ensures front { result ≡ Status.WriteFault → IfSome (form_of (map string_bytes words.now)) (λ form.
-        StopsInText form (given form (map string_bytes words.now) (S.held source.old)) (left form (map string_bytes words.now) (S.held source.new))
+        StopsInText form (map string_bytes words.now) (given form (map string_bytes words.now) (S.held source.old)) (left form (map string_bytes words.now) (S.held source.new))
         (K.taken sink.old) (K.taken sink.new)) }
     ensures done { result ≡ Status.Done → IfSome (form_of (map string_bytes words.now)) (λ form.
-        Finishes form (given form (map string_bytes words.now) (S.held source.old)) (left form (map string_bytes words.now) (S.held source.new))
+        Finishes form (map string_bytes words.now) (given form (map string_bytes words.now) (S.held source.old)) (left form (map string_bytes words.now) (S.held source.new))
         (K.taken sink.old) (K.taken sink.new)) }
 
     // What `run`, `finish` or `devices` wrote is the text of a complete run, as `check` wants it.
@@ -67,14 +67,14 @@ pub fn pcitree<R: Threads + Sync, S: Source, K: Sink, G: Gate + Sync>(
 
     // What was read.
     ensures refused { IsRefusal result → IfSome (form_of (map string_bytes words.now)) (λ form.
-        RefusesInput form (given form (map string_bytes words.now) (S.held source.old)) (left form (map string_bytes words.now) (S.held source.new)) result) }
+        RefusesInput form (map string_bytes words.now) (given form (map string_bytes words.now) (S.held source.old)) (left form (map string_bytes words.now) (S.held source.new)) result) }
 
     // Where the source tells what it holds, each answer has its cause in that, and an input that is
     // served is answered, unless a port fails or there is no memory.
     ensures cause { (form : WordForm) (input : List ℕ) → form_of (map string_bytes words.now) ≡ Some form
-        → given form (map string_bytes words.now) (S.held source.old) ≡ Some input → Causes form input result }
+        → given form (map string_bytes words.now) (S.held source.old) ≡ Some input → Causes form (map string_bytes words.now) input result }
     ensures served { (form : WordForm) (input : List ℕ) → form_of (map string_bytes words.now) ≡ Some form
-        → given form (map string_bytes words.now) (S.held source.old) ≡ Some input → IsServed form input → Serves result }
+        → given form (map string_bytes words.now) (S.held source.old) ≡ Some input → IsServed form (map string_bytes words.now) input → Serves result }
 {
     written_runs_are_complete();
     finished_traces_are_complete();
@@ -94,7 +94,7 @@ fn run<R: Threads + Sync, S: Source, K: Sink, G: Gate + Sync>(
     gate: &G,
 ) -> Result<(), Status>
     ensures form { OnOk result (IsSome (form_of (map string_bytes words.now))) }
-    ensures done { OnOk result (IfSome (form_of (map string_bytes words.now)) (λ form. Finishes form
+    ensures done { OnOk result (IfSome (form_of (map string_bytes words.now)) (λ form. Finishes form (map string_bytes words.now)
         (given form (map string_bytes words.now) (S.held source.old)) (left form (map string_bytes words.now) (S.held source.new)) (K.taken sink.old) (K.taken sink.new))) }
     ensures misfit { (word : ℕ) → result ≡ Err (Status.Usage word) → word ≡ misfit (map string_bytes words.now) }
     ensures stopped { IfErr result (StopsRunning S K S.held S.faults K.taken K.faults
@@ -120,11 +120,11 @@ fn serve<R: Threads + Sync, S: Source, K: Sink, G: Gate + Sync>(
     sink: &mut K,
     gate: &G,
 ) -> Result<(), Status>
-    requires { is_of (parts_of form) (map string_bytes words.now) ≡ true }
-    ensures done { OnOk result (Finishes form
+    requires { is_of (parts_of form) [] (map string_bytes words.now) ≡ true }
+    ensures done { OnOk result (Finishes form (map string_bytes words.now)
         (given form (map string_bytes words.now) (S.held source.old)) (left form (map string_bytes words.now) (S.held source.new)) (K.taken sink.old) (K.taken sink.new)) }
     ensures stopped { IfErr result (StopsServing S K S.held S.faults K.taken K.faults
-        form (number_of form (map string_bytes words.now)) source.old source.new sink.old sink.new) }
+        form (map string_bytes words.now) (number_of form (map string_bytes words.now)) source.old source.new sink.old sink.new) }
     ensures unasked { IsSome (number_of form (map string_bytes words.now)) → source.new ≡ source.old }
 {
     let text = text_of(rt, alloc, form, words, source, gate)?;
@@ -143,14 +143,14 @@ fn text_of<R: Threads + Sync, S: Source, G: Gate + Sync>(
     source: &mut S,
     gate: &G,
 ) -> Result<Vec<u8>, Status>
-    requires { is_of (parts_of form) (map string_bytes words.now) ≡ true }
-    ensures ok { IfOk result (λ text. AnswersInput form (given form (map string_bytes words.now) (S.held source.old)) (left form (map string_bytes words.now) (S.held source.new)) text.items) }
-    ensures stopped { IfErr result (StopsAnswering form (given form (map string_bytes words.now) (S.held source.old)) (left form (map string_bytes words.now) (S.held source.new)) (S.faults source.old) (S.faults source.new)) }
+    requires { is_of (parts_of form) [] (map string_bytes words.now) ≡ true }
+    ensures ok { IfOk result (λ text. AnswersInput form (map string_bytes words.now) (given form (map string_bytes words.now) (S.held source.old)) (left form (map string_bytes words.now) (S.held source.new)) text.items) }
+    ensures stopped { IfErr result (StopsAnswering form (map string_bytes words.now) (given form (map string_bytes words.now) (S.held source.old)) (left form (map string_bytes words.now) (S.held source.new)) (S.faults source.old) (S.faults source.new)) }
     ensures unasked { IsSome (number_of form (map string_bytes words.now)) → source.new ≡ source.old }
 {
     match number_of(form, words) {
-        Some(number) => answer(rt, alloc, form, number.as_bytes(), gate),
-        None => read_and_answer(rt, alloc, form, source, gate),
+        Some(number) => answer(rt, alloc, form, words, number.as_bytes(), gate),
+        None => read_and_answer(rt, alloc, form, words, source, gate),
     }
 }
 
@@ -159,22 +159,23 @@ fn read_and_answer<R: Threads + Sync, S: Source, G: Gate + Sync>(
     rt: &R,
     alloc: Global,
     form: Form,
+    words: &[String],
     source: &mut S,
     gate: &G,
 ) -> Result<Vec<u8>, Status>
     requires { reads_file form ≡ true }
-    ensures ok { IfOk result (λ text. AnswersInput form (S.held source.old) (S.held source.new) text.items) }
-    ensures stopped { IfErr result (StopsAnswering form
+    ensures ok { IfOk result (λ text. AnswersInput form (map string_bytes words.now) (S.held source.old) (S.held source.new) text.items) }
+    ensures stopped { IfErr result (StopsAnswering form (map string_bytes words.now)
         (S.held source.old) (S.held source.new) (S.faults source.old) (S.faults source.new)) }
 {
     let input = read_input(alloc, form, source)?;
-    answer(rt, alloc, form, &input, gate)
+    answer(rt, alloc, form, words, &input, gate)
 }
 
 /// Reads an input to its end.
 fn read_input<S: Source>(alloc: Global, form: Form, source: &mut S) -> Result<Vec<u8>, Status>
     ensures ok { IfOk result (λ input. ReadsInput form (S.held source.old) (S.held source.new) input.items) }
-    ensures stopped { IfErr result (StopsAnswering form
+    ensures stopped { (words : List (List ℕ)) → IfErr result (StopsAnswering form words
         (S.held source.old) (S.held source.new) (S.faults source.old) (S.faults source.new)) }
 {
     match read_all(alloc, source, form.row().limit) {

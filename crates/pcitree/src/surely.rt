@@ -27,10 +27,10 @@ pub fn pcitree_surely<R: Threads + Sync, G: Gate + Sync>(
 
     // The input is the number among the words, or else what the source holds.
     ensures cause { (form : WordForm) (input : List ℕ) → form_of (map string_bytes words.now) ≡ Some form
-        → given form (map string_bytes words.now) (Some source.old) ≡ Some input → Causes form input result }
+        → given form (map string_bytes words.now) (Some source.old) ≡ Some input → Causes form (map string_bytes words.now) input result }
     ensures served { (form : WordForm) (input : List ℕ) → form_of (map string_bytes words.now) ≡ Some form
         → given form (map string_bytes words.now) (Some source.old) ≡ Some input
-        → IsServed form input → (result ≡ Status.Done) ⊎ (result ≡ Status.NoMemory) }
+        → IsServed form (map string_bytes words.now) input → (result ≡ Status.Done) ⊎ (result ≡ Status.NoMemory) }
 {
     pcitree(rt, alloc, words, source, sink, gate)
 }

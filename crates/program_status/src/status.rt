@@ -46,7 +46,7 @@ pub enum Status {
     /// What `lspci` wrote has a fault, at this line from 1 on.
     BadMachine { line: u32, fault: LspciFault },
     /// So many events are to be drawn: more than a page may show.
-    TooManyEvents { events: u32 },
+    TooManyEvents { events: u64 },
     /// This event, from 1 on, is not allowed after those before it.
     NotRun { event: u32, why: Why },
     /// The run has not ended: at most so many events are left.
