@@ -1,0 +1,3 @@
+pub mod Tops
+pub mod Strips
+pub mod Pages
