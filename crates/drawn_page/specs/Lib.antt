@@ -1,3 +1,2 @@
 pub mod Tops
-pub mod Strips
 pub mod Pages

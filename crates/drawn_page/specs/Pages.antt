@@ -18,7 +18,7 @@ use Rattle.drawn_layers.specs.Rows.{rows_of}
 use Rattle.drawn_layers.specs.Layers.{layers}
 use Rattle.drawn_heads.specs.Names.{names_text}
 use Rattle.drawn_page.specs.Tops.{title_text, top_text, told_text}
-use Rattle.drawn_page.specs.Strips.{strips_text}
+use Rattle.drawn_strips.specs.Strips.{strips_text}
 
 -- the columns with their names, and the strips
 unfoldable pub table_open : List ℕ

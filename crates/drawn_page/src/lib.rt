@@ -2,7 +2,6 @@
 #![tactic(auto)]
 
 mod page;
-mod strips;
 mod top;
 
 pub use page::page_of;

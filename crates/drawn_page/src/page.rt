@@ -6,7 +6,6 @@ ghost use Rattle.drawn_told.specs.Kept.{TellsTold};
 ghost use Rattle.drawn_columns.specs.Places.{layout_of};
 ghost use Rattle.drawn_page.specs.Pages.{table_open, names_part, table_text, page_with, page_in, page_from, page_of};
 
-use crate::strips::print_strips;
 use crate::top::{Title, print_told, print_top};
 use board_model::Board;
 use bus_tree::Tree;
@@ -16,6 +15,7 @@ use drawn_layers::{layers_of, rows_of};
 use drawn_rows::{Frame, Row, frame_of};
 use drawn_run::{Traffic, Tries, traffic_of, tries_of, waits_of};
 use drawn_shapes::Element;
+use drawn_strips::print_strips;
 use drawn_told::{Brackets, Told, brackets_of, told_of};
 use history_model::Event;
 use pci_command::{List, NoMemory};
@@ -98,6 +98,7 @@ fn page_in(
     let mut text = String::new(alloc);
     let count = events.len() as u32;
     print_page(
+        alloc,
         &mut text,
         board,
         count,
@@ -127,6 +128,7 @@ fn columns_in(
 
 #[tactic(auto, unfolding(crate::specs::Pages::page_with))]
 fn print_page(
+    alloc: Global,
     text: &mut String,
     board: &Board,
     count: u32,
@@ -145,12 +147,13 @@ fn print_page(
     };
     print_top(text, title)?;
     print_told(text, board, told.found(), told.spans())?;
-    print_table(text, board, columns, frame, elements)
+    print_table(alloc, text, board, columns, frame, elements)
 }
 
 /// The columns with their names, and the strips.
 #[tactic(auto, unfolding(crate::specs::Pages::table_text))]
 fn print_table(
+    alloc: Global,
     text: &mut String,
     board: &Board,
     columns: &Columns,
@@ -160,7 +163,7 @@ fn print_table(
     ensures { OnOk result (string_bytes text.new ≡ string_bytes text.old ++ table_text board.now columns.now frame.now elements.now) }
 {
     print_names_part(text, board, columns)?;
-    print_strips(text, columns, frame, elements)?;
+    print_strips(alloc, text, columns, frame, elements)?;
     text.push_str("</table>\n")?;
     Ok(())
 }

@@ -29,9 +29,12 @@ strip_top frame k = 16 * (low_row frame k - frame.first)
 unfoldable pub strip_foot : Frame → ℕ → ℕ
 strip_foot frame k = 16 * (high_row frame k - frame.first) + 16
 
-unfoldable pub strip_text : Layout → Frame → List Shape → ℕ → List ℕ
-strip_text layout frame shapes k =
-    codes "<tr><td>" ++ (sheet_text layout (strip_top frame k) (strip_foot frame k) ++ (flat_map (passing frame k) shapes ++ codes "</svg>\n"))
+unfoldable pub strip_around : Layout → Frame → ℕ → List ℕ → List ℕ
+strip_around layout frame k drawn =
+    codes "<tr><td>" ++ (sheet_text layout (strip_top frame k) (strip_foot frame k) ++ (drawn ++ codes "</svg>\n"))
+
+abbrev pub strip_text : Layout → Frame → List Shape → ℕ → List ℕ
+strip_text layout frame shapes k = strip_around layout frame k (flat_map (passing frame k) shapes)
 
 unfoldable pub strips_text : Layout → Frame → List Shape → List ℕ
 strips_text layout frame shapes = flat_map (strip_text layout frame shapes) (range_with_len 0 (strips_count frame))
