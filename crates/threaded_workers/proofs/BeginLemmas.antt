@@ -24,16 +24,16 @@ next_none workers = record {
   least = λ most upto. omega arith;
 }
 
-pub next_more : {End : Type 0} (workers : List (WorkerView End)) (i next now : ℕ) (w : WorkerView End) → slice_get workers i ≡ Some w → now ≡ max next (w.segment.stamp + 1) → NextSoFar workers i next → NextSoFar workers (i + 1) now
-next_more {End} workers i next now w here is so_far = record {
+pub next_more : {End : Type 0} (workers : List (WorkerView End)) (i next now stamp : ℕ) (w : WorkerView End) → slice_get workers i ≡ Some w → stamp ≡ w.segment.stamp → now ≡ max next (stamp + 1) → NextSoFar workers i next → NextSoFar workers (i + 1) now
+next_more {End} workers i next now stamp w here own_is is so_far = record {
   above = λ k u few there.
       let P : Bool → Type 0 = λ t. (k == i) ≡ t → u.segment.stamp < now in
       (elim (k == i) as P [
         | true ↦ λ same_is.
             let same : k ≡ i = eqb-true k i same_is in
             let one : w ≡ u = same_there workers i w u here (ap (slice_get workers) (sym same) ∙ there) in
-            let stamp : w.segment.stamp ≡ u.segment.stamp = ap (λ (x : WorkerView End). x.segment.stamp) one in
-            omega (arith, stamp, is)
+            let stamps : w.segment.stamp ≡ u.segment.stamp = ap (λ (x : WorkerView End). x.segment.stamp) one in
+            omega (arith, stamps, own_is, is)
         | false ↦ λ differ.
             let apart : k ≢ i = eqb-false k i differ in
             let before = so_far.above k u (omega (arith, few, apart)) there in
@@ -42,7 +42,7 @@ next_more {End} workers i next now w here is so_far = record {
   least = λ most upto.
       let before = so_far.least most upto in
       let own = upto.up_to i w here in
-      omega (arith, before, own, is);
+      omega (arith, before, own, own_is, is);
 }
 
 pub next_all : {End : Type 0} (workers : List (WorkerView End)) (many next : ℕ) → length workers ≤ many → NextSoFar workers many next → IsNextStamp workers next

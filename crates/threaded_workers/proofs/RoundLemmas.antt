@@ -1,5 +1,5 @@
 -- One phase: from the workers before it to the workers when all ends are settled.
-use Rattle.std.proofs.Common.{◌≡◌, ℕ, zero, suc, ◌+◌, ◌-◌, ◌^◌, ◌<◌, ◌≤◌, min, nat_lt, Bool, true, false, List, [], ◌∷◌, length, get_or, Some, refl, sym, ap, subst, ◌∙◌, arith, slice_get}
+use Rattle.std.proofs.Common.{◌≡◌, ℕ, zero, suc, ◌+◌, ◌-◌, ◌^◌, ◌<◌, ◌≤◌, min, nat_lt, true, false, List, [], ◌∷◌, length, get_or, Some, refl, sym, ap, subst, ◌∙◌, arith, slice_get}
 use Rattle.std.proofs.lemmas.Bool.{ltb-true}
 use Rattle.std.proofs.lemmas.Bool.Decides.{nat_tests}
 use Rattle.std.proofs.lemmas.List.{length-map}
@@ -56,11 +56,11 @@ none_grew (x ∷ old) (y ∷ new) grows upto (suc k) w v here there =
     let one = grows.each 0 x y refl refl in
     none_grew old new (grows_behind x y old new grows) (omega (arith, one, upto)) k w v here there
 
--- seen by the sums that are counted up to the greatest number
-pub more_counted : (before after old new : ℕ) → before ≡ min old (2 ^ 64 - 1) → after ≡ min new (2 ^ 64 - 1) → nat_lt before after ≡ true → old < new
+-- as the sums tell that are counted up to the greatest number
+more_counted : (before after old new : ℕ) → before ≡ min old (2 ^ 64 - 1) → after ≡ min new (2 ^ 64 - 1) → nat_lt before after ≡ true → old < new
 more_counted before after old new one other on = let more = ltb-true before after on in omega (arith, one, other, more)
 
-pub no_more_counted : (before after old new : ℕ) → before ≡ min old (2 ^ 64 - 1) → after ≡ min new (2 ^ 64 - 1) → old ≤ 500000 → nat_lt before after ≡ false → new ≤ old
+no_more_counted : (before after old new : ℕ) → before ≡ min old (2 ^ 64 - 1) → after ≡ min new (2 ^ 64 - 1) → old ≤ 500000 → nat_lt before after ≡ false → new ≤ old
 no_more_counted before after old new one other few off = let upto : after ≤ before = grind (arith, nat_tests) in omega (arith, one, other, few, upto)
 
 -- Stamps.
@@ -115,8 +115,7 @@ module _ {End : Type 0} (had sent got : End → List Item) (kept : End → ℕ) 
         let ran_many = ran.many in
         let began_within : k < length mid = omega (arith, within, began_many) in
         let one = began.each k d within in
-        let is : seen (get_or mid k d) ≡ begun from w = begun_as from (get_or workers k d) (get_or mid k d) one ∙ ap (λ (x : WorkerView End). begun from x) (seen_at workers k w d here) in
-        (
+        let is : seen (get_or mid k d) ≡ begun from w = begun_as from (get_or workers k d) (get_or mid k d) one ∙ ap (λ (x : WorkerView End). begun from x) (seen_at workers k w d here) in (
           seen (get_or new k d),
           seen_there new k d (omega (arith, began_within, ran_many)),
           subst (λ (x : WorkerView End). Ran had sent got kept paired board x (seen (get_or new k d))) is (ran.each k d began_within),
@@ -134,25 +133,25 @@ module _ {End : Type 0} (had sent got : End → List Item) (kept : End → ℕ) 
     }
 
     -- so what the laws suppose of a phase
-    pub ran_all : (busy : Bool) → IsNextStamp Old from → (busy ≡ true → count_all Old < count_all New) → (busy ≡ false → count_all New ≤ count_all Old) → AllRan had sent got kept paired board phases Old New busy
-    ran_all busy next on off = record {
+    pub ran_all : (before after : ℕ) → IsNextStamp Old from → before ≡ min (count_all Old) (2 ^ 64 - 1) → after ≡ min (count_all New) (2 ^ 64 - 1) → count_all Old ≤ 500000
+        → AllRan had sent got kept paired board phases Old New (nat_lt before after)
+    ran_all before after next one other few = record {
       from = from;
       low = next.least (phases + count_all Old) (record { up_to = rounds.after.stamps });
       turned = record {
         each = λ k w here.
-            let found = did k w here in
-            (
+            let found = did k w here in (
               found.0,
               found.2.count,
               found.1,
               found.2.turned,
               λ idle.
-                let upto = none_grew Old New grown (off idle) k w found.0 here found.1 in
-                let many = found.2.turned.many in
-                omega (arith, upto, many),
+                  let upto = none_grew Old New grown (no_more_counted before after (count_all Old) (count_all New) one other few idle) k w found.0 here found.1 in
+                  let many = found.2.turned.many in
+                  omega (arith, upto, many),
             );
         many = new_many;
-        grows = on;
+        grows = more_counted before after (count_all Old) (count_all New) one other;
       };
     }
 

@@ -1,4 +1,4 @@
-use Rattle.std.proofs.Common.{ℕ, ◌+◌, Some, max, sym, ap, ◌∙◌, arith}
+use Rattle.std.proofs.Common.{Some, sym, ap, ◌∙◌, arith}
 use Rattle.std.proofs.lemmas.List.{length-map}
 use Rattle.bus_turn.specs.declared.worker.Worker.{Worker}
 use Rattle.segment_workers.specs.Loop.{seen, all_seen}
@@ -23,8 +23,7 @@ loop-worker-preserved g c =
     let i = c.loop-worker.worker-index in
     let w : Worker g.row.L.Denot = c.worker-item.result in
     let here = seen_there c.args.workers.now i w (omega arith) ∙ ap (λ (x : Worker g.row.L.Denot). Some (seen x)) (sym c.worker-item.is) in
-    next_more (all_seen c.args.workers.now) i c.loop-worker.next c.max-next.result (seen w) here
-    (c.max-next.ensures ∙ ap (λ (n : ℕ). max c.loop-worker.next (n + 1)) c.stamp.ensures) c.loop-worker.invariant
+    next_more (all_seen c.args.workers.now) i c.loop-worker.next c.max-next.result c.stamp.result (seen w) here c.stamp.ensures c.max-next.ensures c.loop-worker.invariant
 
 pub returns : goal.returns
 returns g c =

@@ -1,9 +1,8 @@
 use denote.Param.Send.{sendable}
 use Rattle.std.proofs.Common.{Bool, nat_lt, subst}
 use Rattle.ring_phases.specs.Rounds.{AllRan}
-use Rattle.worker_phases.specs.Phase.{count_all}
 use Rattle.segment_workers.specs.Loop.{all_seen}
-use Rattle.threaded_workers.proofs.RoundLemmas.{more_counted, no_more_counted, stamps_fit, all_room, ran_all, laid_ran, above_ran, rounds_settled}
+use Rattle.threaded_workers.proofs.RoundLemmas.{stamps_fit, all_room, ran_all, laid_ran, above_ran, rounds_settled}
 use Rattle.threaded_workers.proofs.rounds.run_phase.Goals as goal
 
 pub next_stamp-from-requires : goal.next_stamp-from-requires
@@ -40,11 +39,9 @@ settle_all-requires-clause-may g c =
     let board = c.args.board.now in
     let old = all_seen c.args.workers.now in
     let new = all_seen c.work_all.new.workers in
-    let few = c.rounds_are_few.ensures.events board old c.args.phases c.requires.valid c.requires.rounds.after in
     let ran = ran_all E.had E.sent E.got E.kept E.paired board c.args.workers.now c.begin_all.new.workers c.work_all.new.workers c.args.above.now c.args.phases c.next_stamp-from.result
-    c.requires.rounds c.in_ok-begin_all.ensures c.work_all.ensures (nat_lt c.recorded-before.result c.recorded.result) c.next_stamp-from.ensures
-    (more_counted c.recorded-before.result c.recorded.result (count_all old) (count_all new) c.recorded-before.ensures c.recorded.ensures)
-    (no_more_counted c.recorded-before.result c.recorded.result (count_all old) (count_all new) c.recorded-before.ensures c.recorded.ensures few) in
+    c.requires.rounds c.in_ok-begin_all.ensures c.work_all.ensures c.recorded-before.result c.recorded.result c.next_stamp-from.ensures c.recorded-before.ensures c.recorded.ensures
+    (c.rounds_are_few.ensures.events board old c.args.phases c.requires.valid c.requires.rounds.after) in
     c.rounds_may_settle.ensures board old new c.args.phases (nat_lt c.recorded-before.result c.recorded.result) c.requires.valid c.requires.rounds.after ran
 
 pub returns-clause-busy : goal.returns-clause-busy
@@ -54,12 +51,10 @@ returns-clause-busy g c =
     let old = all_seen c.args.workers.now in
     let new = all_seen c.work_all.new.workers in
     let settled = all_seen c.settle_all.new.workers in
-    let few = c.rounds_are_few.ensures.events board old c.args.phases c.requires.valid c.requires.rounds.after in
     let busy : Bool = nat_lt c.recorded-before.result c.recorded.result in
     let ran = ran_all E.had E.sent E.got E.kept E.paired board c.args.workers.now c.begin_all.new.workers c.work_all.new.workers c.args.above.now c.args.phases c.next_stamp-from.result
-    c.requires.rounds c.in_ok-begin_all.ensures c.work_all.ensures busy c.next_stamp-from.ensures
-    (more_counted c.recorded-before.result c.recorded.result (count_all old) (count_all new) c.recorded-before.ensures c.recorded.ensures)
-    (no_more_counted c.recorded-before.result c.recorded.result (count_all old) (count_all new) c.recorded-before.ensures c.recorded.ensures few) in
+    c.requires.rounds c.in_ok-begin_all.ensures c.work_all.ensures c.recorded-before.result c.recorded.result c.next_stamp-from.ensures c.recorded-before.ensures c.recorded.ensures
+    (c.rounds_are_few.ensures.events board old c.args.phases c.requires.valid c.requires.rounds.after) in
     let after = c.requires.rounds.after in
     let none = c.rounds_stop_no_worker.ensures board old new settled c.args.phases busy c.requires.valid after ran c.settle_all.ensures in
     λ on.
@@ -75,12 +70,10 @@ returns-clause-idle g c =
     let old = all_seen c.args.workers.now in
     let new = all_seen c.work_all.new.workers in
     let settled = all_seen c.settle_all.new.workers in
-    let few = c.rounds_are_few.ensures.events board old c.args.phases c.requires.valid c.requires.rounds.after in
     let busy : Bool = nat_lt c.recorded-before.result c.recorded.result in
     let ran = ran_all E.had E.sent E.got E.kept E.paired board c.args.workers.now c.begin_all.new.workers c.work_all.new.workers c.args.above.now c.args.phases c.next_stamp-from.result
-    c.requires.rounds c.in_ok-begin_all.ensures c.work_all.ensures busy c.next_stamp-from.ensures
-    (more_counted c.recorded-before.result c.recorded.result (count_all old) (count_all new) c.recorded-before.ensures c.recorded.ensures)
-    (no_more_counted c.recorded-before.result c.recorded.result (count_all old) (count_all new) c.recorded-before.ensures c.recorded.ensures few) in
+    c.requires.rounds c.in_ok-begin_all.ensures c.work_all.ensures c.recorded-before.result c.recorded.result c.next_stamp-from.ensures c.recorded-before.ensures c.recorded.ensures
+    (c.rounds_are_few.ensures.events board old c.args.phases c.requires.valid c.requires.rounds.after) in
     λ off.
     let ran_off = subst (λ (b : Bool). AllRan E.had E.sent E.got E.kept E.paired board c.args.phases old new b) off ran in
     c.idle_rounds_end_the_run.ensures board old new settled c.args.phases c.requires.valid c.requires.rounds.after ran_off c.settle_all.ensures

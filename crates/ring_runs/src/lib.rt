@@ -1,0 +1,36 @@
+//! A whole run of a board, each bus worked by a thread of its own, and what holds of every run.
+#![tactic(auto)]
+
+ghost use Rattle.std.specs.Prelude.{IfOk};
+ghost use Rattle.trace_check.specs.Verdicts.{CompleteRun};
+
+use bus_tree::Tree;
+use history_model::Event;
+use law_fresh::runs_are_fresh;
+use law_slots::{matched, well_formed_boards};
+use pci_command::{List, NoMemory};
+use std::alloc::Global;
+use std::thread::Threads;
+use threaded_workers::{Gate, run_rings};
+
+#[cfg(test)]
+mod tests;
+
+/// A complete run of the board, the first event first: in each phase each bus does turns in a thread
+/// of its own, and what it sends may come to other buses in the same phase. The gate is told of the
+/// turns. Which complete run it is depends on how the threads run.
+pub fn threaded_run<R: Threads + Sync, G: Gate + Sync>(
+    rt: &R,
+    alloc: Global,
+    tree: &Tree,
+    gate: &G,
+) -> Result<List<Event>, NoMemory>
+    ensures { IfOk result (CompleteRun tree.now) }
+{
+    matched();
+    well_formed_boards();
+    runs_are_fresh();
+    // The board of a tree is valid, so that the laws speak of it.
+    let _valid = tree.board();
+    run_rings(rt, alloc, tree, gate)
+}
