@@ -40,11 +40,18 @@ pub fn layers_of(
 {
     let mut elements = Vec::new(alloc);
     let all = &mut elements;
-    add_behind(
-        alloc, all, columns, frame, rows, items, waits, tries, told,
-    )?;
+    add_behind(alloc, all, columns, frame, rows, items, waits, tries, told)?;
     add_in_front(
-        alloc, all, board, columns, frame, rows, items, tries, told.spans(), brackets.tracks(),
+        alloc,
+        all,
+        board,
+        columns,
+        frame,
+        rows,
+        items,
+        tries,
+        told.spans(),
+        brackets.tracks(),
     )?;
     Ok(elements)
 }

@@ -55,9 +55,7 @@ fn page_from(
 {
     let traffic = traffic_of(alloc, events)?;
     let tries = tries_of(alloc, events)?;
-    let rows = rows_of(
-        alloc, board, events, &traffic, &tries, told, first, last,
-    )?;
+    let rows = rows_of(alloc, board, events, &traffic, &tries, told, first, last)?;
     let rows = rows.as_slice();
     let frame = frame_of(alloc, events.len() as u32, first, last, rows)?;
     page_in(alloc, board, events, told, &traffic, &tries, &frame, rows)

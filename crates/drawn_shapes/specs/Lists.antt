@@ -1,5 +1,5 @@
 -- The list of events beside a picture, as text: number, line and note of each.
-use Rattle.std.specs.Prelude.{ℕ, Bool, true, false, ◌||◌, ◌==◌, List, [], ◌∷◌, ◌++◌, length, codes, Option, Some, None, if◌then◌else◌}
+use Rattle.std.specs.Prelude.{ℕ, Bool, true, false, ◌||◌, ◌==◌, List, [], ◌++◌, length, codes, Option, Some, None, if◌then◌else◌}
 use Rattle.std.specs.Fmt.{decimal}
 use Rattle.board_model.specs.declared.board.Board.{Board}
 use Rattle.drawn_run.specs.declared.item.Kind.{Kind}

@@ -53,11 +53,7 @@ pub(crate) fn print_dotted(
 ) -> Result<(), AllocError>
     ensures { OnOk result (string_bytes text.new ≡ string_bytes text.old ++ dotted_text first n x to) }
 {
-    writeln!(
-        text,
-        "<path class=\"u\" d=\"M{x} {}H{to}\"/>",
-        y(first, n)
-    )
+    writeln!(text, "<path class=\"u\" d=\"M{x} {}H{to}\"/>", y(first, n))
 }
 
 /// The bar of a master that waits.

@@ -1,6 +1,6 @@
 -- The strips of a picture, of 32 rows each; the last may have fewer. A strip cuts what goes on beyond it, so that an element is
 -- written once in each strip that it passes.
-use Rattle.std.specs.Prelude.{ℕ, ◌+◌, ◌-◌, ◌*◌, ◌/◌, Bool, ◌&&◌, min, nat_le, List, [], ◌++◌, codes, if◌then◌else◌}
+use Rattle.std.specs.Prelude.{ℕ, ◌+◌, ◌-◌, ◌*◌, ◌/◌, ◌&&◌, min, nat_le, List, [], ◌++◌, codes, if◌then◌else◌}
 use Rattle.std.specs.List.{flat_map, range_with_len}
 use Rattle.drawn_columns.specs.Places.{Layout}
 use Rattle.drawn_rows.specs.declared.frame.Frame.{Frame}

@@ -101,12 +101,7 @@ fn draw(strips: &mut Vec<Strip>, frame: &Frame, element: &Element) -> Result<(),
 }
 
 /// The text, in the strips from number `begin` on and before number `end`.
-fn add_to(
-    strips: &mut Vec<Strip>,
-    begin: usize,
-    end: usize,
-    text: &str,
-) -> Result<(), AllocError>
+fn add_to(strips: &mut Vec<Strip>, begin: usize, end: usize, text: &str) -> Result<(), AllocError>
     ensures { OnOk result (AddsTo begin end text.now strips.old.items strips.new.items) }
 {
     for strip in begin..end.min(strips.len()) {

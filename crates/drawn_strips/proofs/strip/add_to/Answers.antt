@@ -1,4 +1,4 @@
-use Rattle.std.proofs.Common.{◌≡◌, ◌≤◌, min, max, length, arith, ◌∙◌}
+use Rattle.std.proofs.Common.{◌≡◌, length, arith, ◌∙◌}
 use Rattle.drawn_strips.proofs.DrawLemmas.{adds_all}
 use Rattle.drawn_strips.proofs.strip.add_to.Goals as goal
 

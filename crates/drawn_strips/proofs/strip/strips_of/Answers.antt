@@ -1,5 +1,4 @@
 use Rattle.std.proofs.Common.{ℕ, List, [], replicate, ap, ◌∙◌}
-use Rattle.drawn_shapes.specs.Shapes.{Shape}
 use Rattle.drawn_strips.proofs.DrawLemmas.{drawn_none, drawn_more, drawn_all}
 use Rattle.drawn_strips.proofs.strip.strips_of.Goals as goal
 
