@@ -14,6 +14,7 @@ use Rattle.program_input.proofs.RunLemmas.{run_refusing}
 use Rattle.command_generate.proofs.ServedLemmas.{generate_refusing}
 use Rattle.command_devices.proofs.ServedLemmas.{devices_refusing}
 use Rattle.command_draw.proofs.ServedLemmas.{draw_refusing}
+use Rattle.command_untagged.proofs.ServedLemmas.{untagged_refusing}
 use Rattle.command_import.proofs.ServedLemmas.{import_refusing}
 use Rattle.program_words.specs.declared.Form.{Form}
 use Rattle.program_words.specs.declared.Form.TheVariants as forms
@@ -73,6 +74,7 @@ refusing forms.Report words = run_refusing
 refusing forms.Waves words = run_refusing
 refusing forms.Draw words = draw_refusing (rows_in words)
 refusing forms.DrawRows words = draw_refusing (rows_in words)
+refusing forms.Untagged words = untagged_refusing
 refusing forms.Combine words = board_refusing
 refusing forms.Generate words = generate_refusing
 refusing forms.Devices words = devices_refusing

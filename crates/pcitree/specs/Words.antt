@@ -15,6 +15,7 @@ use Rattle.command_waves.specs.Answers.{AnswersWaves}
 use Rattle.command_draw.specs.declared.rows.Rows.{Rows}
 use Rattle.command_draw.specs.Rows.{rows_of, names_event}
 use Rattle.command_draw.specs.Answers.{AnswersDraw, RefusesDraw, IsDrawable}
+use Rattle.command_untagged.specs.Answers.{AnswersUntagged, RefusesUntagged, IsUntaggedTrace}
 use Rattle.command_combine.specs.Answers.{AnswersCombine}
 use Rattle.command_generate.specs.Answers.{names_rounds, AnswersGenerate, RefusesGenerate, NamesRounds}
 use Rattle.command_devices.specs.Answers.{AnswersDevices}
@@ -87,6 +88,12 @@ command_of forms.Waves words = record {
   Answers = AnswersWaves;
   Refuses = RefusesRun;
   IsFaultless = IsRunTrace;
+  writes_run = false;
+}
+command_of forms.Untagged words = record {
+  Answers = AnswersUntagged;
+  Refuses = RefusesUntagged;
+  IsFaultless = IsUntaggedTrace;
   writes_run = false;
 }
 command_of forms.Combine words = record {

@@ -34,6 +34,7 @@ pub(crate) fn answer<R: Threads + Sync, G: Gate + Sync>(
         Form::Waves => command_waves::answer_waves(alloc, input),
         Form::Draw => command_draw::answer_draw(alloc, input, rows_in(words)),
         Form::DrawRows => command_draw::answer_draw(alloc, input, rows_in(words)),
+        Form::Untagged => command_untagged::answer_untagged(alloc, input),
         Form::Combine => command_combine::answer_combine(alloc, input),
         Form::Generate => command_generate::answer_generate(alloc, input),
         Form::Devices => command_devices::answer_devices(alloc, input),

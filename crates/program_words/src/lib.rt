@@ -32,6 +32,7 @@ pub enum Form {
     Waves,
     Draw,
     DrawRows,
+    Untagged,
     Combine,
     Generate,
     Devices,
@@ -61,7 +62,7 @@ const TRACE: usize = 0x400_0000;
 const NUMBER: usize = 10;
 
 /// All forms, in the order in which they are told.
-pub const FORMS: [Form; 14] = [
+pub const FORMS: [Form; 15] = [
     Form::Run,
     Form::RunSteady,
     Form::Headers,
@@ -72,6 +73,7 @@ pub const FORMS: [Form; 14] = [
     Form::Waves,
     Form::Draw,
     Form::DrawRows,
+    Form::Untagged,
     Form::Combine,
     Form::Generate,
     Form::Devices,
@@ -156,6 +158,16 @@ const DRAW_ROWS: Row = Row {
     more: "At most 4,096 of them, by number from 1 on; a LAST above the number of events is lowered to it.",
 };
 
+const UNTAGGED: Row = Row {
+    parts: &[Part::Word("untagged"), Part::File],
+    limit: TRACE,
+    line: "judges a trace of bridges that keep no local master",
+    more: "As many bridges were built, before the specification told them to keep the master of a delayed request\n\
+        (PCI-to-PCI Bridge Architecture 1.1, from memory). Writes how many events the run has, each read that came\n\
+        out stale though its master was told of the write, and whether masters are apart, so that it makes no\n\
+        difference on this board.",
+};
+
 const COMBINE: Row = Row {
     parts: &[Part::Word("combine"), Part::File],
     limit: BOARD,
@@ -213,6 +225,7 @@ impl Form {
             Form::Waves => WAVES,
             Form::Draw => DRAW,
             Form::DrawRows => DRAW_ROWS,
+            Form::Untagged => UNTAGGED,
             Form::Combine => COMBINE,
             Form::Generate => GENERATE,
             Form::Devices => DEVICES,

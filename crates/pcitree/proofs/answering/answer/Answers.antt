@@ -41,6 +41,9 @@ returns-in-DrawRows-clause-ok c =
     subst (λ (form : Form). IfOk c.answer_draw-in-DrawRows.result (λ text. AnswersTo form (map string_bytes c.args.words.now) c.args.input.now text.items)) (sym c.in-DrawRows.is)
     (subst (λ rows. IfOk c.answer_draw-in-DrawRows.result (λ text. AnswersDraw c.args.input.now rows text.items)) c.rows_in-in-DrawRows.ensures c.answer_draw-in-DrawRows.ensures.ok)
 
+pub returns-in-Untagged-clause-ok : goal.returns-in-Untagged-clause-ok
+returns-in-Untagged-clause-ok c = subst (λ (form : Form). IfOk c.answer_untagged.result (λ text. AnswersTo form (map string_bytes c.args.words.now) c.args.input.now text.items)) (sym c.in-Untagged.is) c.answer_untagged.ensures.ok
+
 pub returns-in-Combine-clause-ok : goal.returns-in-Combine-clause-ok
 returns-in-Combine-clause-ok c = subst (λ (form : Form). IfOk c.answer_combine.result (λ text. AnswersTo form (map string_bytes c.args.words.now) c.args.input.now text.items)) (sym c.in-Combine.is) c.answer_combine.ensures.ok
 
