@@ -8,7 +8,8 @@ use Rattle.history_model.specs.Runs.{history_of}
 use Rattle.lane_replay.proofs.RoomLemmas.{history_more}
 use Rattle.law_untagged.specs.Origins.{ending_reading}
 use Rattle.untagged_run.specs.declared.got.Got.{Got}
-use Rattle.untagged_run.specs.Table.{SameGot, flat}
+use Rattle.untagged_run.specs.Flat.{flat}
+use Rattle.untagged_run.specs.Table.{SameGot}
 use Rattle.untagged_run.specs.Course.{CourseState, IsCourse, GoesOn, AreGots}
 
 abbrev pub GotAt : Board → List Event → List (Option Got) → ℕ → Type 0

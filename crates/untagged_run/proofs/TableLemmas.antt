@@ -6,7 +6,8 @@ use mathlib.Core.Bool.{beq}
 use Rattle.history_model.specs.World.{same_direction}
 use Rattle.untagged_run.specs.declared.got.Got.{Got}
 use Rattle.untagged_run.specs.declared.origins.Key.{Key}
-use Rattle.untagged_run.specs.Table.{Table, flat, same_key, origin_at}
+use Rattle.untagged_run.specs.Flat.{flat}
+use Rattle.untagged_run.specs.Table.{Table, same_key, origin_at}
 
 abbrev pub derived : Key → Key → Bool
 derived a b = eqb a.bus b.bus && (beq a.up b.up && eqb a.number b.number)

@@ -13,7 +13,8 @@ use Rattle.untagged_run.specs.declared.got.Followed.{Followed}
 use Rattle.untagged_run.specs.declared.got.Followed.TheVariants.{NotRun, Run}
 use Rattle.untagged_run.specs.declared.origins.Key.{Key}
 use Rattle.untagged_run.specs.declared.made.Made.{Made}
-use Rattle.untagged_run.specs.Table.{Table, SameGot, KeepsOrigins, flat, origin_at, same_key}
+use Rattle.untagged_run.specs.Flat.{flat}
+use Rattle.untagged_run.specs.Table.{Table, SameGot, KeepsOrigins, origin_at, same_key}
 
 pub record CourseState : Type 0 where
   pub kept : KeptState
