@@ -1,11 +1,16 @@
 -- The first of the operations of a board that passes, operation by operation.
-use Rattle.std.proofs.Common.{◌≡◌, ℕ, zero, suc, ◌+◌, ◌<◌, Bool, true, false, cond, List, [], ◌∷◌, ◌++◌, length, drop, get_or, Option, Some, None, refl, sym, ap, subst, ◌∙◌, arith}
-use Rattle.std.specs.List.{find}
+use Rattle.std.proofs.Common.{◌≡◌, ℕ, zero, suc, ◌+◌, ◌<◌, ◌≤◌, Bool, true, false, cond, List, [], ◌∷◌, ◌++◌, length, drop, get_or, Option, Some, None, is_some, sym, ap, ◌∙◌, arith}
+use Rattle.std.specs.List.{find, list_all}
+use Rattle.std.proofs.lemmas.Bool.{and_parts}
 use Rattle.std.proofs.Math.Seq.{drop-cons}
 use Rattle.list_facts.proofs.FindLemmas.{find-append_found, find-append_none}
 use Rattle.pci_command.specs.declared.op_id.OpId.{OpId}
 use Rattle.board_model.specs.declared.op.Op.{Op}
 use Rattle.board_model.specs.declared.agents.Master.{Master}
+use Rattle.board_model.specs.declared.board.Board.{Board}
+use Rattle.board_model.specs.WellFormed.{is_well_formed_master}
+use Rattle.board_model.specs.Valid.{IsValid}
+use Rattle.board_model.proofs.Laws.{Master-parts, WellFormed-parts}
 use Rattle.law_untagged.specs.Stale.{ops_from, ops_by}
 
 -- the operations of a master from one on
@@ -53,3 +58,25 @@ master_passed test masters i d within so_far none =
 
 pub masters_over : (test : OpId → Bool) (masters : List Master) (i : ℕ) → drop i masters ≡ [] → BehindMasters test masters i → find test (ops_by 0 masters) ≡ None
 masters_over test masters i over so_far = so_far ∙ ap (λ xs. find test (ops_by i xs)) over
+
+-- A program has at most 1,024 operations.
+
+all_at : (test : Master → Bool) (masters : List Master) (i : ℕ) (d : Master) → list_all test masters ≡ true → i < length masters → test (get_or masters i d) ≡ true
+all_at test [] i d all within = absurd (omega (arith, within))
+all_at test (m ∷ masters) zero d all within = (and_parts (test m) (list_all test masters) all).0
+all_at test (m ∷ masters) (suc i) d all within = all_at test masters i d (and_parts (test m) (list_all test masters) all).1 (omega (arith, within))
+
+pub few_at : (board : Board) (i : ℕ) (d : Master) → IsValid board → i < length board.masters → length (get_or board.masters i d).ops ≤ 1024
+few_at board i d valid within =
+    (Master-parts (get_or board.masters i d) (all_at is_well_formed_master board.masters i d (WellFormed-parts board valid.well_formed).masters within)).few
+
+-- what is found of one master
+pub some_master : (test : OpId → Bool) (masters : List Master) (i : ℕ) (d : Master) (found : Option OpId) → i < length masters → BehindMasters test masters i → found ≡ find test (ops_from i 0 (get_or masters i d).ops) → is_some found ≡ true
+    → found ≡ find test (ops_by 0 masters)
+some_master test masters i d None within so_far is some = cc
+some_master test masters i d (Some w) within so_far is some = sym (master_found test masters i d w within so_far (sym is))
+
+pub none_master : (test : OpId → Bool) (masters : List Master) (i : ℕ) (d : Master) (found : Option OpId) → i < length masters → BehindMasters test masters i → found ≡ find test (ops_from i 0 (get_or masters i d).ops) → is_some found ≡ false
+    → BehindMasters test masters (i + 1)
+none_master test masters i d None within so_far is none = master_passed test masters i d within so_far (sym is)
+none_master test masters i d (Some w) within so_far is none = cc
