@@ -1,9 +1,8 @@
 -- What is kept of a run on bridges that keep no local master, and of what its reads got.
-use Rattle.std.specs.Prelude.{◌≡◌, ℕ, ◌<◌, ◌^◌, List, [], ◌∷◌, ◌++◌, length, Option, Some, None, slice_get, get_or, take, if◌then◌else◌}
+use Rattle.std.specs.Prelude.{◌≡◌, ℕ, ◌<◌, List, [], ◌∷◌, ◌++◌, length, Option, Some, None, slice_get, get_or, take, if◌then◌else◌}
 use Rattle.board_model.specs.declared.board.Board.{Board}
 use Rattle.history_model.specs.declared.event.Event.{Event}
 use Rattle.history_model.specs.declared.rule.Rule.TheVariants.{Untagged}
-use Rattle.history_model.specs.declared.why.Why.{Why}
 use Rattle.history_model.specs.Runs.{RunBy, history_of}
 use Rattle.kept_state.specs.State.{KeptState}
 use Rattle.kept_state.specs.Stands.{StandsForBy}
@@ -14,7 +13,8 @@ use Rattle.untagged_run.specs.declared.got.Followed.{Followed}
 use Rattle.untagged_run.specs.declared.got.Followed.TheVariants.{NotRun, Run}
 use Rattle.untagged_run.specs.declared.origins.Key.{Key}
 use Rattle.untagged_run.specs.declared.made.Made.{Made}
-use Rattle.untagged_run.specs.Table.{Table, SameGot, KeepsOrigins, flat, origin_at, same_key}
+use Rattle.untagged_run.specs.Flat.{flat}
+use Rattle.untagged_run.specs.Table.{Table, SameGot, KeepsOrigins, origin_at, same_key}
 
 pub record CourseState : Type 0 where
   pub kept : KeptState

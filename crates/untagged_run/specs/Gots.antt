@@ -1,5 +1,5 @@
 -- What an act has its value from, by what is noted down.
-use Rattle.std.specs.Prelude.{ℕ, Bool, List, Option, Some, None, if◌then◌else◌}
+use Rattle.std.specs.Prelude.{ℕ, List, Option, Some, None, if◌then◌else◌}
 use Rattle.std.specs.List.{find}
 use Rattle.std.specs.Option.{option_map}
 use Rattle.pci_command.specs.declared.op_id.OpId.{OpId}
@@ -22,7 +22,6 @@ use Rattle.history_model.specs.declared.item.Carried.TheVariants.{Post, Ask, Don
 use Rattle.history_model.specs.declared.item.Slot.{Slot}
 use Rattle.history_model.specs.Lanes.{Both, is_of}
 use Rattle.history_model.specs.World.{anyone, is_own, lane_outcome}
-use Rattle.causal_audit.specs.declared.landings.Word.{Word}
 use Rattle.kept_state.specs.State.{lane_in}
 use Rattle.law_untagged.specs.Origins.{ends_item}
 use Rattle.untagged_run.specs.declared.got.Got.{Got}

@@ -8,6 +8,7 @@ use Rattle.history_model.specs.World.{same_direction}
 use Rattle.history_model.specs.Knowledge.{Reading}
 use Rattle.causal_audit.specs.Places.{dword}
 use Rattle.law_untagged.specs.Origins.{origins_of}
+use Rattle.untagged_run.specs.Flat.{flat}
 use Rattle.untagged_run.specs.declared.got.Got.{Got}
 use Rattle.untagged_run.specs.declared.origins.Key.{Key}
 
@@ -32,11 +33,6 @@ same_key a b = a.bus == b.bus && same_direction a.up b.up && a.number == b.numbe
 
 abbrev pub key_of : BridgeLane → ℕ → Key
 key_of lane number = record { bus = lane.bus; up = lane.up; number = number }
-
--- what is there, of what may be there
-abbrev pub flat : {X : Type 0} → Option (Option X) → Option X
-flat None = None
-flat (Some x) = x
 
 -- what is noted down of a slot
 abbrev pub origin_at : Table → Key → Option Got

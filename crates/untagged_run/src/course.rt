@@ -197,9 +197,7 @@ impl Course {
     {
         match self.standing(board, lane, op) {
             Some(Carried::Ask { slot, .. }) => Some(key_of(lane, slot)),
-            Some(
-                Carried::Post { .. } | Carried::Done { .. } | Carried::Room | Carried::Gone { .. },
-            )
+            Some(Carried::Post { .. } | Carried::Done { .. } | Carried::Room | Carried::Gone { .. })
             | None => None,
         }
     }

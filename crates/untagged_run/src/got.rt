@@ -1,3 +1,6 @@
+ghost use Rattle.std.specs.Prelude.{◌≡◌, slice_get};
+ghost use Rattle.untagged_run.specs.Flat.{flat};
+
 use causal_audit::Word;
 use history_model::Why;
 
@@ -16,4 +19,14 @@ pub enum Followed {
     /// A run, and of each event what the read got that it ended at its master: none where it ended
     /// none, or where what it got was read at no target.
     Run { gots: Vec<Option<Got>> },
+}
+
+/// What the read got that the event at this place ended, if it ended one.
+pub fn got_at(gots: &[Option<Got>], place: usize) -> Option<Got>
+    ensures { result ≡ flat (slice_get gots.now place) }
+{
+    match gots.get(place) {
+        Some(got) => *got,
+        None => None,
+    }
 }

@@ -9,4 +9,4 @@ mod made;
 mod origins;
 
 pub use course::follow;
-pub use got::{Followed, Got};
+pub use got::{Followed, Got, got_at};
