@@ -1,38 +1,83 @@
 ghost use Rattle.std.specs.Prelude.{◌<◌, ◌^◌, length, IfOk, IfErr};
+ghost use Rattle.trace_check.specs.Verdicts.{CompleteRun};
 ghost use Rattle.program_input.specs.Boards.{RefusesBoard};
 ghost use Rattle.command_run.specs.Answers.{AnswersRun, RunsTo};
 
 use bus_tree::Tree;
+use history_model::Event;
 use pci_command::{List, NoMemory};
 use program_input::read_tree;
 use program_status::Status;
+use ring_runs::threaded_run;
 use roundtrip_runs::run_has_lines;
 use roundtrip_trace::printed_trace_is_read;
 use std::alloc::Global;
+use std::thread::Threads;
 use steady_runs::steady_run;
+use threaded_workers::Gate;
 use trace_text::print_trace;
 
-/// The trace of a run of the board whose text these bytes are, in which the buses work phase by
-/// phase. It is refused as the text of no valid board.
-pub fn answer_run(alloc: Global, input: &[u8]) -> Result<Vec<u8>, Status>
+/// The trace of a run of the board whose text these bytes are, in which each bus is worked by a
+/// thread of its own; the gate is told of the turns of each. It is refused as the text of no valid
+/// board.
+pub fn answer_run<R: Threads + Sync, G: Gate + Sync>(
+    rt: &R,
+    alloc: Global,
+    input: &[u8],
+    gate: &G,
+) -> Result<Vec<u8>, Status>
     requires { length input.now < 2 ^ 31 }
     ensures ok { IfOk result (λ trace. AnswersRun input.now trace.items) }
     ensures err { IfErr result (RefusesBoard input.now) }
 {
     let tree = read_tree(alloc, input)?;
-    match trace_of(alloc, &tree) {
+    match threaded_trace(rt, alloc, &tree, gate) {
         Ok(trace) => Ok(trace.into_vec()),
         Err(_) => Err(Status::NoMemory),
     }
 }
 
-/// The trace text of the run of a board.
-fn trace_of(alloc: Global, tree: &Tree) -> Result<List<u8>, NoMemory>
+/// The same, but one thread works all buses, phase by phase: the same trace each time.
+pub fn answer_run_steady(alloc: Global, input: &[u8]) -> Result<Vec<u8>, Status>
+    requires { length input.now < 2 ^ 31 }
+    ensures ok { IfOk result (λ trace. AnswersRun input.now trace.items) }
+    ensures err { IfErr result (RefusesBoard input.now) }
+{
+    let tree = read_tree(alloc, input)?;
+    match steady_trace(alloc, &tree) {
+        Ok(trace) => Ok(trace.into_vec()),
+        Err(_) => Err(Status::NoMemory),
+    }
+}
+
+/// The trace text of a run of the board with a thread for each bus.
+fn threaded_trace<R: Threads + Sync, G: Gate + Sync>(
+    rt: &R,
+    alloc: Global,
+    tree: &Tree,
+    gate: &G,
+) -> Result<List<u8>, NoMemory>
+    ensures { IfOk result (RunsTo tree.now) }
+{
+    let events = threaded_run(rt, alloc, tree, gate)?;
+    trace_of(alloc, tree, events.as_slice())
+}
+
+/// The trace text of its steady run.
+fn steady_trace(alloc: Global, tree: &Tree) -> Result<List<u8>, NoMemory>
+    ensures { IfOk result (RunsTo tree.now) }
+{
+    let events = steady_run(alloc, tree)?;
+    trace_of(alloc, tree, events.as_slice())
+}
+
+/// The trace text of a complete run of a board.
+fn trace_of(alloc: Global, tree: &Tree, events: &[Event]) -> Result<List<u8>, NoMemory>
+    requires { CompleteRun tree.now events.now }
     ensures { IfOk result (RunsTo tree.now) }
 {
     let board = tree.board();
-    let events = steady_run(alloc, tree)?;
-    run_has_lines(board, events.as_slice());
-    printed_trace_is_read(board, events.as_slice());
-    print_trace(alloc, board, events.as_slice())
+    run_has_lines(board, events);
+    printed_trace_is_read(board, events);
+    print_trace(alloc, board, events)
 }
