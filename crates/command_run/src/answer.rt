@@ -1,6 +1,6 @@
 ghost use Rattle.std.specs.Prelude.{◌<◌, ◌^◌, length, IfOk, IfErr};
-ghost use Rattle.trace_check.specs.Verdicts.{CompleteRun};
 ghost use Rattle.program_input.specs.Boards.{RefusesBoard};
+ghost use Rattle.trace_check.specs.Verdicts.{CompleteRun};
 ghost use Rattle.command_run.specs.Answers.{AnswersRun, RunsTo};
 
 use bus_tree::Tree;
@@ -8,18 +8,17 @@ use history_model::Event;
 use pci_command::{List, NoMemory};
 use program_input::read_tree;
 use program_status::Status;
-use ring_runs::threaded_run;
+use ring_runs::{Gate, threaded_run};
 use roundtrip_runs::run_has_lines;
 use roundtrip_trace::printed_trace_is_read;
 use std::alloc::Global;
 use std::thread::Threads;
 use steady_runs::steady_run;
-use threaded_workers::Gate;
 use trace_text::print_trace;
 
-/// The trace of a run of the board whose text these bytes are, in which each bus is worked by a
-/// thread of its own; the gate is told of the turns of each. It is refused as the text of no valid
-/// board.
+/// The trace of a run of the board whose text these bytes are, in which a thread of its own works each
+/// bus, and the gate is told of the turns of each: which run it is depends on the threads. It is
+/// refused as the text of no valid board.
 pub fn answer_run<R: Threads + Sync, G: Gate + Sync>(
     rt: &R,
     alloc: Global,
@@ -37,7 +36,7 @@ pub fn answer_run<R: Threads + Sync, G: Gate + Sync>(
     }
 }
 
-/// The same, but one thread works all buses, phase by phase: the same trace each time.
+/// The same, where the buses work phase by phase, one after the other: the same run each time.
 pub fn answer_run_steady(alloc: Global, input: &[u8]) -> Result<Vec<u8>, Status>
     requires { length input.now < 2 ^ 31 }
     ensures ok { IfOk result (λ trace. AnswersRun input.now trace.items) }
@@ -50,7 +49,6 @@ pub fn answer_run_steady(alloc: Global, input: &[u8]) -> Result<Vec<u8>, Status>
     }
 }
 
-/// The trace text of a run of the board with a thread for each bus.
 fn threaded_trace<R: Threads + Sync, G: Gate + Sync>(
     rt: &R,
     alloc: Global,
@@ -63,7 +61,6 @@ fn threaded_trace<R: Threads + Sync, G: Gate + Sync>(
     trace_of(alloc, tree, events.as_slice())
 }
 
-/// The trace text of its steady run.
 fn steady_trace(alloc: Global, tree: &Tree) -> Result<List<u8>, NoMemory>
     ensures { IfOk result (RunsTo tree.now) }
 {
@@ -71,7 +68,7 @@ fn steady_trace(alloc: Global, tree: &Tree) -> Result<List<u8>, NoMemory>
     trace_of(alloc, tree, events.as_slice())
 }
 
-/// The trace text of a complete run of a board.
+/// The trace text of a run of the board.
 fn trace_of(alloc: Global, tree: &Tree, events: &[Event]) -> Result<List<u8>, NoMemory>
     requires { CompleteRun tree.now events.now }
     ensures { IfOk result (RunsTo tree.now) }

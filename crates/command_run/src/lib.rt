@@ -8,7 +8,7 @@ ghost use Rattle.command_run.specs.Answers.{AnswersRun};
 mod answer;
 
 pub use answer::{answer_run, answer_run_steady};
-pub use threaded_workers::{Gate, NoGate};
+pub use ring_runs::{Gate, NoGate};
 
 /// What a run writes of a board is the text of a valid board and of a complete run of it.
 pub fn written_runs_are_complete()

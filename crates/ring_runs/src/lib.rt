@@ -11,7 +11,9 @@ use law_slots::{matched, well_formed_boards};
 use pci_command::{List, NoMemory};
 use std::alloc::Global;
 use std::thread::Threads;
-use threaded_workers::{Gate, run_rings};
+use threaded_workers::run_rings;
+
+pub use threaded_workers::{Gate, NoGate};
 
 #[cfg(test)]
 mod tests;
