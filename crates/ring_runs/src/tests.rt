@@ -173,9 +173,21 @@ fn what_is_read_depends_on_which_bus_was_held(rt: HostRuntime) -> Result<(), Fai
         let (tree, wanted) = read(rt.alloc(), text)?;
         let gate = Hold::new(held);
         let events = threaded_run(&rt, rt.alloc(), &tree, &gate)?;
-        assert_eq!(rt; gate.alone.load(Ordering::SeqCst), 0, "with bus {held} held");
-        assert_eq!(rt; [gate.first_turn(0), gate.first_turn(1)], turns, "with bus {held} held");
-        assert_eq!(rt; events.as_slice(), wanted.as_slice(), "with bus {held} held");
+        assert_eq!(rt;
+            gate.alone.load(Ordering::SeqCst),
+            0,
+            "with bus {held} held"
+        );
+        assert_eq!(rt;
+            [gate.first_turn(0), gate.first_turn(1)],
+            turns,
+            "with bus {held} held"
+        );
+        assert_eq!(rt;
+            events.as_slice(),
+            wanted.as_slice(),
+            "with bus {held} held"
+        );
         assert_eq!(rt; judged(rt.alloc(), &tree, &events)?, Verdict::Complete);
     }
     Ok(())
