@@ -6,3 +6,6 @@ mod answer;
 mod text;
 
 pub use answer::answer_untagged;
+
+#[cfg(test)]
+mod tests;

@@ -20,8 +20,8 @@ pub use verdict::{Stale, Untagged};
 
 /// What these events of a valid board are on bridges that keep no local master, the first event first.
 /// There are fewer than 2^32. Whether they are a run takes one look at each. The list of stale reads
-/// takes, for each read, a look at each event and each write, and for each write that had not landed by
-/// the reading of a word of it a replay, in which each event looks at those before.
+/// takes a look at each write for each read, and for each write that had not landed by the reading of a
+/// word of it a replay, in which each event looks at those before.
 pub fn check_untagged(alloc: Global, tree: &Tree, events: &[Event]) -> Result<Untagged, NoMemory>
     requires { length events.now < 2 ^ 32 }
     ensures { IfOk result (JudgesUntagged tree.now events.now) }

@@ -5,8 +5,7 @@ ghost use Rattle.board_model.specs.declared.board.Board.{Board};
 ghost use Rattle.history_model.specs.declared.rule.Rule.TheVariants.{Untagged};
 ghost use Rattle.history_model.specs.Runs.{RunBy, history_of};
 ghost use Rattle.history_model.specs.Program.{ended};
-ghost use Rattle.history_model.specs.Knowledge.{ends_as};
-ghost use Rattle.std.specs.Prelude.{is_some, if◌then◌else◌};
+ghost use Rattle.causal_audit.specs.Places.{ended_op};
 ghost use Rattle.law_untagged.specs.Origins.{untagged_got};
 ghost use Rattle.law_untagged.specs.Stale.{breaks, ops_by, ops_from, stale_at, stale_ending, stale_of};
 ghost use Rattle.untagged_run.specs.Course.{AreGots};
@@ -17,7 +16,6 @@ use crate::verdict::Stale;
 use board_model::Op;
 use bus_tree::Tree;
 use causal_audit::ended_op;
-use history_core::is_same_op;
 use history_model::Event;
 use pci_command::{NoMemory, OpId};
 use std::alloc::Global;
@@ -36,27 +34,30 @@ pub(crate) fn stale_reads(
     ensures { IfOk result (λ stale. reads_of stale.items ≡ stale_of tree.now (history_of events.now)) }
 {
     let mut stale = Vec::new(alloc);
-    for event in events {
-        add_ended(&mut stale, tree, events, gots, event)?;
+    for (index, event) in events.iter().enumerate() {
+        let got = got_at(gots, index);
+        add_ended(&mut stale, tree, events, gots, event, got)?;
     }
     Ok(stale)
 }
 
-/// The read that the event ends, if it ends one, is added where it breaks freshness.
+/// The read that the event ends, if it ends one, and which got this, is added where it breaks freshness.
 fn add_ended(
     stale: &mut Vec<Stale>,
     tree: &Tree,
     events: &[Event],
     gots: &[Option<Got>],
     event: &Event,
+    got: Option<Got>,
 ) -> Result<(), NoMemory>
     requires run { RunBy Untagged tree.now (history_of events.now) }
     requires gots { AreGots tree.now events.now gots.now }
+    requires got { (r : OpId) → ended_op (ended event.now) ≡ Some r → SameGot got (untagged_got tree.now (history_of events.now) r) }
     ensures { OnOk result (reads_of stale.new.items ≡ reads_of stale.old.items ++ stale_ending tree.now (history_of events.now) (ended event.now)) }
 {
     match ended_op(event) {
         None => Ok(()),
-        Some(read) => add(stale, stale_at(tree, events, gots, read)),
+        Some(read) => add(stale, stale_at(tree, events, gots, got, read)),
     }
 }
 
@@ -70,13 +71,20 @@ fn add(stale: &mut Vec<Stale>, found: Option<Stale>) -> Result<(), NoMemory>
     Ok(())
 }
 
-/// The read, where it breaks freshness, and the first write for which it does.
-fn stale_at(tree: &Tree, events: &[Event], gots: &[Option<Got>], read: OpId) -> Option<Stale>
+/// The read, which got this, where it breaks freshness, and the first write for which it does.
+fn stale_at(
+    tree: &Tree,
+    events: &[Event],
+    gots: &[Option<Got>],
+    got: Option<Got>,
+    read: OpId,
+) -> Option<Stale>
     requires run { RunBy Untagged tree.now (history_of events.now) }
     requires gots { AreGots tree.now events.now gots.now }
+    requires got { SameGot got (untagged_got tree.now (history_of events.now) read) }
     ensures { listed result ≡ stale_at tree.now (history_of events.now) read }
 {
-    match got_of(events, gots, read) {
+    match got {
         None => None,
         Some(got) => match first_broken(tree, events, gots, got, read) {
             None => None,
@@ -86,34 +94,6 @@ fn stale_at(tree: &Tree, events: &[Event], gots: &[Option<Got>], read: OpId) -> 
                 event: got.event,
             }),
         },
-    }
-}
-
-/// What the read got that its master ended.
-fn got_of(events: &[Event], gots: &[Option<Got>], read: OpId) -> Option<Got>
-    ensures { (board : Board) → AreGots board events.now gots.now → SameGot result (untagged_got board (history_of events.now) read) }
-{
-    let mut got = None;
-    for (index, event) in events.iter().enumerate() {
-        got = chosen(ends(event, read), got_at(gots, index), got);
-    }
-    got
-}
-
-/// The new one, if the event ends the read, or else the old.
-fn chosen(ends: bool, new: Option<Got>, old: Option<Got>) -> Option<Got>
-    ensures { result ≡ (if ends then new else old) }
-{
-    if ends { new } else { old }
-}
-
-/// Whether the event ends the operation at its master.
-fn ends(event: &Event, op: OpId) -> bool
-    ensures { result ≡ is_some (ends_as op event.now) }
-{
-    match ended_op(event) {
-        Some(ended) => is_same_op(ended, op),
-        None => false,
     }
 }
 

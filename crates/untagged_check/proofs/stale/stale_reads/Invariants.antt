@@ -5,5 +5,5 @@ use Rattle.untagged_check.specs.Judged.{reads_of}
 use Rattle.untagged_check.proofs.stale.stale_reads.Given as goal
 
 -- those of the events so far
-abbrev pub invariant-loop-event : goal.invariant-loop-event
-invariant-loop-event l = reads_of l.stale.items ≡ stale_in l.tree (history_of l.events) (history_of (take l.event-index l.events))
+abbrev pub invariant-loop-index : goal.invariant-loop-index
+invariant-loop-index l = reads_of l.stale.items ≡ stale_in l.tree (history_of l.events) (history_of (take l.index l.events))
