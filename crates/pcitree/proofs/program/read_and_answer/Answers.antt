@@ -8,8 +8,8 @@ use Rattle.pcitree.proofs.program.read_and_answer.Goals as goal
 
 pub returns-clause-stopped : goal.returns-clause-stopped
 returns-clause-stopped g c =
-    IfErr-weaker _ _ _ (λ status. refused_answer c.args.form _ _ _ _ c.in_ok-input.input.items status c.in_ok-input.ensures.ok)
+    IfErr-weaker _ _ _ (λ status. refused_answer c.args.form _ _ _ _ _ c.in_ok-input.input.items status c.in_ok-input.ensures.ok)
     (subst (λ (l : List ℕ). IfErr c.answer.result (Refuses c.args.form (map string_bytes c.args.words.now) l)) c.deref.ensures.value c.answer.ensures.err)
 
 pub answer-requires-clause-given : goal.answer-requires-clause-given
-answer-requires-clause-given g c = given_file c.args.form _ c.requires
+answer-requires-clause-given g c = λ κs within. given_file c.args.form _ c.requires

@@ -1,3 +1,4 @@
+use denote.Param.Send.{sendable}
 use Rattle.std.proofs.Common.{ℕ, ◌<◌, ◌^◌, List, length, IfOk, IfErr, sym, subst, ap, ◌∙◌, map}
 use Rattle.std.specs.Prelude.{string_bytes}
 use Rattle.std.proofs.lemmas.Result.{IfOk-weaker, IfErr-weaker}
@@ -10,12 +11,12 @@ use Rattle.pcitree.proofs.program.text_of.Goals as goal
 -- The number among the words.
 
 pub answer-requires-clause-short : goal.answer-requires-clause-short
-answer-requires-clause-short g c =
+answer-requires-clause-short g c = λ κs within.
     subst (λ (l : List ℕ). length l < 2 ^ 31) (sym c.as_bytes.ensures.value)
     (short_enough c.args.form _ _ c.number_of.ensures.small c.requires (sym c.number_of.ensures.value ∙ ap (option_map (λ n. n.now)) c.in-Some.is))
 
 pub answer-requires-clause-given : goal.answer-requires-clause-given
-answer-requires-clause-given g c =
+answer-requires-clause-given g c = λ κs within.
     subst (λ (l : List ℕ). IsGiven c.args.form l) (sym c.as_bytes.ensures.value)
     (given_number c.args.form _ _ c.requires (sym c.number_of.ensures.value ∙ ap (option_map (λ n. n.now)) c.in-Some.is))
 
@@ -32,7 +33,7 @@ returns-in-Some-clause-stopped g c =
 -- The file that the source reads.
 
 pub read_and_answer-requires : goal.read_and_answer-requires
-read_and_answer-requires g c = reads_by c.args.form _ c.requires (sym c.number_of.ensures.value ∙ ap (option_map (λ n. n.now)) c.in-None.is)
+read_and_answer-requires g c = (search sendable, (search sendable, reads_by c.args.form _ c.requires (sym c.number_of.ensures.value ∙ ap (option_map (λ n. n.now)) c.in-None.is)))
 
 pub returns-in-None-clause-ok : goal.returns-in-None-clause-ok
 returns-in-None-clause-ok g c = IfOk-weaker _ _ _ (λ text. file_answered c.args.form _ _ _ text.items (sym c.number_of.ensures.value ∙ ap (option_map (λ n. n.now)) c.in-None.is)) c.read_and_answer.ensures.ok
