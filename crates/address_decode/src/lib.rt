@@ -11,6 +11,3 @@ pub use configuration::convert_cfg;
 pub use laws::decoding_is_claim;
 pub use route::CfgRoute;
 pub use windows::{claim_down, claim_up};
-
-#[cfg(test)]
-mod tests;

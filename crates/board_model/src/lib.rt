@@ -17,6 +17,3 @@ pub use buses::{bridge_to, end_of, has_bridge_to, is_bus, primary_of};
 pub use name::Name;
 pub use op::Op;
 pub use requests::{op_of, request_of, request_on, tries_of};
-
-#[cfg(test)]
-mod tests;

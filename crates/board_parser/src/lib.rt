@@ -9,6 +9,3 @@ mod text;
 pub use fault::ParseFault;
 pub use laws::read_is_well_formed;
 pub use text::{parse, parse_sheet};
-
-#[cfg(test)]
-mod tests;

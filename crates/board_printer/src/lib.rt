@@ -12,6 +12,3 @@ mod targets;
 pub use board::{print_board, print_board_lines};
 pub use numbers::{Address, DataWord, HexHalf, HexWord};
 pub use spaces::{command_word, space_word};
-
-#[cfg(test)]
-mod tests;

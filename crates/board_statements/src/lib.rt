@@ -17,6 +17,3 @@ pub use kinds::parts;
 pub use lines::{first_line, has_words, statement_of};
 pub use statement::Statement;
 pub use words::{Words, is_word};
-
-#[cfg(test)]
-mod tests;

@@ -10,6 +10,3 @@ pub use numbers::{NumberFault, decimal, hex};
 pub use reader::{BadLine, check_line, next_line};
 pub use text::{Line, TextFault, lines};
 pub use tokens::{Token, tokens_of};
-
-#[cfg(test)]
-mod tests;

@@ -14,6 +14,3 @@ pub use fault::HeaderFault;
 pub use reading::decode;
 pub use round_trip::{encoding_is_read_back, read_back};
 pub use windows::Windows;
-
-#[cfg(test)]
-mod tests;

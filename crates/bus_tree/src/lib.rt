@@ -17,6 +17,3 @@ pub use hops::{next_hop, way_length};
 pub use refusal::TreeRefusal;
 pub use tree::{Tree, validate};
 pub use ways::{Route, route_of};
-
-#[cfg(test)]
-mod tests;

@@ -15,17 +15,17 @@ use history_model::{Event, Step};
 use pci_command::{OpId, Phase, Request, Space};
 
 /// A dword of a target.
-#[derive(Clone, Copy)]
-pub(crate) struct Word {
+#[derive(Clone, Copy, Debug, PartialEq, Eq)]
+pub struct Word {
     /// The number of the target on the board, from 0 on.
-    pub(crate) target: u16,
-    pub(crate) space: Space,
+    pub target: u16,
+    pub space: Space,
     /// Where it is in the space; in configuration space within the header of the target.
-    pub(crate) address: u128,
+    pub address: u128,
 }
 
 /// Whether all that was left of the write landed in one of these events, the first event first.
-fn has_landed(before: &[Event], op: OpId) -> bool
+pub fn has_landed(before: &[Event], op: OpId) -> bool
     ensures { result ≡ has_landed (history_of before.now) op }
 {
     let mut landed = false;
@@ -125,7 +125,7 @@ fn brings_in(request: &Request, gone: u128, step: Step, word: Word) -> bool
 
 /// Of the writes that landed in the dword, the first that landed whole and is the write, or was
 /// told of it by these places.
-pub(crate) fn first_shown(
+pub fn first_shown(
     board: &Board,
     before: &[Event],
     word: Word,

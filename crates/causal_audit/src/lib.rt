@@ -20,13 +20,16 @@ mod landings;
 mod places;
 mod readings;
 
+pub use landings::{Word, first_shown, has_landed};
+pub use places::Places;
+pub use readings::{ended_op, word_read};
+
 use board_model::{Board, request_of};
 use bus_tree::Tree;
 use chains::chain_from;
 use history_model::Event;
 use law_fresh::{runs_are_fresh, told_is_known};
 use pci_command::{List, NoMemory, OpId};
-use places::Places;
 use readings::{count_to_end, last_shown};
 use std::alloc::Global;
 

@@ -1,4 +1,4 @@
-ghost use Rattle.std.specs.Prelude.{◌≡◌, None, replicate, get_or};
+ghost use Rattle.std.specs.Prelude.{◌≡◌, None, Some, IsTrue, replicate, get_or, slice_set};
 ghost use Rattle.board_model.specs.Valid.{IsValid};
 ghost use Rattle.history_model.specs.Runs.{Run, history_of};
 ghost use Rattle.history_model.specs.Program.{ended};
@@ -15,14 +15,14 @@ use pci_command::OpId;
 /// Who knows of a write: a place for each master, with the first of its operations that ended and
 /// is the write, or was told of it. A valid board has at most 256 masters.
 #[derive(Drop)]
-pub(crate) struct Places {
-    pub(crate) write: OpId,
-    pub(crate) since: [Option<OpId>; 256],
+pub struct Places {
+    pub write: OpId,
+    pub since: [Option<OpId>; 256],
 }
 
 impl Places {
     /// Nobody knows of the write.
-    fn new(write: OpId) -> Places
+    pub fn new(write: OpId) -> Places
         ensures { result ≡ record { write = write; since = replicate 256 None } }
     {
         Places {
@@ -52,13 +52,22 @@ impl Places {
     {
         if let Some(op) = ended_op(event) {
             if self.is_open(op) && self.brings_it(board, past, event, op) {
-                self.since[op.master as usize] = Some(op);
+                self.note(op);
             }
         }
     }
 
+    /// The place of its master, which is empty, is that of the operation.
+    pub fn note(&mut self, op: OpId)
+        requires { IsTrue (is_open self.old.since op) }
+        ensures write { self.new.write ≡ self.old.write }
+        ensures places { self.new.since ≡ slice_set self.old.since op.master (Some op) }
+    {
+        self.since[op.master as usize] = Some(op);
+    }
+
     /// Whether the master of the operation has a place, and it is empty.
-    fn is_open(&self, op: OpId) -> bool
+    pub fn is_open(&self, op: OpId) -> bool
         ensures { result ≡ is_open self.now.since op }
     {
         match self.since.get(op.master as usize) {
@@ -77,7 +86,7 @@ impl Places {
     }
 
     /// Whether the operation stands in its program behind that of its master's place.
-    pub(crate) fn knows(&self, op: OpId) -> bool
+    pub fn knows(&self, op: OpId) -> bool
         ensures { result ≡ knows_by self.now.since op }
     {
         match self.first_of(op.master) {

@@ -53,7 +53,7 @@ fn shown_after(
 }
 
 /// The dword of the target that a read of this request reads.
-fn word_read(request: &Request, target: u16) -> Word
+pub fn word_read(request: &Request, target: u16) -> Word
     ensures { dword result ≡ record { target = target; space = space_of request.now.command; address = address_in (space_of request.now.command) request.now.address } }
 {
     let space = request.command.space();
@@ -90,7 +90,7 @@ fn ends_with_value_of(event: &Event, op: OpId) -> bool
 }
 
 /// The operation that the event ends at its master, if it ends one.
-pub(crate) fn ended_op(event: &Event) -> Option<OpId>
+pub fn ended_op(event: &Event) -> Option<OpId>
     ensures { result ≡ ended_op (ended event.now) }
 {
     match *event {

@@ -5,6 +5,3 @@
 mod answer;
 
 pub use answer::answer_combine;
-
-#[cfg(test)]
-mod tests;

@@ -13,6 +13,3 @@ pub use answer::answer_devices;
 pub fn written_devices_are_complete()
     ensures { (input trace : List ℕ) → AnswersDevices input trace → IsCompleteTrace trace }
 {}
-
-#[cfg(test)]
-mod tests;

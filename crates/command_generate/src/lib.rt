@@ -6,6 +6,3 @@ mod word;
 
 pub use answer::answer_generate;
 pub use word::{names_rounds, rounds_of};
-
-#[cfg(test)]
-mod tests;

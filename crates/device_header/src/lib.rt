@@ -109,6 +109,3 @@ fn space_bit(space: Space) -> u32
         Space::Mem | Space::Cfg => 0,
     }
 }
-
-#[cfg(test)]
-mod tests;

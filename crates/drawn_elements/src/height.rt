@@ -33,7 +33,7 @@ impl fmt::Display for Height {
 
 /// A circle in the middle of a row.
 #[tactic(auto, unfolding(crate::specs::Heights::circle_element))]
-pub(crate) fn print_circle(
+pub fn print_circle(
     text: &mut String,
     first: u32,
     row: u32,

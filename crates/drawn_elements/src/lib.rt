@@ -8,7 +8,7 @@ mod labels;
 mod words;
 
 pub use acts::{Act, print_act, print_act_rim, print_head};
-pub use height::Height;
+pub use height::{Height, print_circle};
 pub use items::{Route, print_item, print_item_rim};
 pub use labels::{print_event, print_note};
 pub use words::{faint, kind_class, kind_word};

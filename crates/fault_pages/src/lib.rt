@@ -13,6 +13,3 @@ pub use fault::Fault;
 pub use machine_pages::MACHINE_PAGES;
 pub use page::{Page, explain, find_page};
 pub use pages::PAGES;
-
-#[cfg(test)]
-mod tests;

@@ -16,9 +16,6 @@ use byte::HexByte;
 use pci_command::{List, NoMemory};
 use std::alloc::{AllocError, Global};
 
-#[cfg(test)]
-mod tests;
-
 /// For each bridge of the board, in order, the line `bridge B` and its 64 header bytes in four
 /// lines of sixteen (PCI-to-PCI Bridge Architecture 1.1, section 3.2, from memory).
 #[tactic(auto, unfolding(crate::specs::Headers::headers_text))]

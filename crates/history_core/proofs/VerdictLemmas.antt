@@ -14,9 +14,12 @@ use Rattle.history_model.specs.declared.item.Cause.{Cause}
 use Rattle.history_model.specs.declared.item.Answer.TheVariants.{Gives, Retry}
 use Rattle.history_model.specs.declared.why.Why.{Why}
 use Rattle.history_model.specs.declared.why.Why.TheVariants.{NotPresented, AnsweredOtherwise, GetsRetry, NothingInFlight, MarkedOtherwise}
-use Rattle.history_model.specs.Answers.{wants, answer}
-use Rattle.history_model.specs.Runs.{Allowed, next_mark}
-use Rattle.history_core.specs.Verdicts.{cause_in, Holds, HoldsOfAct, HoldsOfArrival}
+use Rattle.history_model.specs.declared.rule.Rule.{Rule}
+use Rattle.history_model.specs.declared.rule.Rule.TheVariants.{Tagged}
+use Rattle.history_model.specs.World.{world_by}
+use Rattle.history_model.specs.Answers.{wants_by, answer_by_rule}
+use Rattle.history_model.specs.Runs.{Allowed, AllowedBy, next_mark_in}
+use Rattle.history_core.specs.Verdicts.{cause_in, Holds, HoldsBy, HoldsOfAct, HoldsOfArrival}
 
 -- what is not presented has that cause alone
 unwanted : (answer : Answer) (step : Step) (place : Place) (w : Option Why) → HoldsOfAct false answer step place w → w ≡ Some NotPresented
@@ -95,47 +98,47 @@ arrival_one (Some other) mark v w first second =
     ]
 
 -- what holds of an act, and of an arrival, is what holds of the event
-pub of_act : (board : Board) (h : List Event) (on : ℕ) (by : By) (o : OpId) (step : Step) (place : Place) (w : Option Why) →
-    HoldsOfAct (wants board h on by o) (answer board h on by o) step place w → Holds board h (Act on by o step place) w
-of_act board h on by o step place None holds = holds
-of_act board h on by o step place (Some NotPresented) holds = holds
-of_act board h on by o step place (Some AnsweredOtherwise) holds = holds
-of_act board h on by o step place (Some GetsRetry) holds = holds
-of_act board h on by o step place (Some NothingInFlight) holds = holds
-of_act board h on by o step place (Some MarkedOtherwise) holds = holds
+pub of_act : (rule : Rule) (board : Board) (h : List Event) (on : ℕ) (by : By) (o : OpId) (step : Step) (place : Place) (w : Option Why) →
+    HoldsOfAct (wants_by rule board h on by o) (answer_by_rule rule board h on by o) step place w → HoldsBy rule board h (Act on by o step place) w
+of_act rule board h on by o step place None holds = holds
+of_act rule board h on by o step place (Some NotPresented) holds = holds
+of_act rule board h on by o step place (Some AnsweredOtherwise) holds = holds
+of_act rule board h on by o step place (Some GetsRetry) holds = holds
+of_act rule board h on by o step place (Some NothingInFlight) holds = holds
+of_act rule board h on by o step place (Some MarkedOtherwise) holds = holds
 
-pub of_arrival : (board : Board) (h : List Event) (lane : BridgeLane) (mark : Mark) (w : Option Why) →
-    HoldsOfArrival (next_mark board h lane) mark w → Holds board h (Arrive lane mark) w
-of_arrival board h lane mark None holds = holds
-of_arrival board h lane mark (Some NotPresented) holds = holds
-of_arrival board h lane mark (Some AnsweredOtherwise) holds = holds
-of_arrival board h lane mark (Some GetsRetry) holds = holds
-of_arrival board h lane mark (Some NothingInFlight) holds = holds
-of_arrival board h lane mark (Some MarkedOtherwise) holds = holds
+pub of_arrival : (rule : Rule) (board : Board) (h : List Event) (lane : BridgeLane) (mark : Mark) (w : Option Why) →
+    HoldsOfArrival (next_mark_in board (world_by rule board h) lane) mark w → HoldsBy rule board h (Arrive lane mark) w
+of_arrival rule board h lane mark None holds = holds
+of_arrival rule board h lane mark (Some NotPresented) holds = holds
+of_arrival rule board h lane mark (Some AnsweredOtherwise) holds = holds
+of_arrival rule board h lane mark (Some GetsRetry) holds = holds
+of_arrival rule board h lane mark (Some NothingInFlight) holds = holds
+of_arrival rule board h lane mark (Some MarkedOtherwise) holds = holds
 
-to_act : (board : Board) (h : List Event) (on : ℕ) (by : By) (o : OpId) (step : Step) (place : Place) (w : Option Why) →
-    Holds board h (Act on by o step place) w → HoldsOfAct (wants board h on by o) (answer board h on by o) step place w
-to_act board h on by o step place None holds = holds
-to_act board h on by o step place (Some NotPresented) holds = holds
-to_act board h on by o step place (Some AnsweredOtherwise) holds = holds
-to_act board h on by o step place (Some GetsRetry) holds = holds
-to_act board h on by o step place (Some NothingInFlight) holds = holds
-to_act board h on by o step place (Some MarkedOtherwise) holds = holds
+to_act : (rule : Rule) (board : Board) (h : List Event) (on : ℕ) (by : By) (o : OpId) (step : Step) (place : Place) (w : Option Why) →
+    HoldsBy rule board h (Act on by o step place) w → HoldsOfAct (wants_by rule board h on by o) (answer_by_rule rule board h on by o) step place w
+to_act rule board h on by o step place None holds = holds
+to_act rule board h on by o step place (Some NotPresented) holds = holds
+to_act rule board h on by o step place (Some AnsweredOtherwise) holds = holds
+to_act rule board h on by o step place (Some GetsRetry) holds = holds
+to_act rule board h on by o step place (Some NothingInFlight) holds = holds
+to_act rule board h on by o step place (Some MarkedOtherwise) holds = holds
 
-to_arrival : (board : Board) (h : List Event) (lane : BridgeLane) (mark : Mark) (w : Option Why) →
-    Holds board h (Arrive lane mark) w → HoldsOfArrival (next_mark board h lane) mark w
-to_arrival board h lane mark None holds = holds
-to_arrival board h lane mark (Some NotPresented) holds = holds
-to_arrival board h lane mark (Some AnsweredOtherwise) holds = holds
-to_arrival board h lane mark (Some GetsRetry) holds = holds
-to_arrival board h lane mark (Some NothingInFlight) holds = holds
-to_arrival board h lane mark (Some MarkedOtherwise) holds = holds
+to_arrival : (rule : Rule) (board : Board) (h : List Event) (lane : BridgeLane) (mark : Mark) (w : Option Why) →
+    HoldsBy rule board h (Arrive lane mark) w → HoldsOfArrival (next_mark_in board (world_by rule board h) lane) mark w
+to_arrival rule board h lane mark None holds = holds
+to_arrival rule board h lane mark (Some NotPresented) holds = holds
+to_arrival rule board h lane mark (Some AnsweredOtherwise) holds = holds
+to_arrival rule board h lane mark (Some GetsRetry) holds = holds
+to_arrival rule board h lane mark (Some NothingInFlight) holds = holds
+to_arrival rule board h lane mark (Some MarkedOtherwise) holds = holds
 
-holds_one : (board : Board) (h : List Event) (e : Event) (v w : Option Why) → Holds board h e v → Holds board h e w → v ≡ w
-holds_one board h (Act on by o step place) v w first second =
-    act_one (wants board h on by o) (answer board h on by o) step place v w (to_act board h on by o step place v first) (to_act board h on by o step place w second)
-holds_one board h (Arrive lane mark) v w first second =
-    arrival_one (next_mark board h lane) mark v w (to_arrival board h lane mark v first) (to_arrival board h lane mark w second)
+holds_one : (rule : Rule) (board : Board) (h : List Event) (e : Event) (v w : Option Why) → HoldsBy rule board h e v → HoldsBy rule board h e w → v ≡ w
+holds_one rule board h (Act on by o step place) v w first second =
+    act_one (wants_by rule board h on by o) (answer_by_rule rule board h on by o) step place v w (to_act rule board h on by o step place v first) (to_act rule board h on by o step place w second)
+holds_one rule board h (Arrive lane mark) v w first second =
+    arrival_one (next_mark_in board (world_by rule board h) lane) mark v w (to_arrival rule board h lane mark v first) (to_arrival rule board h lane mark w second)
 
 err_by_cause : (r : Result (Unit {0}) Why) (why : Why) → cause_in r ≡ Some why → r ≡ Err why
 err_by_cause (Ok value) why is = cc
@@ -150,14 +153,18 @@ cause_of_ok (Ok value) is = refl
 cause_of_ok (Err other) is = cc
 
 -- a result names a cause exactly where it holds, and none exactly where the event is allowed
-pub named_exactly : (board : Board) (h : List Event) (e : Event) (r : Result (Unit {0}) Why) (why : Why) → Holds board h e (cause_in r) →
-    (r ≡ Err why) ↔ Holds board h e (Some why)
-named_exactly board h e r why holds =
-    let P : Option Why → Type 0 = λ w. Holds board h e w in
+pub named_exactly_by : (rule : Rule) (board : Board) (h : List Event) (e : Event) (r : Result (Unit {0}) Why) (why : Why) → HoldsBy rule board h e (cause_in r) →
+    (r ≡ Err why) ↔ HoldsBy rule board h e (Some why)
+named_exactly_by rule board h e r why holds =
+    let P : Option Why → Type 0 = λ w. HoldsBy rule board h e w in
     let cause : Result (Unit {0}) Why → Option Why = λ s. cause_in s in
-    (λ is. subst P (ap cause is) holds, λ other. err_by_cause r why (holds_one board h e (cause_in r) (Some why) holds other))
+    (λ is. subst P (ap cause is) holds, λ other. err_by_cause r why (holds_one rule board h e (cause_in r) (Some why) holds other))
 
+pub allowed_exactly_by : (rule : Rule) (board : Board) (h : List Event) (e : Event) (r : Result (Unit {0}) Why) → HoldsBy rule board h e (cause_in r) → IsOk r ↔ AllowedBy rule board h e
+allowed_exactly_by rule board h e r holds =
+    let P : Option Why → Type 0 = λ w. HoldsBy rule board h e w in
+    (λ is. subst P (cause_of_ok r is) holds, λ other. ok_by_cause r (holds_one rule board h e (cause_in r) None holds other))
+
+-- on bridges that keep the local master
 pub allowed_exactly : (board : Board) (h : List Event) (e : Event) (r : Result (Unit {0}) Why) → Holds board h e (cause_in r) → IsOk r ↔ Allowed board h e
-allowed_exactly board h e r holds =
-    let P : Option Why → Type 0 = λ w. Holds board h e w in
-    (λ is. subst P (cause_of_ok r is) holds, λ other. ok_by_cause r (holds_one board h e (cause_in r) None holds other))
+allowed_exactly board h e r holds = allowed_exactly_by Tagged board h e r holds

@@ -9,22 +9,28 @@ use Rattle.history_model.specs.declared.item.Answer.{Answer}
 use Rattle.history_model.specs.declared.item.Answer.TheVariants.{Gives}
 use Rattle.history_model.specs.declared.why.Why.{Why}
 use Rattle.history_model.specs.declared.why.Why.TheVariants.{NotPresented, AnsweredOtherwise, GetsRetry, NothingInFlight, MarkedOtherwise}
-use Rattle.history_model.specs.Runs.{Allowed}
-use Rattle.history_core.specs.Whys.{IsNotPresented, IsAnsweredOtherwise, IsRetried, HasNothingInFlight, IsMarkedOtherwise, GivesOther, IsRetry, IsOtherMark}
+use Rattle.history_model.specs.declared.rule.Rule.{Rule}
+use Rattle.history_model.specs.declared.rule.Rule.TheVariants.{Tagged}
+use Rattle.history_model.specs.Runs.{AllowedBy}
+use Rattle.history_core.specs.Whys.{IsNotPresentedBy, IsAnsweredOtherwiseBy, IsRetriedBy, HasNothingInFlightBy, IsMarkedOtherwiseBy, GivesOther, IsRetry, IsOtherMark}
 
 -- the cause that a result names, none where it is Ok
 abbrev pub cause_in : {T : Type 0} → Result T Why → Option Why
 cause_in (Ok value) = None
 cause_in (Err why) = Some why
 
+-- under a rule: of an event after a history
+abbrev pub HoldsBy : Rule → Board → List Event → Event → Option Why → Type 0
+HoldsBy rule board h e None = AllowedBy rule board h e
+HoldsBy rule board h e (Some NotPresented) = IsNotPresentedBy rule board h e
+HoldsBy rule board h e (Some AnsweredOtherwise) = IsAnsweredOtherwiseBy rule board h e
+HoldsBy rule board h e (Some GetsRetry) = IsRetriedBy rule board h e
+HoldsBy rule board h e (Some NothingInFlight) = HasNothingInFlightBy rule board h e
+HoldsBy rule board h e (Some MarkedOtherwise) = IsMarkedOtherwiseBy rule board h e
+
 -- of an event after a history
 abbrev pub Holds : Board → List Event → Event → Option Why → Type 0
-Holds board h e None = Allowed board h e
-Holds board h e (Some NotPresented) = IsNotPresented board h e
-Holds board h e (Some AnsweredOtherwise) = IsAnsweredOtherwise board h e
-Holds board h e (Some GetsRetry) = IsRetried board h e
-Holds board h e (Some NothingInFlight) = HasNothingInFlight board h e
-Holds board h e (Some MarkedOtherwise) = IsMarkedOtherwise board h e
+Holds board h e why = HoldsBy Tagged board h e why
 
 -- of an act, by whether it is wanted and by its answer
 abbrev pub HoldsOfAct : Bool → Answer → Step → Place → Option Why → Type 0

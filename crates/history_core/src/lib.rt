@@ -23,6 +23,3 @@ pub use words::{
     brought_by, dword_address, is_same_op, left_of, mask_of, merged_at, opens_as, stalls_used,
     through, value_landed, value_merged,
 };
-
-#[cfg(test)]
-mod tests;

@@ -6,13 +6,13 @@ ghost use Rattle.board_model.specs.Requests.{reads};
 ghost use Rattle.history_model.specs.Lanes.{is_of};
 ghost use Rattle.history_model.specs.World.{world_of};
 ghost use Rattle.history_model.specs.Program.{turn_of};
-ghost use Rattle.history_model.specs.Answers.{wants, wants_in, is_on, is_turn, presents, presents_item, goes_before, kind_of, request_kind, completion_kind, asks_same, asked};
+ghost use Rattle.history_model.specs.Answers.{wants, wants_in, is_on, is_turn, presents, presents_by, presents_item_by, goes_before_by, kind_of, request_kind, completion_kind, asks_same, asked};
 ghost use Rattle.history_model.specs.Runs.{Run, history_of};
 
 use crate::turns::turn_of;
 use crate::words::is_same_op;
 use board_model::{Board, Lane, end_of};
-use history_model::{By, Carried, Event};
+use history_model::{By, Carried, Event, Rule};
 use lane_replay::{BridgeLanes, Presented, before_request, reads, same_requests, standing_request};
 use order_table::may_pass;
 use pci_command::{Kind, OpId};
@@ -59,33 +59,35 @@ fn presents(board: &Board, before: &[Event], lane: Lane, bus: u8, op: OpId) -> b
     ensures { result ≡ presents board.now bus op (world_of board.now (history_of before.now) lane).standing }
 {
     let lanes = BridgeLanes::after(board, before, lane.bus);
-    may_go(board, bus, op, lanes.lane(lane.up).standing())
+    may_go(board, Rule::Tagged, bus, op, lanes.lane(lane.up).standing())
 }
 
-/// Whether what stands of the operation may go before every older item.
-pub fn may_go(board: &Board, bus: u8, op: OpId, standing: &[Carried]) -> bool
-    ensures { result ≡ presents board.now bus op standing.now }
+/// Whether what stands of the operation may go before every older item, by the rule of the bridge.
+pub fn may_go(board: &Board, rule: Rule, bus: u8, op: OpId, standing: &[Carried]) -> bool
+    ensures { result ≡ presents_by rule board.now bus op standing.now }
 {
     match standing_request(standing, op) {
-        Some(item) => goes_before_all(board, bus, item, before_request(standing, op)),
+        Some(item) => goes_before_all(board, rule, bus, item, before_request(standing, op)),
         None => false,
     }
 }
 
-fn goes_before_all(board: &Board, bus: u8, item: Carried, older: &[Carried]) -> bool
-    ensures { result ≡ list_all (goes_before board.now bus item) older.now }
+fn goes_before_all(board: &Board, rule: Rule, bus: u8, item: Carried, older: &[Carried]) -> bool
+    ensures { result ≡ list_all (goes_before_by rule board.now bus item) older.now }
 {
     older
         .iter()
-        .all(|other| goes_before(board, bus, item, *other))
+        .all(|other| goes_before(board, rule, bus, item, *other))
 }
 
 /// Whether an item may go before an older one: where the ordering table lets it pass, but of two
-/// delayed requests that are the same on the bus the younger waits.
-fn goes_before(board: &Board, bus: u8, item: Carried, older: Carried) -> bool
-    ensures { result ≡ goes_before board.now bus item older }
+/// delayed requests that are the same on the bus the younger waits, where the rule of the bridge has
+/// it wait.
+fn goes_before(board: &Board, rule: Rule, bus: u8, item: Carried, older: Carried) -> bool
+    ensures { result ≡ goes_before_by rule board.now bus item older }
 {
-    may_pass(kind_of(board, item), kind_of(board, older)) && !asks_same(board, bus, item, older)
+    may_pass(kind_of(board, item), kind_of(board, older))
+        && !(rule.waits_for_equal() && asks_same(board, bus, item, older))
 }
 
 pub(crate) fn kind_of(board: &Board, item: Carried) -> Kind

@@ -23,6 +23,3 @@ pub use read_port::ReadPort;
 pub use sure_sink::SureSink;
 pub use sure_source::SureSource;
 pub use write_port::WritePort;
-
-#[cfg(test)]
-mod tests;

@@ -58,6 +58,3 @@ fn is_complete_on(kept: &Kept, board: &Board) -> bool
 {
     have_ended(kept, board) && are_idle(kept, board)
 }
-
-#[cfg(test)]
-mod tests;

@@ -1,7 +1,6 @@
 -- An operation is answered by what is kept as it is by the history.
-use Rattle.std.proofs.Common.{◌≡◌, ℕ, Bool, true, false, not, ◌+◌, ◌-◌, ◌<◌, ◌≤◌, ◌==◌, ◌&&◌, length, List, [], ◌∷◌, Option, None, Some, refl, sym, ap, subst, ◌∙◌, arith, cond, if◌then◌else◌}
+use Rattle.std.proofs.Common.{◌≡◌, ℕ, Bool, true, false, not, ◌-◌, ◌==◌, length, List, Option, None, Some, refl, ap, ◌∙◌, arith, if◌then◌else◌}
 use Rattle.std.specs.Prelude.{slice_get, nat_lt, is_some}
-use Rattle.std.specs.List.{find}
 use Rattle.std.specs.Option.{option_map}
 use Rattle.std.proofs.lemmas.Bool.Decides.{nat_tests}
 use Rattle.pci_command.specs.declared.op_id.OpId.{OpId}
@@ -19,24 +18,25 @@ use Rattle.board_model.specs.Claims.{claim}
 use Rattle.board_model.specs.Ways.{aborts_at, address_in}
 use Rattle.history_model.specs.declared.event.By.{By}
 use Rattle.history_model.specs.declared.event.Step.{Step}
-use Rattle.history_model.specs.declared.event.Step.TheVariants.{Land, Part, Read, Stall, MasterAbort, TargetAbort}
+use Rattle.history_model.specs.declared.event.Step.TheVariants.{Land, Part, Read, Stall, TargetAbort}
 use Rattle.history_model.specs.declared.event.Event.{Event}
-use Rattle.history_model.specs.declared.item.Answer.{Answer}
 use Rattle.history_model.specs.declared.item.Answer.TheVariants.{Gives}
+use Rattle.history_model.specs.declared.rule.Rule.{Rule}
+use Rattle.history_model.specs.declared.rule.Rule.TheVariants.{Tagged}
 use Rattle.history_model.specs.Lanes.{Both, LaneState}
-use Rattle.history_model.specs.World.{World, world_of}
+use Rattle.history_model.specs.World.{World, noted, world_by}
 use Rattle.history_model.specs.Words.{through, without, value_of}
 use Rattle.history_model.specs.Answers as m
-use Rattle.history_model.specs.Answers.{wants, stalls_used, bridge_to, lane_answer, header_answer}
+use Rattle.history_model.specs.Answers.{wants_by, wants, stalls_used, bridge_to, lane_answer, header_answer}
 use Rattle.history_core.specs.Faces.{face_answer}
 use Rattle.lane_replay.specs.Bridge.{lanes_of, turned}
 use Rattle.lane_replay.proofs.LaneLemmas.{lane_there}
 use Rattle.lane_replay.proofs.LeaveLemmas.{finds_none}
 use Rattle.kept_state.specs.declared.table.Word.{Word}
-use Rattle.kept_state.specs.State.{KeptState, WordPlaces, tokens_in, or_zero, gone_in, place_of, lanes_at, lanes_in}
+use Rattle.kept_state.specs.State.{KeptState, tokens_in, or_zero, place_of, lanes_at, lanes_in}
 use Rattle.kept_state.specs.Words.{place_at, value_in, value_at, dword}
 use Rattle.kept_state.specs.Answer.{target_step, target_answer, face_by, face_in, answer_by, answer_to, answer_now}
-use Rattle.kept_state.specs.Stands.{StandsFor, Covers}
+use Rattle.kept_state.specs.Stands.{StandsForBy, StandsFor, CoversBy}
 
 -- tokens are left where fewer are used
 tokens_left : (used stalls : ℕ) → nat_lt 0 (stalls - used) ≡ nat_lt used stalls
@@ -45,8 +45,8 @@ tokens_left used stalls =
     (elim (nat_lt used stalls) as P [ true ↦ λ fewer. grind (arith, nat_tests) | false ↦ λ not_fewer. grind (arith, nat_tests) ]) refl
 
 -- the value of a word that is kept
-value_same : (board : Board) (h : List Event) (k : KeptState) (word : Word) → StandsFor board h k → is_some (place_at k.places word) ≡ true → value_at k.places k.values word ≡ value_of board h (dword word)
-value_same board h k word stands kept =
+value_same : (rule : Rule) (board : Board) (h : List Event) (k : KeptState) (word : Word) → StandsForBy rule board h k → is_some (place_at k.places word) ≡ true → value_at k.places k.values word ≡ value_of board h (dword word)
+value_same rule board h k word stands kept =
     let P : Option ℕ → Type 0 = λ p. place_at k.places word ≡ p → is_some p ≡ true → value_in k.values p ≡ value_of board h (dword word) in
     (elim (place_at k.places word) as P [
       | None ↦ λ _ no_place. cc
@@ -54,10 +54,10 @@ value_same board h k word stands kept =
     ]) refl kept
 
 -- what a target answers
-step_same : (board : Board) (h : List Event) (k : KeptState) (place : ℕ) (request : Request) (target : TargetAgent) → StandsFor board h k → slice_get board.targets place ≡ Some target
+step_same : (rule : Rule) (board : Board) (h : List Event) (k : KeptState) (place : ℕ) (request : Request) (target : TargetAgent) → StandsForBy rule board h k → slice_get board.targets place ≡ Some target
     → (aborts_at target request ≡ false → is_read request.command ≡ true → is_some (place_at k.places (record { target = place; space = space_of request.command; address = address_in (space_of request.command) request.address })) ≡ true)
     → target_step k place request target ≡ m.target_step board h place request target
-step_same board h k place request target stands is_target covered =
+step_same rule board h k place request target stands is_target covered =
     let word : Word = record { target = place; space = space_of request.command; address = address_in (space_of request.command) request.address } in
     let left : tokens_in k.tokens place ≡ target.stalls - stalls_used h place = ap or_zero (stands.tokens place target is_target) in
     let stalled : nat_lt 0 (tokens_in k.tokens place) ≡ nat_lt (stalls_used h place) target.stalls =
@@ -71,63 +71,74 @@ step_same board h k place request target stands is_target covered =
     let Q : Bool → Type 0 = λ r. aborts_at target request ≡ false → is_read request.command ≡ r → (if r then Read now else write) ≡ (if r then Read was else write) in
     let read_same : aborts_at target request ≡ false → other now ≡ other was = λ no_abort.
     (elim (is_read request.command) as Q [
-      | true ↦ λ _ reads. ap (λ (v : ℕ). Read v) (value_same board h k word stands (covered no_abort reads))
+      | true ↦ λ _ reads. ap (λ (v : ℕ). Read v) (value_same rule board h k word stands (covered no_abort reads))
       | false ↦ λ _ _. refl
     ]) no_abort refl in
     let same : rest now ≡ rest was = (elim (aborts_at target request) as P [ true ↦ λ _. refl | false ↦ λ no_abort. read_same no_abort ]) refl in
     ap (λ (b : Bool). if b then Stall else rest now) stalled ∙ ap (λ (s : Step). if nat_lt (stalls_used h place) target.stalls then Stall else s) same
 
 -- the lanes of a bridge
-pub lanes_same : (board : Board) (h : List Event) (k : KeptState) (bus : ℕ) (bridge : Bridge) → StandsFor board h k → bridge_to board bus ≡ Some bridge → lanes_in board k.lanes bus ≡ Some (lanes_of (world_of board h) bus)
-lanes_same board h k bus bridge stands is_bridge =
-    let P : Option ℕ → Type 0 = λ p. place_of board bus ≡ p → lanes_at k.lanes p ≡ Some (lanes_of (world_of board h) bus) in
+pub lanes_same : (rule : Rule) (board : Board) (h : List Event) (k : KeptState) (bus : ℕ) (bridge : Bridge) → StandsForBy rule board h k → bridge_to board bus ≡ Some bridge → lanes_in board k.lanes bus ≡ Some (lanes_of (world_by rule board h) bus)
+lanes_same rule board h k bus bridge stands is_bridge =
+    let P : Option ℕ → Type 0 = λ p. place_of board bus ≡ p → lanes_at k.lanes p ≡ Some (lanes_of (world_by rule board h) bus) in
     (elim (place_of board bus) as P [
       | None ↦ λ none. (let no_bridge : bridge_to board bus ≡ None = finds_none (λ (b : Bridge). b.bus == bus) board.bridges none in absurd (cc))
       | Some place ↦ λ at. stands.lanes bus place at
     ]) refl
 
 -- what a face answers
-face_same : (board : Board) (h : List Event) (k : KeptState) (on : ℕ) (by : By) (o : OpId) (request : Request) (lane : BridgeLane) → StandsFor board h k
-    → face_in board k on by o request lane (bridge_to board lane.bus) (lanes_in board k.lanes lane.bus) ≡ lane_answer board (world_of board h) on by o request lane (bridge_to board lane.bus)
-face_same board h k on by o request lane stands =
-    let world : World = world_of board h in
+face_same : (rule : Rule) (board : Board) (h : List Event) (k : KeptState) (on : ℕ) (by : By) (o : OpId) (request : Request) (lane : BridgeLane) → StandsForBy rule board h k
+    → face_in board k on by o request lane (bridge_to board lane.bus) (lanes_in board k.lanes lane.bus) ≡ lane_answer board (world_by rule board h) on by o request lane (bridge_to board lane.bus)
+face_same rule board h k on by o request lane stands =
+    let world : World = world_by rule board h in
     let P : Option Bridge → Type 0 = λ b. bridge_to board lane.bus ≡ b → face_in board k on by o request lane b (lanes_in board k.lanes lane.bus) ≡ lane_answer board world on by o request lane b in
     (elim (bridge_to board lane.bus) as P [
       | None ↦ λ _. refl
       | Some bridge ↦ λ is.
           let x : Both = lanes_of world lane.bus in
           let there = lane_there world lane x refl in
-          ap (face_by board on by o request lane bridge) (lanes_same board h k lane.bus bridge stands is)
+          ap (face_by board on by o request lane bridge) (lanes_same rule board h k lane.bus bridge stands is)
           ∙ (ap (λ (l : LaneState). face_answer board on by o request lane bridge l (turned (not lane.up) x).here) there.0
           ∙ ap (face_answer board on by o request lane bridge (world lane)) there.1)
     ]) refl
 
 -- who claims answers
-by_same : (board : Board) (h : List Event) (k : KeptState) (on : ℕ) (by : By) (o : OpId) (request : Request) (place : Place) → StandsFor board h k
+by_same : (rule : Rule) (board : Board) (h : List Event) (k : KeptState) (on : ℕ) (by : By) (o : OpId) (request : Request) (place : Place) → StandsForBy rule board h k
     → ((t : ℕ) (target : TargetAgent) → place ≡ Target t → slice_get board.targets t ≡ Some target → aborts_at target request ≡ false → is_read request.command ≡ true
     → is_some (place_at k.places (record { target = t; space = space_of request.command; address = address_in (space_of request.command) request.address })) ≡ true)
-    → answer_by board k on by o request place ≡ m.answer_by board (world_of board h) h on by o request place
-by_same board h k on by o request (Header bus) stands covered = refl
-by_same board h k on by o request Nobody stands covered = refl
-by_same board h k on by o request (Lane lane) stands covered = face_same board h k on by o request lane stands
-by_same board h k on by o request (Target t) stands covered =
+    → answer_by board k on by o request place ≡ m.answer_by board (world_by rule board h) h on by o request place
+by_same rule board h k on by o request (Header bus) stands covered = refl
+by_same rule board h k on by o request Nobody stands covered = refl
+by_same rule board h k on by o request (Lane lane) stands covered = face_same rule board h k on by o request lane stands
+by_same rule board h k on by o request (Target t) stands covered =
     let P : Option TargetAgent → Type 0 = λ found. slice_get board.targets t ≡ found → target_answer k t request found ≡ m.target_answer board h t request found in
     (elim (slice_get board.targets t) as P [
       | None ↦ λ _. refl
-      | Some target ↦ λ is. ap (λ (s : Step). Gives s (Target t)) (step_same board h k t request target stands is (covered t target refl is))
+      | Some target ↦ λ is. ap (λ (s : Step). Gives s (Target t)) (step_same rule board h k t request target stands is (covered t target refl is))
     ]) refl
 
--- the answer to what is presented
-pub answer_same : (board : Board) (h : List Event) (k : KeptState) (on : ℕ) (by : By) (o : OpId) → StandsFor board h k → Covers board k.places → wants board h on by o ≡ true
-    → answer_now board k on by o ≡ m.answer board h on by o
-answer_same board h k on by o stands covers wanted =
-    let P : Option Op → Type 0 = λ found. op_of board o ≡ found → answer_to board k on by o (option_map (λ op. request_on op on) found) ≡ m.answer_to board (world_of board h) h on by o (option_map (λ op. request_on op on) found) in
+-- the answer to what is presented, whoever is noted
+noted_same : (rule : Rule) (board : Board) (h : List Event) (k : KeptState) (on : ℕ) (by noted_by : By) (o : OpId) → StandsForBy rule board h k → wants_by rule board h on by o ≡ true
+    → answer_to board k on noted_by o (request_of board o on) ≡ m.answer_in board (world_by rule board h) h on noted_by o
+noted_same rule board h k on by noted_by o stands wanted =
+    let world : World = world_by rule board h in
+    let P : Option Op → Type 0 = λ found. op_of board o ≡ found → answer_to board k on noted_by o (option_map (λ op. request_on op on) found) ≡ m.answer_to board world h on noted_by o (option_map (λ op. request_on op on) found) in
     (elim (op_of board o) as P [
       | None ↦ λ _. refl
       | Some op ↦ λ is.
           let request : Request = request_on op on in
           let requested : request_of board o on ≡ Some request = rw is refl in
           let rest : Request = without (through h o) request in
-          ap (λ (n : ℕ). answer_by board k on by o (without n request) (claim board on (without n request))) (ap or_zero (stands.gone o op is))
-          ∙ by_same board h k on by o rest (claim board on rest) stands (λ t target claims is_target no_abort reads. covers h on by o request t target stands.run wanted requested claims is_target no_abort reads)
+          ap (λ (n : ℕ). answer_by board k on noted_by o (without n request) (claim board on (without n request))) (ap or_zero (stands.gone o op is))
+          ∙ by_same rule board h k on noted_by o rest (claim board on rest) stands (λ t target claims is_target no_abort reads. stands.covers h on by o request t target stands.run wanted requested claims is_target no_abort reads)
     ]) refl
+
+pub answer_same_by : (rule : Rule) (board : Board) (h : List Event) (k : KeptState) (on : ℕ) (by : By) (o : OpId) → StandsForBy rule board h k → wants_by rule board h on by o ≡ true
+    → answer_now board k on by o ≡ m.answer_by_rule rule board h on by o
+answer_same_by rule board h k on by o stands wanted =
+    ap (λ (r : Rule). answer_to board k on (noted r by) o (request_of board o on)) stands.rule_is ∙ noted_same rule board h k on by (noted rule by) o stands wanted
+
+-- the same on bridges that keep the local master
+pub answer_same : (board : Board) (h : List Event) (k : KeptState) (on : ℕ) (by : By) (o : OpId) → StandsFor board h k → CoversBy Tagged board k.places → wants board h on by o ≡ true
+    → answer_now board k on by o ≡ m.answer board h on by o
+answer_same board h k on by o stands covers wanted = answer_same_by Tagged board h k on by o stands wanted

@@ -1,6 +1,5 @@
 -- What is kept before the first event stands for no events.
-use Rattle.std.proofs.Common.{◌≡◌, ◌≢◌, ℕ, ◌+◌, ◌-◌, ◌<◌, ◌≤◌, length, List, [], ◌∷◌, ◌++◌, Option, None, Some, refl, sym, ap, subst, ◌∙◌, arith, ◌⊎◌, inl, inr, slice_get, below_more}
-use Rattle.std.specs.Prelude.{map}
+use Rattle.std.proofs.Common.{◌≡◌, ℕ, ◌+◌, ◌-◌, ◌<◌, ◌≤◌, length, List, [], ◌∷◌, ◌++◌, Option, None, Some, refl, sym, ap, ◌∙◌, arith, inl, inr, slice_get, below_more}
 use Rattle.std.specs.Option.{option_map}
 use Rattle.std.proofs.lemmas.Option.{slice_get-map, slice_get_past}
 use Rattle.circular_buffer.proofs.Places.{slice_get-append_left, slice_get-append_right, below_or_not}
@@ -9,16 +8,13 @@ use Rattle.board_model.specs.declared.agents.Master.{Master as MasterAgent}
 use Rattle.board_model.specs.declared.agents.Target.{Target as TargetAgent}
 use Rattle.board_model.specs.declared.op.Op.{Op}
 use Rattle.board_model.specs.declared.board.Board.{Board}
-use Rattle.board_model.specs.Requests.{op_of}
 use Rattle.board_model.specs.Valid.{IsValid}
 use Rattle.board_model.proofs.Laws.{op_there}
-use Rattle.history_model.specs.Lanes.{Both}
+use Rattle.history_model.specs.declared.rule.Rule.{Rule}
 use Rattle.history_model.specs.Program.{turn_of}
-use Rattle.history_model.specs.Words.{value_of}
 use Rattle.law_slots.proofs.Laws.{WellFormed-single}
-use Rattle.kept_state.specs.declared.table.Word.{Word}
-use Rattle.kept_state.specs.State.{KeptState, turn_in, flat, list_in}
-use Rattle.kept_state.specs.Stands.{StandsFor}
+use Rattle.kept_state.specs.State.{KeptState, turn_in}
+use Rattle.kept_state.specs.Stands.{StandsForBy}
 use Rattle.kept_state.specs.First.{TurnsAtFirst, WordsAtFirst, nothing_on, lanes_at_first, tokens_at_first, counts_at_first, gone_at_first}
 use Rattle.kept_state.proofs.PlaceLemmas.{place_has}
 use Rattle.kept_state.proofs.CoverLemmas.{covers_all}
@@ -53,10 +49,11 @@ turns_first board turns all below =
     }
 
 -- each part stands for no events, so all do
-pub stands_first : (board : Board) (k : KeptState) → IsValid board → TurnsAtFirst board k.turns → k.lanes ≡ lanes_at_first board → k.tokens ≡ tokens_at_first board → k.gone ≡ gone_at_first board
-    → WordsAtFirst board (record { places = k.places; values = k.values }) → StandsFor board [] k
-stands_first board k valid turns lanes tokens gone words =
+pub stands_first : (rule : Rule) (board : Board) (k : KeptState) → k.rule ≡ rule → IsValid board → TurnsAtFirst board k.turns → k.lanes ≡ lanes_at_first board → k.tokens ≡ tokens_at_first board → k.gone ≡ gone_at_first board
+    → WordsAtFirst board (record { places = k.places; values = k.values }) → StandsForBy rule board [] k
+stands_first rule board k rule_is valid turns lanes tokens gone words =
     record {
+      rule_is = rule_is;
       run = tt;
       turns = turns.each;
       masters = turns.masters;
@@ -75,5 +72,5 @@ stands_first board k valid turns lanes tokens gone words =
           rw row (slice_get-map count there.master.ops o.index ∙ ap (option_map count) there.is_op);
       words = words.known.opens;
       apart = words.known.apart;
-      covers = covers_all board k.places valid (WellFormed-single board valid.well_formed) words.reads;
+      covers = covers_all rule board k.places valid (WellFormed-single board valid.well_formed) words.reads;
     }

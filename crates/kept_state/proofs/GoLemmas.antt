@@ -10,12 +10,12 @@ use Rattle.board_model.specs.declared.bridge.Place.{Place}
 use Rattle.board_model.specs.declared.bridge.Place.TheVariants.{Target, Header, Lane, Nobody}
 use Rattle.history_model.specs.declared.event.By.{By}
 use Rattle.history_model.specs.declared.event.By.TheVariants.{Master, Lane as ByLane}
-use Rattle.history_model.specs.declared.event.Mark.{Mark}
 use Rattle.history_model.specs.declared.event.Step.{Step}
 use Rattle.history_model.specs.declared.event.Event.{Event}
 use Rattle.history_model.specs.declared.event.Event.TheVariants.{Act, Arrive}
+use Rattle.history_model.specs.declared.rule.Rule.{Rule}
 use Rattle.history_model.specs.Lanes.{Both, arrives, item_ends}
-use Rattle.history_model.specs.World.{World, world_of, after, enters, lane_outcome}
+use Rattle.history_model.specs.World.{noted, world_by, enters, lane_outcome}
 use Rattle.lane_replay.specs.Bridge.{lanes_of, turned, moved_on, place_on, leaves_on, initiator_on, lanes_after}
 use Rattle.lane_replay.proofs.LaneLemmas.{lanes_after_event}
 use Rattle.kept_state.specs.State.{place_of, other_than, happens_on, changed_at, lanes_next, bus_at, bus_by}
@@ -47,17 +47,17 @@ by_elsewhere board Master o step bus x other = refl
 by_elsewhere board (ByLane lane) o step bus x other = leaves_elsewhere lane o (lane_outcome board lane o step) bus x other
 
 -- what is kept after the event happened on one bridge
-happened : (board : Board) (e : Event) (first : Option ℕ) (lanes : List Both) (bus place : ℕ) (x : Both) → place_of board bus ≡ Some place → slice_get lanes place ≡ Some x →
-    slice_get (happens_on board e first lanes) place ≡ Some (if elsewhere first bus then x else lanes_after board e bus x)
-happened board e None lanes bus place x at is = is
-happened board e (Some first) lanes bus place x at is =
-    let f : Both → Both = lanes_after board e first in
-    let P : Bool → Type 0 = λ b. (first == bus) ≡ b → slice_get (happens_on board e (Some first) lanes) place ≡ Some (if not b then x else lanes_after board e bus x) in
+happened : (rule : Rule) (board : Board) (e : Event) (first : Option ℕ) (lanes : List Both) (bus place : ℕ) (x : Both) → place_of board bus ≡ Some place → slice_get lanes place ≡ Some x →
+    slice_get (happens_on rule board e first lanes) place ≡ Some (if elsewhere first bus then x else lanes_after rule board e bus x)
+happened rule board e None lanes bus place x at is = is
+happened rule board e (Some first) lanes bus place x at is =
+    let f : Both → Both = lanes_after rule board e first in
+    let P : Bool → Type 0 = λ b. (first == bus) ≡ b → slice_get (happens_on rule board e (Some first) lanes) place ≡ Some (if not b then x else lanes_after rule board e bus x) in
     (elim (first == bus) as P [
       | true ↦ λ same.
           let one : bus ≡ first = grind (arith, nat_tests) in
           let there : place_of board first ≡ Some place = ap (place_of board) (sym one) ∙ at in
-          rw there (changed_same f lanes place x is ∙ ap (λ (n : ℕ). Some (lanes_after board e n x)) (sym one))
+          rw there (changed_same f lanes place x is ∙ ap (λ (n : ℕ). Some (lanes_after rule board e n x)) (sym one))
       | false ↦ λ differ.
           let Q : Option ℕ → Type 0 = λ p. place_of board first ≡ p → slice_get (changed_at f lanes p) place ≡ Some x in
           (elim (place_of board first) as Q [
@@ -101,42 +101,42 @@ both_elsewhere (Some first) (Some second) bus one two =
     ]) refl two
 
 -- after the event, on each bridge
-pub lanes_went : (board : Board) (h : List Event) (e : Event) (lanes : List Both) (bus place : ℕ) → place_of board bus ≡ Some place →
-    slice_get lanes place ≡ Some (lanes_of (world_of board h) bus) → slice_get (lanes_next board e lanes) place ≡ Some (lanes_of (world_of board (e ∷ h)) bus)
-lanes_went board h (Act on by o step at_place) lanes bus place at is =
+pub lanes_went : (rule : Rule) (board : Board) (h : List Event) (e : Event) (lanes : List Both) (bus place : ℕ) → place_of board bus ≡ Some place →
+    slice_get lanes place ≡ Some (lanes_of (world_by rule board h) bus) → slice_get (lanes_next rule board e lanes) place ≡ Some (lanes_of (world_by rule board (e ∷ h)) bus)
+lanes_went rule board h (Act on by o step at_place) lanes bus place at is =
     let e : Event = Act on by o step at_place in
-    let x : Both = lanes_of (world_of board h) bus in
-    let la : Both → Both = lanes_after board e bus in
+    let x : Both = lanes_of (world_by rule board h) bus in
+    let la : Both → Both = lanes_after rule board e bus in
     let first : Option ℕ = bus_at at_place in
     let second : Option ℕ = other_than first (bus_by by) in
-    let goes : lanes_of (world_of board (e ∷ h)) bus ≡ la x = lanes_after_event board (world_of board h) e bus in
+    let goes : lanes_of (world_by rule board (e ∷ h)) bus ≡ la x = lanes_after_event rule board (world_by rule board h) e bus in
     let y : Both = if elsewhere first bus then x else la x in
-    let one : slice_get (happens_on board e first lanes) place ≡ Some y = happened board e first lanes bus place x at is in
-    let two : slice_get (lanes_next board e lanes) place ≡ Some (if elsewhere second bus then y else la y) = happened board e second (happens_on board e first lanes) bus place y at one in
+    let one : slice_get (happens_on rule board e first lanes) place ≡ Some y = happened rule board e first lanes bus place x at is in
+    let two : slice_get (lanes_next rule board e lanes) place ≡ Some (if elsewhere second bus then y else la y) = happened rule board e second (happens_on rule board e first lanes) bus place y at one in
     two ∙ ap (λ (z : Both). Some z) (went ∙ sym goes) where
-      went : (let x : Both = lanes_of (world_of board h) bus in let la : Both → Both = lanes_after board (Act on by o step at_place) bus in
+      went : (let x : Both = lanes_of (world_by rule board h) bus in let la : Both → Both = lanes_after rule board (Act on by o step at_place) bus in
           let y : Both = if elsewhere (bus_at at_place) bus then x else la x in (if elsewhere (other_than (bus_at at_place) (bus_by by)) bus then y else la y) ≡ la x)
       went =
-          let x : Both = lanes_of (world_of board h) bus in
-          let la : Both → Both = lanes_after board (Act on by o step at_place) bus in
+          let x : Both = lanes_of (world_by rule board h) bus in
+          let la : Both → Both = lanes_after rule board (Act on by o step at_place) bus in
           let P : Bool → Type 0 = λ b. elsewhere (bus_at at_place) bus ≡ b → (let y : Both = if b then x else la x in (if elsewhere (other_than (bus_at at_place) (bus_by by)) bus then y else la y) ≡ la x) in
           (elim (elsewhere (bus_at at_place) bus) as P [
             | true ↦ λ one.
                 let Q : Bool → Type 0 = λ b. elsewhere (other_than (bus_at at_place) (bus_by by)) bus ≡ b → (if b then x else la x) ≡ la x in
                 (elim (elsewhere (other_than (bus_at at_place) (bus_by by)) bus) as Q [
                   | true ↦ λ two.
-                      let there : place_on board on by o step at_place bus x ≡ x = place_elsewhere board on by o step at_place bus x one in
+                      let there : place_on board on (noted rule by) o step at_place bus x ≡ x = place_elsewhere board on (noted rule by) o step at_place bus x one in
                       let too : initiator_on board by o step bus x ≡ x = by_elsewhere board by o step bus x (both_elsewhere (bus_at at_place) (bus_by by) bus one two) in
                       sym (ap (initiator_on board by o step bus) there ∙ too)
                   | false ↦ λ _. refl
                 ]) refl
             | false ↦ λ here. rw (then_elsewhere (bus_at at_place) (bus_by by) bus here)
           ]) refl
-lanes_went board h (Arrive lane mark) lanes bus place at is =
+lanes_went rule board h (Arrive lane mark) lanes bus place at is =
     let e : Event = Arrive lane mark in
-    let x : Both = lanes_of (world_of board h) bus in
-    let goes : lanes_of (world_of board (e ∷ h)) bus ≡ lanes_after board e bus x = lanes_after_event board (world_of board h) e bus in
-    let P : Bool → Type 0 = λ b. not (lane.bus == bus) ≡ b → (if b then x else lanes_after board e bus x) ≡ lanes_after board e bus x in
-    let same : (if elsewhere (Some lane.bus) bus then x else lanes_after board e bus x) ≡ lanes_after board e bus x =
+    let x : Both = lanes_of (world_by rule board h) bus in
+    let goes : lanes_of (world_by rule board (e ∷ h)) bus ≡ lanes_after rule board e bus x = lanes_after_event rule board (world_by rule board h) e bus in
+    let P : Bool → Type 0 = λ b. not (lane.bus == bus) ≡ b → (if b then x else lanes_after rule board e bus x) ≡ lanes_after rule board e bus x in
+    let same : (if elsewhere (Some lane.bus) bus then x else lanes_after rule board e bus x) ≡ lanes_after rule board e bus x =
     (elim (not (lane.bus == bus)) as P [ true ↦ λ other. sym (moved_elsewhere (arrives mark) lane bus x other) | false ↦ λ _. refl ]) refl in
-    happened board e (Some lane.bus) lanes bus place x at is ∙ ap (λ (z : Both). Some z) (same ∙ sym goes)
+    happened rule board e (Some lane.bus) lanes bus place x at is ∙ ap (λ (z : Both). Some z) (same ∙ sym goes)

@@ -1,5 +1,5 @@
 -- How many data phases of each operation went through.
-use Rattle.std.proofs.Common.{◌≡◌, ◌≢◌, ℕ, Bool, true, false, not, ◌+◌, ◌<◌, ◌≤◌, ◌^◌, ◌==◌, ◌&&◌, length, List, [], ◌∷◌, Option, None, Some, refl, sym, ap, subst, ◌∙◌, arith, if◌then◌else◌}
+use Rattle.std.proofs.Common.{◌≡◌, ◌≢◌, ℕ, Bool, true, false, ◌+◌, ◌<◌, ◌≤◌, ◌^◌, ◌==◌, ◌&&◌, List, [], ◌∷◌, Option, None, Some, refl, sym, ap, subst, ◌∙◌, arith, if◌then◌else◌}
 use Rattle.std.specs.Prelude.{slice_get, nat_lt}
 use Rattle.std.specs.Option.{option_map, option_and_then}
 use Rattle.std.proofs.lemmas.Bool.Decides.{nat_tests}
@@ -7,7 +7,6 @@ use Rattle.pci_command.specs.declared.command.Space.{Space}
 use Rattle.pci_command.specs.declared.command.Space.TheVariants.{Mem, Io, Cfg}
 use Rattle.pci_command.specs.Same.{same_op}
 use Rattle.pci_command.specs.declared.op_id.OpId.{OpId}
-use Rattle.pci_command.specs.declared.request.Request.{Request}
 use Rattle.board_model.specs.declared.agents.Master.{Master as MasterAgent}
 use Rattle.board_model.specs.declared.bridge.Place.{Place}
 use Rattle.board_model.specs.declared.op.Op.{Op}
@@ -15,22 +14,19 @@ use Rattle.board_model.specs.declared.op.Op.TheVariants.{Read as ReadOp, Write, 
 use Rattle.board_model.specs.declared.board.Board.{Board}
 use Rattle.board_model.specs.Requests.{op_of, tries_of, request_of, request_on, is_posted}
 use Rattle.history_model.specs.declared.event.By.{By}
-use Rattle.history_model.specs.declared.event.Mark.{Mark}
-use Rattle.history_model.specs.declared.event.Step.{Step}
 use Rattle.history_model.specs.declared.event.Step.TheVariants.{Land, Part, Read, Accept, Latch, Take, Stall, MasterAbort, TargetAbort}
 use Rattle.history_model.specs.declared.event.Event.{Event}
 use Rattle.history_model.specs.declared.event.Event.TheVariants.{Act, Arrive}
-use Rattle.history_model.specs.declared.item.Answer.{Answer}
 use Rattle.history_model.specs.declared.item.Answer.TheVariants.{Gives}
-use Rattle.history_model.specs.World.{world_of}
-use Rattle.history_model.specs.Words.{through, phases_parted}
-use Rattle.history_model.specs.Answers.{answer, answer_to}
-use Rattle.history_model.specs.Runs.{Run, Allowed}
+use Rattle.history_model.specs.declared.rule.Rule.{Rule}
+use Rattle.history_model.specs.World.{noted, world_by}
+use Rattle.history_model.specs.Words.{through}
+use Rattle.history_model.specs.Answers.{answer_to}
+use Rattle.history_model.specs.Runs.{RunBy, AllowedBy}
 use Rattle.law_slots.specs.Phases.{DelayedAreSingle}
-use Rattle.history_facts.proofs.RequestLemmas.{same_op_true}
-use Rattle.law_slots.proofs.Laws.{delayed-not_parted}
-use Rattle.kept_state.specs.State.{changed_at, changed_with, list_in, or_zero, gone_in, gone_added, gone_by, gone_next, GoneFits}
-use Rattle.kept_state.specs.Stands.{PartsAreSmall}
+use Rattle.law_rules.proofs.Laws.{delayed-not_parted_by}
+use Rattle.kept_state.specs.State.{changed_at, changed_with, list_in, or_zero, gone_in, gone_added, gone_next, GoneFits}
+use Rattle.kept_state.specs.Stands.{PartsAreSmallBy}
 use Rattle.kept_state.proofs.PlaceLemmas.{changed_same, changed_other}
 
 abbrev slot_in : List (List ℕ) → ℕ → ℕ → Option ℕ
@@ -121,10 +117,10 @@ self_same a =
     let t : (a.attempt == a.attempt) ≡ true = grind (arith, nat_tests) in
     rw (m, i, t)
 
-parted : (board : Board) (h : List Event) (on : ℕ) (by : By) (p : OpId) (n : ℕ) (place : Place) (gone : List (List ℕ)) → DelayedAreSingle board → Run board h → Allowed board h (Act on by p (Part n) place)
+parted : (rule : Rule) (board : Board) (h : List Event) (on : ℕ) (by : By) (p : OpId) (n : ℕ) (place : Place) (gone : List (List ℕ)) → DelayedAreSingle board → RunBy rule board h → AllowedBy rule board h (Act on by p (Part n) place)
     → (o : OpId) (op : Op) → op_of board o ≡ Some op → slot_in gone o.master o.index ≡ Some (through h o)
     → slot_in (gone_added p n gone) o.master o.index ≡ Some ((if same_op p o then n else 0) + through h o)
-parted board h on by p n place gone single run allowed o op is was =
+parted rule board h on by p n place gone single run allowed o op is was =
     let P : Bool → Type 0 = λ b. (p.master == o.master && p.index == o.index) ≡ b → slot_in (gone_added p n gone) o.master o.index ≡ Some ((if b && p.attempt == o.attempt then n else 0) + through h o) in
     (elim (p.master == o.master && p.index == o.index) as P [
       | false ↦ λ other. added_other gone p n o.master o.index other ∙ was ∙ ap (λ (m : ℕ). Some m) (omega arith)
@@ -144,7 +140,7 @@ parted board h on by p n place gone single run allowed o op is was =
 
       nothing : p.master ≡ o.master → p.index ≡ o.index → (p.attempt == o.attempt) ≡ false → n ≡ 0
       nothing masters indexes differ =
-          let R : Option Op → Type 0 = λ found. op_of board p ≡ found → answer_to board (world_of board h) h on by p (option_map (λ q. request_on q on) found) ≡ Gives (Part n) place → n ≡ 0 in
+          let R : Option Op → Type 0 = λ found. op_of board p ≡ found → answer_to board (world_by rule board h) h on (noted rule by) p (option_map (λ q. request_on q on) found) ≡ Gives (Part n) place → n ≡ 0 in
           (elim (op_of board p) as R [
             | None ↦ λ _ never. cc
             | Some q ↦ λ is_q _.
@@ -156,7 +152,7 @@ parted board h on by p n place gone single run allowed o op is was =
                       absurd (cc)
                   | false ↦ λ delayed.
                       let requested : request_of board p on ≡ Some (request_on q on) = rw is_q refl in
-                      let whole = delayed-not_parted board (Act on by p (Part n) place ∷ h) p on (request_on q on) single (allowed, run) requested delayed in
+                      let whole = delayed-not_parted_by rule board (Act on by p (Part n) place ∷ h) p on (request_on q on) single (allowed, run) requested delayed in
                       let self : same_op p p ≡ true = same_self p in
                       let sums : n + through h p ≡ 0 = subst (λ (b : Bool). (if b then n else 0) + through h p ≡ 0) self whole in
                       omega (arith, sums)
@@ -183,33 +179,33 @@ stayed h p o gone was =
     let P : Bool → Type 0 = λ b. Some (through h o) ≡ Some ((if b then 0 else 0) + through h o) in
     was ∙ elim (same_op p o) as P [ true ↦ ap (λ (m : ℕ). Some m) (omega arith) | false ↦ ap (λ (m : ℕ). Some m) (omega arith) ]
 
-pub gone_went : (board : Board) (h : List Event) (gone : List (List ℕ)) (e : Event) → DelayedAreSingle board → ((o : OpId) (op : Op) → op_of board o ≡ Some op → slice_get (list_in (slice_get gone o.master)) o.index ≡ Some (through h o))
-    → Run board h → Allowed board h e → (o : OpId) (op : Op) → op_of board o ≡ Some op → slice_get (list_in (slice_get (gone_next e gone) o.master)) o.index ≡ Some (through (e ∷ h) o)
-gone_went board h gone (Arrive lane mark) single were run allowed o op is = were o op is ∙ ap (λ (m : ℕ). Some m) (omega arith)
-gone_went board h gone (Act on by p (Part n) place) single were run allowed o op is = parted board h on by p n place gone single run allowed o op is (were o op is)
-gone_went board h gone (Act on by p Land place) single were run allowed o op is = stayed h p o gone (were o op is)
-gone_went board h gone (Act on by p (Read value) place) single were run allowed o op is = stayed h p o gone (were o op is)
-gone_went board h gone (Act on by p Accept place) single were run allowed o op is = stayed h p o gone (were o op is)
-gone_went board h gone (Act on by p Latch place) single were run allowed o op is = stayed h p o gone (were o op is)
-gone_went board h gone (Act on by p (Take outcome) place) single were run allowed o op is = stayed h p o gone (were o op is)
-gone_went board h gone (Act on by p Stall place) single were run allowed o op is = stayed h p o gone (were o op is)
-gone_went board h gone (Act on by p MasterAbort place) single were run allowed o op is = stayed h p o gone (were o op is)
-gone_went board h gone (Act on by p TargetAbort place) single were run allowed o op is = stayed h p o gone (were o op is)
+pub gone_went : (rule : Rule) (board : Board) (h : List Event) (gone : List (List ℕ)) (e : Event) → DelayedAreSingle board → ((o : OpId) (op : Op) → op_of board o ≡ Some op → slice_get (list_in (slice_get gone o.master)) o.index ≡ Some (through h o))
+    → RunBy rule board h → AllowedBy rule board h e → (o : OpId) (op : Op) → op_of board o ≡ Some op → slice_get (list_in (slice_get (gone_next e gone) o.master)) o.index ≡ Some (through (e ∷ h) o)
+gone_went rule board h gone (Arrive lane mark) single were run allowed o op is = were o op is ∙ ap (λ (m : ℕ). Some m) (omega arith)
+gone_went rule board h gone (Act on by p (Part n) place) single were run allowed o op is = parted rule board h on by p n place gone single run allowed o op is (were o op is)
+gone_went rule board h gone (Act on by p Land place) single were run allowed o op is = stayed h p o gone (were o op is)
+gone_went rule board h gone (Act on by p (Read value) place) single were run allowed o op is = stayed h p o gone (were o op is)
+gone_went rule board h gone (Act on by p Accept place) single were run allowed o op is = stayed h p o gone (were o op is)
+gone_went rule board h gone (Act on by p Latch place) single were run allowed o op is = stayed h p o gone (were o op is)
+gone_went rule board h gone (Act on by p (Take outcome) place) single were run allowed o op is = stayed h p o gone (were o op is)
+gone_went rule board h gone (Act on by p Stall place) single were run allowed o op is = stayed h p o gone (were o op is)
+gone_went rule board h gone (Act on by p MasterAbort place) single were run allowed o op is = stayed h p o gone (were o op is)
+gone_went rule board h gone (Act on by p TargetAbort place) single were run allowed o op is = stayed h p o gone (were o op is)
 
 -- the counts have room
-pub gone_fits : (board : Board) (h : List Event) (gone : List (List ℕ)) (e : Event) → ((o : OpId) (op : Op) → op_of board o ≡ Some op → slice_get (list_in (slice_get gone o.master)) o.index ≡ Some (through h o))
-    → PartsAreSmall board → Run board h → Allowed board h e → GoneFits e gone
-gone_fits board h gone (Arrive lane mark) were small run allowed = tt
-gone_fits board h gone (Act on by p Land place) were small run allowed = tt
-gone_fits board h gone (Act on by p (Read value) place) were small run allowed = tt
-gone_fits board h gone (Act on by p Accept place) were small run allowed = tt
-gone_fits board h gone (Act on by p Latch place) were small run allowed = tt
-gone_fits board h gone (Act on by p (Take outcome) place) were small run allowed = tt
-gone_fits board h gone (Act on by p Stall place) were small run allowed = tt
-gone_fits board h gone (Act on by p MasterAbort place) were small run allowed = tt
-gone_fits board h gone (Act on by p TargetAbort place) were small run allowed = tt
-gone_fits board h gone (Act on by p (Part n) place) were small run allowed =
-    let R : Option Op → Type 0 = λ found. op_of board p ≡ found → answer_to board (world_of board h) h on by p (option_map (λ q. request_on q on) found) ≡ Gives (Part n) place → gone_in gone p + n < 2 ^ 32 in
+pub gone_fits : (rule : Rule) (board : Board) (h : List Event) (gone : List (List ℕ)) (e : Event) → ((o : OpId) (op : Op) → op_of board o ≡ Some op → slice_get (list_in (slice_get gone o.master)) o.index ≡ Some (through h o))
+    → PartsAreSmallBy rule board → RunBy rule board h → AllowedBy rule board h e → GoneFits e gone
+gone_fits rule board h gone (Arrive lane mark) were small run allowed = tt
+gone_fits rule board h gone (Act on by p Land place) were small run allowed = tt
+gone_fits rule board h gone (Act on by p (Read value) place) were small run allowed = tt
+gone_fits rule board h gone (Act on by p Accept place) were small run allowed = tt
+gone_fits rule board h gone (Act on by p Latch place) were small run allowed = tt
+gone_fits rule board h gone (Act on by p (Take outcome) place) were small run allowed = tt
+gone_fits rule board h gone (Act on by p Stall place) were small run allowed = tt
+gone_fits rule board h gone (Act on by p MasterAbort place) were small run allowed = tt
+gone_fits rule board h gone (Act on by p TargetAbort place) were small run allowed = tt
+gone_fits rule board h gone (Act on by p (Part n) place) were small run allowed =
+    let R : Option Op → Type 0 = λ found. op_of board p ≡ found → answer_to board (world_by rule board h) h on (noted rule by) p (option_map (λ q. request_on q on) found) ≡ Gives (Part n) place → gone_in gone p + n < 2 ^ 32 in
     (elim (op_of board p) as R [
       | None ↦ λ _ never. cc
       | Some q ↦ λ is_q _.

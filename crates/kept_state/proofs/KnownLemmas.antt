@@ -1,6 +1,6 @@
 -- A word more is kept.
-use Rattle.std.proofs.Common.{◌≡◌, ◌≢◌, ℕ, Bool, true, false, ◌+◌, ◌<◌, ◌≤◌, length, List, [], ◌∷◌, ◌++◌, Option, None, Some, refl, sym, ap, subst, ◌∙◌, arith, if◌then◌else◌, take, get_or}
-use Rattle.std.specs.Prelude.{slice_get, is_some}
+use Rattle.std.proofs.Common.{◌≡◌, ℕ, Bool, true, false, ◌+◌, ◌<◌, length, List, [], ◌∷◌, ◌++◌, None, Some, refl, sym, ap, subst, ◌∙◌, arith, if◌then◌else◌, take, get_or}
+use Rattle.std.specs.Prelude.{slice_get}
 use Rattle.std.specs.List.{AllByRecursion}
 use Rattle.std.proofs.lemmas.List.{length-append, take_more}
 use Rattle.list_facts.proofs.EachLemmas.{Each-push, Each-weaker}
@@ -11,7 +11,7 @@ use Rattle.history_model.specs.Words.{opens_as}
 use Rattle.kept_state.specs.declared.table.Word.{Word}
 use Rattle.kept_state.specs.State.{WordPlaces}
 use Rattle.kept_state.specs.Words.{same_word, place_at, dword, WordState, WordsKnown, StillThere, KnowsRead, KnowsProgram}
-use Rattle.kept_state.proofs.WordLemmas.{word_same, word_self}
+use Rattle.kept_state.proofs.WordLemmas.{word_same}
 
 pub still_there : (places : WordPlaces) → StillThere places places
 still_there places word there = there

@@ -1,9 +1,7 @@
 -- Who claims a delayed operation that is presented, and is no lane, is the owner of its route from its master's bus.
-use Rattle.std.proofs.Common.{◌≡◌, ℕ, Bool, true, false, ◌||◌, ◌*◌, ◌+◌, not, eqb, List, [], ◌∷◌, Option, Some, None, refl, sym, ap, subst, ◌∙◌, arith, slice_get}
-use Rattle.std.specs.Prelude.{drop}
+use Rattle.std.proofs.Common.{◌≡◌, ℕ, Bool, true, false, ◌||◌, eqb, List, [], ◌∷◌, Some, refl, sym, ap, subst, ◌∙◌, slice_get}
 use Rattle.std.specs.List.{list_any}
 use Rattle.std.proofs.lemmas.Bool.{eqb-true, and_parts}
-use Rattle.pci_command.specs.declared.request.Request.{Request}
 use Rattle.pci_command.specs.declared.op_id.OpId.{OpId}
 use Rattle.pci_command.specs.declared.command.Command.TheVariants.{MemWrite}
 use Rattle.pci_command.specs.Same.{same_command}
@@ -22,14 +20,14 @@ use Rattle.board_laws.proofs.Laws.{IsTree-valid, WayEnds-tree}
 use Rattle.history_model.specs.declared.event.By.{By}
 use Rattle.history_model.specs.declared.event.By.TheVariants.{Master, Lane as ByLane}
 use Rattle.history_model.specs.declared.event.Event.{Event}
-use Rattle.history_model.specs.Lanes.{has_number}
-use Rattle.history_model.specs.World.{same_lane, world_of}
-use Rattle.history_model.specs.Answers.{is_on, is_turn, wants, presents}
+use Rattle.history_model.specs.declared.rule.Rule.{Rule}
+use Rattle.history_model.specs.World.{same_lane, world_by}
+use Rattle.history_model.specs.Answers.{is_on, is_turn, wants_by, presents_by}
 use Rattle.history_model.specs.Program.{turn_of}
-use Rattle.history_model.specs.Runs.{Run}
+use Rattle.history_model.specs.Runs.{RunBy}
 use Rattle.history_facts.proofs.BridgeLemmas.{same_lane_true}
 use Rattle.history_facts.proofs.PathLemmas.{way_cons}
-use Rattle.law_reach.proofs.Laws.{own_by, stands_of, asked_at, passed_at}
+use Rattle.law_rules.proofs.Laws.{asked_way}
 
 -- where a route ends, and its owner
 pub record RouteEnd : Type 0 where
@@ -71,22 +69,22 @@ ends_on board op tree k (first ∷ lanes) on is any =
       | false ↦ λ _ later. onward ∙ ends_on board op tree k lanes (end_of board first) goes.later later
     ]) refl any
 
-pub ends_there : (board : Board) (valid : IsValid board) (h : List Event) (run : Run board h) (o : OpId) (op : Op) (master : MasterAgent) → op_of board o ≡ Some op → slice_get board.masters o.master ≡ Some master
-    → (on : ℕ) (by : By) → same_command (command_of op) MemWrite ≡ false → wants board h on by o ≡ true → is_lane (claim board on (request_on op on)) ≡ false
+pub ends_there : (rule : Rule) (board : Board) (valid : IsValid board) (h : List Event) (run : RunBy rule board h) (o : OpId) (op : Op) (master : MasterAgent) → op_of board o ≡ Some op → slice_get board.masters o.master ≡ Some master
+    → (on : ℕ) (by : By) → same_command (command_of op) MemWrite ≡ false → wants_by rule board h on by o ≡ true → is_lane (claim board on (request_on op on)) ≡ false
     → end_from board op master.bus ≡ record { bus = on; owner = claim board on (request_on op on) }
-ends_there board valid h run o op master is_op is_master on Master delayed wanted none =
+ends_there rule board valid h run o op master is_op is_master on Master delayed wanted none =
     let on_master : is_on on (slice_get board.masters o.master) ≡ true = (and_parts (is_on on (slice_get board.masters o.master)) (is_turn o (turn_of board h o.master)) wanted).0 in
     let bus_there : is_on on (Some master) ≡ true = subst (λ found. is_on on found ≡ true) is_master on_master in
     let bus : master.bus ≡ on = eqb-true master.bus on bus_there in
     ap (end_from board op) bus ∙ ends_here board op on (IsTree-valid board valid) none
-ends_there board valid h run o op master is_op is_master on (ByLane k) delayed wanted none =
+ends_there rule board valid h run o op master is_op is_master on (ByLane k) delayed wanted none =
     let tree = IsTree-valid board valid in
-    let ends : end_of board k ≡ on = eqb-true (end_of board k) on (and_parts (eqb (end_of board k) on) (presents board on o (world_of board h k).standing) wanted).0 in
-    let asked = asked_at board h on k o op run is_op delayed wanted in
-    let here = passed_at board h k o asked.0 run asked.1 in
-    let own = own_by board valid h run k o (has_number here.number) here.held.slot here.held.is_held here.held.is_for in
-    let there = stands_of board valid h run k o op here.held.slot is_op own in
+    let ends : end_of board k ≡ on = eqb-true (end_of board k) on (and_parts (eqb (end_of board k) on) (presents_by rule board on o (world_by rule board h k).standing) wanted).0 in
+    let there = asked_way rule board h on k o op valid run is_op delayed wanted in
+    let is_op_too = there.is_op in
+    let ops : there.op ≡ op = cc in
     let is_master_too = there.is_master in
     let masters : there.master ≡ master = cc in
-    let on_way : list_any (same_lane k) (way board op master.bus) ≡ true = subst (λ (m : MasterAgent). list_any (same_lane k) (way board op m.bus) ≡ true) masters there.on_way in
+    let on_way : list_any (same_lane k) (way board op master.bus) ≡ true =
+    subst (λ (p : Op). list_any (same_lane k) (way board p master.bus) ≡ true) ops (subst (λ (m : MasterAgent). list_any (same_lane k) (way board there.op m.bus) ≡ true) masters there.on_way) in
     ends_on board op tree k (way board op master.bus) master.bus refl on_way ∙ ap (end_from board op) ends ∙ ends_here board op on tree none

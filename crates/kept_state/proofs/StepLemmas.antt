@@ -1,6 +1,6 @@
 -- What is kept goes on with an event that is allowed.
-use Rattle.std.proofs.Common.{◌≡◌, ◌≢◌, ℕ, Bool, true, false, not, ◌+◌, ◌-◌, ◌<◌, ◌≤◌, ◌==◌, ◌&&◌, length, List, [], ◌∷◌, ◌++◌, Option, None, Some, refl, sym, ap, subst, ◌∙◌, arith, cond, if◌then◌else◌, Result}
-use Rattle.std.specs.Prelude.{slice_get, nat_lt, is_some}
+use Rattle.std.proofs.Common.{◌≡◌, ◌^◌, ℕ, Bool, true, false, ◌+◌, ◌<◌, ◌≤◌, ◌==◌, ◌&&◌, length, List, [], ◌∷◌, Option, None, Some, refl, sym, ap, subst, ◌∙◌, arith, if◌then◌else◌, Result}
+use Rattle.std.specs.Prelude.{slice_get}
 use Rattle.std.specs.Option.{option_map}
 use Rattle.std.proofs.lemmas.Bool.Decides.{nat_tests}
 use Rattle.std.proofs.lemmas.Option.{slice_get_within}
@@ -13,16 +13,13 @@ use Rattle.pci_command.specs.declared.op_id.OpId.{OpId}
 use Rattle.pci_command.specs.declared.phases.Phase.{Phase}
 use Rattle.pci_command.specs.declared.request.Request.{Request}
 use Rattle.board_model.specs.declared.agents.Master.{Master as MasterAgent}
-use Rattle.board_model.specs.declared.agents.Target.{Target as TargetAgent}
-use Rattle.board_model.specs.declared.bridge.Lane.{Lane as BridgeLane}
 use Rattle.board_model.specs.declared.bridge.Place.{Place}
 use Rattle.board_model.specs.declared.bridge.Place.TheVariants.{Target, Header, Lane, Nobody}
 use Rattle.board_model.specs.declared.op.Op.{Op}
 use Rattle.board_model.specs.declared.board.Board.{Board}
-use Rattle.board_model.specs.Requests.{op_of, request_of, request_on}
-use Rattle.board_model.specs.Ways.{Dword, address_in, bound_of}
+use Rattle.board_model.specs.Requests.{op_of, request_on}
+use Rattle.board_model.specs.Ways.{address_in, bound_of}
 use Rattle.board_model.specs.Valid.{IsValid}
-use Rattle.history_model.specs.declared.event.By.{By}
 use Rattle.history_model.specs.declared.event.By.TheVariants.{Master, Lane as ByLane}
 use Rattle.history_model.specs.declared.event.Mark.{Mark}
 use Rattle.history_model.specs.declared.event.Step.{Step}
@@ -32,17 +29,18 @@ use Rattle.history_model.specs.declared.item.Answer.{Answer}
 use Rattle.history_model.specs.declared.why.Why.{Why}
 use Rattle.history_model.specs.declared.why.Why.TheVariants.{NotPresented, AnsweredOtherwise, GetsRetry, NothingInFlight, MarkedOtherwise}
 use Rattle.history_model.specs.Program.{turn_of}
-use Rattle.history_model.specs.Words.{Landing, through, without, brings, landings_at, landings_in, landings_of, brought, merged, value_of}
-use Rattle.history_model.specs.Answers.{wants, answer, is_on, is_turn, stalls_used}
-use Rattle.history_model.specs.Runs.{Run, Allowed, next_mark}
+use Rattle.history_model.specs.Words.{through, without, brings, landings_at, landings_in, landings_of, merged, value_of}
+use Rattle.history_model.specs.Answers.{wants_by, answer_by_rule, is_on, is_turn}
+use Rattle.history_model.specs.Runs.{AllowedBy}
 use Rattle.history_core.specs.Values.{value_merged}
-use Rattle.history_core.specs.Verdicts.{Holds, HoldsOfAct, HoldsOfArrival, cause_in}
+use Rattle.history_core.specs.Verdicts.{HoldsBy, HoldsOfAct, HoldsOfArrival, cause_in}
 use Rattle.history_core.proofs.ValueLemmas.{merged_landings, value_after_event}
-use Rattle.history_core.proofs.VerdictLemmas.{of_act, of_arrival, allowed_exactly}
+use Rattle.history_core.proofs.VerdictLemmas.{of_act, of_arrival, allowed_exactly_by}
 use Rattle.std.specs.Prelude.{IsOk}
 use Rattle.board_model.specs.WellFormed.{is_well_formed}
+use Rattle.history_model.specs.declared.rule.Rule.{Rule}
 use Rattle.history_model.specs.Lanes.{Both}
-use Rattle.history_model.specs.World.{world_of}
+use Rattle.history_model.specs.World.{world_by}
 use Rattle.lane_replay.specs.Bridge.{lanes_of, lanes_after}
 use Rattle.lane_replay.specs.Room.{HaveRoom}
 use Rattle.lane_replay.proofs.LaneLemmas.{lanes_after_event}
@@ -50,18 +48,18 @@ use Rattle.lane_replay.proofs.RoomLemmas.{Counted, counted_after, room_after}
 use Rattle.kept_state.specs.Rooms.{RoomAt, HaveRooms}
 use Rattle.kept_state.specs.State.{place_of}
 use Rattle.kept_state.specs.declared.table.Word.{Word}
-use Rattle.kept_state.specs.State.{KeptState, WordPlaces, turn_in, turns_next, lanes_next, tokens_next, gone_in, gone_next, wants_now, mark_in, changed_at, changed_with}
+use Rattle.kept_state.specs.State.{KeptState, turns_next, lanes_next, gone_in, wants_now, changed_at, changed_with}
 use Rattle.kept_state.specs.Words.{place_at, dword, landed_by}
-use Rattle.kept_state.specs.Answer.{answer_now, HoldsNow, values_of, values_at, values_next, next_state}
-use Rattle.kept_state.specs.Stands.{StandsFor, Covers}
+use Rattle.kept_state.specs.Answer.{answer_now, HoldsNow, values_of, values_next, next_state}
+use Rattle.kept_state.specs.Stands.{StandsForBy}
 use Rattle.law_slots.specs.Phases.{DelayedAreSingle}
 use Rattle.kept_state.proofs.GoneLemmas.{gone_went}
 use Rattle.kept_state.specs.State.{or_zero}
-use Rattle.kept_state.proofs.LookLemmas.{wants_same, mark_same}
-use Rattle.kept_state.proofs.AnswerLemmas.{answer_same}
+use Rattle.kept_state.proofs.LookLemmas.{wants_same_by, mark_same_by}
+use Rattle.kept_state.proofs.AnswerLemmas.{answer_same_by}
 use Rattle.kept_state.proofs.GoLemmas.{lanes_went}
 use Rattle.kept_state.proofs.CountLemmas.{turns_went, tokens_went}
-use Rattle.kept_state.proofs.WordLemmas.{landed_there, landed_value, hits}
+use Rattle.kept_state.proofs.WordLemmas.{landed_there, landed_value}
 
 -- The verdict by what is kept is that of the history.
 
@@ -73,15 +71,15 @@ wanted_first wanted now was step place (Some GetsRetry) same holds = let e = sam
 wanted_first wanted now was step place (Some NothingInFlight) same holds = holds
 wanted_first wanted now was step place (Some MarkedOtherwise) same holds = holds
 
-pub holds_same : (board : Board) (h : List Event) (k : KeptState) (e : Event) (why : Option Why) → StandsFor board h k → HoldsNow board k e why → Holds board h e why
-holds_same board h k (Act on by o step place) why stands holds =
-    let wanted : wants_now board k on by o ≡ wants board h on by o = wants_same board h k on by o stands in
+pub holds_same : (rule : Rule) (board : Board) (h : List Event) (k : KeptState) (e : Event) (why : Option Why) → StandsForBy rule board h k → HoldsNow board k e why → HoldsBy rule board h e why
+holds_same rule board h k (Act on by o step place) why stands holds =
+    let wanted : wants_now board k on by o ≡ wants_by rule board h on by o = wants_same_by rule board h k on by o stands in
     let P : Bool → Type 0 = λ b. HoldsOfAct b (answer_now board k on by o) step place why in
-    of_act board h on by o step place why
-    (wanted_first (wants board h on by o) (answer_now board k on by o) (answer board h on by o) step place why (λ it. answer_same board h k on by o stands stands.covers it) (subst P wanted holds))
-holds_same board h k (Arrive lane mark) why stands holds =
+    of_act rule board h on by o step place why
+    (wanted_first (wants_by rule board h on by o) (answer_now board k on by o) (answer_by_rule rule board h on by o) step place why (λ it. answer_same_by rule board h k on by o stands it) (subst P wanted holds))
+holds_same rule board h k (Arrive lane mark) why stands holds =
     let P : Option Mark → Type 0 = λ next. HoldsOfArrival next mark why in
-    of_arrival board h lane mark why (subst P (mark_same board h k lane stands) holds)
+    of_arrival rule board h lane mark why (subst P (mark_same_by rule board h k lane stands) holds)
 
 -- Words.
 
@@ -119,17 +117,17 @@ landed_same target o step gone word request value =
     subst S (sym turned) (elim (target == word.target) as P [ true ↦ first | false ↦ refl ])
 
 -- the values after an event
-pub values_went : (board : Board) (h : List Event) (k : KeptState) (e : Event) → StandsFor board h k → (word : Word) (place : ℕ) → place_at k.places word ≡ Some place
+pub values_went : (rule : Rule) (board : Board) (h : List Event) (k : KeptState) (e : Event) → StandsForBy rule board h k → (word : Word) (place : ℕ) → place_at k.places word ≡ Some place
     → slice_get (values_next board k.places k.gone e k.values) place ≡ Some (value_of board (e ∷ h) (dword word))
-values_went board h k (Arrive lane mark) stands word place is =
+values_went rule board h k (Arrive lane mark) stands word place is =
     stands.words word place is ∙ ap (λ (n : ℕ). Some n) (sym (value_after_event board h (Arrive lane mark) (dword word)))
-values_went board h k (Act on by o step (Header bus)) stands word place is =
+values_went rule board h k (Act on by o step (Header bus)) stands word place is =
     stands.words word place is ∙ ap (λ (n : ℕ). Some n) (sym (value_after_event board h (Act on by o step (Header bus)) (dword word)))
-values_went board h k (Act on by o step (Lane lane)) stands word place is =
+values_went rule board h k (Act on by o step (Lane lane)) stands word place is =
     stands.words word place is ∙ ap (λ (n : ℕ). Some n) (sym (value_after_event board h (Act on by o step (Lane lane)) (dword word)))
-values_went board h k (Act on by o step Nobody) stands word place is =
+values_went rule board h k (Act on by o step Nobody) stands word place is =
     stands.words word place is ∙ ap (λ (n : ℕ). Some n) (sym (value_after_event board h (Act on by o step Nobody) (dword word)))
-values_went board h k (Act on by o step (Target target)) stands word place is =
+values_went rule board h k (Act on by o step (Target target)) stands word place is =
     let e : Event = Act on by o step (Target target) in
     let was : ℕ = value_of board h (dword word) in
     let P : Option Op → Type 0 = λ found. op_of board o ≡ found → slice_get (values_of k.places target step (gone_in k.gone o) (option_map (λ op. request_on op on) found) k.values) place
@@ -149,9 +147,9 @@ values_went board h k (Act on by o step (Target target)) stands word place is =
     after ∙ ap (λ (n : ℕ). Some n) (sym (value_after_event board h e (dword word)))
 
 -- a master that presents is one of the board
-master_there : (board : Board) (h : List Event) (k : KeptState) (e : Event) → StandsFor board h k → Allowed board h e → (on : ℕ) (o : OpId) (step : Step) (place : Place) → e ≡ Act on Master o step place → o.master < length k.turns
-master_there board h k e stands allowed on o step place is =
-    let allowed_act : Allowed board h (Act on Master o step place) = subst (Allowed board h) is allowed in
+master_there : (rule : Rule) (board : Board) (h : List Event) (k : KeptState) (e : Event) → StandsForBy rule board h k → AllowedBy rule board h e → (on : ℕ) (o : OpId) (step : Step) (place : Place) → e ≡ Act on Master o step place → o.master < length k.turns
+master_there rule board h k e stands allowed on o step place is =
+    let allowed_act : AllowedBy rule board h (Act on Master o step place) = subst (AllowedBy rule board h) is allowed in
     let P : Option MasterAgent → Type 0 = λ found. slice_get board.masters o.master ≡ found → (is_on on found && is_turn o (turn_of board h o.master)) ≡ true → o.master < length board.masters in
     let within = (elim (slice_get board.masters o.master) as P [
       | None ↦ λ _ never. cc
@@ -170,16 +168,19 @@ length-turns board (Act on (ByLane lane) o step place) turns = refl
 length-turns board (Act on Master o step place) turns = length-changed _ turns o.master
 
 -- the state goes on
-pub stands_after : (board : Board) (h : List Event) (k : KeptState) (e : Event) → DelayedAreSingle board → StandsFor board h k → Allowed board h e → StandsFor board (e ∷ h) (next_state board e k)
-stands_after board h k e single stands allowed =
+pub stands_after : (rule : Rule) (board : Board) (h : List Event) (k : KeptState) (e : Event) → DelayedAreSingle board → StandsForBy rule board h k → AllowedBy rule board h e → StandsForBy rule board (e ∷ h) (next_state board e k)
+stands_after rule board h k e single stands allowed =
     record {
+      rule_is = stands.rule_is;
       run = (allowed, stands.run);
-      turns = turns_went board h e k.turns stands.turns (master_there board h k e stands allowed);
+      turns = turns_went board h e k.turns stands.turns (master_there rule board h k e stands allowed);
       masters = length-turns board e k.turns ∙ stands.masters;
-      lanes = λ bus place at. lanes_went board h e k.lanes bus place at (stands.lanes bus place at);
+      lanes = λ bus place at.
+          subst (λ (r : Rule). slice_get (lanes_next r board e k.lanes) place ≡ Some (lanes_of (world_by rule board (e ∷ h)) bus)) (sym stands.rule_is)
+          (lanes_went rule board h e k.lanes bus place at (stands.lanes bus place at));
       tokens = λ place target is. tokens_went h e k.tokens place target (stands.tokens place target is);
-      gone = gone_went board h k.gone e single stands.gone stands.run allowed;
-      words = values_went board h k e stands;
+      gone = gone_went rule board h k.gone e single stands.gone stands.run allowed;
+      words = values_went rule board h k e stands;
       apart = stands.apart;
       covers = stands.covers;
     }
@@ -187,31 +188,31 @@ stands_after board h k e single stands allowed =
 -- Room.
 
 -- a run of a valid board has few events
-pub few_events : (board : Board) (h : List Event) → IsValid board → length h ≤ bound_of board → length h ≤ 500000
+pub few_events : (board : Board) (h : List Event) → IsValid board → length h ≤ bound_of board → length h < 2 ^ 32
 few_events board h valid bounded =
     let most = valid.bound in
     grind (arith, nat_tests)
 
-counted_run : (board : Board) (h : List Event) (bus : ℕ) → Counted (length h) (lanes_of (world_of board h) bus)
-counted_run board [] bus = record { asks_here = omega arith; dones_here = omega arith; asks_back = omega arith; dones_back = omega arith }
-counted_run board (e ∷ h) bus =
-    let x : Both = lanes_of (world_of board h) bus in
-    let goes : lanes_of (world_of board (e ∷ h)) bus ≡ lanes_after board e bus x = lanes_after_event board (world_of board h) e bus in
+counted_run : (rule : Rule) (board : Board) (h : List Event) (bus : ℕ) → Counted (length h) (lanes_of (world_by rule board h) bus)
+counted_run rule board [] bus = record { asks_here = omega arith; dones_here = omega arith; asks_back = omega arith; dones_back = omega arith }
+counted_run rule board (e ∷ h) bus =
+    let x : Both = lanes_of (world_by rule board h) bus in
+    let goes : lanes_of (world_by rule board (e ∷ h)) bus ≡ lanes_after rule board e bus x = lanes_after_event rule board (world_by rule board h) e bus in
     let more : length h + 1 ≡ length (e ∷ h) = omega arith in
-    let P : ℕ → Type 0 = λ n. Counted n (lanes_of (world_of board (e ∷ h)) bus) in
-    subst P more (subst (λ (y : Both). Counted (length h + 1) y) (sym goes) (counted_after (length h) board e bus x (counted_run board h bus)))
+    let P : ℕ → Type 0 = λ n. Counted n (lanes_of (world_by rule board (e ∷ h)) bus) in
+    subst P more (subst (λ (y : Both). Counted (length h + 1) y) (sym goes) (counted_after (length h) rule board e bus x (counted_run rule board h bus)))
 
-pub rooms_there : (board : Board) (h : List Event) (k : KeptState) → is_well_formed board ≡ true → length h ≤ 500000 → StandsFor board h k → HaveRooms board k.lanes
-rooms_there board h k formed few stands bus =
+pub rooms_there : (rule : Rule) (board : Board) (h : List Event) (k : KeptState) → is_well_formed board ≡ true → length h < 2 ^ 32 → StandsForBy rule board h k → HaveRooms board k.lanes
+rooms_there rule board h k formed few stands bus =
     let P : Option ℕ → Type 0 = λ p. place_of board bus ≡ p → RoomAt k.lanes p in
     (elim (place_of board bus) as P [
       | None ↦ λ _. tt
       | Some place ↦ λ at x is.
-          let there : slice_get k.lanes place ≡ Some (lanes_of (world_of board h) bus) = stands.lanes bus place at in
-          let same : lanes_of (world_of board h) bus ≡ x = cc in
-          subst (λ (y : Both). HaveRoom 2 y) same (room_after board h bus (length h) formed stands.run (counted_run board h bus) (omega arith))
+          let there : slice_get k.lanes place ≡ Some (lanes_of (world_by rule board h) bus) = stands.lanes bus place at in
+          let same : lanes_of (world_by rule board h) bus ≡ x = cc in
+          subst (λ (y : Both). HaveRoom 2 y) same (room_after rule board h bus (length h) formed stands.run (counted_run rule board h bus) (omega arith))
     ]) refl
 
 -- a verdict that is none is that the event is allowed
-ok_allowed : (board : Board) (h : List Event) (e : Event) (r : Result (Unit {0}) Why) → Holds board h e (cause_in r) → IsOk r → Allowed board h e
-ok_allowed board h e r holds is = (allowed_exactly board h e r holds).0 is
+ok_allowed : (rule : Rule) (board : Board) (h : List Event) (e : Event) (r : Result (Unit {0}) Why) → HoldsBy rule board h e (cause_in r) → IsOk r → AllowedBy rule board h e
+ok_allowed rule board h e r holds is = (allowed_exactly_by rule board h e r holds).0 is

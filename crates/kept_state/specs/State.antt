@@ -1,17 +1,18 @@
 -- What is kept of a history, and what each event makes of it.
-use Rattle.std.specs.Prelude.{ℕ, Bool, true, false, ◌+◌, ◌-◌, ◌<◌, ◌^◌, List, [], ◌∷◌, Option, Some, None, ◌&&◌, ◌==◌, nat_lt, if◌then◌else◌, slice_get}
-use Rattle.std.specs.List.{find, position}
+use Rattle.std.specs.Prelude.{ℕ, Bool, ◌+◌, ◌-◌, ◌<◌, ◌^◌, List, [], Option, Some, None, ◌&&◌, ◌==◌, if◌then◌else◌, slice_get}
+use Rattle.std.specs.List.{position}
 use Rattle.kept_state.specs.declared.table.Word.{Word}
 use Rattle.pci_command.specs.declared.op_id.OpId.{OpId}
 use Rattle.board_model.specs.declared.bridge.Bridge.{Bridge}
 use Rattle.board_model.specs.declared.bridge.Lane.{Lane as BridgeLane}
 use Rattle.board_model.specs.declared.board.Board.{Board}
-use Rattle.board_model.specs.Ways.{Dword, end_of}
+use Rattle.board_model.specs.Ways.{end_of}
 use Rattle.history_model.specs.declared.event.By.{By}
 use Rattle.history_model.specs.declared.event.By.TheVariants.{Master, Lane as ByLane}
 use Rattle.history_model.specs.declared.event.Mark.{Mark}
+use Rattle.history_model.specs.declared.rule.Rule.{Rule}
 use Rattle.history_model.specs.Lanes.{LaneState, Both, empty_lane}
-use Rattle.history_model.specs.Answers.{is_on, is_turn, presents}
+use Rattle.history_model.specs.Answers.{is_on, is_turn, presents_by}
 use Rattle.history_model.specs.Runs.{mark_of_first}
 use Rattle.lane_replay.specs.Bridge.{turned, lanes_after}
 use Rattle.std.proofs.Math.ListN.{set}
@@ -29,6 +30,8 @@ WordPlaces = List (Word × ℕ)
 
 -- what is kept of a run
 pub record KeptState : Type 0 where
+  -- the rule of the bridge by which it is judged
+  pub rule : Rule
   -- the turn of each master, in the order of the board
   pub turns : List (Option OpId)
   -- the lanes of each bridge, in the order of the board
@@ -120,9 +123,9 @@ gone_next (Act on by o step place) gone = gone_by o step gone
 gone_next (Arrive lane mark) gone = gone
 
 -- one more event happens to the lanes of the bridge to the bus
-abbrev pub happens_on : Board → Event → Option ℕ → List Both → List Both
-happens_on board e None lanes = lanes
-happens_on board e (Some bus) lanes = changed_at (lanes_after board e bus) lanes (place_of board bus)
+abbrev pub happens_on : Rule → Board → Event → Option ℕ → List Both → List Both
+happens_on rule board e None lanes = lanes
+happens_on rule board e (Some bus) lanes = changed_at (lanes_after rule board e bus) lanes (place_of board bus)
 
 -- the bridges whose lanes an event changes: that of the lane that claims, and that of the lane that presents
 abbrev pub bus_at : Place → Option ℕ
@@ -143,11 +146,11 @@ other_than None (Some bus) = Some bus
 other_than (Some first) (Some bus) = if first == bus then None else Some bus
 
 -- the lanes after an event
-abbrev pub lanes_next : Board → Event → List Both → List Both
-lanes_next board (Act on by o step place) lanes =
-    happens_on board (Act on by o step place) (other_than (bus_at place) (bus_by by))
-    (happens_on board (Act on by o step place) (bus_at place) lanes)
-lanes_next board (Arrive lane mark) lanes = happens_on board (Arrive lane mark) (Some lane.bus) lanes
+abbrev pub lanes_next : Rule → Board → Event → List Both → List Both
+lanes_next rule board (Act on by o step place) lanes =
+    happens_on rule board (Act on by o step place) (other_than (bus_at place) (bus_by by))
+    (happens_on rule board (Act on by o step place) (bus_at place) lanes)
+lanes_next rule board (Arrive lane mark) lanes = happens_on rule board (Arrive lane mark) (Some lane.bus) lanes
 
 -- The turn of its master after an event.
 abbrev pub turn_changed : Board → Event → ℕ → List (Option OpId) → List (Option OpId)
@@ -198,7 +201,7 @@ tokens_next (Arrive lane mark) tokens = tokens
 -- whether the initiator presents the operation on the bus
 abbrev pub wants_now : Board → KeptState → ℕ → By → OpId → Bool
 wants_now board k on Master o = is_on on (slice_get board.masters o.master) && is_turn o (turn_in k.turns o.master)
-wants_now board k on (ByLane lane) o = end_of board lane == on && presents board on o (lane_in board k.lanes lane).standing
+wants_now board k on (ByLane lane) o = end_of board lane == on && presents_by k.rule board on o (lane_in board k.lanes lane).standing
 
 -- the mark of the next arrival on a lane
 abbrev pub mark_in : Board → List Both → BridgeLane → Option Mark

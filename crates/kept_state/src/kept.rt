@@ -19,7 +19,7 @@ use history_core::{
     address_left, answer_allows, arrival_allowed, dword_address, face_answer, header_answer, is_on,
     left_of, nobody, write_step,
 };
-use history_model::{Answer, By, Event, Mark, Step, Why};
+use history_model::{Answer, By, Event, Mark, Rule, Step, Why};
 use lane_replay::{BridgeLanes, Presented};
 use law_bound::runs_end;
 use pci_command::{NoMemory, OpId, Request};
@@ -29,6 +29,7 @@ use std::marker::Model;
 /// What is kept of a run.
 #[derive(Debug, Drop)]
 pub struct Kept {
+    rule: Rule,
     turns: KeptTurns,
     lanes: KeptLanes,
     tokens: KeptTokens,
@@ -41,32 +42,41 @@ impl Model for Kept {
 
     ghost Value = { KeptState };
 
-    ghost view = { λ k. record { turns = k.turns; lanes = k.lanes; tokens = k.tokens; gone = k.gone; places = k.words.places; values = k.words.values } };
+    ghost view = { λ k. record { rule = k.rule; turns = k.turns; lanes = k.lanes; tokens = k.tokens; gone = k.gone; places = k.words.places; values = k.words.values } };
 }
 
 impl Kept {
     ghost use Rattle.std.specs.Prelude.{List, [], ◌∷◌, IfOk, OnOk, OnErr};
     ghost use Rattle.board_model.specs.Valid.{IsValid};
     ghost use Rattle.history_model.specs.declared.event.Event.{Event};
-    ghost use Rattle.kept_state.specs.Stands.{StandsFor, Stands};
+    ghost use Rattle.history_model.specs.declared.rule.Rule.{Rule};
+    ghost use Rattle.kept_state.specs.Stands.{StandsForBy, StandsFor, Stands, StandsFew};
     ghost use Rattle.kept_state.specs.State.{wants_now, lanes_in, turn_in, gone_in, tokens_in, mark_in};
     ghost use Rattle.std.specs.Option.{option_copied};
     ghost use Rattle.kept_state.specs.Rooms.{HaveRooms};
-    ghost use Rattle.history_core.specs.Verdicts.{Holds};
+    ghost use Rattle.history_core.specs.Verdicts.{HoldsBy, Holds};
     ghost use Rattle.kept_state.specs.Answer.{answer_now, answer_by, target_answer, target_step, face_in, HoldsNow, next_state, values_next};
 
-    /// What is kept before the first event.
+    /// What is kept before the first event, on bridges that keep the local master.
     pub fn new(alloc: Global, tree: &Tree) -> Result<Kept, NoMemory>
         ensures { IfOk result (StandsFor tree.now []) }
     {
-        Kept::before_all(alloc, tree.board())
+        Kept::by_rule(alloc, tree, Rule::Tagged)
     }
 
-    fn before_all(alloc: Global, board: &Board) -> Result<Kept, NoMemory>
+    /// What is kept before the first event, by the rule of the bridge.
+    pub fn by_rule(alloc: Global, tree: &Tree, rule: Rule) -> Result<Kept, NoMemory>
+        ensures { IfOk result (StandsForBy rule tree.now []) }
+    {
+        Kept::before_all(alloc, tree.board(), rule)
+    }
+
+    fn before_all(alloc: Global, board: &Board, rule: Rule) -> Result<Kept, NoMemory>
         requires { IsValid board.now }
-        ensures { IfOk result (StandsFor board.now []) }
+        ensures { IfOk result (StandsForBy rule board.now []) }
     {
         Ok(Kept {
+            rule,
             turns: KeptTurns::new(alloc, board)?,
             lanes: KeptLanes::new(alloc, board)?,
             tokens: KeptTokens::new(alloc, board)?,
@@ -83,17 +93,40 @@ impl Kept {
         ensures goes_on { (h : List Event) → StandsFor tree.now h self.old → OnOk result (StandsFor tree.now (event.now ∷ h) self.new) }
         ensures refused { OnErr result (self.new ≡ self.old) }
     {
-        self.step_on(tree.board(), event)
+        self.step_kept(tree.board(), event)
     }
 
-    fn step_on(&mut self, board: &Board, event: &Event) -> Result<(), Why>
+    fn step_kept(&mut self, board: &Board, event: &Event) -> Result<(), Why>
         requires valid { IsValid board.now }
         requires stands { Stands board.now self.old }
         ensures verdict { (h : List Event) → StandsFor board.now h self.old → Holds board.now h event.now (cause_in result) }
         ensures goes_on { (h : List Event) → StandsFor board.now h self.old → OnOk result (StandsFor board.now (event.now ∷ h) self.new) }
         ensures refused { OnErr result (self.new ≡ self.old) }
     {
+        // A run on bridges that keep the local master has few events.
         runs_end();
+        self.step_on(board, event)
+    }
+
+    /// One more event, by the rule of the bridge, where it is allowed after those for which this
+    /// stands, of which there are few: then this stands for it too. If it is not, the cause, and this
+    /// is as it was.
+    pub fn step_by_rule(&mut self, tree: &Tree, event: &Event) -> Result<(), Why>
+        requires { StandsFew tree.now self.old }
+        ensures verdict { (rule : Rule) (h : List Event) → StandsForBy rule tree.now h self.old → HoldsBy rule tree.now h event.now (cause_in result) }
+        ensures goes_on { (rule : Rule) (h : List Event) → StandsForBy rule tree.now h self.old → OnOk result (StandsForBy rule tree.now (event.now ∷ h) self.new) }
+        ensures refused { OnErr result (self.new ≡ self.old) }
+    {
+        self.step_on(tree.board(), event)
+    }
+
+    fn step_on(&mut self, board: &Board, event: &Event) -> Result<(), Why>
+        requires valid { IsValid board.now }
+        requires stands { StandsFew board.now self.old }
+        ensures verdict { (rule : Rule) (h : List Event) → StandsForBy rule board.now h self.old → HoldsBy rule board.now h event.now (cause_in result) }
+        ensures goes_on { (rule : Rule) (h : List Event) → StandsForBy rule board.now h self.old → OnOk result (StandsForBy rule board.now (event.now ∷ h) self.new) }
+        ensures refused { OnErr result (self.new ≡ self.old) }
+    {
         match self.allows(board, event) {
             Ok(()) => {
                 self.happen(board, event);
@@ -146,7 +179,7 @@ impl Kept {
         match by {
             By::Master => is_on(board, bus, op.master) && self.turns.is_turn(op),
             By::Lane(lane) => {
-                end_of(board, lane) == bus && self.lanes.presents(board, lane, bus, op)
+                end_of(board, lane) == bus && self.lanes.presents(board, self.rule, lane, bus, op)
             }
         }
     }
@@ -159,7 +192,12 @@ impl Kept {
         match request_of(board, presented.op, presented.bus) {
             Some(request) => {
                 let gone = u128::from(self.gone.of(presented.op));
-                self.answer_to(board, presented, &request, gone)
+                let noted = Presented {
+                    bus: presented.bus,
+                    by: self.rule.noted(presented.by),
+                    op: presented.op,
+                };
+                self.answer_to(board, noted, &request, gone)
             }
             None => nobody(),
         }
@@ -295,7 +333,7 @@ impl Kept {
     {
         self.land(board, event);
         self.turns.happen(board, event);
-        self.lanes.happen(board, event);
+        self.lanes.happen(board, self.rule, event);
         self.tokens.happen(event);
         self.gone.happen(event);
     }

@@ -4,12 +4,12 @@ ghost use Rattle.kept_state.specs.Rooms.{RoomAt};
 ghost use Rattle.lane_replay.specs.Bridge.{lanes_after};
 ghost use Rattle.std.specs.Option.{option_copied};
 ghost use Rattle.std.specs.List.{position};
-ghost use Rattle.history_model.specs.Answers.{presents};
+ghost use Rattle.history_model.specs.Answers.{presents_by};
 ghost use Rattle.kept_state.specs.State.{place_of, bus_at, bus_by, other_than};
 
 use board_model::{Board, Lane, Place};
 use history_core::{mark_of_first, may_go};
-use history_model::{By, Event, Mark};
+use history_model::{By, Event, Mark, Rule};
 use lane_replay::BridgeLanes;
 use pci_command::{NoMemory, OpId};
 use std::alloc::Global;
@@ -55,12 +55,12 @@ impl KeptLanes {
         }
     }
 
-    /// Whether a lane presents what stands on it of the operation.
-    pub(crate) fn presents(&self, board: &Board, lane: Lane, bus: u8, op: OpId) -> bool
-        ensures { result ≡ presents board.now bus op (lane_in board.now self.now lane).standing }
+    /// Whether a lane presents what stands on it of the operation, by the rule of the bridge.
+    pub(crate) fn presents(&self, board: &Board, rule: Rule, lane: Lane, bus: u8, op: OpId) -> bool
+        ensures { result ≡ presents_by rule board.now bus op (lane_in board.now self.now lane).standing }
     {
         match self.to(board, lane.bus) {
-            Some(lanes) => may_go(board, bus, op, lanes.lane(lane.up).standing()),
+            Some(lanes) => may_go(board, rule, bus, op, lanes.lane(lane.up).standing()),
             None => false,
         }
     }
@@ -75,48 +75,55 @@ impl KeptLanes {
         }
     }
 
-    /// One more event happens to the lanes that it changes.
-    pub(crate) fn happen(&mut self, board: &Board, event: &Event)
+    /// One more event happens by the rule of the bridge to the lanes that it changes.
+    pub(crate) fn happen(&mut self, board: &Board, rule: Rule, event: &Event)
         requires { HaveRooms board.now self.old }
-        ensures { self.new ≡ lanes_next board.now event.now self.old }
+        ensures { self.new ≡ lanes_next rule board.now event.now self.old }
     {
         match *event {
             Event::Act { by, place, .. } => {
                 let first = bus_at(place);
-                self.happen_on(board, event, first);
-                self.happen_on(board, event, other_than(first, bus_by(by)));
+                self.happen_on(board, rule, event, first);
+                self.happen_on(board, rule, event, other_than(first, bus_by(by)));
             }
-            Event::Arrive { lane, .. } => self.happen_on(board, event, Some(lane.bus)),
+            Event::Arrive { lane, .. } => self.happen_on(board, rule, event, Some(lane.bus)),
         }
     }
 
     /// One more event happens to the lanes of the bridge to the bus, if there is one.
-    fn happen_on(&mut self, board: &Board, event: &Event, bus: Option<u8>)
+    fn happen_on(&mut self, board: &Board, rule: Rule, event: &Event, bus: Option<u8>)
         requires { RoomOn board.now self.old bus }
-        ensures { self.new ≡ happens_on board.now event.now bus self.old }
+        ensures { self.new ≡ happens_on rule board.now event.now bus self.old }
     {
         if let Some(bus) = bus {
-            self.happen_at(board, event, bus, place_of(board, bus));
+            self.happen_at(board, rule, event, bus, place_of(board, bus));
         }
     }
 
     /// One more event happens to the lanes at this place, of the bridge to the bus.
-    fn happen_at(&mut self, board: &Board, event: &Event, bus: u8, place: Option<usize>)
+    fn happen_at(&mut self, board: &Board, rule: Rule, event: &Event, bus: u8, place: Option<usize>)
         requires { RoomAt self.old place }
-        ensures { self.new ≡ changed_at (lanes_after board.now event.now bus) self.old place }
+        ensures { self.new ≡ changed_at (lanes_after rule board.now event.now bus) self.old place }
     {
         if let Some(place) = place {
-            happen_to(self.lanes.as_mut_slice(), board, event, bus, place);
+            happen_to(self.lanes.as_mut_slice(), board, rule, event, bus, place);
         }
     }
 }
 
-fn happen_to(lanes: &mut [BridgeLanes], board: &Board, event: &Event, bus: u8, place: usize)
+fn happen_to(
+    lanes: &mut [BridgeLanes],
+    board: &Board,
+    rule: Rule,
+    event: &Event,
+    bus: u8,
+    place: usize,
+)
     requires { RoomAt lanes.old (Some place) }
-    ensures { lanes.new ≡ changed_at (lanes_after board.now event.now bus) lanes.old (Some place) }
+    ensures { lanes.new ≡ changed_at (lanes_after rule board.now event.now bus) lanes.old (Some place) }
 {
     if place < lanes.len() {
-        lanes[place].happen(board, event, bus);
+        lanes[place].happen(board, rule, event, bus);
     }
 }
 

@@ -7,6 +7,3 @@ mod plain_end;
 
 pub use laws::got_in_order;
 pub use plain_end::PlainEnd;
-
-#[cfg(test)]
-mod tests;

@@ -13,7 +13,8 @@ use Rattle.history_model.specs.declared.event.Step.{Step}
 use Rattle.history_model.specs.declared.event.Event.{Event}
 use Rattle.history_model.specs.declared.event.Event.TheVariants.{Act, Arrive}
 use Rattle.history_model.specs.Lanes.{Both, item_ends, arrives}
-use Rattle.history_model.specs.World.{World, both, put, moved, enters, at_place, lane_outcome, leaves, at_initiator, after}
+use Rattle.history_model.specs.declared.rule.Rule.{Rule}
+use Rattle.history_model.specs.World.{World, both, put, moved, noted, enters, at_place, lane_outcome, leaves, at_initiator, after_by}
 use Rattle.board_model.specs.Ways.{lane_back}
 use Rattle.lane_replay.specs.Bridge.{lanes_of, turned, moved_on, place_on, leaves_on, initiator_on, lanes_after}
 
@@ -70,11 +71,11 @@ lanes_at_initiator board Master o step world bus = refl
 lanes_at_initiator board (ByLane lane) o step world bus = lanes_leaves lane o (lane_outcome board lane o step) world bus
 
 -- the lanes of a bridge after one more event
-pub lanes_after_event : (board : Board) (world : World) (e : Event) (bus : ℕ) → lanes_of (after board world e) bus ≡ lanes_after board e bus (lanes_of world bus)
-lanes_after_event board world (Act on by o step place) bus =
-    lanes_at_initiator board by o step (at_place board on by o step place world) bus
-    ∙ ap (initiator_on board by o step bus) (lanes_at_place board on by o step place world bus)
-lanes_after_event board world (Arrive lane mark) bus = lanes_moved (arrives mark) lane world bus
+pub lanes_after_event : (rule : Rule) (board : Board) (world : World) (e : Event) (bus : ℕ) → lanes_of (after_by rule board world e) bus ≡ lanes_after rule board e bus (lanes_of world bus)
+lanes_after_event rule board world (Act on by o step place) bus =
+    lanes_at_initiator board by o step (at_place board on (noted rule by) o step place world) bus
+    ∙ ap (initiator_on board by o step bus) (lanes_at_place board on (noted rule by) o step place world bus)
+lanes_after_event rule board world (Arrive lane mark) bus = lanes_moved (arrives mark) lane world bus
 
 -- a lane of a bridge, and the lane back, among both
 pub lane_there : (world : World) (lane : BridgeLane) (x : Both) → x ≡ both world (record { bus = lane.bus; up = false }) →

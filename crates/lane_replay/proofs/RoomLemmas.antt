@@ -20,10 +20,13 @@ use Rattle.history_model.specs.declared.item.Carried.{Carried}
 use Rattle.history_model.specs.declared.item.Carried.TheVariants.{Post, Ask, Done, Room, Gone}
 use Rattle.history_model.specs.declared.item.Slot.{Slot}
 use Rattle.history_model.specs.Lanes.{LaneState, Both, Effect, Stands, Credits, Frees, Drops, asks_in, dones_in, came_off, effect_of, takes_effect, arrives_first, arrives, item_ends}
-use Rattle.history_model.specs.World.{slot_found, is_own, enters, lane_outcome, world_of}
-use Rattle.history_model.specs.Runs.{Run, history_of}
+use Rattle.history_model.specs.declared.rule.Rule.{Rule}
+use Rattle.history_model.specs.declared.rule.Rule.TheVariants.{Tagged}
+use Rattle.history_model.specs.World.{noted, slot_found, is_own, enters, lane_outcome, world_by, world_of}
+use Rattle.history_model.specs.Runs.{Run, RunBy, history_of}
 use Rattle.law_slots.specs.Depths.{Within}
-use Rattle.law_slots.proofs.Laws.{Within-eight, WellFormed-depths, Run-before}
+use Rattle.law_rules.proofs.Laws.{Within-eight_by}
+use Rattle.law_slots.proofs.Laws.{WellFormed-depths, Run-before}
 use Rattle.lane_replay.specs.Bridge.{lanes_of, turned, moved_on, place_on, leaves_on, initiator_on, lanes_after}
 use Rattle.lane_replay.specs.Room.{HasRoom, HaveRoom}
 use Rattle.lane_replay.proofs.LaneLemmas.{lanes_after_event}
@@ -142,11 +145,11 @@ counted_arrives n mark lane bus x counted =
     ]
 
 -- an event counts at most one more
-pub counted_after : (n : ℕ) (board : Board) (e : Event) (bus : ℕ) (x : Both) → Counted n x → Counted (n + 1) (lanes_after board e bus x)
-counted_after n board (Act on by o step place) bus x counted =
-    counted_more n (lanes_after board (Act on by o step place) bus x)
-    (counted_initiator n board by o step bus (place_on board on by o step place bus x) (counted_place n board on by o step place bus x counted))
-counted_after n board (Arrive lane mark) bus x counted = counted_arrives n mark lane bus x counted
+pub counted_after : (n : ℕ) (rule : Rule) (board : Board) (e : Event) (bus : ℕ) (x : Both) → Counted n x → Counted (n + 1) (lanes_after rule board e bus x)
+counted_after n rule board (Act on by o step place) bus x counted =
+    counted_more n (lanes_after rule board (Act on by o step place) bus x)
+    (counted_initiator n board by o step bus (place_on board on (noted rule by) o step place bus x) (counted_place n board on (noted rule by) o step place bus x counted))
+counted_after n rule board (Arrive lane mark) bus x counted = counted_arrives n mark lane bus x counted
 
 lane_room : (lane : LaneState) → Within 8 8 lane → lane.asks + 1 < 2 ^ 64 → lane.dones + 1 < 2 ^ 64 → HasRoom 2 lane
 lane_room lane within asks dones =
@@ -159,15 +162,15 @@ lane_room lane within asks dones =
       owed = omega (arith, within.owed);
     }
 
--- after a run there is room
-pub room_after : (board : Board) (h : List Event) (bus n : ℕ) → is_well_formed board ≡ true → Run board h →
-    Counted n (lanes_of (world_of board h) bus) → n + 1 < 2 ^ 64 → HaveRoom 2 (lanes_of (world_of board h) bus)
-room_after board h bus n formed run counted small =
+-- after a run under a rule there is room
+pub room_after : (rule : Rule) (board : Board) (h : List Event) (bus n : ℕ) → is_well_formed board ≡ true → RunBy rule board h →
+    Counted n (lanes_of (world_by rule board h) bus) → n + 1 < 2 ^ 64 → HaveRoom 2 (lanes_of (world_by rule board h) bus)
+room_after rule board h bus n formed run counted small =
     let down : BridgeLane = record { bus = bus; up = false } in
     let up : BridgeLane = record { bus = bus; up = true } in
     let depths = WellFormed-depths board formed in (
-      lane_room (world_of board h down) (Within-eight board h down depths run) (omega (arith, counted.asks_here)) (omega (arith, counted.dones_here)),
-      lane_room (world_of board h up) (Within-eight board h up depths run) (omega (arith, counted.asks_back)) (omega (arith, counted.dones_back)),
+      lane_room (world_by rule board h down) (Within-eight_by rule board h down depths run) (omega (arith, counted.asks_here)) (omega (arith, counted.dones_here)),
+      lane_room (world_by rule board h up) (Within-eight_by rule board h up depths run) (omega (arith, counted.asks_back)) (omega (arith, counted.dones_back)),
     )
 
 -- the front of a run is a run
@@ -188,18 +191,18 @@ pub room_before : (board : Board) (before : List Event) (i bus : ℕ) (x : Both)
     x ≡ lanes_of (world_of board (history_of (take i before))) bus → Counted i x → i + 1 < 2 ^ 64 → HaveRoom 2 x
 room_before board before i bus x formed run is counted small =
     let P : Both → Type 0 = λ y. Counted i y → HaveRoom 2 y in
-    subst P (sym is) (λ c. room_after board (history_of (take i before)) bus i formed (run_front board before i run) c small) counted
+    subst P (sym is) (λ c. room_after Tagged board (history_of (take i before)) bus i formed (run_front board before i run) c small) counted
 
 -- the lanes after one more event of a trace
 pub lanes_more : (board : Board) (before : List Event) (i : ℕ) (d : Event) (bus : ℕ) (x y : Both) → i < length before →
-    x ≡ lanes_of (world_of board (history_of (take i before))) bus → Counted i x → y ≡ lanes_after board (get_or before i d) bus x →
+    x ≡ lanes_of (world_of board (history_of (take i before))) bus → Counted i x → y ≡ lanes_after Tagged board (get_or before i d) bus x →
     (y ≡ lanes_of (world_of board (history_of (take (i + 1) before))) bus) × Counted (i + 1) y
 lanes_more board before i d bus x y within is counted step =
     let e = get_or before i d in
     let h = history_of (take i before) in
     let more : history_of (take (i + 1) before) ≡ e ∷ h = history_more before i d within in
-    let next : lanes_of (world_of board (e ∷ h)) bus ≡ lanes_after board e bus x =
-    lanes_after_event board (world_of board h) e bus ∙ ap (lanes_after board e bus) (sym is) in (
+    let next : lanes_of (world_of board (e ∷ h)) bus ≡ lanes_after Tagged board e bus x =
+    lanes_after_event Tagged board (world_of board h) e bus ∙ ap (lanes_after Tagged board e bus) (sym is) in (
       step ∙ (sym next ∙ ap (λ (xs : List Event). lanes_of (world_of board xs) bus) (sym more)),
-      subst (λ (z : Both). Counted (i + 1) z) (sym step) (counted_after i board e bus x counted),
+      subst (λ (z : Both). Counted (i + 1) z) (sym step) (counted_after i Tagged board e bus x counted),
     )

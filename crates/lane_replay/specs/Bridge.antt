@@ -12,7 +12,8 @@ use Rattle.history_model.specs.declared.event.Step.{Step}
 use Rattle.history_model.specs.declared.event.Event.{Event}
 use Rattle.history_model.specs.declared.event.Event.TheVariants.{Act, Arrive}
 use Rattle.history_model.specs.Lanes.{Both, item_ends, arrives}
-use Rattle.history_model.specs.World.{World, both, enters, lane_outcome}
+use Rattle.history_model.specs.declared.rule.Rule.{Rule}
+use Rattle.history_model.specs.World.{World, both, noted, enters, lane_outcome}
 
 -- the lanes of the bridge to a bus: that down to it, and that back up
 abbrev pub lanes_of : World → ℕ → Both
@@ -41,7 +42,7 @@ abbrev pub initiator_on : Board → By → OpId → Step → ℕ → Both → Bo
 initiator_on board Master o step bus x = x
 initiator_on board (ByLane lane) o step bus x = leaves_on lane o (lane_outcome board lane o step) bus x
 
--- the lanes of the bridge to the bus after one more event
-abbrev pub lanes_after : Board → Event → ℕ → Both → Both
-lanes_after board (Act on by o step place) bus x = initiator_on board by o step bus (place_on board on by o step place bus x)
-lanes_after board (Arrive lane mark) bus x = moved_on (arrives mark) lane bus x
+-- under a rule: the lanes of the bridge to the bus after one more event
+abbrev pub lanes_after : Rule → Board → Event → ℕ → Both → Both
+lanes_after rule board (Act on by o step place) bus x = initiator_on board by o step bus (place_on board on (noted rule by) o step place bus x)
+lanes_after rule board (Arrive lane mark) bus x = moved_on (arrives mark) lane bus x

@@ -7,7 +7,7 @@ ghost use Rattle.lane_replay.specs.Room.{HasRoom};
 use crate::lane_tables::LaneTables;
 use crate::requests::{Presented, own_slot, reads};
 use board_model::{Board, Lane, Place, bridge_to};
-use history_model::{By, Carried, Event, Mark, Slot, Step};
+use history_model::{By, Carried, Event, Mark, Rule, Slot, Step};
 use pci_command::{OpId, Outcome};
 use std::marker::Model;
 
@@ -44,8 +44,8 @@ impl BridgeLanes {
         }
     }
 
-    /// The lanes of the bridge to the bus after these events, the first event first. There is
-    /// nothing on those of no bridge.
+    /// The lanes of the bridge to the bus after these events, the first event first, on bridges that
+    /// keep the local master. There is nothing on those of no bridge.
     pub fn after(board: &Board, before: &[Event], bus: u8) -> BridgeLanes
         requires formed { IsTrue (is_well_formed board.now) }
         requires run { Run board.now (history_of before.now) }
@@ -53,7 +53,7 @@ impl BridgeLanes {
     {
         let mut lanes = BridgeLanes::new();
         for event in before {
-            lanes.happen(board, event, bus);
+            lanes.happen(board, Rule::Tagged, event, bus);
         }
         lanes
     }
@@ -65,10 +65,10 @@ impl BridgeLanes {
         if up { &self.up } else { &self.down }
     }
 
-    /// One more event happens, to the lanes of the bridge to this bus.
-    pub fn happen(&mut self, board: &Board, event: &Event, bus: u8)
+    /// One more event happens by the rule of the bridge, to the lanes of the bridge to this bus.
+    pub fn happen(&mut self, board: &Board, rule: Rule, event: &Event, bus: u8)
         requires { HaveRoom 2 self.old }
-        ensures { self.new ≡ lanes_after board.now event.now bus self.old }
+        ensures { self.new ≡ lanes_after rule board.now event.now bus self.old }
     {
         match *event {
             Event::Act {
@@ -78,8 +78,12 @@ impl BridgeLanes {
                 step,
                 place,
             } => {
-                let presented = Presented { bus: on, by, op };
-                self.at_place(board, presented, step, place, bus);
+                let noted = Presented {
+                    bus: on,
+                    by: rule.noted(by),
+                    op,
+                };
+                self.at_place(board, noted, step, place, bus);
                 self.at_initiator(board, by, op, step, bus);
             }
             Event::Arrive { lane, mark } => self.arrive_on(lane, mark, bus),

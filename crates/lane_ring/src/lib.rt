@@ -6,7 +6,4 @@ mod inward;
 mod lane;
 mod outward;
 mod ring_end;
-#[cfg(test)]
-mod tests;
-
 pub use ring_end::{RingEnd, ring_pair};

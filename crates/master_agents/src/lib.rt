@@ -8,6 +8,3 @@ mod through;
 
 pub use master::{MasterState, others_leave_turns};
 pub use through::{PhaseCounts, Through, other_events_leave_counts};
-
-#[cfg(test)]
-mod tests;

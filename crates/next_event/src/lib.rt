@@ -49,6 +49,3 @@ fn next_on(board: &Board, events: &[Event]) -> Option<Event>
         None => first_act(board, events),
     }
 }
-
-#[cfg(test)]
-mod tests;

@@ -28,17 +28,3 @@ pub fn first_blocker(item: Kind, older: &[Kind]) -> Option<usize>
 {
     older.iter().position(|kind| !may_pass(item, *kind))
 }
-
-#[cfg(test)]
-mod tests {
-    use super::*;
-
-    #[test]
-    fn posted_writes_block_all_but_write_completions(rt: HostRuntime) {
-        assert!(rt; !may_pass(Kind::Drc, Kind::Pmw));
-        assert!(rt; may_pass(Kind::Pmw, Kind::Drc));
-        let older = [Kind::Dwc, Kind::Pmw, Kind::Pmw];
-        assert_eq!(rt; first_blocker(Kind::Drr, &older), Some(1));
-        assert_eq!(rt; first_blocker(Kind::Dwc, &older), None);
-    }
-}

@@ -15,6 +15,3 @@ pub use no_memory::NoMemory;
 pub use op_id::{OpId, Outcome};
 pub use phases::{Phase, Phases};
 pub use request::{Request, address_phases, same_request};
-
-#[cfg(test)]
-mod tests;

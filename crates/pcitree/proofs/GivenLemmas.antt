@@ -33,17 +33,17 @@ given_file forms.Generate input reads = absurd cc
 given_file form input reads = tt
 
 -- the words of `generate N`
-rounds_given : (words : List (List ℕ)) (number : List ℕ) → is_of (parts_of forms.Generate) words ≡ true → number_of forms.Generate words ≡ Some number → names_rounds number ≡ true
+rounds_given : (words : List (List ℕ)) (number : List ℕ) → is_of (parts_of forms.Generate) [] words ≡ true → number_of forms.Generate words ≡ Some number → names_rounds number ≡ true
 rounds_given [] number are found = cc
 rounds_given (word ∷ []) number are found = cc
 rounds_given (word ∷ other ∷ words) number are found =
     let same : other ≡ number = cc in
-    let parts = and_parts (fits (Word (codes "generate")) word) (is_of (Rounds ∷ []) (other ∷ words)) are in
-    let more = and_parts (names_rounds other) (is_of [] words) parts.1 in
+    let parts = and_parts (fits (Word (codes "generate")) [] word) (is_of (Rounds ∷ []) word (other ∷ words)) are in
+    let more = and_parts (names_rounds other) (is_of [] other words) parts.1 in
     subst (λ n. names_rounds n ≡ true) same more.0
 
 -- a number among words of a form is given to it
-pub given_number : (form : Form) (words : List (List ℕ)) (number : List ℕ) → is_of (parts_of form) words ≡ true → number_of form words ≡ Some number → IsGiven form number
+pub given_number : (form : Form) (words : List (List ℕ)) (number : List ℕ) → is_of (parts_of form) [] words ≡ true → number_of form words ≡ Some number → IsGiven form number
 given_number forms.Generate words number are found = rounds_given words number are found
 given_number form words number are found = tt
 
@@ -57,24 +57,24 @@ no_numbers (part ∷ parts) (word ∷ words) all =
     (elim (is_number part) as P [ true ↦ λ e. absurd cc | false ↦ λ e. no_numbers parts words both.1 ]) both.0
 
 -- and a number is short
-pub number_short : (form : Form) (words : List (List ℕ)) (number : List ℕ) → is_of (parts_of form) words ≡ true → number_of form words ≡ Some number → length number ≤ limit_of form
+pub number_short : (form : Form) (words : List (List ℕ)) (number : List ℕ) → is_of (parts_of form) [] words ≡ true → number_of form words ≡ Some number → length number ≤ limit_of form
 number_short forms.Generate words number are found = names_short number (rounds_given words number are found)
 number_short form words number are found = absurd (none-some number (sym (no_numbers (parts_of form) words refl) ∙ found))
 
 -- words of a form that has no number among them name a file
-no_number : (words : List (List ℕ)) → is_of (parts_of forms.Generate) words ≡ true → number_of forms.Generate words ≡ None → ⊥
+no_number : (words : List (List ℕ)) → is_of (parts_of forms.Generate) [] words ≡ true → number_of forms.Generate words ≡ None → ⊥
 no_number [] are none = cc
 no_number (word ∷ []) are none =
-    let parts = and_parts (fits (Word (codes "generate")) word) false are in cc
+    let parts = and_parts (fits (Word (codes "generate")) [] word) false are in cc
 no_number (word ∷ other ∷ words) are none = cc
 
-pub reads_by : (form : Form) (words : List (List ℕ)) → is_of (parts_of form) words ≡ true → number_of form words ≡ None → reads_file form ≡ true
+pub reads_by : (form : Form) (words : List (List ℕ)) → is_of (parts_of form) [] words ≡ true → number_of form words ≡ None → reads_file form ≡ true
 reads_by forms.Generate words are none = absurd (no_number words are none)
 reads_by form words are none = refl
 
 -- the words are of the form that is found
-pub form_is_of : (words : List (List ℕ)) (form : Form) → form_of words ≡ Some form → is_of (parts_of form) words ≡ true
-form_is_of words form found = find_passes (λ f. is_of (parts_of f) words) FORMS form found
+pub form_is_of : (words : List (List ℕ)) (form : Form) → form_of words ≡ Some form → is_of (parts_of form) [] words ≡ true
+form_is_of words form found = find_passes (λ f. is_of (parts_of f) [] words) FORMS form found
 
 -- what holds where one form has a number holds where the other has one: it is the same
 pub same_form : (P : Type 0) (known : Option Form) (form other : Form) (words : List (List ℕ)) → known ≡ Some form → known ≡ Some other → (IsSome (number_of form words) → P) → IsSome (number_of other words) → P
@@ -86,30 +86,30 @@ same_form P known form other words is found holds some =
 pub number_reads : (form : Form) (number : List ℕ) → length number ≤ limit_of form → ReadsInput form (Some number) (Some []) number
 number_reads form number short = record { read = sym (append-nil number); at_end = refl; within = short }
 
-pub number_answers : (form : Form) (number text : List ℕ) → length number ≤ limit_of form → AnswersTo form number text → AnswersInput form (Some number) (Some []) text
-number_answers form number text short answers = record { input = number; reads = number_reads form number short; answers = answers }
+pub number_answers : (form : Form) (words : List (List ℕ)) (number text : List ℕ) → length number ≤ limit_of form → AnswersTo form words number text → AnswersInput form words (Some number) (Some []) text
+number_answers form words number text short answers = record { input = number; reads = number_reads form number short; answers = answers }
 
 -- What is answered, or refused, of a number among the words, and else of what the source holds.
 
-pub number_answered : (form : Form) (words : List (List ℕ)) (held rest : Option (List ℕ)) (number text : List ℕ) → is_of (parts_of form) words ≡ true → number_of form words ≡ Some number → AnswersTo form number text
-    → AnswersInput form (given form words held) (left form words rest) text
+pub number_answered : (form : Form) (words : List (List ℕ)) (held rest : Option (List ℕ)) (number text : List ℕ) → is_of (parts_of form) [] words ≡ true → number_of form words ≡ Some number → AnswersTo form words number text
+    → AnswersInput form words (given form words held) (left form words rest) text
 number_answered form words held rest number text are found answers =
-    subst (λ n. AnswersInput form (given_by n held) (left_by n rest) text) (sym found) (number_answers form number text (number_short form words number are found) answers)
+    subst (λ n. AnswersInput form words (given_by n held) (left_by n rest) text) (sym found) (number_answers form words number text (number_short form words number are found) answers)
 
-pub number_refused : (form : Form) (words : List (List ℕ)) (held rest : Option (List ℕ)) (before now : ℕ) (number : List ℕ) (status : Status) → is_of (parts_of form) words ≡ true → number_of form words ≡ Some number → Refuses form number status
-    → StopsAnswering form (given form words held) (left form words rest) before now status
+pub number_refused : (form : Form) (words : List (List ℕ)) (held rest : Option (List ℕ)) (before now : ℕ) (number : List ℕ) (status : Status) → is_of (parts_of form) [] words ≡ true → number_of form words ≡ Some number → Refuses form words number status
+    → StopsAnswering form words (given form words held) (left form words rest) before now status
 number_refused form words held rest before now number status are found refuses =
-    subst (λ n. StopsAnswering form (given_by n held) (left_by n rest) before now status) (sym found)
-    (refused_answer form (Some number) (Some []) before now number status (number_reads form number (number_short form words number are found)) refuses)
+    subst (λ n. StopsAnswering form words (given_by n held) (left_by n rest) before now status) (sym found)
+    (refused_answer form words (Some number) (Some []) before now number status (number_reads form number (number_short form words number are found)) refuses)
 
-pub file_answered : (form : Form) (words : List (List ℕ)) (held rest : Option (List ℕ)) (text : List ℕ) → number_of form words ≡ None → AnswersInput form held rest text → AnswersInput form (given form words held) (left form words rest) text
-file_answered form words held rest text none answers = subst (λ n. AnswersInput form (given_by n held) (left_by n rest) text) (sym none) answers
+pub file_answered : (form : Form) (words : List (List ℕ)) (held rest : Option (List ℕ)) (text : List ℕ) → number_of form words ≡ None → AnswersInput form words held rest text → AnswersInput form words (given form words held) (left form words rest) text
+file_answered form words held rest text none answers = subst (λ n. AnswersInput form words (given_by n held) (left_by n rest) text) (sym none) answers
 
-pub file_refused : (form : Form) (words : List (List ℕ)) (held rest : Option (List ℕ)) (before now : ℕ) (status : Status) → number_of form words ≡ None → StopsAnswering form held rest before now status
-    → StopsAnswering form (given form words held) (left form words rest) before now status
-file_refused form words held rest before now status none stops = subst (λ n. StopsAnswering form (given_by n held) (left_by n rest) before now status) (sym none) stops
+pub file_refused : (form : Form) (words : List (List ℕ)) (held rest : Option (List ℕ)) (before now : ℕ) (status : Status) → number_of form words ≡ None → StopsAnswering form words held rest before now status
+    → StopsAnswering form words (given form words held) (left form words rest) before now status
+file_refused form words held rest before now status none stops = subst (λ n. StopsAnswering form words (given_by n held) (left_by n rest) before now status) (sym none) stops
 
-pub short_enough : (form : Form) (words : List (List ℕ)) (number : List ℕ) → input_limit form < 2 ^ 31 → is_of (parts_of form) words ≡ true → number_of form words ≡ Some number → length number < 2 ^ 31
+pub short_enough : (form : Form) (words : List (List ℕ)) (number : List ℕ) → input_limit form < 2 ^ 31 → is_of (parts_of form) [] words ≡ true → number_of form words ≡ Some number → length number < 2 ^ 31
 short_enough form words number small are found = let short = number_short form words number are found in omega (arith, small, short)
 
 abbrev none_of : Option (List ℕ)

@@ -13,10 +13,12 @@ use Rattle.command_finish.proofs.ServedLemmas.{finish_refusing}
 use Rattle.program_input.proofs.RunLemmas.{run_refusing}
 use Rattle.command_generate.proofs.ServedLemmas.{generate_refusing}
 use Rattle.command_devices.proofs.ServedLemmas.{devices_refusing}
+use Rattle.command_draw.proofs.ServedLemmas.{draw_refusing}
+use Rattle.command_untagged.proofs.ServedLemmas.{untagged_refusing}
 use Rattle.command_import.proofs.ServedLemmas.{import_refusing}
 use Rattle.program_words.specs.declared.Form.{Form}
 use Rattle.program_words.specs.declared.Form.TheVariants as forms
-use Rattle.pcitree.specs.Words.{command_of}
+use Rattle.pcitree.specs.Words.{command_of, rows_in}
 use Rattle.pcitree.specs.Answers.{limit_of, AnswersTo, Refuses, IsServed, IsAnswered, CausesBy, Causes}
 use Rattle.pcitree.specs.Given.{given, left}
 use Rattle.pcitree.specs.Ends.{HoldsTooMuch, ReadsInput, AnswersInput, RefusesInput, Finishes, StopsInText}
@@ -32,85 +34,88 @@ all_of (Some bytes) (Some rest) input taken is read end =
     sym same ∙ read ∙ last
 
 -- an input that was answered
-pub answered : (form : Form) (held left : Option (List ℕ)) (input text : List ℕ) → held ≡ Some input → AnswersInput form held left text → IsAnswered form input
-answered form held left input text is answers =
+pub answered : (form : Form) (words : List (List ℕ)) (held left : Option (List ℕ)) (input text : List ℕ) → held ≡ Some input → AnswersInput form words held left text → IsAnswered form words input
+answered form words held left input text is answers =
     let same = all_of held left input answers.input is answers.reads.read answers.reads.at_end in
     record {
       within = subst (λ (l : List ℕ). length l ≤ limit_of form) (sym same) answers.reads.within;
       text = text;
-      answers = subst (λ (l : List ℕ). AnswersTo form l text) (sym same) answers.answers;
+      answers = subst (λ (l : List ℕ). AnswersTo form words l text) (sym same) answers.answers;
     }
 
 -- an input whose answer the sink took
 pub finished : (known : Option Form) (form : Form) (words : List (List ℕ)) (held rest before after : Option (List ℕ)) (input : List ℕ) → known ≡ Some form → given form words held ≡ Some input
-    → IfSome known (λ f. Finishes f (given f words held) (left f words rest) before after) → IsAnswered form input
+    → IfSome known (λ f. Finishes f words (given f words held) (left f words rest) before after) → IsAnswered form words input
 finished None form words held rest before after input there is done = cc
 finished (Some other) form words held rest before after input there is done =
     let same : other ≡ form = cc in
     let told : given other words held ≡ Some input = subst (λ (f : Form). given f words held ≡ Some input) (sym same) is in
-    subst (λ (f : Form). IsAnswered f input) same (answered other (given other words held) (left other words rest) input done.text told done.answers)
+    subst (λ (f : Form). IsAnswered f words input) same (answered other words (given other words held) (left other words rest) input done.text told done.answers)
 
 -- an input that was refused
-refused : (form : Form) (held left : Option (List ℕ)) (input : List ℕ) (status : Status) → held ≡ Some input → RefusesInput form held left status → (length input ≤ limit_of form) × Refuses form input status
-refused form held left input status is refuses =
+refused : (form : Form) (words : List (List ℕ)) (held left : Option (List ℕ)) (input : List ℕ) (status : Status) → held ≡ Some input → RefusesInput form words held left status → (length input ≤ limit_of form) × Refuses form words input status
+refused form words held left input status is refuses =
     let same = all_of held left input refuses.input is refuses.reads.read refuses.reads.at_end in
-    (subst (λ (l : List ℕ). length l ≤ limit_of form) (sym same) refuses.reads.within, subst (λ (l : List ℕ). Refuses form l status) (sym same) refuses.refuses)
+    (subst (λ (l : List ℕ). length l ≤ limit_of form) (sym same) refuses.reads.within, subst (λ (l : List ℕ). Refuses form words l status) (sym same) refuses.refuses)
 
 too_much : (form : Form) (held : Option (List ℕ)) (input : List ℕ) → held ≡ Some input → HoldsTooMuch form held → limit_of form < length input
 too_much form None input is holds = cc
 too_much form (Some bytes) input is holds = let same : bytes ≡ input = cc in subst (λ (l : List ℕ). limit_of form < length l) same holds
 
 -- what each form owes of its refusals
-refusing : (form : Form) → IsRefusing (command_of form).Refuses (command_of form).IsFaultless
-refusing forms.Run = board_refusing
-refusing forms.RunSteady = board_refusing
-refusing forms.Headers = board_refusing
-refusing forms.Check = check_refusing
-refusing forms.Finish = finish_refusing
-refusing forms.Audit = run_refusing
-refusing forms.Report = run_refusing
-refusing forms.Waves = run_refusing
-refusing forms.Combine = board_refusing
-refusing forms.Generate = generate_refusing
-refusing forms.Devices = devices_refusing
-refusing forms.Import = import_refusing
+refusing : (form : Form) (words : List (List ℕ)) → IsRefusing (command_of form words).Refuses (command_of form words).IsFaultless
+refusing forms.Run words = board_refusing
+refusing forms.RunSteady words = board_refusing
+refusing forms.Headers words = board_refusing
+refusing forms.Check words = check_refusing
+refusing forms.Finish words = finish_refusing
+refusing forms.Audit words = run_refusing
+refusing forms.Report words = run_refusing
+refusing forms.Waves words = run_refusing
+refusing forms.Draw words = draw_refusing (rows_in words)
+refusing forms.DrawRows words = draw_refusing (rows_in words)
+refusing forms.Untagged words = untagged_refusing
+refusing forms.Combine words = board_refusing
+refusing forms.Generate words = generate_refusing
+refusing forms.Devices words = devices_refusing
+refusing forms.Import words = import_refusing
 
 -- an input that was read, and is refused
-pub refused_answer : (form : Form) (held left : Option (List ℕ)) (before now : ℕ) (input : List ℕ) (status : Status) → ReadsInput form held left input → Refuses form input status → StopsAnswering form held left before now status
-refused_answer form held left before now input status reads refuses =
-    let P : Subject → Type 0 = λ subject. StopsBy subject form held left before now status in
-    elim ((refusing form).subject input status refuses) [
+pub refused_answer : (form : Form) (words : List (List ℕ)) (held left : Option (List ℕ)) (before now : ℕ) (input : List ℕ) (status : Status) → ReadsInput form held left input → Refuses form words input status → StopsAnswering form words held left before now status
+refused_answer form words held left before now input status reads refuses =
+    let P : Subject → Type 0 = λ subject. StopsBy subject form words held left before now status in
+    elim ((refusing form words).subject input status refuses) [
       | inl memory ↦ subst P (sym memory) tt
       | inr of_input ↦ subst P (sym of_input) (record { input = input; reads = reads; refuses = refuses })
     ]
 
 -- an input that is served is answered, but for want of memory and the faults of ports
-served_as : (subject : Subject) (form : Form) (input : List ℕ) (status : Status) → subject_of status ≡ subject → IsServed form input → CausesBy subject form input status → (subject ≢ Words) × (subject ≢ Length) × (subject ≢ Input)
-served_as Success form input status is served cause = (λ e. cc, λ e. cc, λ e. cc)
-served_as Memory form input status is served cause = (λ e. cc, λ e. cc, λ e. cc)
-served_as Words form input status is served cause = absurd cause
-served_as Reading form input status is served cause = (λ e. cc, λ e. cc, λ e. cc)
-served_as Writing form input status is served cause = (λ e. cc, λ e. cc, λ e. cc)
-served_as Length form input status is served cause = absurd (omega (arith, served.0, cause))
-served_as Input form input status is served cause =
-    let memory : subject_of status ≡ Memory = ap subject_of ((refusing form).served input status served.1 cause.1) in
+served_as : (subject : Subject) (form : Form) (words : List (List ℕ)) (input : List ℕ) (status : Status) → subject_of status ≡ subject → IsServed form words input → CausesBy subject form words input status → (subject ≢ Words) × (subject ≢ Length) × (subject ≢ Input)
+served_as Success form words input status is served cause = (λ e. cc, λ e. cc, λ e. cc)
+served_as Memory form words input status is served cause = (λ e. cc, λ e. cc, λ e. cc)
+served_as Words form words input status is served cause = absurd cause
+served_as Reading form words input status is served cause = (λ e. cc, λ e. cc, λ e. cc)
+served_as Writing form words input status is served cause = (λ e. cc, λ e. cc, λ e. cc)
+served_as Length form words input status is served cause = absurd (omega (arith, served.0, cause))
+served_as Input form words input status is served cause =
+    let memory : subject_of status ≡ Memory = ap subject_of ((refusing form words).served input status served.1 cause.1) in
     absurd cc
 
-pub served_by : (form : Form) (input : List ℕ) (status : Status) → IsServed form input → Causes form input status → Serves status
-served_by form input status served cause = served_as (subject_of status) form input status refl served cause
+pub served_by : (form : Form) (words : List (List ℕ)) (input : List ℕ) (status : Status) → IsServed form words input → Causes form words input status → Serves status
+served_by form words input status served cause = served_as (subject_of status) form words input status refl served cause
 
 pub done_serves : Serves Done
 done_serves = (λ e. cc, λ e. cc, λ e. cc)
 
 -- the cause of an answer, where an input was not read or not answered
-caused_as : (subject : Subject) (form : Form) (held left : Option (List ℕ)) (before now : ℕ) (status : Status) (input : List ℕ) → held ≡ Some input → StopsBy subject form held left before now status → CausesBy subject form input status
-caused_as Success form held left before now status input is stops = absurd stops
-caused_as Memory form held left before now status input is stops = tt
-caused_as Words form held left before now status input is stops = stops
-caused_as Reading form held left before now status input is stops = tt
-caused_as Writing form held left before now status input is stops = absurd stops
-caused_as Length form held left before now status input is stops = too_much form held input is stops
-caused_as Input form held left before now status input is stops = refused form held left input status is stops
+caused_as : (subject : Subject) (form : Form) (words : List (List ℕ)) (held left : Option (List ℕ)) (before now : ℕ) (status : Status) (input : List ℕ) → held ≡ Some input → StopsBy subject form words held left before now status → CausesBy subject form words input status
+caused_as Success form words held left before now status input is stops = absurd stops
+caused_as Memory form words held left before now status input is stops = tt
+caused_as Words form words held left before now status input is stops = stops
+caused_as Reading form words held left before now status input is stops = tt
+caused_as Writing form words held left before now status input is stops = absurd stops
+caused_as Length form words held left before now status input is stops = too_much form held input is stops
+caused_as Input form words held left before now status input is stops = refused form words held left input status is stops
 
 module _ (S K : Type 0) (held : S → Option (List ℕ)) (read_faults : S → ℕ) (taken : K → Option (List ℕ)) (write_faults : K → ℕ) where
   -- a call with words of this form, or of none, stopped with this status
@@ -118,10 +123,10 @@ module _ (S K : Type 0) (held : S → Option (List ℕ)) (read_faults : S → �
   Stopped known words s t k l status = StopsRunning S K held read_faults taken write_faults known words s t k l status
 
   -- what holds of the part that stopped, by what the status speaks of
-  stopped_as : (form : Form) (subject : Subject) (words : List (List ℕ)) (s t : S) (k l : K) (status : Status) → subject_of status ≡ subject → subject ≢ Writing → Stopped (Some form) words s t k l status → StopsBy subject form (given form words (held s)) (left form words (held t)) (read_faults s) (read_faults t) status
+  stopped_as : (form : Form) (subject : Subject) (words : List (List ℕ)) (s t : S) (k l : K) (status : Status) → subject_of status ≡ subject → subject ≢ Writing → Stopped (Some form) words s t k l status → StopsBy subject form words (given form words (held s)) (left form words (held t)) (read_faults s) (read_faults t) status
   stopped_as form subject words s t k l status is other stops =
       elim stops [
-        | inl early ↦ subst (λ v. StopsBy v form (given form words (held s)) (left form words (held t)) (read_faults s) (read_faults t) status) is early.0
+        | inl early ↦ subst (λ v. StopsBy v form words (given form words (held s)) (left form words (held t)) (read_faults s) (read_faults t) status) is early.0
         | inr late ↦ absurd (other (sym is ∙ late.subject))
       ]
 
@@ -149,28 +154,28 @@ module _ (S K : Type 0) (held : S → Option (List ℕ)) (read_faults : S → �
   read_failed (Some form) words s t k l status stops is = stopped_as form Reading words s t k l status (ap subject_of is) (λ e. cc) stops
 
   pub write_failed : (known : Option Form) (words : List (List ℕ)) (s t : S) (k l : K) (status : Status) → Stopped known words s t k l status → status ≡ WriteFault
-      → Rose (write_faults k) (write_faults l) × IfSome known (λ form. StopsInText form (given form words (held s)) (left form words (held t)) (taken k) (taken l))
+      → Rose (write_faults k) (write_faults l) × IfSome known (λ form. StopsInText form words (given form words (held s)) (left form words (held t)) (taken k) (taken l))
   write_failed None words s t k l status stops is = let words = stops.0 in let writing : subject_of status ≡ Writing = ap subject_of is in absurd cc
   write_failed (Some form) words s t k l status stops is =
       elim stops [
-        | inl early ↦ absurd (subst (λ v. StopsBy v form (given form words (held s)) (left form words (held t)) (read_faults s) (read_faults t) status) (ap subject_of is) early.0)
+        | inl early ↦ absurd (subst (λ v. StopsBy v form words (given form words (held s)) (left form words (held t)) (read_faults s) (read_faults t) status) (ap subject_of is) early.0)
         | inr late ↦ (late.rose, late.text)
       ]
 
-  caused : (form : Form) (words : List (List ℕ)) (s t : S) (k l : K) (status : Status) (input : List ℕ) → given form words (held s) ≡ Some input → Stopped (Some form) words s t k l status → Causes form input status
+  caused : (form : Form) (words : List (List ℕ)) (s t : S) (k l : K) (status : Status) (input : List ℕ) → given form words (held s) ≡ Some input → Stopped (Some form) words s t k l status → Causes form words input status
   caused form words s t k l status input is stops =
       elim stops [
-        | inl early ↦ caused_as (subject_of status) form (given form words (held s)) (left form words (held t)) (read_faults s) (read_faults t) status input is early.0
-        | inr late ↦ subst (λ v. CausesBy v form input status) (sym late.subject) (answered form (given form words (held s)) (left form words (held t)) input late.text.text is late.text.answers)
+        | inl early ↦ caused_as (subject_of status) form words (given form words (held s)) (left form words (held t)) (read_faults s) (read_faults t) status input is early.0
+        | inr late ↦ subst (λ v. CausesBy v form words input status) (sym late.subject) (answered form words (given form words (held s)) (left form words (held t)) input late.text.text is late.text.answers)
       ]
 
-  pub caused_by : (known : Option Form) (form : Form) (words : List (List ℕ)) (s t : S) (k l : K) (status : Status) (input : List ℕ) → known ≡ Some form → given form words (held s) ≡ Some input → Stopped known words s t k l status → Causes form input status
+  pub caused_by : (known : Option Form) (form : Form) (words : List (List ℕ)) (s t : S) (k l : K) (status : Status) (input : List ℕ) → known ≡ Some form → given form words (held s) ≡ Some input → Stopped known words s t k l status → Causes form words input status
   caused_by None form words s t k l status input there is stops = cc
   caused_by (Some other) form words s t k l status input there is stops =
       let same : other ≡ form = cc in
       let told : given other words (held s) ≡ Some input = subst (λ (f : Form). given f words (held s) ≡ Some input) (sym same) is in
-      subst (λ (f : Form). Causes f input status) same (caused other words s t k l status input told stops)
+      subst (λ (f : Form). Causes f words input status) same (caused other words s t k l status input told stops)
 
-  pub refused_in : (known : Option Form) (words : List (List ℕ)) (s t : S) (k l : K) (status : Status) → Stopped known words s t k l status → IsRefusal status → IfSome known (λ form. RefusesInput form (given form words (held s)) (left form words (held t)) status)
+  pub refused_in : (known : Option Form) (words : List (List ℕ)) (s t : S) (k l : K) (status : Status) → Stopped known words s t k l status → IsRefusal status → IfSome known (λ form. RefusesInput form words (given form words (held s)) (left form words (held t)) status)
   refused_in None words s t k l status stops refusal = let words = stops.0 in absurd cc
   refused_in (Some form) words s t k l status stops refusal = stopped_as form Input words s t k l status refusal (λ e. cc) stops

@@ -2,7 +2,7 @@
 use Rattle.std.proofs.Common.{◌≡◌, ◌≢◌, ◌⊎◌, inl, inr, refl, arith}
 use Rattle.io_ports.specs.Faults.{Rose}
 use Rattle.program_status.specs.declared.status.Status.{Status}
-use Rattle.program_status.specs.declared.status.Status.TheVariants.{Done, NoMemory, Usage, ReadFault, WriteFault, TooLong, BadBoard, BadTrace, BadMachine, NotRun, Incomplete}
+use Rattle.program_status.specs.declared.status.Status.TheVariants.{Done, NoMemory, Usage, ReadFault, WriteFault, TooLong, BadBoard, BadTrace, BadMachine, TooManyEvents, NotRun, Incomplete}
 use Rattle.program_status.specs.Subjects.{Serves}
 
 -- a count that is always 0 did not rise
@@ -20,5 +20,6 @@ done_or_no_memory TooLong reads writes serves = absurd (serves.1 refl)
 done_or_no_memory (BadBoard line fault) reads writes serves = absurd (serves.2 refl)
 done_or_no_memory (BadTrace line fault) reads writes serves = absurd (serves.2 refl)
 done_or_no_memory (BadMachine line fault) reads writes serves = absurd (serves.2 refl)
+done_or_no_memory (TooManyEvents events) reads writes serves = absurd (serves.2 refl)
 done_or_no_memory (NotRun event why) reads writes serves = absurd (serves.2 refl)
 done_or_no_memory (Incomplete left) reads writes serves = absurd (serves.2 refl)

@@ -1,4 +1,4 @@
--- How an input is answered for each form of the words, and the cause of each answer.
+-- How an input is answered for words of each form, and the cause of each answer.
 use Rattle.std.specs.Prelude.{ℕ, ◌≤◌, ◌<◌, List, length}
 use Rattle.program_status.specs.declared.status.Status.{Status}
 use Rattle.program_words.specs.declared.Form.{Form}
@@ -11,35 +11,35 @@ abbrev pub limit_of : Form → ℕ
 limit_of form = input_limit form
 
 -- the text that answers an input
-abbrev pub AnswersTo : Form → List ℕ → List ℕ → Type 0
-AnswersTo form input text = (command_of form).Answers input text
+abbrev pub AnswersTo : Form → List (List ℕ) → List ℕ → List ℕ → Type 0
+AnswersTo form words input text = (command_of form words).Answers input text
 
 -- the status that refuses an input
-abbrev pub Refuses : Form → List ℕ → Status → Type 0
-Refuses form input status = (command_of form).Refuses input status
+abbrev pub Refuses : Form → List (List ℕ) → List ℕ → Status → Type 0
+Refuses form words input status = (command_of form words).Refuses input status
 
 -- an input has no fault
-abbrev pub IsFaultless : Form → List ℕ → Type 0
-IsFaultless form input = (command_of form).IsFaultless input
+abbrev pub IsFaultless : Form → List (List ℕ) → List ℕ → Type 0
+IsFaultless form words input = (command_of form words).IsFaultless input
 
-abbrev pub IsServed : Form → List ℕ → Type 0
-IsServed form input = (length input ≤ limit_of form) × IsFaultless form input
+abbrev pub IsServed : Form → List (List ℕ) → List ℕ → Type 0
+IsServed form words input = (length input ≤ limit_of form) × IsFaultless form words input
 
 -- a text answers the input
-pub record IsAnswered (form : Form) (input : List ℕ) : Type 0 where
+pub record IsAnswered (form : Form) (words : List (List ℕ)) (input : List ℕ) : Type 0 where
   pub within : length input ≤ limit_of form
   pub text : List ℕ
-  pub answers : AnswersTo form input text
+  pub answers : AnswersTo form words input text
 
 -- the cause that an input gives for an answer that speaks of this: memory and ports have their own
-abbrev pub CausesBy : Subject → Form → List ℕ → Status → Type 0
-CausesBy Success form input status = IsAnswered form input
-CausesBy Memory form input status = Unit {0}
-CausesBy Words form input status = ⊥
-CausesBy Reading form input status = Unit {0}
-CausesBy Writing form input status = IsAnswered form input
-CausesBy Length form input status = limit_of form < length input
-CausesBy Input form input status = (length input ≤ limit_of form) × Refuses form input status
+abbrev pub CausesBy : Subject → Form → List (List ℕ) → List ℕ → Status → Type 0
+CausesBy Success form words input status = IsAnswered form words input
+CausesBy Memory form words input status = Unit {0}
+CausesBy Words form words input status = ⊥
+CausesBy Reading form words input status = Unit {0}
+CausesBy Writing form words input status = IsAnswered form words input
+CausesBy Length form words input status = limit_of form < length input
+CausesBy Input form words input status = (length input ≤ limit_of form) × Refuses form words input status
 
-abbrev pub Causes : Form → List ℕ → Status → Type 0
-Causes form input status = CausesBy (subject_of status) form input status
+abbrev pub Causes : Form → List (List ℕ) → List ℕ → Status → Type 0
+Causes form words input status = CausesBy (subject_of status) form words input status

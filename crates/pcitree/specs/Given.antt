@@ -36,7 +36,7 @@ abbrev pub IsGiven : Form → List ℕ → Type 0
 IsGiven forms.Generate input = names_rounds input ≡ true
 IsGiven form input = Unit {0}
 
--- the form reads a file, and has no number
+-- the form reads a file, and not a number among the words
 abbrev pub reads_file : Form → Bool
 reads_file forms.Generate = false
 reads_file form = true

@@ -1,5 +1,5 @@
 -- The words that the program is called with, without its own name.
-use Rattle.std.specs.Prelude.{ℕ, ◌+◌, ◌^◌, ◌==◌, ◌&&◌, not, max, Bool, true, false, List, [], ◌∷◌, Option, Some, None, codes, nat_eq, if◌then◌else◌, find, fold, position}
+use Rattle.std.specs.Prelude.{ℕ, ◌+◌, ◌^◌, ◌==◌, ◌&&◌, not, max, Bool, true, false, List, [], ◌∷◌, Option, Some, None, codes, nat_eq, if◌then◌else◌, find, fold, position, is_some}
 use Rattle.std.specs.Option.{option_and_then}
 use Rattle.std.specs.Cmp.Lexicographic.{pointwise}
 use Rattle.program_status.specs.declared.status.Status.{Status}
@@ -12,6 +12,10 @@ use Rattle.command_finish.specs.Answers.{AnswersFinish, RefusesFinish}
 use Rattle.command_audit.specs.Answers.{AnswersAudit}
 use Rattle.command_report.specs.Answers.{AnswersReport}
 use Rattle.command_waves.specs.Answers.{AnswersWaves}
+use Rattle.command_draw.specs.declared.rows.Rows.{Rows}
+use Rattle.command_draw.specs.Rows.{rows_of, names_event}
+use Rattle.command_draw.specs.Answers.{AnswersDraw, RefusesDraw, IsDrawable}
+use Rattle.command_untagged.specs.Answers.{AnswersUntagged, RefusesUntagged, IsUntaggedTrace}
 use Rattle.command_combine.specs.Answers.{AnswersCombine}
 use Rattle.command_generate.specs.Answers.{names_rounds, AnswersGenerate, RefusesGenerate, NamesRounds}
 use Rattle.command_devices.specs.Answers.{AnswersDevices}
@@ -21,7 +25,12 @@ use Rattle.program_words.specs.declared.Form.{Form}
 use Rattle.program_words.specs.declared.Form.TheVariants as forms
 use Rattle.program_words.specs.declared.TheConstants.{FORMS}
 use Rattle.program_words.specs.Shapes.{Shape, parts_of, input_limit}
-use Rattle.program_words.specs.Shapes.Shape.{Word, File, Rounds}
+use Rattle.program_words.specs.Shapes.Shape.{Word, File, Rounds, First, Last}
+
+-- the events that the words ask for, by the number of the first and of the last: in words of the form `draw FILE FIRST LAST`
+abbrev pub rows_in : List (List ℕ) → Option Rows
+rows_in (draw ∷ file ∷ first ∷ last ∷ []) = rows_of first last
+rows_in _ = None
 
 -- what a form of words owes: the text that answers an input; the status that refuses one; the inputs that have no fault;
 -- and whether it writes the trace of a complete run
@@ -31,75 +40,93 @@ pub record Command : Type 1 where
   pub IsFaultless : List ℕ → Type 0
   pub writes_run : Bool
 
--- of each form
-abbrev pub command_of : Form → Command
-command_of forms.Run = record {
+-- of words of each form
+abbrev pub command_of : Form → List (List ℕ) → Command
+command_of forms.Run words = record {
   Answers = AnswersRun;
   Refuses = RefusesBoard;
   IsFaultless = IsBoardText;
   writes_run = true;
 }
-command_of forms.RunSteady = record {
+command_of forms.RunSteady words = record {
   Answers = AnswersRun;
   Refuses = RefusesBoard;
   IsFaultless = IsBoardText;
   writes_run = true;
 }
-command_of forms.Headers = record {
+command_of forms.Headers words = record {
   Answers = AnswersHeaders;
   Refuses = RefusesBoard;
   IsFaultless = IsBoardText;
   writes_run = false;
 }
-command_of forms.Check = record {
+command_of forms.Check words = record {
   Answers = AnswersCheck;
   Refuses = RefusesCheck;
   IsFaultless = IsCompleteTrace;
   writes_run = false;
 }
-command_of forms.Finish = record {
+command_of forms.Finish words = record {
   Answers = AnswersFinish;
   Refuses = RefusesFinish;
   IsFaultless = IsRunTrace;
   writes_run = true;
 }
-command_of forms.Audit = record {
+command_of forms.Audit words = record {
   Answers = AnswersAudit;
   Refuses = RefusesRun;
   IsFaultless = IsRunTrace;
   writes_run = false;
 }
-command_of forms.Report = record {
+command_of forms.Report words = record {
   Answers = AnswersReport;
   Refuses = RefusesRun;
   IsFaultless = IsRunTrace;
   writes_run = false;
 }
-command_of forms.Waves = record {
+command_of forms.Waves words = record {
   Answers = AnswersWaves;
   Refuses = RefusesRun;
   IsFaultless = IsRunTrace;
   writes_run = false;
 }
-command_of forms.Combine = record {
+command_of forms.Untagged words = record {
+  Answers = AnswersUntagged;
+  Refuses = RefusesUntagged;
+  IsFaultless = IsUntaggedTrace;
+  writes_run = false;
+}
+command_of forms.Combine words = record {
   Answers = AnswersCombine;
   Refuses = RefusesBoard;
   IsFaultless = IsBoardText;
   writes_run = false;
 }
-command_of forms.Generate = record {
+command_of forms.Generate words = record {
   Answers = AnswersGenerate;
   Refuses = RefusesGenerate;
   IsFaultless = NamesRounds;
   writes_run = false;
 }
-command_of forms.Devices = record {
+command_of forms.Devices words = record {
   Answers = AnswersDevices;
   Refuses = RefusesDevices;
   IsFaultless = IsDeviceText;
   writes_run = true;
 }
-command_of forms.Import = record {
+command_of forms.Draw words = record {
+  Answers = λ input text. AnswersDraw input (rows_in words) text;
+  Refuses = λ input status. RefusesDraw input (rows_in words) status;
+  IsFaultless = IsDrawable (rows_in words);
+  writes_run = false;
+}
+command_of forms.DrawRows words = record {
+  Answers = λ input text. AnswersDraw input (rows_in words) text;
+  Refuses = λ input status. RefusesDraw input (rows_in words) status;
+  IsFaultless = IsDrawable (rows_in words);
+  writes_run = false;
+}
+command_of forms.Import words = record {
   Answers = AnswersImport;
   Refuses = RefusesImport;
   IsFaultless = IsMachineText;
@@ -110,45 +137,51 @@ abbrev pub names_file : List ℕ → Bool
 names_file [] = false
 names_file (first ∷ _) = not (first == 45)
 
--- a word is as the form has it
-abbrev pub fits : Shape → List ℕ → Bool
-fits (Word text) word = pointwise nat_eq word text
-fits File word = names_file word
-fits Rounds word = names_rounds word
+-- a word, behind another, is as the form has it
+abbrev pub fits : Shape → List ℕ → List ℕ → Bool
+fits (Word text) before word = pointwise nat_eq word text
+fits File before word = names_file word
+fits Rounds before word = names_rounds word
+fits First before word = names_event word
+fits Last before word = is_some (rows_of before word)
 
--- how many words, from the first on, are as the form has them
-abbrev pub fitting : List Shape → List (List ℕ) → ℕ
-fitting [] words = 0
-fitting (part ∷ parts) [] = 0
-fitting (part ∷ parts) (word ∷ words) = if fits part word then 1 + fitting parts words else 0
+-- how many words behind another, from the first on, are as the form has them
+abbrev pub fitting : List Shape → List ℕ → List (List ℕ) → ℕ
+fitting [] before words = 0
+fitting (part ∷ parts) before [] = 0
+fitting (part ∷ parts) before (word ∷ words) = if fits part before word then 1 + fitting parts word words else 0
 
--- the words are of the form: as many as it has, and each as it has it
-abbrev pub is_of : List Shape → List (List ℕ) → Bool
-is_of [] [] = true
-is_of [] (word ∷ words) = false
-is_of (part ∷ parts) [] = false
-is_of (part ∷ parts) (word ∷ words) = fits part word && is_of parts words
+-- the words behind another are of the form: as many as it has, and each as it has it
+abbrev pub is_of : List Shape → List ℕ → List (List ℕ) → Bool
+is_of [] before [] = true
+is_of [] before (word ∷ words) = false
+is_of (part ∷ parts) before [] = false
+is_of (part ∷ parts) before (word ∷ words) = fits part before word && is_of parts word words
 
 -- the form that the words are of
 abbrev pub form_of : List (List ℕ) → Option Form
-form_of words = find (λ form. is_of (parts_of form) words) FORMS
+form_of words = find (λ form. is_of (parts_of form) [] words) FORMS
 
 -- the place, from 0, of the first word that fits no form, or the number of words where one is
 -- missing: the longest front of the words that some form begins with
 abbrev pub misfit : List (List ℕ) → ℕ
-misfit words = fold (λ longest form. max longest (fitting (parts_of form) words)) 0 FORMS
+misfit words = fold (λ longest form. max longest (fitting (parts_of form) [] words)) 0 FORMS
 
 -- the word that names the file
 abbrev pub is_file : Shape → Bool
 is_file (Word text) = false
 is_file File = true
 is_file Rounds = false
+is_file First = false
+is_file Last = false
 
--- the word that is a number
+-- the word that is a number to be read
 abbrev pub is_number : Shape → Bool
 is_number (Word text) = false
 is_number File = false
 is_number Rounds = true
+is_number First = false
+is_number Last = false
 
 -- the place of the file, from 0, among the parts of a form
 abbrev pub file_in : List Shape → Option ℕ

@@ -1,27 +1,40 @@
-ghost use Rattle.std.specs.Prelude.{◌<◌, ◌^◌, IfOk, IfErr, length};
+ghost use Rattle.std.specs.Prelude.{◌<◌, ◌^◌, IfOk, IfErr, length, map, string_bytes};
 ghost use Rattle.pcitree.specs.Answers.{AnswersTo, Refuses};
 ghost use Rattle.pcitree.specs.Given.{IsGiven};
 
+use crate::words::rows_in;
+use command_run::Gate;
 use program_status::Status;
 use program_words::Form;
 use std::alloc::Global;
+use std::thread::Threads;
 
-/// The text that answers an input.
-pub(crate) fn answer(alloc: Global, form: Form, input: &[u8]) -> Result<Vec<u8>, Status>
+/// The text that answers an input, for words of this form. The gate is told of the work of each bus in `run`.
+pub(crate) fn answer<R: Threads + Sync, G: Gate + Sync>(
+    rt: &R,
+    alloc: Global,
+    form: Form,
+    words: &[String],
+    input: &[u8],
+    gate: &G,
+) -> Result<Vec<u8>, Status>
     requires short { length input.now < 2 ^ 31 }
     requires given { IsGiven form input.now }
-    ensures ok { IfOk result (λ text. AnswersTo form input.now text.items) }
-    ensures err { IfErr result (Refuses form input.now) }
+    ensures ok { IfOk result (λ text. AnswersTo form (map string_bytes words.now) input.now text.items) }
+    ensures err { IfErr result (Refuses form (map string_bytes words.now) input.now) }
 {
     match form {
-        Form::Run => command_run::answer_run(alloc, input),
-        Form::RunSteady => command_run::answer_run(alloc, input),
+        Form::Run => command_run::answer_run(rt, alloc, input, gate),
+        Form::RunSteady => command_run::answer_run_steady(alloc, input),
         Form::Headers => command_headers::answer_headers(alloc, input),
         Form::Check => command_check::answer_check(alloc, input),
         Form::Finish => command_finish::answer_finish(alloc, input),
         Form::Audit => command_audit::answer_audit(alloc, input),
         Form::Report => command_report::answer_report(alloc, input),
         Form::Waves => command_waves::answer_waves(alloc, input),
+        Form::Draw => command_draw::answer_draw(alloc, input, rows_in(words)),
+        Form::DrawRows => command_draw::answer_draw(alloc, input, rows_in(words)),
+        Form::Untagged => command_untagged::answer_untagged(alloc, input),
         Form::Combine => command_combine::answer_combine(alloc, input),
         Form::Generate => command_generate::answer_generate(alloc, input),
         Form::Devices => command_devices::answer_devices(alloc, input),

@@ -15,21 +15,26 @@ use crate::words::{form_of, misfit, number_of};
 use crate::writing::write_all;
 use command_devices::written_devices_are_complete;
 use command_finish::finished_traces_are_complete;
-use command_run::written_runs_are_complete;
+use command_run::{Gate, written_runs_are_complete};
 use io_ports::{Sink, Source};
 use program_status::Status;
 use program_words::Form;
 use std::alloc::Global;
+use std::thread::Threads;
 
 /// Does what the words say: reads the source to its end, or takes the number among the words in its
 /// place, and writes the text that answers it to the sink. The first of these that holds is the answer: `Usage`, `ReadFault`, `TooLong`,
 /// `BadTrace` or `BadBoard`, `NotRun`, `Incomplete`, `WriteFault`; `NoMemory` may come at any
 /// moment.
-pub fn pcitree<S: Source, K: Sink>(
+///
+/// `run` works each bus in a thread of its own, and the gate is told of the turns of each.
+pub fn pcitree<R: Threads + Sync, S: Source, K: Sink, G: Gate + Sync>(
+    rt: &R,
     alloc: Global,
     words: &[String],
     source: &mut S,
     sink: &mut K,
+    gate: &G,
 ) -> Status
     // Usage, exactly where the words are of no form. Then nothing was read.
     ensures usage { IsUsage result ↔ (form_of (map string_bytes words.now) ≡ None) }
@@ -50,10 +55,10 @@ pub fn pcitree<S: Source, K: Sink>(
     // What the sink has.
     ensures unwritten { IsBeforeWriting result → sink.new ≡ sink.old }
     ensures front { result ≡ Status.WriteFault → IfSome (form_of (map string_bytes words.now)) (λ form.
-        StopsInText form (given form (map string_bytes words.now) (S.held source.old)) (left form (map string_bytes words.now) (S.held source.new))
+        StopsInText form (map string_bytes words.now) (given form (map string_bytes words.now) (S.held source.old)) (left form (map string_bytes words.now) (S.held source.new))
         (K.taken sink.old) (K.taken sink.new)) }
     ensures done { result ≡ Status.Done → IfSome (form_of (map string_bytes words.now)) (λ form.
-        Finishes form (given form (map string_bytes words.now) (S.held source.old)) (left form (map string_bytes words.now) (S.held source.new))
+        Finishes form (map string_bytes words.now) (given form (map string_bytes words.now) (S.held source.old)) (left form (map string_bytes words.now) (S.held source.new))
         (K.taken sink.old) (K.taken sink.new)) }
 
     // What `run`, `finish` or `devices` wrote is the text of a complete run, as `check` wants it.
@@ -62,32 +67,34 @@ pub fn pcitree<S: Source, K: Sink>(
 
     // What was read.
     ensures refused { IsRefusal result → IfSome (form_of (map string_bytes words.now)) (λ form.
-        RefusesInput form (given form (map string_bytes words.now) (S.held source.old)) (left form (map string_bytes words.now) (S.held source.new)) result) }
+        RefusesInput form (map string_bytes words.now) (given form (map string_bytes words.now) (S.held source.old)) (left form (map string_bytes words.now) (S.held source.new)) result) }
 
     // Where the source tells what it holds, each answer has its cause in that, and an input that is
     // served is answered, unless a port fails or there is no memory.
     ensures cause { (form : WordForm) (input : List ℕ) → form_of (map string_bytes words.now) ≡ Some form
-        → given form (map string_bytes words.now) (S.held source.old) ≡ Some input → Causes form input result }
+        → given form (map string_bytes words.now) (S.held source.old) ≡ Some input → Causes form (map string_bytes words.now) input result }
     ensures served { (form : WordForm) (input : List ℕ) → form_of (map string_bytes words.now) ≡ Some form
-        → given form (map string_bytes words.now) (S.held source.old) ≡ Some input → IsServed form input → Serves result }
+        → given form (map string_bytes words.now) (S.held source.old) ≡ Some input → IsServed form (map string_bytes words.now) input → Serves result }
 {
     written_runs_are_complete();
     finished_traces_are_complete();
     written_devices_are_complete();
-    match run(alloc, words, source, sink) {
+    match run(rt, alloc, words, source, sink, gate) {
         Ok(()) => Status::Done,
         Err(status) => status,
     }
 }
 
-fn run<S: Source, K: Sink>(
+fn run<R: Threads + Sync, S: Source, K: Sink, G: Gate + Sync>(
+    rt: &R,
     alloc: Global,
     words: &[String],
     source: &mut S,
     sink: &mut K,
+    gate: &G,
 ) -> Result<(), Status>
     ensures form { OnOk result (IsSome (form_of (map string_bytes words.now))) }
-    ensures done { OnOk result (IfSome (form_of (map string_bytes words.now)) (λ form. Finishes form
+    ensures done { OnOk result (IfSome (form_of (map string_bytes words.now)) (λ form. Finishes form (map string_bytes words.now)
         (given form (map string_bytes words.now) (S.held source.old)) (left form (map string_bytes words.now) (S.held source.new)) (K.taken sink.old) (K.taken sink.new))) }
     ensures misfit { (word : ℕ) → result ≡ Err (Status.Usage word) → word ≡ misfit (map string_bytes words.now) }
     ensures stopped { IfErr result (StopsRunning S K S.held S.faults K.taken K.faults
@@ -99,26 +106,28 @@ fn run<S: Source, K: Sink>(
         None => Err(Status::Usage {
             word: misfit(words),
         }),
-        Some(form) => serve(alloc, form, words, source, sink),
+        Some(form) => serve(rt, alloc, form, words, source, sink, gate),
     }
 }
 
 /// Takes the input, from the words or from the source, and writes the text that answers it.
-fn serve<S: Source, K: Sink>(
+fn serve<R: Threads + Sync, S: Source, K: Sink, G: Gate + Sync>(
+    rt: &R,
     alloc: Global,
     form: Form,
     words: &[String],
     source: &mut S,
     sink: &mut K,
+    gate: &G,
 ) -> Result<(), Status>
-    requires { is_of (parts_of form) (map string_bytes words.now) ≡ true }
-    ensures done { OnOk result (Finishes form
+    requires { is_of (parts_of form) [] (map string_bytes words.now) ≡ true }
+    ensures done { OnOk result (Finishes form (map string_bytes words.now)
         (given form (map string_bytes words.now) (S.held source.old)) (left form (map string_bytes words.now) (S.held source.new)) (K.taken sink.old) (K.taken sink.new)) }
     ensures stopped { IfErr result (StopsServing S K S.held S.faults K.taken K.faults
-        form (number_of form (map string_bytes words.now)) source.old source.new sink.old sink.new) }
+        form (map string_bytes words.now) (number_of form (map string_bytes words.now)) source.old source.new sink.old sink.new) }
     ensures unasked { IsSome (number_of form (map string_bytes words.now)) → source.new ≡ source.old }
 {
-    let text = text_of(alloc, form, words, source)?;
+    let text = text_of(rt, alloc, form, words, source, gate)?;
     match write_all(sink, &text) {
         Ok(()) => Ok(()),
         Err(_) => Err(Status::WriteFault),
@@ -126,38 +135,47 @@ fn serve<S: Source, K: Sink>(
 }
 
 /// The text that answers the number among the words, or what the source holds.
-fn text_of<S: Source>(
+fn text_of<R: Threads + Sync, S: Source, G: Gate + Sync>(
+    rt: &R,
     alloc: Global,
     form: Form,
     words: &[String],
     source: &mut S,
+    gate: &G,
 ) -> Result<Vec<u8>, Status>
-    requires { is_of (parts_of form) (map string_bytes words.now) ≡ true }
-    ensures ok { IfOk result (λ text. AnswersInput form (given form (map string_bytes words.now) (S.held source.old)) (left form (map string_bytes words.now) (S.held source.new)) text.items) }
-    ensures stopped { IfErr result (StopsAnswering form (given form (map string_bytes words.now) (S.held source.old)) (left form (map string_bytes words.now) (S.held source.new)) (S.faults source.old) (S.faults source.new)) }
+    requires { is_of (parts_of form) [] (map string_bytes words.now) ≡ true }
+    ensures ok { IfOk result (λ text. AnswersInput form (map string_bytes words.now) (given form (map string_bytes words.now) (S.held source.old)) (left form (map string_bytes words.now) (S.held source.new)) text.items) }
+    ensures stopped { IfErr result (StopsAnswering form (map string_bytes words.now) (given form (map string_bytes words.now) (S.held source.old)) (left form (map string_bytes words.now) (S.held source.new)) (S.faults source.old) (S.faults source.new)) }
     ensures unasked { IsSome (number_of form (map string_bytes words.now)) → source.new ≡ source.old }
 {
     match number_of(form, words) {
-        Some(number) => answer(alloc, form, number.as_bytes()),
-        None => read_and_answer(alloc, form, source),
+        Some(number) => answer(rt, alloc, form, words, number.as_bytes(), gate),
+        None => read_and_answer(rt, alloc, form, words, source, gate),
     }
 }
 
 /// Reads an input, and makes the text that answers it.
-fn read_and_answer<S: Source>(alloc: Global, form: Form, source: &mut S) -> Result<Vec<u8>, Status>
+fn read_and_answer<R: Threads + Sync, S: Source, G: Gate + Sync>(
+    rt: &R,
+    alloc: Global,
+    form: Form,
+    words: &[String],
+    source: &mut S,
+    gate: &G,
+) -> Result<Vec<u8>, Status>
     requires { reads_file form ≡ true }
-    ensures ok { IfOk result (λ text. AnswersInput form (S.held source.old) (S.held source.new) text.items) }
-    ensures stopped { IfErr result (StopsAnswering form
+    ensures ok { IfOk result (λ text. AnswersInput form (map string_bytes words.now) (S.held source.old) (S.held source.new) text.items) }
+    ensures stopped { IfErr result (StopsAnswering form (map string_bytes words.now)
         (S.held source.old) (S.held source.new) (S.faults source.old) (S.faults source.new)) }
 {
     let input = read_input(alloc, form, source)?;
-    answer(alloc, form, &input)
+    answer(rt, alloc, form, words, &input, gate)
 }
 
 /// Reads an input to its end.
 fn read_input<S: Source>(alloc: Global, form: Form, source: &mut S) -> Result<Vec<u8>, Status>
     ensures ok { IfOk result (λ input. ReadsInput form (S.held source.old) (S.held source.new) input.items) }
-    ensures stopped { IfErr result (StopsAnswering form
+    ensures stopped { (words : List (List ℕ)) → IfErr result (StopsAnswering form words
         (S.held source.old) (S.held source.new) (S.faults source.old) (S.faults source.new)) }
 {
     match read_all(alloc, source, form.row().limit) {

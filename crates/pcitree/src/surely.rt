@@ -5,28 +5,32 @@ ghost use Rattle.pcitree.specs.Given.{given};
 ghost use Rattle.pcitree.specs.Answers.{IsServed, Causes};
 
 use crate::program::pcitree;
+use command_run::Gate;
 use io_ports::{SureSink, SureSource};
 use program_status::Status;
 use std::alloc::Global;
+use std::thread::Threads;
 
 /// `pcitree` over ports that never fail. What is left of its answers are `Done`, `NoMemory` and
 /// the refusals of the words and of the input, and an input that is served is answered wherever
 /// there is memory.
-pub fn pcitree_surely(
+pub fn pcitree_surely<R: Threads + Sync, G: Gate + Sync>(
+    rt: &R,
     alloc: Global,
     words: &[String],
     source: &mut SureSource,
     sink: &mut SureSink,
+    gate: &G,
 ) -> Status
     ensures reads { result ≢ Status.ReadFault }
     ensures writes { result ≢ Status.WriteFault }
 
     // The input is the number among the words, or else what the source holds.
     ensures cause { (form : WordForm) (input : List ℕ) → form_of (map string_bytes words.now) ≡ Some form
-        → given form (map string_bytes words.now) (Some source.old) ≡ Some input → Causes form input result }
+        → given form (map string_bytes words.now) (Some source.old) ≡ Some input → Causes form (map string_bytes words.now) input result }
     ensures served { (form : WordForm) (input : List ℕ) → form_of (map string_bytes words.now) ≡ Some form
         → given form (map string_bytes words.now) (Some source.old) ≡ Some input
-        → IsServed form input → (result ≡ Status.Done) ⊎ (result ≡ Status.NoMemory) }
+        → IsServed form (map string_bytes words.now) input → (result ≡ Status.Done) ⊎ (result ≡ Status.NoMemory) }
 {
-    pcitree(alloc, words, source, sink)
+    pcitree(rt, alloc, words, source, sink, gate)
 }

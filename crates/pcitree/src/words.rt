@@ -1,20 +1,23 @@
 ghost use Rattle.std.specs.Prelude.{◌≡◌, ◌≤◌, ◌<◌, ◌^◌, IfSome, map, length, position, string_bytes};
 ghost use Rattle.std.specs.Option.{option_map};
 ghost use Rattle.program_words.specs.Shapes.{shape_of, input_limit};
-ghost use Rattle.pcitree.specs.Words.{names_file, fits, fitting, is_of, form_of, misfit, is_file, is_number, file_in, file_place, limit_by};
+ghost use Rattle.pcitree.specs.Words.{names_file, fits, fitting, is_of, form_of, misfit, is_file, is_number, file_in, file_place, limit_by, rows_in};
 ghost use Rattle.pcitree.specs.Given.{number_in, number_of};
 
+use command_draw::{Rows, names_event, rows_of};
 use command_generate::names_rounds;
 use program_words::{FORMS, Form, Part};
 
-/// Whether the word is as the part has it.
-fn fits(part: Part, word: &str) -> bool
-    ensures { result ≡ fits (shape_of part) word.now }
+/// Whether the word, behind another, is as the part has it.
+fn fits(part: Part, before: &str, word: &str) -> bool
+    ensures { result ≡ fits (shape_of part) before.now word.now }
 {
     match part {
         Part::Word(text) => word == text,
         Part::File => names_file(word.as_bytes()),
         Part::Rounds => names_rounds(word.as_bytes()),
+        Part::First => names_event(word.as_bytes()),
+        Part::Last => rows_of(before.as_bytes(), word.as_bytes()).is_some(),
     }
 }
 
@@ -25,7 +28,7 @@ fn is_file(part: Part) -> bool
     matches!(part, Part::File)
 }
 
-/// Whether the word is a number.
+/// Whether the word is a number to be read.
 fn is_number(part: Part) -> bool
     ensures { result ≡ is_number (shape_of part) }
 {
@@ -41,28 +44,34 @@ fn names_file(word: &[u8]) -> bool
     }
 }
 
-fn fitting(parts: &[Part], words: &[String]) -> u32
-    requires { length parts.now ≤ 3 }
-    ensures count { result ≡ fitting (map shape_of parts.now) (map string_bytes words.now) }
+/// How many words behind another, from the first on, are as the parts have them.
+fn fitting(parts: &[Part], before: &str, words: &[String]) -> u32
+    requires { length parts.now ≤ 4 }
+    ensures count { result ≡ fitting (map shape_of parts.now) before.now (map string_bytes words.now) }
     ensures bound { result ≤ length parts.now }
 {
     match parts {
         [] => 0,
         [part, parts @ ..] => match words {
-            [word, words @ ..] if fits(*part, word.as_str()) => 1 + fitting(parts, words),
+            [word, words @ ..] if fits(*part, before, word.as_str()) => {
+                1 + fitting(parts, word.as_str(), words)
+            }
             _ => 0,
         },
     }
 }
 
-fn is_of(parts: &[Part], words: &[String]) -> bool
-    ensures { result ≡ is_of (map shape_of parts.now) (map string_bytes words.now) }
+/// Whether the words behind another are as the parts have them.
+fn is_of(parts: &[Part], before: &str, words: &[String]) -> bool
+    ensures { result ≡ is_of (map shape_of parts.now) before.now (map string_bytes words.now) }
 {
     match parts {
         [] => words.is_empty(),
         [part, parts @ ..] => match words {
             [] => false,
-            [word, words @ ..] => fits(*part, word.as_str()) && is_of(parts, words),
+            [word, words @ ..] => {
+                fits(*part, before, word.as_str()) && is_of(parts, word.as_str(), words)
+            }
         },
     }
 }
@@ -89,6 +98,16 @@ fn number_in<'a>(parts: &[Part], words: &'a [String]) -> Option<&'a str>
     }
 }
 
+/// The events that the words ask for, in words of the form `draw FILE FIRST LAST`.
+pub(crate) fn rows_in(words: &[String]) -> Option<Rows>
+    ensures { result ≡ rows_in (map string_bytes words.now) }
+{
+    match words {
+        [_draw, _file, first, last] => rows_of(first.as_bytes(), last.as_bytes()),
+        _ => None,
+    }
+}
+
 /// The form that the words are of.
 pub(crate) fn form_of(words: &[String]) -> Option<Form>
     ensures { result ≡ form_of (map string_bytes words.now) }
@@ -96,7 +115,7 @@ pub(crate) fn form_of(words: &[String]) -> Option<Form>
     FORMS
         .iter()
         .copied()
-        .find(|form| is_of(form.row().parts, words))
+        .find(|form| is_of(form.row().parts, "", words))
 }
 
 /// The place, from 0, of the first word that fits no form, or the number of words where one is
@@ -106,7 +125,7 @@ pub(crate) fn misfit(words: &[String]) -> u32
 {
     FORMS.iter().fold(
         0,
-        |longest: u32, form| longest.max(fitting(form.row().parts, words)),
+        |longest: u32, form| longest.max(fitting(form.row().parts, "", words)),
     )
 }
 

@@ -8,7 +8,7 @@ mod report;
 
 use asked::{Asked, asked_for, tell};
 use io_ports::{HeldSource, ReadPort, WritePort};
-use pcitree::{Status, file_word, input_limit, pcitree};
+use pcitree::{NoGate, Status, file_word, input_limit, pcitree};
 use report::report;
 use std::env;
 use std::fs::File;
@@ -67,7 +67,7 @@ fn run(rt: &HostRuntime, words: &[String]) -> Status {
     };
     let reason = reason.or(port.reason());
     let mut sink = WritePort::new(rt.stdout());
-    let status = pcitree(rt.alloc(), words, &mut source, &mut sink);
+    let status = pcitree(rt, rt.alloc(), words, &mut source, &mut sink, &NoGate);
     if status != Status::Done {
         let _ = eprintln!(rt; "{status}");
         report(rt, name, source.bytes(), status, reason);

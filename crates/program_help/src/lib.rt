@@ -9,6 +9,3 @@ mod word;
 pub use help::{Help, VERSION};
 pub use own::{OWN_WORDS, OwnWord};
 pub use word::{WordHelp, is_one_of, word_help};
-
-#[cfg(test)]
-mod tests;

@@ -40,7 +40,7 @@ fn begins(parts: &[Part], word: &str) -> bool
         [] => false,
         [part, ..] => match *part {
             Part::Word(text) => text == word,
-            Part::File | Part::Rounds => false,
+            Part::File | Part::Rounds | Part::First | Part::Last => false,
         },
     }
 }

@@ -10,7 +10,7 @@ use Rattle.history_model.specs.WhyText.{why_text}
 use Rattle.lspci_text.specs.Faults.{code_of as machine_code_of}
 use Rattle.trace_reader.specs.Faults.{code_of as trace_code_of}
 use Rattle.program_status.specs.declared.status.Status.{Status}
-use Rattle.program_status.specs.declared.status.Status.TheVariants.{Done, NoMemory, Usage, ReadFault, WriteFault, TooLong, BadBoard, BadTrace, BadMachine, NotRun, Incomplete}
+use Rattle.program_status.specs.declared.status.Status.TheVariants.{Done, NoMemory, Usage, ReadFault, WriteFault, TooLong, BadBoard, BadTrace, BadMachine, TooManyEvents, NotRun, Incomplete}
 use Rattle.program_status.specs.declared.status.BoardFault.{BoardFault}
 use Rattle.program_status.specs.declared.status.BoardFault.TheVariants.{Line, Tree, Bound, Device}
 
@@ -25,6 +25,7 @@ number_of TooLong = 5
 number_of (BadBoard _ _) = 6
 number_of (BadTrace _ _) = 7
 number_of (BadMachine _ _) = 6
+number_of (TooManyEvents _) = 5
 number_of (NotRun _ _) = 8
 number_of (Incomplete _) = 9
 
@@ -52,5 +53,6 @@ status_text TooLong = codes "pcitree: input too long"
 status_text (BadBoard line fault) = codes "pcitree: board line " ++ (decimal line ++ (codes " fault " ++ fault_text fault))
 status_text (BadTrace line fault) = codes "pcitree: trace line " ++ (decimal line ++ (codes " fault X" ++ decimal (trace_code_of fault)))
 status_text (BadMachine line fault) = codes "pcitree: import line " ++ (decimal line ++ (codes " fault I" ++ decimal (machine_code_of fault)))
+status_text (TooManyEvents events) = codes "pcitree: " ++ (decimal events ++ codes " events are too many to draw")
 status_text (NotRun event why) = codes "pcitree: event " ++ (decimal event ++ (codes " is not allowed: " ++ why_text why))
 status_text (Incomplete left) = codes "pcitree: incomplete, at most " ++ (decimal left ++ codes " events left")

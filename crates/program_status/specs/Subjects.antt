@@ -1,7 +1,7 @@
 -- What each status speaks of.
 use Rattle.std.specs.Prelude.{◌≡◌, ◌≢◌}
 use Rattle.program_status.specs.declared.status.Status.{Status}
-use Rattle.program_status.specs.declared.status.Status.TheVariants.{Done, NoMemory, Usage, ReadFault, WriteFault, TooLong, BadBoard, BadTrace, BadMachine, NotRun, Incomplete}
+use Rattle.program_status.specs.declared.status.Status.TheVariants.{Done, NoMemory, Usage, ReadFault, WriteFault, TooLong, BadBoard, BadTrace, BadMachine, TooManyEvents, NotRun, Incomplete}
 
 -- of nothing that went wrong, of memory, of the words, of a failing source or sink, of the length of the input, or of
 -- what the input says
@@ -24,6 +24,7 @@ subject_of TooLong = Length
 subject_of (BadBoard line fault) = Input
 subject_of (BadTrace line fault) = Input
 subject_of (BadMachine line fault) = Input
+subject_of (TooManyEvents events) = Input
 subject_of (NotRun event why) = Input
 subject_of (Incomplete left) = Input
 

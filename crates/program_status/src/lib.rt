@@ -5,6 +5,3 @@
 mod status;
 
 pub use status::{BoardFault, Status};
-
-#[cfg(test)]
-mod tests;

@@ -45,6 +45,8 @@ pub enum Status {
     BadTrace { line: u32, fault: TraceLineFault },
     /// What `lspci` wrote has a fault, at this line from 1 on.
     BadMachine { line: u32, fault: LspciFault },
+    /// So many events are to be drawn: more than a page may show.
+    TooManyEvents { events: u64 },
     /// This event, from 1 on, is not allowed after those before it.
     NotRun { event: u32, why: Why },
     /// The run has not ended: at most so many events are left.
@@ -69,6 +71,7 @@ impl Status {
             Status::BadBoard { .. } => 6,
             Status::BadTrace { .. } => 7,
             Status::BadMachine { .. } => 6,
+            Status::TooManyEvents { .. } => 5,
             Status::NotRun { .. } => 8,
             Status::Incomplete { .. } => 9,
         }
@@ -136,6 +139,9 @@ impl fmt::Display for Status {
             Status::BadMachine { line, fault } => {
                 let code = fault.code();
                 write!(f, "pcitree: import line {line} fault I{code}")
+            }
+            Status::TooManyEvents { events } => {
+                write!(f, "pcitree: {events} events are too many to draw")
             }
             Status::NotRun { event, why } => {
                 write!(f, "pcitree: event {event} is not allowed: {why}")

@@ -6,22 +6,28 @@ use Rattle.program_words.specs.declared.Form.{Form}
 use Rattle.program_words.specs.declared.Form.TheVariants as forms
 
 -- what a word has to be: just this word; the name of a file, which is not empty and does not begin with `-`; or a number
--- of rounds
+-- of rounds; the number of an event; or one that is not below the word before it
 pub data Shape : Type 0 where
   Word : List ℕ → Shape
   File : Shape
   Rounds : Shape
+  First : Shape
+  Last : Shape
 
 abbrev pub shape_of : Part → Shape
 shape_of (parts.Word text) = Word text.now
 shape_of parts.File = File
 shape_of parts.Rounds = Rounds
+shape_of parts.First = First
+shape_of parts.Last = Last
 
 -- how such a word is shown in the help
 abbrev pub shown_as : Shape → List ℕ
 shown_as (Word text) = text
 shown_as File = codes "FILE"
 shown_as Rounds = codes "N"
+shown_as First = codes "FIRST"
+shown_as Last = codes "LAST"
 
 -- the words of each form
 abbrev pub parts_of : Form → List Shape
@@ -33,6 +39,9 @@ parts_of forms.Finish = Word (codes "finish") ∷ File ∷ []
 parts_of forms.Audit = Word (codes "audit") ∷ File ∷ []
 parts_of forms.Report = Word (codes "report") ∷ File ∷ []
 parts_of forms.Waves = Word (codes "waves") ∷ File ∷ []
+parts_of forms.Draw = Word (codes "draw") ∷ File ∷ []
+parts_of forms.DrawRows = Word (codes "draw") ∷ File ∷ First ∷ Last ∷ []
+parts_of forms.Untagged = Word (codes "untagged") ∷ File ∷ []
 parts_of forms.Combine = Word (codes "combine") ∷ File ∷ []
 parts_of forms.Generate = Word (codes "generate") ∷ Rounds ∷ []
 parts_of forms.Devices = Word (codes "devices") ∷ File ∷ []
@@ -48,6 +57,9 @@ input_limit forms.Finish = 2 ^ 26
 input_limit forms.Audit = 2 ^ 26
 input_limit forms.Report = 2 ^ 26
 input_limit forms.Waves = 2 ^ 26
+input_limit forms.Draw = 2 ^ 26
+input_limit forms.DrawRows = 2 ^ 26
+input_limit forms.Untagged = 2 ^ 26
 input_limit forms.Combine = 2 ^ 20
 input_limit forms.Generate = 10
 input_limit forms.Devices = 2 ^ 20

@@ -13,6 +13,10 @@ pub enum Part {
     File,
     /// A number of rounds: a decimal of 1 to 10 digits, from 1 to 300. No file is read.
     Rounds,
+    /// The number of an event: a decimal of 1 to 10 digits, from 1 on.
+    First,
+    /// The same, and not below the word before it.
+    Last,
 }
 
 /// What the words ask for.
@@ -26,6 +30,9 @@ pub enum Form {
     Audit,
     Report,
     Waves,
+    Draw,
+    DrawRows,
+    Untagged,
     Combine,
     Generate,
     Devices,
@@ -55,7 +62,7 @@ const TRACE: usize = 0x400_0000;
 const NUMBER: usize = 10;
 
 /// All forms, in the order in which they are told.
-pub const FORMS: [Form; 12] = [
+pub const FORMS: [Form; 15] = [
     Form::Run,
     Form::RunSteady,
     Form::Headers,
@@ -64,6 +71,9 @@ pub const FORMS: [Form; 12] = [
     Form::Audit,
     Form::Report,
     Form::Waves,
+    Form::Draw,
+    Form::DrawRows,
+    Form::Untagged,
     Form::Combine,
     Form::Generate,
     Form::Devices,
@@ -133,6 +143,31 @@ const WAVES: Row = Row {
         on each lane, how far each master is and which stalls are left. Time is the number of the event.",
 };
 
+const DRAW: Row = Row {
+    parts: &[Part::Word("draw"), Part::File],
+    limit: TRACE,
+    line: "draws a trace as a page for a browser",
+    more: "The trace is of a run, complete or not, of at most 4,096 events. Writes one page of HTML: a row for each\n\
+        event, the buses side by side, what travels and what waits, and the lines of `audit` as brackets.",
+};
+
+const DRAW_ROWS: Row = Row {
+    parts: &[Part::Word("draw"), Part::File, Part::First, Part::Last],
+    limit: TRACE,
+    line: "draws the events FIRST to LAST of a trace",
+    more: "At most 4,096 of them, by number from 1 on; a LAST above the number of events is lowered to it.",
+};
+
+const UNTAGGED: Row = Row {
+    parts: &[Part::Word("untagged"), Part::File],
+    limit: TRACE,
+    line: "judges a trace of bridges that keep no local master",
+    more: "As many bridges were built, before the specification told them to keep the master of a delayed request\n\
+        (PCI-to-PCI Bridge Architecture 1.1, from memory). Writes how many events the run has, each read that came\n\
+        out stale though its master was told of the write, and whether masters are apart, so that it makes no\n\
+        difference on this board.",
+};
+
 const COMBINE: Row = Row {
     parts: &[Part::Word("combine"), Part::File],
     limit: BOARD,
@@ -171,7 +206,7 @@ impl Form {
     /// The table of words: the row of each form.
     pub fn row(self) -> Row
         ensures parts { map shape_of result.parts.now ≡ parts_of self }
-        ensures few { length result.parts.now ≤ 3 }
+        ensures few { length result.parts.now ≤ 4 }
         ensures limit { result.limit ≡ input_limit self }
         ensures small { result.limit < 2 ^ 31 }
 
@@ -188,6 +223,9 @@ impl Form {
             Form::Audit => AUDIT,
             Form::Report => REPORT,
             Form::Waves => WAVES,
+            Form::Draw => DRAW,
+            Form::DrawRows => DRAW_ROWS,
+            Form::Untagged => UNTAGGED,
             Form::Combine => COMBINE,
             Form::Generate => GENERATE,
             Form::Devices => DEVICES,
@@ -205,6 +243,8 @@ impl Part {
             Part::Word(text) => text,
             Part::File => "FILE",
             Part::Rounds => "N",
+            Part::First => "FIRST",
+            Part::Last => "LAST",
         }
     }
 }

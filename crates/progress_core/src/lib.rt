@@ -42,6 +42,3 @@ fn left_on(board: &Board, events: &[Event]) -> u64
         + discards_left(board, events)
         + drops_left(board, events)
 }
-
-#[cfg(test)]
-mod tests;

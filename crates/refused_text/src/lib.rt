@@ -14,6 +14,3 @@ pub use leaving_out::smallest;
 pub use reading::{TOO_LONG, behind, find_line, is_refused, line_at};
 pub use spot::{Spot, named_spot, place_of};
 pub use word::word_at_fault;
-
-#[cfg(test)]
-mod tests;

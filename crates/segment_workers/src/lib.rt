@@ -13,6 +13,3 @@ pub use first::{all_above, all_workers};
 pub use merging::merge_all;
 pub use settling::{Above, settle_all};
 pub use steady::run_steady;
-
-#[cfg(test)]
-mod tests;

@@ -7,6 +7,3 @@ mod teller;
 
 pub use lines::Message;
 pub use teller::Teller;
-
-#[cfg(test)]
-mod tests;

@@ -1,6 +1,6 @@
 -- Of which statuses nothing is said behind the first line.
 use Rattle.program_status.specs.declared.status.Status.{Status}
-use Rattle.program_status.specs.declared.status.Status.TheVariants.{Done, NoMemory, Usage, ReadFault, WriteFault, TooLong, BadBoard, BadTrace, BadMachine, NotRun, Incomplete}
+use Rattle.program_status.specs.declared.status.Status.TheVariants.{Done, NoMemory, Usage, ReadFault, WriteFault, TooLong, BadBoard, BadTrace, BadMachine, TooManyEvents, NotRun, Incomplete}
 
 abbrev pub IsQuiet : Status → Type 0
 IsQuiet Done = Unit {0}
@@ -12,5 +12,6 @@ IsQuiet TooLong = Unit {0}
 IsQuiet (BadBoard _ _) = ⊥
 IsQuiet (BadTrace _ _) = ⊥
 IsQuiet (BadMachine _ _) = ⊥
+IsQuiet (TooManyEvents _) = Unit {0}
 IsQuiet (NotRun _ _) = ⊥
 IsQuiet (Incomplete _) = ⊥

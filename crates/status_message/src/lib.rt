@@ -8,6 +8,3 @@ mod telling;
 mod trace;
 
 pub use telling::{about, message};
-
-#[cfg(test)]
-mod tests;

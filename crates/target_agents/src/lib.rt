@@ -11,6 +11,3 @@ mod words;
 pub use access::Access;
 pub use target::{TargetState, others_leave_targets};
 pub use words::WordTable;
-
-#[cfg(test)]
-mod tests;

@@ -1,6 +1,6 @@
 -- One phase: from the workers before it to the workers when all ends are settled.
 use Rattle.std.proofs.Common.{◌≡◌, ℕ, zero, suc, ◌+◌, ◌-◌, ◌^◌, ◌<◌, ◌≤◌, min, nat_lt, true, false, List, [], ◌∷◌, length, get_or, Some, refl, sym, ap, subst, ◌∙◌, arith, slice_get}
-use Rattle.std.proofs.lemmas.Bool.{ltb-true}
+use Rattle.std.proofs.lemmas.Bool.{ltb-true, lt-ltb}
 use Rattle.std.proofs.lemmas.Bool.Decides.{nat_tests}
 use Rattle.std.proofs.lemmas.List.{length-map}
 use Rattle.std.proofs.lemmas.Option.{slice_get_within}
@@ -57,11 +57,18 @@ none_grew (x ∷ old) (y ∷ new) grows upto (suc k) w v here there =
     none_grew old new (grows_behind x y old new grows) (omega (arith, one, upto)) k w v here there
 
 -- as the sums tell that are counted up to the greatest number
-more_counted : (before after old new : ℕ) → before ≡ min old (2 ^ 64 - 1) → after ≡ min new (2 ^ 64 - 1) → nat_lt before after ≡ true → old < new
-more_counted before after old new one other on = let more = ltb-true before after on in omega (arith, one, other, more)
+more_counted : (before after old new : ℕ) → before ≡ min old (2 ^ 64 - 1) → after ≡ min new (2 ^ 64 - 1) → nat_lt 0 (after - before) ≡ true → old < new
+more_counted before after old new one other on = let more = ltb-true 0 (after - before) on in omega (arith, one, other, more)
 
-no_more_counted : (before after old new : ℕ) → before ≡ min old (2 ^ 64 - 1) → after ≡ min new (2 ^ 64 - 1) → old ≤ 500000 → nat_lt before after ≡ false → new ≤ old
-no_more_counted before after old new one other few off = let upto : after ≤ before = grind (arith, nat_tests) in omega (arith, one, other, few, upto)
+no_more_counted : (before after old new : ℕ) → before ≡ min old (2 ^ 64 - 1) → after ≡ min new (2 ^ 64 - 1) → old ≤ 500000 → nat_lt 0 (after - before) ≡ false → new ≤ old
+no_more_counted before after old new one other few off = let upto : after - before ≤ 0 = grind (arith, nat_tests) in omega (arith, one, other, few, upto)
+
+-- how many were made between the two counts
+pub some_made : (before after made : ℕ) → made ≡ after - before → 0 < made → nat_lt 0 (after - before) ≡ true
+some_made before after made is some = lt-ltb 0 (after - before) (omega (arith, is, some))
+
+pub none_made : (before after made : ℕ) → made ≡ after - before → made ≡ 0 → nat_lt 0 (after - before) ≡ false
+none_made before after made is none = let zero_is : after - before ≡ 0 = sym is ∙ none in ap (nat_lt 0) zero_is
 
 -- Stamps.
 
@@ -134,7 +141,7 @@ module _ {End : Type 0} (had sent got : End → List Item) (kept : End → ℕ) 
 
     -- so what the laws suppose of a phase
     pub ran_all : (before after : ℕ) → IsNextStamp Old from → before ≡ min (count_all Old) (2 ^ 64 - 1) → after ≡ min (count_all New) (2 ^ 64 - 1) → count_all Old ≤ 500000
-        → AllRan had sent got kept paired board phases Old New (nat_lt before after)
+        → AllRan had sent got kept paired board phases Old New (nat_lt 0 (after - before))
     ran_all before after next one other few = record {
       from = from;
       low = next.least (phases + count_all Old) (record { up_to = rounds.after.stamps });

@@ -10,21 +10,19 @@ use lane_items::LaneEnd;
 use std::thread;
 use std::thread::Threads;
 
-/// Each bus does its turns of a phase, in a thread of its own: it meets the gate, and then does turns
-/// until one did nothing or there is no more room for the events of another.
+/// Each bus does its turns of a phase, in one of so many threads: it meets the gate, and then does
+/// turns until one did nothing or there is no more room for the events of another.
 pub(crate) fn work_all<L: LaneEnd + Drop + Send, R: Threads + Sync, G: Gate + Sync>(
     rt: &R,
     gate: &G,
+    threads: usize,
     board: &Board,
     workers: &mut [Worker<L>],
 )
     requires { All (λ w. HasRoom board.now w) workers.old }
     ensures { EachRan L.had L.sent L.got L.kept L.paired board.now workers.old workers.new }
 {
-    if workers.is_empty() {
-        return;
-    }
-    let threads = workers.len();
+    let threads = threads.max(1);
     thread::for_each_mut(rt, workers, threads, &|_, worker| work(gate, board, worker));
 }
 

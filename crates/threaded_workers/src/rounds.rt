@@ -1,4 +1,4 @@
-ghost use Rattle.std.specs.Prelude.{◌≡◌, ◌+◌, ◌≤◌, true, false, length, IfOk};
+ghost use Rattle.std.specs.Prelude.{◌≡◌, ◌+◌, ◌<◌, ◌≤◌, length, IfOk};
 ghost use Rattle.board_model.specs.Valid.{IsValid};
 ghost use Rattle.board_model.specs.Ways.{bound_of};
 ghost use Rattle.history_model.specs.Runs.{Run, Complete, history_of};
@@ -28,7 +28,8 @@ use std::thread::Threads;
 /// turns until one did nothing, what is sent over a bridge may arrive in the same phase, and then all
 /// lanes are settled. It ends after a phase in which no bus did anything; what all buses did is then
 /// a complete run, no longer than the board's bound. The first event comes first. The gate is told of
-/// each turn.
+/// each turn. As long as the last phases were so short that threads would be started more than
+/// worked, one thread does the turns of all buses.
 pub fn run_rings<R: Threads + Sync, G: Gate + Sync>(
     rt: &R,
     alloc: Global,
@@ -49,6 +50,9 @@ pub fn run_rings<R: Threads + Sync, G: Gate + Sync>(
 /// More phases than there ever are: each but the last one makes an event.
 const TOO_MANY_PHASES: u32 = 500_001;
 
+/// A thread is started in about the time in which so many events are made.
+const EVENTS_A_START: usize = 128;
+
 /// Phase after phase, until one makes no event: what all workers did is a complete run of the board.
 fn run_all<L: LaneEnd + Drop + Send, R: Threads + Sync, G: Gate + Sync>(
     rt: &R,
@@ -63,28 +67,47 @@ fn run_all<L: LaneEnd + Drop + Send, R: Threads + Sync, G: Gate + Sync>(
     ensures { IfOk result (λ events. IsCompleteRun board.now (history_of events)) }
 {
     rounds_are_few::<L>();
+    let buses = workers.len();
+    let mut threads = buses;
+    let mut recent = 0usize;
     for phases in 0..TOO_MANY_PHASES {
-        if !run_phase(rt, gate, board, workers.as_mut_slice(), above, phases)? {
+        let events = run_phase(
+            rt,
+            gate,
+            threads,
+            board,
+            workers.as_mut_slice(),
+            above,
+            phases,
+        )?;
+        if events == 0 {
             return merge_all(alloc, workers);
         }
+        recent = (recent / 2).saturating_add(events);
+        threads = if recent / EVENTS_A_START < buses {
+            1
+        } else {
+            buses
+        };
     }
     unreachable!()
 }
 
-/// One phase: whether it made an event. All lanes are settled then. An idle phase is settled too:
-/// only the settles show that no bus stopped.
+/// One phase, by so many threads: how many events it made. All lanes are settled then. A phase
+/// without events is settled too: only the settles show that no bus stopped.
 fn run_phase<L: LaneEnd + Drop + Send, R: Threads + Sync, G: Gate + Sync>(
     rt: &R,
     gate: &G,
+    threads: usize,
     board: &Board,
     workers: &mut [Worker<L>],
     above: &[Above],
     phases: u32,
-) -> Result<bool, NoMemory>
+) -> Result<usize, NoMemory>
     requires valid { IsValid board.now }
     requires rounds { IsInRounds L.had L.sent L.got L.kept L.paired board.now (all_seen workers.old) above.now phases }
-    ensures busy { IfOk result (λ busy. busy ≡ true → IsInRounds L.had L.sent L.got L.kept L.paired board.now (all_seen workers.new) above.now (phases + 1)) }
-    ensures idle { IfOk result (λ busy. busy ≡ false → IsCompleteRun board.now (history_of_all (all_seen workers.new))) }
+    ensures busy { IfOk result (λ events. 0 < events → IsInRounds L.had L.sent L.got L.kept L.paired board.now (all_seen workers.new) above.now (phases + 1)) }
+    ensures idle { IfOk result (λ events. events ≡ 0 → IsCompleteRun board.now (history_of_all (all_seen workers.new))) }
 {
     rounds_are_few::<L>();
     rounds_may_settle::<L>();
@@ -94,8 +117,8 @@ fn run_phase<L: LaneEnd + Drop + Send, R: Threads + Sync, G: Gate + Sync>(
     let before = recorded(workers);
     let from = next_stamp(workers);
     begin_all(workers, from)?;
-    work_all(rt, gate, board, workers);
-    let busy = recorded(workers) > before;
+    work_all(rt, gate, threads, board, workers);
+    let events = recorded(workers).saturating_sub(before);
     settle_all(workers, above);
-    Ok(busy)
+    Ok(events)
 }

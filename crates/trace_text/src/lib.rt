@@ -10,6 +10,3 @@ pub use events::{master_name, print_operation, step_word, target_name};
 pub use lines::has_line;
 pub use trace::print_trace;
 pub use words::{ByWord, LaneWord};
-
-#[cfg(test)]
-mod tests;

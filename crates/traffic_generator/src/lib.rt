@@ -12,6 +12,3 @@ mod rounds;
 pub use generating::generate;
 pub use laws::generated_boards_are_valid;
 pub use rounds::Rounds;
-
-#[cfg(test)]
-mod tests;

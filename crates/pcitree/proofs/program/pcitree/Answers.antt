@@ -42,4 +42,4 @@ pub returns-in-Err-clause-cause : goal.returns-in-Err-clause-cause
 returns-in-Err-clause-cause g c = λ form input there is. caused_by _ _ _ _ _ _ _ form _ _ _ _ _ _ input there is c.in-Err.ensures.stopped
 
 pub returns-in-Err-clause-served : goal.returns-in-Err-clause-served
-returns-in-Err-clause-served g c = λ form input there is served. served_by form input _ served (caused_by _ _ _ _ _ _ _ form _ _ _ _ _ _ input there is c.in-Err.ensures.stopped)
+returns-in-Err-clause-served g c = λ form input there is served. served_by form _ input _ served (caused_by _ _ _ _ _ _ _ form _ _ _ _ _ _ input there is c.in-Err.ensures.stopped)

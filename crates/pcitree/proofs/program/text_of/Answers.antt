@@ -1,4 +1,5 @@
-use Rattle.std.proofs.Common.{ℕ, ◌<◌, ◌^◌, List, length, IfOk, IfErr, sym, subst, ap, ◌∙◌}
+use Rattle.std.proofs.Common.{ℕ, ◌<◌, ◌^◌, List, length, IfOk, IfErr, sym, subst, ap, ◌∙◌, map}
+use Rattle.std.specs.Prelude.{string_bytes}
 use Rattle.std.proofs.lemmas.Result.{IfOk-weaker, IfErr-weaker}
 use Rattle.std.specs.Option.{option_map}
 use Rattle.pcitree.specs.Answers.{AnswersTo, Refuses}
@@ -21,12 +22,12 @@ answer-requires-clause-given g c =
 pub returns-in-Some-clause-ok : goal.returns-in-Some-clause-ok
 returns-in-Some-clause-ok g c =
     IfOk-weaker _ _ _ (λ text. number_answered c.args.form _ _ _ _ text.items c.requires (sym c.number_of.ensures.value ∙ ap (option_map (λ n. n.now)) c.in-Some.is))
-    (subst (λ (l : List ℕ). IfOk c.answer.result (λ text. AnswersTo c.args.form l text.items)) c.as_bytes.ensures.value c.answer.ensures.ok)
+    (subst (λ (l : List ℕ). IfOk c.answer.result (λ text. AnswersTo c.args.form (map string_bytes c.args.words.now) l text.items)) c.as_bytes.ensures.value c.answer.ensures.ok)
 
 pub returns-in-Some-clause-stopped : goal.returns-in-Some-clause-stopped
 returns-in-Some-clause-stopped g c =
     IfErr-weaker _ _ _ (λ status. number_refused c.args.form _ _ _ _ _ _ status c.requires (sym c.number_of.ensures.value ∙ ap (option_map (λ n. n.now)) c.in-Some.is))
-    (subst (λ (l : List ℕ). IfErr c.answer.result (Refuses c.args.form l)) c.as_bytes.ensures.value c.answer.ensures.err)
+    (subst (λ (l : List ℕ). IfErr c.answer.result (Refuses c.args.form (map string_bytes c.args.words.now) l)) c.as_bytes.ensures.value c.answer.ensures.err)
 
 -- The file that the source reads.
 

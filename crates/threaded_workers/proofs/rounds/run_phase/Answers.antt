@@ -1,8 +1,8 @@
 use denote.Param.Send.{sendable}
-use Rattle.std.proofs.Common.{Bool, nat_lt, subst}
+use Rattle.std.proofs.Common.{◌-◌, Bool, nat_lt, subst}
 use Rattle.ring_phases.specs.Rounds.{AllRan}
 use Rattle.segment_workers.specs.Loop.{all_seen}
-use Rattle.threaded_workers.proofs.RoundLemmas.{stamps_fit, all_room, ran_all, laid_ran, above_ran, rounds_settled}
+use Rattle.threaded_workers.proofs.RoundLemmas.{some_made, none_made, stamps_fit, all_room, ran_all, laid_ran, above_ran, rounds_settled}
 use Rattle.threaded_workers.proofs.rounds.run_phase.Goals as goal
 
 pub next_stamp-from-requires : goal.next_stamp-from-requires
@@ -42,7 +42,7 @@ settle_all-requires-clause-may g c =
     let ran = ran_all E.had E.sent E.got E.kept E.paired board c.args.workers.now c.begin_all.new.workers c.work_all.new.workers c.args.above.now c.args.phases c.next_stamp-from.result
     c.requires.rounds c.in_ok-begin_all.ensures c.work_all.ensures c.recorded-before.result c.recorded.result c.next_stamp-from.ensures c.recorded-before.ensures c.recorded.ensures
     (c.rounds_are_few.ensures.events board old c.args.phases c.requires.valid c.requires.rounds.after) in
-    c.rounds_may_settle.ensures board old new c.args.phases (nat_lt c.recorded-before.result c.recorded.result) c.requires.valid c.requires.rounds.after ran
+    c.rounds_may_settle.ensures board old new c.args.phases (nat_lt 0 (c.recorded.result - c.recorded-before.result)) c.requires.valid c.requires.rounds.after ran
 
 pub returns-clause-busy : goal.returns-clause-busy
 returns-clause-busy g c =
@@ -51,13 +51,14 @@ returns-clause-busy g c =
     let old = all_seen c.args.workers.now in
     let new = all_seen c.work_all.new.workers in
     let settled = all_seen c.settle_all.new.workers in
-    let busy : Bool = nat_lt c.recorded-before.result c.recorded.result in
+    let busy : Bool = nat_lt 0 (c.recorded.result - c.recorded-before.result) in
     let ran = ran_all E.had E.sent E.got E.kept E.paired board c.args.workers.now c.begin_all.new.workers c.work_all.new.workers c.args.above.now c.args.phases c.next_stamp-from.result
     c.requires.rounds c.in_ok-begin_all.ensures c.work_all.ensures c.recorded-before.result c.recorded.result c.next_stamp-from.ensures c.recorded-before.ensures c.recorded.ensures
     (c.rounds_are_few.ensures.events board old c.args.phases c.requires.valid c.requires.rounds.after) in
     let after = c.requires.rounds.after in
     let none = c.rounds_stop_no_worker.ensures board old new settled c.args.phases busy c.requires.valid after ran c.settle_all.ensures in
-    λ on.
+    λ some.
+    let on = some_made c.recorded-before.result c.recorded.result c.saturating_sub-events.result c.saturating_sub-events.ensures some in
     let ran_on = subst (λ (b : Bool). AllRan E.had E.sent E.got E.kept E.paired board c.args.phases old new b) on ran in
     let next = c.rounds_go_on.ensures board old new settled c.args.phases c.requires.valid after ran_on c.settle_all.ensures in
     rounds_settled E.had E.sent E.got E.kept E.paired board c.args.workers.now c.begin_all.new.workers c.work_all.new.workers c.args.above.now c.args.phases c.next_stamp-from.result
@@ -70,10 +71,11 @@ returns-clause-idle g c =
     let old = all_seen c.args.workers.now in
     let new = all_seen c.work_all.new.workers in
     let settled = all_seen c.settle_all.new.workers in
-    let busy : Bool = nat_lt c.recorded-before.result c.recorded.result in
+    let busy : Bool = nat_lt 0 (c.recorded.result - c.recorded-before.result) in
     let ran = ran_all E.had E.sent E.got E.kept E.paired board c.args.workers.now c.begin_all.new.workers c.work_all.new.workers c.args.above.now c.args.phases c.next_stamp-from.result
     c.requires.rounds c.in_ok-begin_all.ensures c.work_all.ensures c.recorded-before.result c.recorded.result c.next_stamp-from.ensures c.recorded-before.ensures c.recorded.ensures
     (c.rounds_are_few.ensures.events board old c.args.phases c.requires.valid c.requires.rounds.after) in
-    λ off.
+    λ none.
+    let off = none_made c.recorded-before.result c.recorded.result c.saturating_sub-events.result c.saturating_sub-events.ensures none in
     let ran_off = subst (λ (b : Bool). AllRan E.had E.sent E.got E.kept E.paired board c.args.phases old new b) off ran in
     c.idle_rounds_end_the_run.ensures board old new settled c.args.phases c.requires.valid c.requires.rounds.after ran_off c.settle_all.ensures

@@ -1,5 +1,6 @@
 use Rattle.std.proofs.Common.{List, take, sym, subst}
 use Rattle.history_model.specs.declared.event.Event.{Event}
+use Rattle.history_model.specs.declared.rule.Rule.TheVariants.{Tagged}
 use Rattle.history_model.specs.Runs.{history_of}
 use Rattle.lane_replay.proofs.RoomLemmas.{history_more}
 use Rattle.kept_state.specs.Stands.{StandsFor}
@@ -15,4 +16,4 @@ loop-index-preserved c =
 pub returns-in-Err : goal.returns-in-Err
 returns-in-Err c =
     let cause = c.in-Err.ensures.verdict (history_of (take c.loop-index.index c.args.events.now)) c.loop-index.invariant in
-    record { run = tt; refused = refused_by c.args.tree.now c.args.events.now c.loop-index.index _ c.in-Err.why c.loop-index-test.true c.loop-index.invariant.run cause }
+    record { run = tt; refused = refused_by Tagged c.args.tree.now c.args.events.now c.loop-index.index _ c.in-Err.why c.loop-index-test.true c.loop-index.invariant.run cause }

@@ -1,4 +1,4 @@
-use Rattle.std.proofs.Common.{List, [], ◌∷◌, ◌++◌, take, subst, sym}
+use Rattle.std.proofs.Common.{List, take, subst, sym}
 use Rattle.std.specs.List.{AllByRecursion}
 use Rattle.std.proofs.lemmas.List.{take_more}
 use Rattle.list_facts.proofs.EachLemmas.{Each-push, Each-weaker}

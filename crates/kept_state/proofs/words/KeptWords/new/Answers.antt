@@ -1,4 +1,4 @@
-use Rattle.std.proofs.Common.{◌<◌, length, get_or, sym, subst}
+use Rattle.std.proofs.Common.{◌<◌, length, get_or, subst}
 use Rattle.kept_state.specs.Words.{KnowsProgram}
 use Rattle.kept_state.proofs.KnownLemmas.{programs_more}
 use Rattle.kept_state.proofs.words.KeptWords.new.Goals as goal

@@ -1,0 +1,4 @@
+pub mod QuietLemmas
+pub mod PartLemmas
+pub mod WayLemmas
+pub mod Laws

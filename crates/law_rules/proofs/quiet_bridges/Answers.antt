@@ -1,0 +1,5 @@
+use Rattle.law_rules.proofs.QuietLemmas.{Quiet-run_by}
+use Rattle.law_rules.proofs.quiet_bridges.Goals as goal
+
+pub returns : goal.returns
+returns c = Quiet-run_by

@@ -1,0 +1,4 @@
+pub mod FindLemmas
+pub mod ListLemmas
+pub mod EndLemmas
+pub mod VerdictLemmas

@@ -1,0 +1,43 @@
+//! Traces judged by the machine whose bridges keep no local master: whether the events are a run there,
+//! and which of its reads come out stale. PCI-to-PCI Bridge Architecture Specification 1.1, chapter 5,
+//! Delayed Transactions (from memory).
+#![tactic(auto)]
+
+ghost use Rattle.std.specs.Prelude.{◌<◌, ◌^◌, length, IfOk};
+ghost use Rattle.untagged_check.specs.Judged.{JudgesUntagged};
+
+mod stale;
+mod verdict;
+
+use bus_tree::Tree;
+use history_model::Event;
+use law_untagged::{apart_runs_are_alike, apart_runs_are_sound, stale_reads_break_freshness};
+use pci_command::{List, NoMemory};
+use stale::stale_reads;
+use std::alloc::Global;
+use untagged_run::{Followed, follow};
+pub use verdict::{Stale, Untagged};
+
+/// What these events of a valid board are on bridges that keep no local master, the first event first.
+/// There are fewer than 2^32. Whether they are a run takes one look at each. The list of stale reads
+/// takes a look at each write for each read, and for each write that had not landed by the reading of a
+/// word of it a replay, in which each event looks at those before.
+pub fn check_untagged(alloc: Global, tree: &Tree, events: &[Event]) -> Result<Untagged, NoMemory>
+    requires { length events.now < 2 ^ 32 }
+    ensures { IfOk result (JudgesUntagged tree.now events.now) }
+{
+    apart_runs_are_alike();
+    apart_runs_are_sound();
+    stale_reads_break_freshness();
+    // The board of a tree is valid, so that all of this holds of its runs.
+    let _valid = tree.board();
+    match follow(alloc, tree, events)? {
+        Followed::NotRun { event, why } => Ok(Untagged::NotRun { event, why }),
+        Followed::Run { gots } => {
+            let stale = stale_reads(alloc, tree, events, gots.as_slice())?;
+            Ok(Untagged::Run {
+                stale: List::from_vec(stale),
+            })
+        }
+    }
+}

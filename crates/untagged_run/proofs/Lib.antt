@@ -1,0 +1,4 @@
+pub mod TableLemmas
+pub mod OriginLemmas
+pub mod FollowLemmas
+pub mod StepLemmas

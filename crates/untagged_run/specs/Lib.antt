@@ -1,0 +1,4 @@
+pub mod Flat
+pub mod Table
+pub mod Gots
+pub mod Course
