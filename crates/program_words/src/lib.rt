@@ -84,7 +84,8 @@ const RUN: Row = Row {
     parts: &[Part::Word("run"), Part::File],
     limit: BOARD,
     line: "runs a board to the end of all programs and writes its trace",
-    more: "Every valid board is served. What is written is a complete run, which `check` takes.",
+    more: "Every valid board is served, each bus by a worker of its own, on threads: two calls may write different\n\
+        runs of one board. What is written is a complete run, which `check` takes.",
 };
 
 const RUN_STEADY: Row = Row {
