@@ -14,10 +14,11 @@ use std::env;
 use std::fs::File;
 use std::io::ErrorKind;
 use std::process::ExitCode;
+use std::thread::Threads;
 
 fn main(rt: HostRuntime) -> ExitCode {
     let status = match words(&rt) {
-        Ok(words) => serve(&rt, words.as_slice()),
+        Ok(words) => serve(&rt, &rt, words.as_slice()),
         Err(status) => status_only(&rt, status),
     };
     ExitCode::from(status.number())
@@ -38,9 +39,9 @@ fn status_only(rt: &HostRuntime, status: Status) -> Status {
 }
 
 /// Says what the program says of itself, or does what the words ask for.
-fn serve(rt: &HostRuntime, words: &[String]) -> Status {
+fn serve<R: Threads + Sync>(rt: &HostRuntime, threads: &R, words: &[String]) -> Status {
     match asked_for(words) {
-        Asked::Work => run(rt, words),
+        Asked::Work => run(rt, threads, words),
         Asked::Misfit(word) => misfit(rt, word),
         asked => match tell(rt, asked) {
             Ok(()) => Status::Done,
@@ -56,8 +57,8 @@ fn misfit(rt: &HostRuntime, word: u32) -> Status {
 }
 
 /// Reads the file whole, if the words name one, so far as an input may go, and hands it to the call
-/// that answers it.
-fn run(rt: &HostRuntime, words: &[String]) -> Status {
+/// that answers it. What it starts threads by is the runtime too.
+fn run<R: Threads + Sync>(rt: &HostRuntime, threads: &R, words: &[String]) -> Status {
     let name = file_name(words);
     let (file, reason) = open(rt, name);
     let mut port = ReadPort::new(file);
@@ -67,7 +68,7 @@ fn run(rt: &HostRuntime, words: &[String]) -> Status {
     };
     let reason = reason.or(port.reason());
     let mut sink = WritePort::new(rt.stdout());
-    let status = pcitree(rt, rt.alloc(), words, &mut source, &mut sink, &NoGate);
+    let status = pcitree(threads, rt.alloc(), words, &mut source, &mut sink, &NoGate);
     if status != Status::Done {
         let _ = eprintln!(rt; "{status}");
         report(rt, name, source.bytes(), status, reason);
