@@ -125,12 +125,7 @@ fn brings_in(request: &Request, gone: u128, step: Step, word: Word) -> bool
 
 /// Of the writes that landed in the dword, the first that landed whole and is the write, or was
 /// told of it by these places.
-pub fn first_shown(
-    board: &Board,
-    before: &[Event],
-    word: Word,
-    places: &Places,
-) -> Option<OpId>
+pub fn first_shown(board: &Board, before: &[Event], word: Word, places: &Places) -> Option<OpId>
     ensures { result ≡ first_shown board.now places.now.write places.now.since (history_of before.now) (dword word) }
 {
     let mut shown = None;

@@ -20,16 +20,15 @@ mod landings;
 mod places;
 mod readings;
 
-pub use landings::{Word, first_shown, has_landed};
-pub use places::Places;
-pub use readings::{ended_op, word_read};
-
 use board_model::{Board, request_of};
 use bus_tree::Tree;
 use chains::chain_from;
 use history_model::Event;
+pub use landings::{Word, first_shown, has_landed};
 use law_fresh::{runs_are_fresh, told_is_known};
 use pci_command::{List, NoMemory, OpId};
+pub use places::Places;
+pub use readings::{ended_op, word_read};
 use readings::{count_to_end, last_shown};
 use std::alloc::Global;
 

@@ -17,11 +17,7 @@ use std::alloc::Global;
 const MOST: u64 = 4096;
 
 /// The page of a run, complete or not, for its trace text: of all its events, or of those in these rows.
-pub fn answer_draw(
-    alloc: Global,
-    input: &[u8],
-    rows: Option<Rows>,
-) -> Result<Vec<u8>, Status>
+pub fn answer_draw(alloc: Global, input: &[u8], rows: Option<Rows>) -> Result<Vec<u8>, Status>
     requires { length input.now < 2 ^ 31 }
     ensures ok { IfOk result (λ text. AnswersDraw input.now rows text.items) }
     ensures err { IfErr result (RefusesDraw input.now rows) }

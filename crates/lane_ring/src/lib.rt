@@ -6,4 +6,5 @@ mod inward;
 mod lane;
 mod outward;
 mod ring_end;
+
 pub use ring_end::{RingEnd, ring_pair};

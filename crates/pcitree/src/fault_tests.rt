@@ -80,7 +80,14 @@ fn each_call_of_the_source_fails_in_turn(rt: HostRuntime) -> Result<(), Fail> {
     ] {
         let mut source = source(alloc, BOARD.as_bytes(), call)?;
         let mut sink = sink(alloc, 1024, 0)?;
-        let answer = pcitree(&rt, alloc, words.as_slice(), &mut source, &mut sink, &NoGate);
+        let answer = pcitree(
+            &rt,
+            alloc,
+            words.as_slice(),
+            &mut source,
+            &mut sink,
+            &NoGate,
+        );
         assert_eq!(rt; answer, status, "at call {call}");
         assert_eq!(rt; sink.bytes(), taken.as_bytes(), "at call {call}");
     }
@@ -109,7 +116,14 @@ fn each_call_of_the_sink_fails_in_turn(rt: HostRuntime) -> Result<(), Fail> {
     ] {
         let mut source = source(alloc, BOARD.as_bytes(), 0)?;
         let mut sink = sink(alloc, 1024, call)?;
-        let answer = pcitree(&rt, alloc, words.as_slice(), &mut source, &mut sink, &NoGate);
+        let answer = pcitree(
+            &rt,
+            alloc,
+            words.as_slice(),
+            &mut source,
+            &mut sink,
+            &NoGate,
+        );
         assert_eq!(rt; answer, status, "at call {call}");
         assert_eq!(rt; sink.bytes(), front(TRACE, taken), "at call {call}");
     }
@@ -127,7 +141,14 @@ fn a_sink_fills_up(rt: HostRuntime) -> Result<(), Fail> {
     ] {
         let mut source = source(alloc, BOARD.as_bytes(), 0)?;
         let mut sink = sink(alloc, size, 0)?;
-        let answer = pcitree(&rt, alloc, words.as_slice(), &mut source, &mut sink, &NoGate);
+        let answer = pcitree(
+            &rt,
+            alloc,
+            words.as_slice(),
+            &mut source,
+            &mut sink,
+            &NoGate,
+        );
         assert_eq!(rt; answer, status, "with room for {size}");
         assert_eq!(rt; sink.bytes(), front(TRACE, size), "with room for {size}");
     }
@@ -140,7 +161,14 @@ fn ports_that_never_fail(rt: HostRuntime) -> Result<(), Fail> {
     let words = words(alloc, &["run", "--steady", "f"])?;
     let mut source = SureSource::new(List::from_vec(BOARD.as_bytes().to_vec(alloc)?));
     let mut sink = SureSink::new();
-    let answer = pcitree_surely(&rt, alloc, words.as_slice(), &mut source, &mut sink, &NoGate);
+    let answer = pcitree_surely(
+        &rt,
+        alloc,
+        words.as_slice(),
+        &mut source,
+        &mut sink,
+        &NoGate,
+    );
     assert_eq!(rt; answer, Status::Done);
     assert_eq!(rt; sink.count(), 181);
     Ok(())
@@ -168,7 +196,14 @@ fn a_board_is_cut(rt: HostRuntime) -> Result<(), Fail> {
     ] {
         let mut source = source(alloc, front(BOARD, count), 0)?;
         let mut sink = sink(alloc, 1024, 0)?;
-        let answer = pcitree(&rt, alloc, words.as_slice(), &mut source, &mut sink, &NoGate);
+        let answer = pcitree(
+            &rt,
+            alloc,
+            words.as_slice(),
+            &mut source,
+            &mut sink,
+            &NoGate,
+        );
         assert_eq!(rt; answer, status, "of {count} bytes");
         assert_eq!(rt;
             sink.bytes().ends_with(end.as_bytes()),
@@ -194,7 +229,14 @@ fn a_trace_is_cut(rt: HostRuntime) -> Result<(), Fail> {
     ] {
         let mut source = source(alloc, front(TRACE, count), 0)?;
         let mut sink = sink(alloc, 1024, 0)?;
-        let answer = pcitree(&rt, alloc, words.as_slice(), &mut source, &mut sink, &NoGate);
+        let answer = pcitree(
+            &rt,
+            alloc,
+            words.as_slice(),
+            &mut source,
+            &mut sink,
+            &NoGate,
+        );
         assert_eq!(rt;
             answer,
             Status::BadTrace { line, fault },

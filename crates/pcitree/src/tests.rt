@@ -105,7 +105,14 @@ fn a_board_is_answered_and_faults_are_told(rt: HostRuntime) -> Result<(), Fail> 
     ] {
         let mut source = source(alloc, input, failing_read)?;
         let mut sink = sink(alloc, failing_write)?;
-        let answer = pcitree(&rt, alloc, words.as_slice(), &mut source, &mut sink, &NoGate);
+        let answer = pcitree(
+            &rt,
+            alloc,
+            words.as_slice(),
+            &mut source,
+            &mut sink,
+            &NoGate,
+        );
         assert_eq!(rt; answer, status);
         assert_eq!(rt; sink.bytes(), taken.as_bytes());
     }
@@ -118,7 +125,14 @@ fn headers_of_a_board(rt: HostRuntime) -> Result<(), Fail> {
     let words = split(alloc, "headers f")?;
     let mut source = source(alloc, BRIDGE, 0)?;
     let mut sink = sink(alloc, 0)?;
-    let answer = pcitree(&rt, alloc, words.as_slice(), &mut source, &mut sink, &NoGate);
+    let answer = pcitree(
+        &rt,
+        alloc,
+        words.as_slice(),
+        &mut source,
+        &mut sink,
+        &NoGate,
+    );
     assert_eq!(rt; answer, Status::Done);
     assert_eq!(rt; sink.bytes(), BRIDGE_HEADERS.as_bytes());
     Ok(())
@@ -165,7 +179,14 @@ fn traces_are_checked(rt: HostRuntime) -> Result<(), Fail> {
         let text = format!(in alloc; "{input}{tail}")?;
         let mut source = source(alloc, text.as_str(), 0)?;
         let mut sink = sink(alloc, 0)?;
-        let answer = pcitree(&rt, alloc, words.as_slice(), &mut source, &mut sink, &NoGate);
+        let answer = pcitree(
+            &rt,
+            alloc,
+            words.as_slice(),
+            &mut source,
+            &mut sink,
+            &NoGate,
+        );
         assert_eq!(rt; answer, status);
         assert_eq!(rt; sink.bytes(), taken.as_bytes());
     }
@@ -179,7 +200,14 @@ fn more_than_the_limit_is_too_long(rt: HostRuntime) -> Result<(), Fail> {
     let bytes = List::from_vec(vec![in alloc; b' '; 1_048_577]?);
     let mut source = MemorySource::new(bytes, 100_000, List::from_vec(Vec::new(alloc)));
     let mut sink = sink(alloc, 0)?;
-    let answer = pcitree(&rt, alloc, words.as_slice(), &mut source, &mut sink, &NoGate);
+    let answer = pcitree(
+        &rt,
+        alloc,
+        words.as_slice(),
+        &mut source,
+        &mut sink,
+        &NoGate,
+    );
     assert_eq!(rt; answer, Status::TooLong);
     Ok(())
 }
@@ -203,7 +231,14 @@ fn words_of_no_form_are_told_by_place(rt: HostRuntime) -> Result<(), Fail> {
         let words = split(alloc, text)?;
         let mut source = source(alloc, BOARD, 1)?;
         let mut sink = sink(alloc, 1)?;
-        let answer = pcitree(&rt, alloc, words.as_slice(), &mut source, &mut sink, &NoGate);
+        let answer = pcitree(
+            &rt,
+            alloc,
+            words.as_slice(),
+            &mut source,
+            &mut sink,
+            &NoGate,
+        );
         assert_eq!(rt; answer, Status::Usage { word }, "of {text}");
         assert_eq!(rt; file_word(words.as_slice()), None);
     }

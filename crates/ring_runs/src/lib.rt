@@ -12,7 +12,6 @@ use pci_command::{List, NoMemory};
 use std::alloc::Global;
 use std::thread::Threads;
 use threaded_workers::run_rings;
-
 pub use threaded_workers::{Gate, NoGate};
 
 #[cfg(test)]
