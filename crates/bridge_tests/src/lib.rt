@@ -1,4 +1,4 @@
-//! Tests of what a bridge and its agents keep: each public call once.
+//! Tests of half a bridge, of its lanes and of the agents on a bus: each public call once.
 #![tactic(auto)]
 
 #[cfg(test)]

@@ -1,17 +1,11 @@
-//! Tests of runs and their texts: each public call once.
+//! Tests of the calls that replay a run, which no word of the program makes: each once.
 #![tactic(auto)]
 
 #[cfg(test)]
 mod history_core_tests;
-#[cfg(test)]
-mod kept_left_tests;
 #[cfg(test)]
 mod next_event_tests;
 #[cfg(test)]
 mod progress_core_tests;
 #[cfg(test)]
 mod trace_merge_tests;
-#[cfg(test)]
-mod trace_text_tests;
-#[cfg(test)]
-mod traffic_generator_tests;
