@@ -17,13 +17,36 @@ use board_model::Op;
 use bus_tree::Tree;
 use causal_audit::ended_op;
 use history_model::Event;
+use law_untagged::apart_runs_are_sound;
+use masters_apart::apart;
 use pci_command::{NoMemory, OpId};
 use std::alloc::Global;
 use untagged_run::{Got, got_at};
 use untagged_told::breaks;
 
-/// The reads of a run that break freshness, in the order in which their masters ended them.
-pub(crate) fn stale_reads(
+/// The reads of a run that break freshness, in the order in which their masters ended them. Where
+/// masters are apart there are none.
+pub(crate) fn list_reads(
+    alloc: Global,
+    tree: &Tree,
+    events: &[Event],
+    gots: &[Option<Got>],
+) -> Result<Vec<Stale>, NoMemory>
+    requires run { RunBy Untagged tree.now (history_of events.now) }
+    requires gots { AreGots tree.now events.now gots.now }
+    ensures { IfOk result (λ stale. reads_of stale.items ≡ stale_of tree.now (history_of events.now)) }
+{
+    apart_runs_are_sound();
+    // The board of a tree is valid, so that this holds of its runs.
+    let _valid = tree.board();
+    if apart(tree) {
+        return Ok(Vec::new(alloc));
+    }
+    stale_reads(alloc, tree, events, gots)
+}
+
+/// The same, read by read.
+fn stale_reads(
     alloc: Global,
     tree: &Tree,
     events: &[Event],
