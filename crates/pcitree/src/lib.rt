@@ -16,5 +16,3 @@ pub use words::{file_word, input_limit};
 
 #[cfg(test)]
 mod fault_tests;
-#[cfg(test)]
-mod tests;
