@@ -6,6 +6,3 @@ mod answer;
 mod text;
 
 pub use answer::answer_untagged;
-
-#[cfg(test)]
-mod tests;

@@ -35,41 +35,9 @@ use Rattle.history_model.specs.Runs.{AllowedBy, RunBy}
 use Rattle.history_facts.proofs.RequestLemmas.{same_op_true, request_is_of}
 use Rattle.law_slots.specs.Phases.{DelayedAreSingle}
 use Rattle.law_slots.proofs.Laws.{PartLeft, answered_part}
-use Rattle.law_slots.proofs.PartLemmas.{op_single}
+use Rattle.law_slots.proofs.PartLemmas.{op_single, lane_no_part}
 
--- no lane of a bridge takes a part
-completion_no_part : (board : Board) (read : Bool) (at : BridgeLane) (older : List Carried) (item : Option Carried) (phases : ℕ) (place : Place) → completion_answer board read at older item ≡ Gives (Part phases) place → ⊥
-completion_no_part board read at older None phases place gives = cc
-completion_no_part board read at older (Some (Post op)) phases place gives = cc
-completion_no_part board read at older (Some (Ask op slot)) phases place gives = cc
-completion_no_part board read at older (Some (Done op slot outcome)) phases place gives =
-    let P : Bool → Type 0 = λ b. cond b (Gives (Take outcome) (Lane at)) (Retry Behind) ≡ Gives (Part phases) place → ⊥ in
-    (elim (list_all (completion_passes board read) older) as P [ true ↦ λ e. cc | false ↦ λ e. cc ]) gives
-completion_no_part board read at older (Some Room) phases place gives = cc
-completion_no_part board read at older (Some (Gone slot)) phases place gives = cc
-
-delayed_no_part : (board : Board) (read : Bool) (depth : ℕ) (at : BridgeLane) (held : List Slot) (coming : List Carried) (own : Option Slot) (phases : ℕ) (place : Place) → delayed_answer board read depth at held coming own ≡ Gives (Part phases) place → ⊥
-delayed_no_part board read depth at held coming None phases place gives =
-    let P : Bool → Type 0 = λ b. cond b (Gives Latch (Lane at)) (Retry NoSlot) ≡ Gives (Part phases) place → ⊥ in
-    (elim (nat_lt (length held) depth) as P [ true ↦ λ e. cc | false ↦ λ e. cc ]) gives
-delayed_no_part board read depth at held coming (Some slot) phases place gives =
-    completion_no_part board read at (before (is_done_for slot.number) coming) (find (is_done_for slot.number) coming) phases place gives
-
-lane_no_part : (board : Board) (world : World) (on : ℕ) (by : By) (o : OpId) (request : Request) (at : BridgeLane) (found : Option Bridge) (phases : ℕ) (place : Place)
-    → lane_answer board world on by o request at found ≡ Gives (Part phases) place → ⊥
-lane_no_part board world on by o request at None phases place gives = cc
-lane_no_part board world on by o request at (Some bridge) phases place gives =
-    let own : Option Slot = find (is_own board on by o) (world at).held in
-    let one : Answer = posted_answer (world at).owed bridge.posted at in
-    let other : Answer = delayed_answer board (is_read request.command) bridge.delayed at (world at).held (world (lane_back at)).standing own in
-    let P : Bool → Type 0 = λ b. cond b one other ≡ Gives (Part phases) place → ⊥ in
-    let Q : Bool → Type 0 = λ b. cond b (Gives Accept (Lane at)) (Retry Full) ≡ Gives (Part phases) place → ⊥ in
-    (elim (is_posted request) as P [
-      | true ↦ λ e. (elim (nat_lt (world at).owed bridge.posted) as Q [ true ↦ λ f. cc | false ↦ λ f. cc ]) e
-      | false ↦ λ e. delayed_no_part board (is_read request.command) bridge.delayed at (world at).held (world (lane_back at)).standing own phases place e
-    ]) gives
-
--- so a part is answered whatever is on the lanes, and whoever is noted down
+-- no lane of a bridge takes a part: so it is answered whatever is on the lanes, and whoever is noted down
 same_part : (board : Board) (world other : World) (h : List Event) (on : ℕ) (by : By) (o : OpId) (rest : Request) (owner : Place) (phases : ℕ) (place : Place)
     → answer_by board world h on by o rest owner ≡ Gives (Part phases) place → answer_by board other h on by o rest owner ≡ Gives (Part phases) place
 same_part board world other h on by o rest (Target target) phases place gives = gives

@@ -14,7 +14,7 @@ use Rattle.history_model.specs.Runs.{RunBy}
 use Rattle.history_facts.proofs.BridgeLemmas.{flip}
 use Rattle.history_facts.proofs.KeptLemmas.{Pair, KeptBy, runs_keep_by}
 use Rattle.law_slots.specs.Depths.{Within, DepthsToEight}
-use Rattle.law_slots.proofs.DepthsLemmas.{Within-run_by}
+use Rattle.law_slots.proofs.DepthsLemmas.{Within-run_by, within_more, within_empty}
 
 nothing : Both
 nothing = record { here = empty_lane; back = empty_lane }
@@ -48,22 +48,6 @@ pub Quiet-run_by : (rule : Rule) (board : Board) (h : List Event) (lane : Bridge
 unfolding nothing
 Quiet-run_by rule board h lane none run =
     ap (λ (x : Both). x.here) (runs_keep_by rule board (IsQuiet board) (IsQuiet-kept rule board) h run lane none)
-
--- greater depths allow more
-within_more : (posted delayed p d : ℕ) (lane : LaneState) → posted ≤ p → delayed ≤ d → Within posted delayed lane → Within p d lane
-within_more posted delayed p d lane more_posted more_delayed w =
-    let P : Slot → Type 0 = λ slot. slot.number < delayed in
-    let Q : Slot → Type 0 = λ slot. slot.number < d in
-    record {
-      owed = omega (arith, w.owed);
-      held = omega (arith, w.held);
-      numbers = Each-weaker P Q (λ slot low. omega arith) lane.held w.numbers;
-      flight = omega (arith, w.flight);
-      standing = omega (arith, w.standing);
-    }
-
-within_empty : (posted delayed : ℕ) → Within posted delayed empty_lane
-within_empty posted delayed = record { owed = omega arith; held = omega arith; numbers = tt; flight = omega arith; standing = omega arith }
 
 pub Within-eight_by : (rule : Rule) (board : Board) (h : List Event) (lane : BridgeLane) → DepthsToEight board → RunBy rule board h → Within 8 8 (world_by rule board h lane)
 Within-eight_by rule board h lane eight run =

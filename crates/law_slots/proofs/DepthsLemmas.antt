@@ -167,7 +167,7 @@ Within-each board h distinct run =
     Each-weaker P Q (λ b is up. Within-run board h (record { bus = b.bus; up = up }) b is run) board.bridges (bridge_found board.bridges distinct)
 
 -- greater depths allow more
-within_more : (posted delayed p d : ℕ) (lane : LaneState) → posted ≤ p → delayed ≤ d → Within posted delayed lane → Within p d lane
+pub within_more : (posted delayed p d : ℕ) (lane : LaneState) → posted ≤ p → delayed ≤ d → Within posted delayed lane → Within p d lane
 within_more posted delayed p d lane more_posted more_delayed w =
     let P : Slot → Type 0 = λ slot. slot.number < delayed in
     let Q : Slot → Type 0 = λ slot. slot.number < d in
@@ -179,7 +179,7 @@ within_more posted delayed p d lane more_posted more_delayed w =
       standing = omega (arith, w.standing);
     }
 
-within_empty : (posted delayed : ℕ) → Within posted delayed empty_lane
+pub within_empty : (posted delayed : ℕ) → Within posted delayed empty_lane
 within_empty posted delayed = record { owed = omega arith; held = omega arith; numbers = tt; flight = omega arith; standing = omega arith }
 
 pub Within-eight : (board : Board) (h : List Event) (lane : BridgeLane) → DepthsToEight board → Run board h → Within 8 8 (world_of board h lane)

@@ -82,7 +82,7 @@ posted_no_part owed depth at phases place gives =
     let P : Bool → Type 0 = λ b. cond b (Gives Accept (Lane at)) (Retry Full) ≡ Gives (Part phases) place → ⊥ in
     (elim (nat_lt owed depth) as P [ true ↦ λ e. cc | false ↦ λ e. cc ]) gives
 
-lane_no_part : (board : Board) (world : World) (on : ℕ) (by : By) (o : OpId) (request : Request) (at : BridgeLane) (found : Option Bridge) (phases : ℕ) (place : Place)
+pub lane_no_part : (board : Board) (world : World) (on : ℕ) (by : By) (o : OpId) (request : Request) (at : BridgeLane) (found : Option Bridge) (phases : ℕ) (place : Place)
     → lane_answer board world on by o request at found ≡ Gives (Part phases) place → ⊥
 lane_no_part board world on by o request at None phases place gives = cc
 lane_no_part board world on by o request at (Some bridge) phases place gives =

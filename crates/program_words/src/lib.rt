@@ -163,10 +163,9 @@ const UNTAGGED: Row = Row {
     parts: &[Part::Word("untagged"), Part::File],
     limit: TRACE,
     line: "judges a trace of bridges that keep no local master",
-    more: "As many bridges were built, before the specification told them to keep the master of a delayed request\n\
-        (PCI-to-PCI Bridge Architecture 1.1, from memory). Writes how many events the run has, each read that came\n\
-        out stale though its master was told of the write, and whether masters are apart, so that it makes no\n\
-        difference on this board.",
+    more: "Such a bridge knows a delayed request by its command and address alone, so that another master may\n\
+        take its completion. Writes how many events the run has, each read that came out stale though its master\n\
+        was told of the write, and whether masters are apart, so that it makes no difference on this board.",
 };
 
 const COMBINE: Row = Row {

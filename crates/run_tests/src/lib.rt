@@ -4,8 +4,6 @@
 #[cfg(test)]
 mod history_core_tests;
 #[cfg(test)]
-mod next_event_tests;
-#[cfg(test)]
-mod progress_core_tests;
-#[cfg(test)]
 mod trace_merge_tests;
+#[cfg(test)]
+mod worked_read_tests;

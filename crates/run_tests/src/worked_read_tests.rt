@@ -5,6 +5,7 @@ use board_model::{Board, Bridge, Lane, Master, Name, Op, Place, Range, Target, W
 use bus_tree::{Tree, validate};
 use history_core::allowed;
 use history_model::{By, Event, Mark, Step};
+use next_event::next_event;
 use pci_command::{Command, List, OpId, Outcome, Phase, Phases, Space};
 use progress_core::left;
 use std::alloc::Global;
@@ -66,6 +67,22 @@ const READ: [Event; 13] = [
     event!(2 arrive 2 d),
     event!(2 by By::Master, Step::Take(Outcome::Value(0)), Place::Lane(lane!(2 u))),
 ];
+
+/// Whether the next events of the board are these, in this order, each of them allowed, and none
+/// after them.
+fn goes_so(tree: &Tree, events: &[Event]) -> bool {
+    let board = tree.board();
+    for (index, event) in events.iter().enumerate() {
+        let before = &events[..index];
+        if next_event(tree, before) != Some(*event) {
+            return false;
+        }
+        if allowed(board, before, event).is_err() {
+            return false;
+        }
+    }
+    next_event(tree, events).is_none()
+}
 
 /// How many events are left after these, where each is allowed, and takes one from those that were
 /// left before it.
@@ -164,9 +181,8 @@ fn tree(rt: &impl Abort, board: Board) -> Result<Tree, Fail> {
     }
 }
 
-#[test]
-fn a_read_over_three_bridges_counts_down(rt: HostRuntime) -> Result<(), Fail> {
-    let alloc = rt.alloc();
+/// Three bridges, and a master that reads across them.
+fn three_bridges(rt: &impl Abort, alloc: Global) -> Result<Tree, Fail> {
     let window = Window {
         base: 0x9000_0000,
         limit: 0x900f_ffff,
@@ -178,17 +194,29 @@ fn a_read_over_three_bridges_counts_down(rt: HostRuntime) -> Result<(), Fail> {
     ]?;
     let ops = vec![in alloc; read(0x9000_0010)]?;
     let ram = target(alloc, 3, 0x9000_0000)?;
-    let tree = tree(&rt, board(alloc, bridges, ram, 2, ops)?)?;
+    tree(rt, board(alloc, bridges, ram, 2, ops)?)
+}
+
+/// One bus, and a master that writes a word and reads it.
+fn one_bus(rt: &impl Abort, alloc: Global) -> Result<Tree, Fail> {
+    let ops = vec![in alloc; write(0x0010_0040, 0x2a), read(0x0010_0040)]?;
+    let ram = target(alloc, 0, 0x0010_0000)?;
+    tree(rt, board(alloc, Vec::new(alloc), ram, 0, ops)?)
+}
+
+#[test]
+fn a_read_over_three_bridges_goes_in_order(rt: HostRuntime) -> Result<(), Fail> {
+    let tree = three_bridges(&rt, rt.alloc())?;
+    assert!(rt; goes_so(&tree, &READ));
     assert_eq!(rt; left_after(&tree, &READ, 13), Some(0));
     Ok(())
 }
 
 #[test]
-fn a_write_and_a_read_on_one_bus(rt: HostRuntime) -> Result<(), Fail> {
-    let alloc = rt.alloc();
-    let ops = vec![in alloc; write(0x0010_0040, 0x2a), read(0x0010_0040)]?;
-    let ram = target(alloc, 0, 0x0010_0000)?;
-    let tree = tree(&rt, board(alloc, Vec::new(alloc), ram, 0, ops)?)?;
+fn a_write_on_one_bus_lands_first(rt: HostRuntime) -> Result<(), Fail> {
+    let tree = one_bus(&rt, rt.alloc())?;
+    let land = event!(0 by By::Master, Step::Land, Place::Target(0));
+    assert_eq!(rt; next_event(&tree, &[]), Some(land));
     assert_eq!(rt; left_after(&tree, &[], 2), Some(2));
     Ok(())
 }
