@@ -11,15 +11,13 @@ use Rattle.board_model.specs.declared.op.Op.{Op}
 use Rattle.board_model.specs.declared.op.Op.TheVariants.{Read as ReadOp, Write, CfgRead, CfgWrite, Poll}
 use Rattle.board_model.specs.declared.board.Board.{Board}
 use Rattle.board_model.specs.Requests.{op_of, tries_of, command_of, read_in, reads_in}
-use Rattle.history_model.specs.declared.event.By.TheVariants.{Master, Lane as ByLane}
 use Rattle.history_model.specs.declared.event.Event.{Event}
-use Rattle.history_model.specs.declared.event.Event.TheVariants.{Act, Arrive}
-use Rattle.history_model.specs.Program.{Ending, ended, ending_of, master_outcome, present, next_op, next_try, meets, follows_in, follows, turn_after, turn_of}
+use Rattle.history_model.specs.Program.{Ending, ended, present, next_op, next_try, meets, follows_in, follows, turn_after, turn_of}
 use Rattle.history_model.specs.Knowledge.{outcome_in, ends_as, has_ended, is_write}
 use Rattle.history_model.specs.Runs.{Run}
-use Rattle.history_facts.proofs.WantsLemmas.{wants-turn}
 use Rattle.history_facts.proofs.RequestLemmas.{same_op_self}
 use Rattle.law_changes.proofs.Laws.{entry_of}
+use Rattle.law_fresh.proofs.Laws.{ends_turn}
 use Rattle.law_reads.proofs.Laws.{master_there}
 use Rattle.std.proofs.lemmas.Bool.{or_left, or_right}
 
@@ -137,6 +135,11 @@ follows_near board o outcome (Some (Poll space address mask wanted tries)) =
 
 -- Writes before the turn ended.
 
+-- each ending is of its master's turn
+abbrev pub TurnsEnd : Board → List Event → Type 0
+TurnsEnd board [] = Unit {0}
+TurnsEnd board (e ∷ h) = ((ending : Ending) → ended e ≡ Some ending → turn_of board h ending.op.master ≡ Some ending.op) × TurnsEnd board h
+
 module _ (board : Board) (w : OpId) (write : WriteOp board w) where
   abbrev Before : List Event → Option OpId → Type 0
   Before h None = Unit {0}
@@ -146,23 +149,25 @@ module _ (board : Board) (w : OpId) (write : WriteOp board w) where
   near_before h o None near older = tt
   near_before h o (Some t) near older = λ below. older (omega (arith, near, below))
 
-  -- the turn after one of its master's operations ended
-  ending_before : (h : List Event) (o : OpId) (given : Option Outcome) (turn : ℕ → Option OpId) (now : List Event) → turn o.master ≡ Some o → is_some (op_of board o) ≡ true → (has_ended h w ≡ true → has_ended now w ≡ true)
-      → (is_some (outcome_in w (ending_of o given)) ≡ true → has_ended now w ≡ true) → Before h (turn w.master) → Before now (turn_after board w.master (turn w.master) (ending_of o given))
-  ending_before h o None turn now is_turn there more here old = later (turn w.master) old
-    where
-      later : (t : Option OpId) → Before h t → Before now t
-      later None old = tt
-      later (Some t) old = λ below. more (old below)
-  ending_before h o (Some outcome) turn now is_turn there more here old =
-      let next : Option OpId = follows board (record { op = o; outcome = outcome }) in
+  later_before : (h now : List Event) → (has_ended h w ≡ true → has_ended now w ≡ true) → (t : Option OpId) → Before h t → Before now t
+  later_before h now more None old = tt
+  later_before h now more (Some t) old = λ below. more (old below)
+
+  -- the turn after an event that ended one of its master's operations, or none
+  ending_before : (h : List Event) (found : Option Ending) (turn : ℕ → Option OpId) (now : List Event) → ((ending : Ending) → found ≡ Some ending → (turn ending.op.master ≡ Some ending.op) × (is_some (op_of board ending.op) ≡ true)) → (has_ended h w ≡ true → has_ended now w ≡ true)
+      → (is_some (outcome_in w found) ≡ true → has_ended now w ≡ true) → Before h (turn w.master) → Before now (turn_after board w.master (turn w.master) found)
+  ending_before h None turn now ends more here old = later_before h now more (turn w.master) old
+  ending_before h (Some ending) turn now ends more here old =
+      let o : OpId = ending.op in
+      let next : Option OpId = follows board ending in
+      let its = ends ending refl in
       let P : Bool → Type 0 = λ b. eqb o.master w.master ≡ b → Before now (cond b next (turn w.master)) in
       (elim (eqb o.master w.master) as P [
         | true ↦ λ same.
             let masters : o.master ≡ w.master = eqb-true o.master w.master same in
-            let was : turn w.master ≡ Some o = ap turn (sym masters) ∙ is_turn in
+            let was : turn w.master ≡ Some o = ap turn (sym masters) ∙ its.0 in
             let of_o : w.index < o.index → has_ended h w ≡ true = subst (Before h) was old in
-            near_before now o next (follows_near board o outcome (op_of board o))
+            near_before now o next (follows_near board o ending.outcome (op_of board o))
             (λ at_most.
             let Q : Bool → Type 0 = λ b. nat_lt w.index o.index ≡ b → has_ended now w ≡ true in
             (elim (nat_lt w.index o.index) as Q [
@@ -170,36 +175,28 @@ module _ (board : Board) (w : OpId) (write : WriteOp board w) where
               | false ↦ λ none.
                   let at_least : o.index ≤ w.index = grind (arith, nat_tests) in
                   let indices : o.index ≡ w.index = omega (arith, at_most, at_least) in
-                  let one_op : o ≡ w = same_place board w o write there masters indices in
+                  let one_op : o ≡ w = same_place board w o write its.1 masters indices in
                   let self : same_op o w ≡ true = subst (λ p. same_op o p ≡ true) one_op (same_op_self o) in
                   here (rw self refl)
             ]) refl)
-        | false ↦ λ _. later (turn w.master) old
+        | false ↦ λ _. later_before h now more (turn w.master) old
       ]) refl
-    where
-      later : (t : Option OpId) → Before h t → Before now t
-      later None old = tt
-      later (Some t) old = λ below. more (old below)
 
-  Before-run : (h : List Event) → Run board h → Before h (turn_of board h w.master)
-  Before-run [] run =
+  Before-turn : (h : List Event) → TurnsEnd board h → Before h (turn_of board h w.master)
+  Before-turn [] ends =
       let first : OpId = record { master = w.master; index = 0; attempt = 0 } in
       let P : Bool → Type 0 = λ b. Before [] (cond b (Some first) None) in
       elim (is_some (op_of board first)) as P [ true ↦ λ below. absurd (omega (arith, below)) | false ↦ tt ]
-  Before-run (Act on Master o step place ∷ h) run =
-      let e : Event = Act on Master o step place in
-      let turn = wants-turn board h on o run.0.0 in
-      ending_before h o (master_outcome step) (turn_of board h) (e ∷ h) turn (turn_is_there board h o turn)
-      (λ old. or_right (is_some (ends_as w e)) (has_ended h w) old) (λ ends. or_left (is_some (ends_as w e)) (has_ended h w) ends) (Before-run h run.1)
-  Before-run (Act on (ByLane lane) o step place ∷ h) run = Before-run h run.1
-  Before-run (Arrive lane mark ∷ h) run = Before-run h run.1
+  Before-turn (e ∷ h) ends =
+      ending_before h (ended e) (turn_of board h) (e ∷ h) (λ ending is. let turn = ends.0 ending is in (turn, turn_is_there board h ending.op turn))
+      (λ old. or_right (is_some (ends_as w e)) (has_ended h w) old) (λ now. or_left (is_some (ends_as w e)) (has_ended h w) now) (Before-turn h ends.1)
 
   -- where an operation is its master's turn, the write is it, or ended, or does not stand before it
-  pub own_ended : (h : List Event) (o : OpId) → Run board h → turn_of board h o.master ≡ Some o → o.master ≡ w.master → w.index < o.index + 1 → same_op o w ≡ false → has_ended h w ≡ true
-  own_ended h o run turn masters at_most other =
+  pub own_ended : (h : List Event) (o : OpId) → TurnsEnd board h → turn_of board h o.master ≡ Some o → o.master ≡ w.master → w.index < o.index + 1 → same_op o w ≡ false → has_ended h w ≡ true
+  own_ended h o ends turn masters at_most other =
       let Q : Bool → Type 0 = λ b. nat_lt w.index o.index ≡ b → has_ended h w ≡ true in
       let was : turn_of board h w.master ≡ Some o = subst (λ n. turn_of board h n ≡ Some o) masters turn in
-      let before : w.index < o.index → has_ended h w ≡ true = subst (Before h) was (Before-run h run) in
+      let before : w.index < o.index → has_ended h w ≡ true = subst (Before h) was (Before-turn h ends) in
       (elim (nat_lt w.index o.index) as Q [
         | true ↦ λ below. let below_it : w.index < o.index = grind (arith, nat_tests) in before below_it
         | false ↦ λ none.
@@ -210,3 +207,8 @@ module _ (board : Board) (w : OpId) (write : WriteOp board w) where
             let e : true ≡ false = sym self ∙ other in
             cc
       ]) refl
+
+-- of a run
+pub run_turns : (board : Board) (h : List Event) → Run board h → TurnsEnd board h
+run_turns board [] run = tt
+run_turns board (e ∷ h) run = (λ ending is. ends_turn board e h ending run is, run_turns board h run.1)
