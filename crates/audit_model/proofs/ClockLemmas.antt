@@ -36,22 +36,22 @@ bool_same true false f g = sym (f refl)
 bool_same false true f g = g refl
 bool_same false false f g = refl
 
-or_comm : (a b : Bool) → (a || b) ≡ (b || a)
+pub or_comm : (a b : Bool) → (a || b) ≡ (b || a)
 or_comm true true = refl
 or_comm true false = refl
 or_comm false true = refl
 or_comm false false = refl
 
-lt_is : (n a : ℕ) → nat_lt n a ≡ true → n < a
+pub lt_is : (n a : ℕ) → nat_lt n a ≡ true → n < a
 lt_is n a is = grind (arith, nat_tests)
 
-is_lt : (n a : ℕ) → n < a → nat_lt n a ≡ true
+pub is_lt : (n a : ℕ) → n < a → nat_lt n a ≡ true
 is_lt n a below = grind (arith, nat_tests)
 
-lt_none : (n : ℕ) → nat_lt n 0 ≡ false
+pub lt_none : (n : ℕ) → nat_lt n 0 ≡ false
 lt_none n = grind (arith, nat_tests)
 
-lt_max : (n a b : ℕ) → nat_lt n (max a b) ≡ (nat_lt n a || nat_lt n b)
+pub lt_max : (n a b : ℕ) → nat_lt n (max a b) ≡ (nat_lt n a || nat_lt n b)
 lt_max n a b =
     bool_same (nat_lt n (max a b)) (nat_lt n a || nat_lt n b)
     (λ is.
@@ -65,7 +65,7 @@ lt_max n a b =
     (λ first. let below : n < a = lt_is n a first in is_lt n (max a b) (omega (arith, below)))
     (λ second. let below : n < b = lt_is n b second in is_lt n (max a b) (omega (arith, below))) is)
 
-lt_greatest : {X : Type 0} (n : ℕ) (f : X → ℕ) (xs : List X) → nat_lt n (greatest f xs) ≡ list_any (λ x. nat_lt n (f x)) xs
+pub lt_greatest : {X : Type 0} (n : ℕ) (f : X → ℕ) (xs : List X) → nat_lt n (greatest f xs) ≡ list_any (λ x. nat_lt n (f x)) xs
 lt_greatest n f [] = lt_none n
 lt_greatest n f (x ∷ xs) = lt_max n (f x) (greatest f xs) ∙ ap (λ b. nat_lt n (f x) || b) (lt_greatest n f xs)
 
@@ -73,9 +73,9 @@ pub any_same : {X : Type 0} (f g : X → Bool) (xs : List X) → AllByRecursion 
 any_same f g [] alike = refl
 any_same f g (x ∷ xs) alike = let here = alike.0 in let later = any_same f g xs alike.1 in cc
 
-module _ (board : Board) (valid : IsValid board) (w : OpId) (write : WriteOp board w) where
+module _ (w : OpId) where
   -- an operation and those before it in its program
-  own_parts : (q : OpId) → reaches (own q) w ≡ true → (q.master ≡ w.master) × (w.index < q.index + 1)
+  pub own_parts : (q : OpId) → reaches (own q) w ≡ true → (q.master ≡ w.master) × (w.index < q.index + 1)
   own_parts q is =
       let P : Bool → Type 0 = λ b. eqb q.master w.master ≡ b → nat_lt w.index (cond b (q.index + 1) 0) ≡ true → (q.master ≡ w.master) × (w.index < q.index + 1) in
       (elim (eqb q.master w.master) as P [
@@ -83,18 +83,19 @@ module _ (board : Board) (valid : IsValid board) (w : OpId) (write : WriteOp boa
         | false ↦ λ _ f. let e : true ≡ false = sym f ∙ lt_none w.index in cc
       ]) refl is
 
-  own_same : (q : OpId) → same_op q w ≡ true → reaches (own q) w ≡ true
+  pub own_same : (q : OpId) → same_op q w ≡ true → reaches (own q) w ≡ true
   own_same q same =
       let one : q ≡ w = same_op_true q w same in
       let self : eqb w.master w.master ≡ true = grind (arith, nat_tests) in
       let there : reaches (own w) w ≡ true = rw self (is_lt w.index (w.index + 1) (omega arith)) in
       subst (λ p. reaches (own p) w ≡ true) (sym one) there
 
+module _ (board : Board) (valid : IsValid board) (w : OpId) (write : WriteOp board w) where
   -- where a master's turn is behind the write, the master knows it
   own_knows : (h : List Event) (o : OpId) → Run board h → turn_of board h o.master ≡ Some o → reaches (own o) w ≡ true → (is_some ((aware_of board w h).since o.master) || same_op o w) ≡ true
   own_knows h o run turn is =
       let aware : Aware = aware_of board w h in
-      let parts = own_parts o is in
+      let parts = own_parts w o is in
       let P : Bool → Type 0 = λ b. same_op o w ≡ b → (is_some (aware.since o.master) || b) ≡ true in
       (elim (same_op o w) as P [
         | true ↦ λ _. or_right (is_some (aware.since o.master)) true refl
@@ -144,7 +145,7 @@ module _ (board : Board) (valid : IsValid board) (w : OpId) (write : WriteOp boa
         law = bool_same (now || same_op o w) (starts || reaches (own o) w)
             (λ is. or_either ((starts || reaches (own o) w) ≡ true) now (same_op o w)
             (λ known. or_left starts (reaches (own o) w) (sym same_start ∙ (sym stable ∙ known)))
-            (λ same. or_right starts (reaches (own o) w) (own_same o same)) is)
+            (λ same. or_right starts (reaches (own o) w) (own_same w o same)) is)
             (λ is. or_either ((now || same_op o w) ≡ true) starts (reaches (own o) w)
             (λ known. or_left now (same_op o w) (stable ∙ (same_start ∙ known)))
             (λ is_own. or_either ((now || same_op o w) ≡ true) some (same_op o w) (λ f. or_left now (same_op o w) (stable ∙ f)) (λ f. or_right now (same_op o w) f) (own_knows h o run.1 turn is_own)) is);
@@ -239,7 +240,7 @@ module _ (board : Board) (valid : IsValid board) (w : OpId) (write : WriteOp boa
             (λ is. or_either (((some || told) || nat_lt w.index mine) ≡ true) some (same_op o w || told)
             (λ f. or_left (some || told) (nat_lt w.index mine) (or_left some told f))
             (λ f. or_either (((some || told) || nat_lt w.index mine) ≡ true) (same_op o w) told
-            (λ g. or_right (some || told) (nat_lt w.index mine) (own_same o g))
+            (λ g. or_right (some || told) (nat_lt w.index mine) (own_same w o g))
             (λ g. or_left (some || told) (nat_lt w.index mine) (or_right some told g)) f) is)
             (λ is. or_either ((some || (same_op o w || told)) ≡ true) (some || told) (nat_lt w.index mine)
             (λ f. or_either ((some || (same_op o w || told)) ≡ true) some told (λ g. or_left some (same_op o w || told) g) (λ g. or_right some (same_op o w || told) (or_right (same_op o w) told g)) f)

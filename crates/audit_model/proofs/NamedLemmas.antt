@@ -32,14 +32,14 @@ Names P (Done q slot outcome) = P q
 Names P Room = Unit {0}
 Names P (Gone slot) = Unit {0}
 
-names_of : (P : OpId → Type 0) (o : OpId) (item : Carried) → is_of o item ≡ true → Names P item → P o
+pub names_of : (P : OpId → Type 0) (o : OpId) (item : Carried) → is_of o item ≡ true → Names P item → P o
 names_of P o (Post q) is has = subst P (sym (same_op_true o q is)) has
 names_of P o (Ask q slot) is has = subst P (sym (same_op_true o q is)) has
 names_of P o (Done q slot outcome) is has = cc
 names_of P o Room is has = cc
 names_of P o (Gone slot) is has = cc
 
-names_weaker : (P Q : OpId → Type 0) → ((q : OpId) → P q → Q q) → (item : Carried) → Names P item → Names Q item
+pub names_weaker : (P Q : OpId → Type 0) → ((q : OpId) → P q → Q q) → (item : Carried) → Names P item → Names Q item
 names_weaker P Q weaker (Post q) has = weaker q has
 names_weaker P Q weaker (Ask q slot) has = weaker q has
 names_weaker P Q weaker (Done q slot outcome) has = weaker q has

@@ -91,7 +91,7 @@ ended_front : (o : OpId) (g h : List Event) → Front g h → has_ended g o ≡ 
 ended_front o g h front is = subst (λ k. has_ended k o ≡ true) front.is (ended_later o front.later g is)
 
 -- what a read got at its end, it got
-got_along : (board : Board) (o : OpId) (e : Event) (g later : List Event) → Orderly board (later ++ e ∷ g) → is_some (ends_as o e) ≡ true → untagged_got board (later ++ e ∷ g) o ≡ ending_reading board g e
+pub got_along : (board : Board) (o : OpId) (e : Event) (g later : List Event) → Orderly board (later ++ e ∷ g) → is_some (ends_as o e) ≡ true → untagged_got board (later ++ e ∷ g) o ≡ ending_reading board g e
 got_along board o e g [] order is = rw is refl
 got_along board o e g (f ∷ later) order is =
     let h : List Event = later ++ e ∷ g in
@@ -114,10 +114,10 @@ ending_is e ending is =
 
 module _ (board : Board) (w : OpId) where
   -- a master knows of the write from an operation on, or from an earlier one
-  record From (h : List Event) (p : OpId) : Type 0 where
-    first : OpId
-    is : untagged_since board w h p.master ≡ Some first
-    before : (q : OpId) → stands_after p q ≡ true → stands_after first q ≡ true
+  pub record From (h : List Event) (p : OpId) : Type 0 where
+    pub first : OpId
+    pub is : untagged_since board w h p.master ≡ Some first
+    pub before : (q : OpId) → stands_after p q ≡ true → stands_after first q ≡ true
 
   From-kept : (e : Event) (h : List Event) (p : OpId) → From h p → From (e ∷ h) p
   From-kept e h p old = record { first = old.first; is = since_kept board w e h p.master old.first old.is; before = old.before }
@@ -143,7 +143,7 @@ module _ (board : Board) (w : OpId) where
       ]) refl
 
   -- the write itself
-  write_from : (h : List Event) → Orderly board h → has_ended h w ≡ true → From h w
+  pub write_from : (h : List Event) → Orderly board h → has_ended h w ≡ true → From h w
   write_from [] order is = cc
   write_from (e ∷ h) order is =
       or_either (From (e ∷ h) w) (is_some (ends_as w e)) (has_ended h w)

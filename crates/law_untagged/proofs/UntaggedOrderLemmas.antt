@@ -54,7 +54,7 @@ turn_is : (o : OpId) (turn : Option OpId) → is_turn o turn ≡ true → turn �
 turn_is o None is = cc
 turn_is o (Some p) is = ap Some (same_op_true p o is)
 
-master_turn : (board : Board) (h : List Event) (on : ℕ) (o : OpId) → untagged_wants board h on Master o ≡ true → turn_of board h o.master ≡ Some o
+pub master_turn : (board : Board) (h : List Event) (on : ℕ) (o : OpId) → untagged_wants board h on Master o ≡ true → turn_of board h o.master ≡ Some o
 master_turn board h on o wanted = turn_is o (turn_of board h o.master) (and_parts (is_on on (slice_get board.masters o.master)) (is_turn o (turn_of board h o.master)) wanted).1
 
 event_turn : (board : Board) (e : Event) (h : List Event) (ending : Ending) → UntaggedAllowed board h e → ended e ≡ Some ending → turn_of board h ending.op.master ≡ Some ending.op
@@ -206,7 +206,7 @@ event_writes board h (Arrive lane mark) p allowed is = cc
 
 -- What an act brings is of its operation.
 
-brought_of : (board : Board) (h : List Event) (on : ℕ) (o : OpId) (step : Step) (word : Dword) (place : Place) → AllByRecursion (IsOf o) (landings_by board h on o step word place)
+pub brought_of : (board : Board) (h : List Event) (on : ℕ) (o : OpId) (step : Step) (word : Dword) (place : Place) → AllByRecursion (IsOf o) (landings_by board h on o step word place)
 brought_of board h on o step word (Target target) =
     let P : Bool → Type 0 = λ b. AllByRecursion (IsOf o) (cond b (landings_of o step (through h o) word (request_of board o on)) []) in
     elim (target == word.target) as P [ true ↦ of_of o step (through h o) word (request_of board o on) | false ↦ tt ]

@@ -1,0 +1,4 @@
+pub mod NamedLemmas
+pub mod ReadLemmas
+pub mod ClockLemmas
+pub mod ToldLemmas
