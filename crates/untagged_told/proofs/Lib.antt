@@ -1,5 +1,3 @@
-pub mod FrontLemmas
-pub mod HeardLemmas
-pub mod PlacesLemmas
-pub mod TellLemmas
-pub mod ReachLemmas
+pub mod RaiseLemmas
+pub mod FirstLemmas
+pub mod NextLemmas
