@@ -1,7 +1,7 @@
 ghost use Rattle.std.specs.Prelude.{◌≡◌, slice_get};
 ghost use Rattle.untagged_run.specs.Flat.{flat};
 
-use causal_audit::Word;
+use audit_clocks::Word;
 use history_model::Why;
 
 /// A read at a target: the number of its event, from 1 on, and the dword that it read.

@@ -19,7 +19,7 @@ knows_first board k is =
     let rows : (master : ℕ) → master < M → known_at (replicate M none) master ≡ none = λ master within. get_or-replicate M master none [] within in
     subst (Knows board []) (sym is) (record {
       landings = landings_first board;
-      tolds = tolds_first M [] [] [] [] refl;
+      tolds = tolds_first M [];
       masters = length-replicate M none;
       authors = λ master within. ap (λ xs. length xs) (rows master within) ∙ length-replicate M 0;
       known = λ master author within below. ap (λ xs. number xs author) (rows master within) ∙ get_or-replicate M author 0 0 below;

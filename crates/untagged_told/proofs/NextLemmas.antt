@@ -39,10 +39,11 @@ use Rattle.dword_landings.specs.Told.{told_by as tells_by, Tells, ToldsFor}
 use Rattle.dword_landings.proofs.Laws.{whole_has, tolds_over}
 use Rattle.untagged_run.specs.declared.got.Got.{Got}
 use Rattle.untagged_run.specs.Flat.{flat}
+use Rattle.untagged_run.specs.Gots.{word_at}
 use Rattle.untagged_run.specs.Table.{IsGot, SameGot}
 use Rattle.untagged_clocks.specs.Clocks.{Clocks, number_in, landing_tells, word_tells, reads_at, told_by, got_tells, known_after, first_start, clocks_of}
 use Rattle.untagged_clocks.proofs.NamedLemmas.{start_stays, landed_started}
-use Rattle.untagged_told.specs.Knowers.{KnowerState, word_at, word_by, word_in, ToldAt, StartsBy, PresentsBy, Presents, told_at, known_at, Learns, LearnsBy, ended_op, AreTold, Happens, Knows}
+use Rattle.untagged_told.specs.Knowers.{KnowerState, word_by, word_in, ToldAt, StartsBy, PresentsBy, Presents, told_at, known_at, Learns, LearnsBy, ended_op, AreTold, Happens, Knows}
 
 no_number : (author : ℕ) → number [] author ≡ 0
 no_number zero = refl

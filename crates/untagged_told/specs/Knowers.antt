@@ -2,13 +2,10 @@
 use Rattle.std.specs.Prelude.{◌≡◌, ◌<◌, ◌-◌, ◌+◌, ℕ, max, List, [], ◌∷◌, ◌++◌, length, Option, Some, None, is_some, get_or, slice_get, ◌==◌, false}
 use Rattle.std.specs.Option.{option_map}
 use Rattle.pci_command.specs.declared.op_id.OpId.{OpId}
-use Rattle.pci_command.specs.declared.request.Request.{Request}
-use Rattle.pci_command.specs.Command.{space_of}
 use Rattle.board_model.specs.declared.bridge.Place.{Place}
 use Rattle.board_model.specs.declared.bridge.Place.TheVariants.{Target, Header, Lane, Nobody}
 use Rattle.board_model.specs.declared.board.Board.{Board}
 use Rattle.board_model.specs.Requests.{request_of}
-use Rattle.board_model.specs.Ways.{address_in}
 use Rattle.history_model.specs.declared.event.By.{By}
 use Rattle.history_model.specs.declared.event.By.TheVariants.{Master, Lane as ByLane}
 use Rattle.history_model.specs.declared.event.Step.{Step}
@@ -23,6 +20,7 @@ use Rattle.dword_landings.specs.Notes.{LandingNotes, AreLandings, SameLandings, 
 use Rattle.dword_landings.specs.Told.{Tells, ToldsFor}
 use Rattle.untagged_run.specs.declared.got.Got.{Got}
 use Rattle.untagged_run.specs.Flat.{flat}
+use Rattle.untagged_run.specs.Gots.{word_at}
 use Rattle.untagged_clocks.specs.Clocks.{number_in, clocks_of}
 
 pub record KnowerState : Type 0 where
@@ -40,10 +38,6 @@ ended_op None = None
 ended_op (Some ending) = Some ending.op
 
 -- What an event reads.
-
--- the dword of the target that a read of the request reads
-abbrev pub word_at : ℕ → Request → Word
-word_at target request = record { target = target; space = space_of request.command; address = address_in (space_of request.command) request.address }
 
 abbrev pub word_by : Board → ℕ → OpId → Step → Place → Option Word
 word_by board on o (Read value) (Target target) = option_map (word_at target) (request_of board o on)

@@ -1,13 +1,14 @@
 ghost use Rattle.std.specs.Prelude.{◌≡◌};
 ghost use Rattle.std.specs.Option.{option_map};
 ghost use Rattle.board_model.specs.Requests.{request_of};
-ghost use Rattle.untagged_told.specs.Knowers.{word_at, word_in};
+ghost use Rattle.untagged_run.specs.Gots.{word_at};
+ghost use Rattle.untagged_told.specs.Knowers.{word_in};
 
 use audit_clocks::Word;
 use board_model::{Board, Place, request_of};
-use history_core::dword_address;
 use history_model::{Event, Step};
-use pci_command::{OpId, Request};
+use pci_command::OpId;
+use untagged_run::word_read;
 
 /// The dword that the event reads at a target, if it reads one.
 pub(crate) fn word_in(board: &Board, event: &Event) -> Option<Word>
@@ -20,26 +21,14 @@ pub(crate) fn word_in(board: &Board, event: &Event) -> Option<Word>
             step: Step::Read(_),
             place: Place::Target(target),
             ..
-        } => word_read(board, bus, op, target),
+        } => read_by(board, bus, op, target),
         Event::Act { .. } | Event::Arrive { .. } => None,
     }
 }
 
-fn word_read(board: &Board, bus: u8, op: OpId, target: u16) -> Option<Word>
+fn read_by(board: &Board, bus: u8, op: OpId, target: u16) -> Option<Word>
     ensures { result ≡ option_map (word_at target) (request_of board.now op bus) }
 {
     let request = request_of(board, op, bus)?;
-    Some(word_at(&request, target))
-}
-
-/// The dword of the target that a read of this request reads.
-fn word_at(request: &Request, target: u16) -> Word
-    ensures { result ≡ word_at target request.now }
-{
-    let space = request.command.space();
-    Word {
-        target,
-        space,
-        address: dword_address(space, u128::from(request.address)),
-    }
+    Some(word_read(&request, target))
 }
