@@ -1,0 +1,5 @@
+pub mod SearchLemmas
+pub mod KeptLemmas
+pub mod WalkLemmas
+pub mod PushLemmas
+pub mod PendingLemmas
