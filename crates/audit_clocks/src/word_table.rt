@@ -23,6 +23,7 @@ impl<V> Model for WordTable<V> {
 
 impl<V: Drop> WordTable<V> {
     ghost use Rattle.std.specs.Prelude.{OnOk, []};
+    ghost use Rattle.std.specs.Option.{option_copied};
     ghost use Rattle.audit_clocks.specs.declared.landings.Word.{Word};
     ghost use Rattle.audit_clocks.specs.Tables.{found_in, TakesWord, PutsWord};
 
@@ -33,6 +34,13 @@ impl<V: Drop> WordTable<V> {
         WordTable {
             entries: HashMap::new(alloc),
         }
+    }
+
+    /// That of the dword, where it has one.
+    pub fn get(&self, word: Word) -> Option<&V>
+        ensures { option_copied result ≡ found_in word self.now }
+    {
+        self.entries.get(&word)
     }
 
     /// That of the dword, where it has one, which it has no longer.

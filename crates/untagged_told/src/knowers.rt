@@ -1,4 +1,4 @@
-ghost use Rattle.std.specs.Prelude.{◌≡◌, length, IfOk, OnOk};
+ghost use Rattle.std.specs.Prelude.{◌≡◌, length, replicate, IfOk, OnOk};
 ghost use Rattle.dword_landings.specs.Notes.{SameLandings};
 ghost use Rattle.dword_landings.specs.Told.{ToldsFor};
 ghost use Rattle.untagged_told.specs.Knowers.{word_in, ToldAt};
@@ -108,8 +108,9 @@ impl Knowers {
     }
 }
 
+#[tactic(auto, using(crate::proofs::RaiseLemmas::replicate_more))]
 fn known_of(alloc: Global, masters: usize) -> Result<Vec<Numbers>, NoMemory>
-    ensures { IfOk result (λ known. known.items ≡ Rattle.std.specs.Prelude.replicate masters (Rattle.std.specs.Prelude.replicate masters 0)) }
+    ensures { IfOk result (λ known. known.items ≡ replicate masters (replicate masters 0)) }
 {
     let mut known = Vec::new(alloc);
     for _master in 0..masters {

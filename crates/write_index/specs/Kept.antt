@@ -1,11 +1,10 @@
 -- What is kept of each dword, and what an index of a board is.
 use Rattle.std.specs.Prelude.{◌≡◌, ℕ, ◌<◌, ◌^◌, ◌-◌, List, [], ◌∷◌, Option, Some, None, if◌then◌else◌}
-use Rattle.std.specs.Map.{lookup}
 use Rattle.pci_command.specs.declared.op_id.OpId.{OpId}
 use Rattle.board_model.specs.declared.board.Board.{Board}
 use Rattle.board_model.specs.Ways.{Dword}
 use Rattle.history_model.specs.Knowledge.{is_write, words_named}
-use Rattle.audit_clocks.specs.Tables.{list_in, value_of}
+use Rattle.audit_clocks.specs.Tables.{list_in, value_of, found_in}
 use Rattle.audit_clocks.specs.declared.landings.Word.{Word}
 use Rattle.dword_landings.specs.Hits.{dword}
 use Rattle.law_untagged.specs.Stale.{same_dword}
@@ -15,7 +14,7 @@ use Rattle.write_index.specs.Pending.{first_pending}
 
 -- what is kept of the dword
 abbrev pub listings_of : Word → List (Word × List Listing) → List Listing
-listings_of word entries = list_in (lookup (λ w. same_dword (dword word) (dword w)) entries)
+listings_of word entries = list_in (found_in word entries)
 
 -- a search among what is kept finds the first write that was pending
 pub record Indexes (board : Board) (landed : List (OpId × ℕ)) (index : List (Word × List Listing)) : Type 0 where

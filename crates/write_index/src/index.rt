@@ -4,18 +4,16 @@ ghost use Rattle.audit_clocks.specs.Tables.{list_in};
 use crate::authors::Authors;
 use crate::boards::list_writes;
 use crate::entry::Write;
-use audit_clocks::{Numbers, OpTable};
+use audit_clocks::{Numbers, OpTable, Word, WordTable};
 use bus_tree::Tree;
-use audit_clocks::Word;
 use pci_command::{NoMemory, OpId};
 use std::alloc::Global;
-use std::collections::HashMap;
 use std::marker::Model;
 
 /// The writes of a board, by the dwords that they name and by their masters.
 #[derive(Debug, Drop)]
 pub struct WriteIndex {
-    words: HashMap<Word, Authors>,
+    words: WordTable<Authors>,
 }
 
 impl Model for WriteIndex {
@@ -25,7 +23,7 @@ impl Model for WriteIndex {
 
     ghost Value = { List (Word × List Listing) };
 
-    ghost view = { λ k. k.words.entries };
+    ghost view = { λ k. k.words };
 }
 
 impl WriteIndex {
@@ -52,7 +50,7 @@ impl WriteIndex {
     pub fn first(&self, word: Word, events: usize, bounds: &Numbers) -> Option<OpId>
         ensures { (board : Board) (landed : List (OpId × ℕ)) → Indexes board landed self.now → result ≡ first_pending board landed word events bounds.now }
     {
-        match self.words.get(&word) {
+        match self.words.get(word) {
             Some(authors) => authors.first(events, bounds),
             None => None,
         }
@@ -62,7 +60,7 @@ impl WriteIndex {
         ensures { result ≡ [] }
     {
         WriteIndex {
-            words: HashMap::new(alloc),
+            words: WordTable::new(alloc),
         }
     }
 
@@ -70,10 +68,9 @@ impl WriteIndex {
     pub(crate) fn put(&mut self, alloc: Global, word: Word, write: Write) -> Result<(), NoMemory>
         ensures { OnOk result (Writes write (dword word ∷ []) self.old self.new) }
     {
-        let found = self.words.remove(&word);
+        let found = self.words.take(word);
         let authors = authors_or_new(alloc, found).with(alloc, write)?;
-        self.words.insert(word, authors)?;
-        Ok(())
+        self.words.put(word, authors)
     }
 }
 
