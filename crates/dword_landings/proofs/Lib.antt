@@ -1,0 +1,4 @@
+pub mod HitLemmas
+pub mod TellLemmas
+pub mod StandLemmas
+pub mod Laws
