@@ -1,6 +1,6 @@
 ghost use Rattle.std.specs.Prelude.{◌≡◌, max, replicate, OnOk};
 ghost use Rattle.std.specs.Option.{option_copied};
-ghost use Rattle.audit_clocks.specs.Rows.{own, number, Raises, Reaches};
+ghost use Rattle.audit_clocks.specs.Rows.{own, number, Reaches};
 ghost use Rattle.audit_clocks.specs.Tables.{list_in};
 ghost use Rattle.audit_clocks.specs.Clocks.{told_at, Learns};
 
@@ -31,7 +31,7 @@ impl Model for Clocks {
 impl Clocks {
     ghost use Rattle.std.specs.Prelude.{IfOk, []};
     ghost use Rattle.audit_clocks.specs.Clocks.{Presented, Ended, since_at};
-    ghost use Rattle.audit_clocks.specs.Tables.{numbers_of, Puts};
+    ghost use Rattle.audit_clocks.specs.Tables.{Puts};
 
     /// Nobody of so many masters knows of anything.
     #[tactic(auto, using(crate::proofs::RowLemmas::replicate_more))]
@@ -59,6 +59,13 @@ impl Clocks {
         }
     }
 
+    /// What each operation knew as its master last presented it.
+    pub fn starts(&self) -> &OpTable<Numbers>
+        ensures { result.now ≡ self.now.starts }
+    {
+        &self.starts
+    }
+
     /// A master presents its operation: what it knows is what the operation knows.
     pub fn present(&mut self, alloc: Global, op: OpId) -> Result<(), NoMemory>
         ensures { OnOk result (Presented op self.old self.new) }
@@ -69,16 +76,6 @@ impl Clocks {
                 self.starts.put(op, numbers)
             }
             None => Ok(()),
-        }
-    }
-
-    /// What these writes tell, which landed whole in a dword.
-    pub fn raise(&self, alloc: Global, told: &mut Numbers, op: OpId)
-        ensures { Raises told.old told.new (λ author. max (number (numbers_of op self.now.starts) author) (own op author)) }
-    {
-        match self.starts.get(op) {
-            Some(start) => told.raise(start, op),
-            None => told.raise(&Numbers::empty(alloc), op),
         }
     }
 

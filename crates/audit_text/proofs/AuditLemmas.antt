@@ -9,24 +9,31 @@ use Rattle.law_slots.proofs.Laws.{Run-before}
 use Rattle.audit_model.specs.Audit.{Finding, findings}
 use Rattle.audit_model.specs.Audit as audit
 use Rattle.board_model.specs.Valid.{IsValid}
+use Rattle.dword_landings.specs.Notes.{no_landings}
+use Rattle.dword_landings.specs.Told.{ToldsFor}
+use Rattle.dword_landings.proofs.Laws.{tolds_first}
 use Rattle.audit_text.specs.Notes.{Notes, end_in, Happens}
-use Rattle.audit_text.specs.Told.{ToldsFor}
 use Rattle.audit_text.specs.Search.{Searchable}
 use Rattle.audit_text.specs.Stands.{StandsFor}
 use Rattle.audit_text.specs.Found.{findings_in}
 use Rattle.audit_text.proofs.FoundLemmas.{found_same}
 use Rattle.audit_text.proofs.StandsLemmas.{stands_first, stands_next}
-use Rattle.audit_text.proofs.KeptLemmas.{tolds_first, tolds_next, can_search}
+use Rattle.audit_text.proofs.KeptLemmas.{tolds_next, can_search}
 
 -- after so many events
 pub record SoFar (board : Board) (h : List Event) (notes : Notes) (all : List Finding) : Type 0 where
   pub stands : StandsFor board h notes
-  pub tolds : ToldsFor (length board.masters) notes.whole notes.clocks.starts notes.landed notes.tolds
+  pub tolds : ToldsFor (length board.masters) notes.landings.whole notes.clocks.starts notes.landings.landed notes.landings.tolds
   pub found_is : all ≡ findings board h
 
 pub so_far_none : (board : Board) (notes : Notes) (all : List Finding) → all ≡ []
-    → notes ≡ record { gone = []; landed = []; whole = []; readings = []; gots = []; clocks = record { known = replicate (length board.masters) (replicate (length board.masters) []); starts = []; taught = [] }; tolds = [] } → SoFar board [] notes all
-so_far_none board notes all none is = record { stands = stands_first board notes is; tolds = tolds_first (length board.masters) notes.whole notes.clocks.starts notes.landed notes.tolds (ap (λ (n : Notes). n.tolds) is); found_is = none }
+    → notes ≡ record { landings = no_landings; readings = []; gots = []; clocks = record { known = replicate (length board.masters) (replicate (length board.masters) []); starts = []; taught = [] } } → SoFar board [] notes all
+so_far_none board notes all none is =
+    record {
+      stands = stands_first board notes is;
+      tolds = subst (λ (n : Notes). ToldsFor (length board.masters) n.landings.whole n.clocks.starts n.landings.landed n.landings.tolds) (sym is) (tolds_first (length board.masters) []);
+      found_is = none;
+    }
 
 step : (board : Board) (valid : IsValid board) (h : List Event) (e : Event) (notes next : Notes) (all longer more : List Finding) (index : ℕ) → Run board (e ∷ h) → index ≡ length h → SoFar board h notes all
     → Happens board index e notes next

@@ -26,10 +26,12 @@ use Rattle.audit_model.specs.Chains as chains
 use Rattle.audit_model.specs.Audit.{Finding, is_known_by}
 use Rattle.audit_model.specs.Audit as audit
 use Rattle.audit_text.specs.declared.readings.Reading.{Reading}
-use Rattle.audit_text.specs.Notes.{Notes, or_place, word_of, ended_of, end_in}
+use Rattle.dword_landings.specs.Hits.{op_of_landing, or_place, whole_at}
+use Rattle.dword_landings.proofs.Laws.{whole_has}
+use Rattle.audit_text.specs.Notes.{Notes, word_of, ended_of, end_in}
 use Rattle.audit_text.specs.Found.{since_of, knows_by, got_in, landed_before, is_before, last_known, shows_it, first_shown, shown_by, shown_to, chain_to, chain_from, finding_of, findings_by, findings_as, findings_in}
-use Rattle.audit_text.specs.Stands.{StandsFor, op_of_landing, whole_at, reading_as}
-use Rattle.audit_text.proofs.ReadLemmas.{whole_has, got_front}
+use Rattle.audit_text.specs.Stands.{StandsFor, reading_as}
+use Rattle.audit_text.proofs.ReadLemmas.{got_front}
 use Rattle.audit_text.proofs.WriteLemmas.{IsOfWrite, landings_write}
 
 Each-reverse : (P : Landing → Type 0) (xs : List Landing) → AllByRecursion P xs → AllByRecursion P (reverse xs)
@@ -172,7 +174,7 @@ module _ (board : Board) (valid : IsValid board) (h : List Event) (notes : Notes
   before_is : (reading : WordReading) → Front reading.before h → landed_before notes (reading_as board reading) ≡ map op_of_landing (landed board reading.before reading.word)
   before_is reading front =
       let n : ℕ = length (landed board reading.before reading.word) in
-      ap (λ xs. take n xs) (stands.landed (word_of reading.word.target reading.word.space reading.word.address)) ∙ taken board reading.word reading.before h front
+      ap (λ xs. take n xs) (stands.landings.landed (word_of reading.word.target reading.word.space reading.word.address)) ∙ taken board reading.word reading.before h front
 
   writes_before : (reading : WordReading) → Front reading.before h → AllByRecursion (IsOfWrite board valid) (landed board reading.before reading.word)
   writes_before reading front = landings_write board valid reading.before reading.word (front_run board reading.before h front run)
@@ -199,7 +201,7 @@ module _ (board : Board) (valid : IsValid board) (h : List Event) (notes : Notes
       let list : List Landing = landed board before reading.word in
       let test : OpId → Bool = shows_it notes (reading_as board reading) w in
       let one : (l : Landing) → test l.op ≡ shows w (aware_of board w h) before l = λ l.
-      ap (λ found. is_before (length before) found && (same_op l.op w || knows_by notes w l.op)) (stands.whole l.op)
+      ap (λ found. is_before (length before) found && (same_op l.op w || knows_by notes w l.op)) (stands.landings.whole l.op)
       ∙ ap (λ b. b && (same_op l.op w || knows_by notes w l.op)) (whole_front before h l.op front)
       ∙ ap (λ b. has_landed before l.op && (same_op l.op w || b)) (knows_noted w l.op writes) in
       ap (λ xs. first_shown notes (reading_as board reading) w xs) (before_is reading front)

@@ -1,11 +1,8 @@
 -- What is kept of the dwords stands for one event more, and what landed can be searched along the programs of the authors.
-use Rattle.std.proofs.Common.{◌≡◌, ◌<◌, ◌≤◌, ℕ, zero, suc, ◌+◌, max, Bool, true, false, not, ◌||◌, ◌==◌, cond, eqb-true, nat_lt, length, take, map, slice_get, List, [], ◌∷◌, ◌++◌, Option, Some, None, is_some, refl, sym, ap, subst, ◌∙◌, arith, length-append}
+use Rattle.std.proofs.Common.{◌≡◌, ◌<◌, ◌≤◌, ℕ, zero, suc, Bool, true, false, not, ◌||◌, ◌==◌, eqb-true, nat_lt, length, map, slice_get, List, [], ◌∷◌, Option, Some, None, is_some, refl, sym, ap, subst, ◌∙◌, arith}
 use Rattle.std.specs.List.{AllByRecursion}
-use Rattle.std.proofs.lemmas.List.{take-append-le}
 use Rattle.std.proofs.lemmas.Bool.Decides.{nat_tests}
 use Rattle.std.proofs.lemmas.Bool.{and_parts, or_left, or_right}
-use Rattle.list_facts.specs.Lists.{greatest}
-use Rattle.list_facts.proofs.EachLemmas.{Each-weaker}
 use Rattle.pci_command.specs.declared.op_id.OpId.{OpId}
 use Rattle.pci_command.specs.Same.{same_op}
 use Rattle.board_model.specs.declared.board.Board.{Board}
@@ -13,7 +10,7 @@ use Rattle.board_model.specs.Requests.{op_of, reads}
 use Rattle.board_model.specs.Valid.{IsValid}
 use Rattle.history_model.specs.declared.event.Event.{Event}
 use Rattle.history_model.specs.Words.{Landing, landed}
-use Rattle.history_model.specs.Knowledge.{is_write, is_land_of, has_landed}
+use Rattle.history_model.specs.Knowledge.{is_write, has_landed}
 use Rattle.history_model.specs.Runs.{Run}
 use Rattle.history_facts.proofs.RequestLemmas.{same_op_true}
 use Rattle.law_fresh.specs.Aware.{is_behind, knows, aware_of}
@@ -22,72 +19,33 @@ use Rattle.audit_model.proofs.OwnLemmas.{write_op, same_place}
 use Rattle.audit_model.proofs.StartLemmas.{start_stays}
 use Rattle.audit_model.proofs.OrderLemmas.{earlier_known, landings_know}
 use Rattle.audit_clocks.specs.declared.landings.Word.{Word}
-use Rattle.audit_clocks.specs.Rows.{number, own}
-use Rattle.audit_clocks.specs.Tables.{value_of, numbers_of, writes_in, found_in}
+use Rattle.audit_clocks.specs.Tables.{writes_in}
 use Rattle.audit_clocks.specs.Tracks.{in_order_at}
-use Rattle.audit_text.specs.declared.told.Told.{Told}
-use Rattle.audit_text.specs.Notes.{Notes, or_place, event_hits, Happens}
-use Rattle.audit_text.specs.Told.{told_by, ToldOf, IsTold, ToldsFor}
+use Rattle.dword_landings.specs.Hits.{op_of_landing, dword}
+use Rattle.dword_landings.specs.Told.{ToldsFor}
+use Rattle.dword_landings.specs.Notes.{LandingNotes, AreLandings}
+use Rattle.dword_landings.proofs.Laws.{whole_has, same_stand, tolds_over}
+use Rattle.audit_text.specs.Notes.{Notes, Happens}
 use Rattle.audit_text.specs.Found.{knows_by}
 use Rattle.audit_text.specs.Search.{is_known, tells_of, KnowsAlways, Searchable}
-use Rattle.audit_text.specs.Stands.{StandsFor, op_of_landing, dword}
-use Rattle.audit_text.proofs.ReadLemmas.{whole_has}
+use Rattle.audit_text.specs.Stands.{StandsFor}
 use Rattle.audit_text.proofs.WriteLemmas.{landings_write}
-
-greatest_each : (f g : OpId → ℕ) (xs : List OpId) → AllByRecursion (λ o. f o ≡ g o) xs → greatest f xs ≡ greatest g xs
-greatest_each f g [] alike = refl
-greatest_each f g (x ∷ xs) alike = ap (λ n. max n (greatest f xs)) (alike.0) ∙ ap (λ n. max (g x) n) (greatest_each f g xs alike.1)
-
-still_there : (a b : Option ℕ) → is_some a ≡ true → is_some (or_place a b) ≡ true
-still_there None b is = cc
-still_there (Some n) b is = refl
 
 -- What is kept of the dwords.
 
-module _ (board : Board) (h : List Event) (e : Event) (index : ℕ) (notes new : Notes) (run : Run board (e ∷ h)) (stands : StandsFor board h notes) (next : StandsFor board (e ∷ h) new) (happens : Happens board index e notes new) where
-  whole_there : (o : OpId) → is_some (value_of o notes.whole) ≡ true → is_some (value_of o new.whole) ≡ true
-  whole_there o is = ap is_some (happens.whole.each o) ∙ still_there (value_of o notes.whole) (cond (is_land_of o e) (Some index) None) is
-
-  -- a write that landed whole tells what it told
-  tells_on : (author : ℕ) → author < length board.masters → (o : OpId) → is_some (value_of o notes.whole) ≡ true
-      → told_by notes.whole notes.clocks.starts author o ≡ told_by new.whole new.clocks.starts author o
-  tells_on author below o is =
-      let landed_it : has_landed h o ≡ true = sym (whole_has h o) ∙ sym (ap is_some (stands.whole o)) ∙ is in
-      let start : number (numbers_of o notes.clocks.starts) author ≡ number (numbers_of o new.clocks.starts) author =
-      stands.starts o author below ∙ sym (start_stays board e h o author run landed_it) ∙ sym (next.starts o author below) in
-      let old : told_by notes.whole notes.clocks.starts author o ≡ max (number (numbers_of o notes.clocks.starts) author) (own o author) = rw is refl in
-      let now : told_by new.whole new.clocks.starts author o ≡ max (number (numbers_of o new.clocks.starts) author) (own o author) = rw (whole_there o is) refl in
-      old ∙ ap (λ n. max n (own o author)) start ∙ sym now
-
-  told_on : (word : Word) (told : Told) → IsTold (length board.masters) notes.whole notes.clocks.starts (writes_in word notes.landed) told → IsTold (length board.masters) new.whole new.clocks.starts (writes_in word new.landed) told
-  told_on word told old =
-      let was : ToldOf notes.whole notes.clocks.starts (writes_in word notes.landed) told = old.stands in
-      let before : List OpId = writes_in word notes.landed in
-      let more : List OpId = event_hits board notes.gone e word in
-      let longer : writes_in word new.landed ≡ before ++ more = happens.landed.each word in
-      let count : length (writes_in word new.landed) ≡ length before + length more = ap (λ (xs : List OpId). length xs) longer ∙ length-append before more in
-      record {
-        authors = old.authors;
-        stands = record {
-          within = (let within = was.within in omega (arith, within, count));
-          joined = was.joined;
-          landed = Each-weaker (λ o. is_some (value_of o notes.whole) ≡ true) (λ o. is_some (value_of o new.whole) ≡ true) whole_there was.joined was.landed;
-          each = λ author below.
-              let inside : author < length board.masters = subst (λ n. author < n) old.authors below in
-              was.each author below
-              ∙ greatest_each (told_by notes.whole notes.clocks.starts author) (told_by new.whole new.clocks.starts author) was.joined
-              (Each-weaker (λ o. is_some (value_of o notes.whole) ≡ true) (λ o. told_by notes.whole notes.clocks.starts author o ≡ told_by new.whole new.clocks.starts author o) (tells_on author inside) was.joined was.landed);
-          all = λ f. ap (λ xs. greatest f (take told.count xs)) longer ∙ ap (λ xs. greatest f xs) (take-append-le told.count before more was.within) ∙ was.all f;
-        };
-      }
-
-  pub tolds_next : ToldsFor (length board.masters) new.whole new.clocks.starts new.landed new.tolds
-  tolds_next = record { each = λ word told is. told_on word told (happens.tolds.each word told is) }
-
--- before the first event
-pub tolds_first : (masters : ℕ) (whole : List (OpId × ℕ)) (starts : List (OpId × List ℕ)) (landed : List (Word × List OpId)) (tolds : List (Word × Told)) → tolds ≡ [] → ToldsFor masters whole starts landed tolds
-tolds_first masters whole starts landed tolds is =
-    record { each = λ word told found. let none : None ≡ Some told = ap (λ (xs : List (Word × Told)). found_in word xs) (sym is) ∙ found in cc }
+-- what landed whole goes on telling what it told
+pub tolds_next : (board : Board) (h : List Event) (e : Event) (index : ℕ) (notes new : Notes) → Run board (e ∷ h) → StandsFor board h notes → StandsFor board (e ∷ h) new → Happens board index e notes new
+    → ToldsFor (length board.masters) new.landings.whole new.clocks.starts new.landings.landed new.landings.tolds
+tolds_next board h e index notes new run stands next happens =
+    let M : ℕ = length board.masters in
+    let looked : LandingNotes = happens.looked in
+    let still : AreLandings board h looked = same_stand board h notes.landings looked happens.same stands.landings in
+    let told : ToldsFor M looked.whole new.clocks.starts looked.landed looked.tolds =
+    tolds_over M looked.whole notes.clocks.starts new.clocks.starts looked.landed looked.tolds happens.tolds
+    (λ o author below is.
+    let landed_it : has_landed h o ≡ true = sym (whole_has h o) ∙ sym (ap is_some (still.whole o)) ∙ is in
+    next.starts o author below ∙ start_stays board e h o author run landed_it ∙ sym (stands.starts o author below)) in
+    happens.happened.told M new.clocks.starts told
 
 -- What landed can be searched.
 
@@ -125,10 +83,10 @@ or_swap false b is = or_left b false is
 
 module _ (board : Board) (valid : IsValid board) (h : List Event) (notes : Notes) (run : Run board h) (stands : StandsFor board h notes) where
   abbrev writes : Word → List OpId
-  writes word = writes_in word notes.landed
+  writes word = writes_in word notes.landings.landed
 
   landed_at : (word : Word) (i : ℕ) (w : OpId) → slice_get (writes word) i ≡ Some w → slice_get (map op_of_landing (landed board h (dword word))) i ≡ Some w
-  landed_at word i w is = ap (λ xs. slice_get xs i) (sym (stands.landed word)) ∙ is
+  landed_at word i w is = ap (λ xs. slice_get xs i) (sym (stands.landings.landed word)) ∙ is
 
   is_write_at : (word : Word) (i : ℕ) (w : OpId) → slice_get (writes word) i ≡ Some w → is_write board w ≡ true
   is_write_at word i w is = each_op (λ o. is_write board o ≡ true) (landed board h (dword word)) i w (landings_write board valid h (dword word) run) (landed_at word i w is)

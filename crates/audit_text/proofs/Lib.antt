@@ -1,4 +1,3 @@
-pub mod HitLemmas
 pub mod ReadLemmas
 pub mod WriteLemmas
 pub mod StandsLemmas
@@ -6,6 +5,5 @@ pub mod ChainLemmas
 pub mod LineLemmas
 pub mod FoundLemmas
 pub mod AuditLemmas
-pub mod TellLemmas
 pub mod SearchLemmas
 pub mod KeptLemmas

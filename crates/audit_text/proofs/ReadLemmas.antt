@@ -1,5 +1,5 @@
 -- What was read, and what a read got, as it is noted down.
-use Rattle.std.proofs.Common.{◌≡◌, ◌<◌, ◌||◌, ℕ, max, Bool, true, false, cond, length, map, List, [], ◌∷◌, Option, Some, None, is_some, refl, sym, ap, subst, ◌∙◌}
+use Rattle.std.proofs.Common.{◌≡◌, ◌<◌, ℕ, Bool, true, false, cond, length, List, [], ◌∷◌, Option, Some, None, is_some, refl, sym, ap, subst, ◌∙◌}
 use Rattle.std.specs.Option.{option_map}
 use Rattle.std.proofs.lemmas.List.{length-map}
 use Rattle.list_facts.specs.Lists.{greatest}
@@ -15,18 +15,21 @@ use Rattle.history_model.specs.declared.event.Step.TheVariants.{Land, Part, Read
 use Rattle.history_model.specs.declared.event.Event.{Event}
 use Rattle.history_model.specs.declared.event.Event.TheVariants.{Act, Arrive}
 use Rattle.history_model.specs.Program.{Ending, ended}
-use Rattle.history_model.specs.Words.{Landing, landed}
-use Rattle.history_model.specs.Knowledge.{Reading as WordReading, value_in, outcome_in, value_of_ending, ends_with, up_to_end, reading_of, reading_by, reading_in, reading_or, last_reading, got, is_land_of, has_landed}
+use Rattle.history_model.specs.Words.{landed}
+use Rattle.history_model.specs.Knowledge.{Reading as WordReading, value_in, outcome_in, value_of_ending, ends_with, up_to_end, reading_of, reading_by, reading_in, reading_or, last_reading, got}
 use Rattle.history_facts.proofs.RequestLemmas.{same_op_true}
 use Rattle.law_fresh.proofs.Laws.{Front, before_in}
-use Rattle.audit_model.specs.Clocks.{Clocks, clocks_of, taught_by, landing_tells, word_tells}
-use Rattle.audit_clocks.specs.Rows.{number, own}
+use Rattle.audit_model.specs.Clocks.{Clocks, clocks_of, taught_by, word_tells}
+use Rattle.audit_clocks.specs.declared.landings.Word.{Word}
+use Rattle.audit_clocks.specs.Rows.{number}
 use Rattle.audit_clocks.specs.Tables.{value_of, numbers_of, writes_in}
 use Rattle.audit_clocks.specs.Clocks.{ClockState}
 use Rattle.audit_text.specs.declared.readings.Reading.{Reading}
-use Rattle.audit_text.specs.Notes.{Notes, flat, or_place, read_of, word_read, read_in, ReadSo, Reads, Gets, EndsSo, Ends, ended_of}
-use Rattle.audit_text.specs.Told.{told_by}
-use Rattle.audit_text.specs.Stands.{StandsFor, op_of_landing, reading_as, whole_at}
+use Rattle.dword_landings.specs.Hits.{op_of_landing, dword}
+use Rattle.dword_landings.specs.Told.{told_by}
+use Rattle.dword_landings.proofs.Laws.{word_told}
+use Rattle.audit_text.specs.Notes.{Notes, flat, read_of, word_read, read_in, ReadSo, Reads, Gets, EndsSo, Ends, ended_of}
+use Rattle.audit_text.specs.Stands.{StandsFor, reading_as}
 
 -- the history before does not matter to what an event reads
 of_same : (p : OpId) (target value : ℕ) (h : List Event) (request : Option Request) → option_map (read_of p) (reading_of target value [] request) ≡ option_map (read_of p) (reading_of target value h request)
@@ -47,29 +50,6 @@ read_same board h p on Stall place = refl
 read_same board h p on MasterAbort place = refl
 read_same board h p on TargetAbort place = refl
 
--- who landed whole, by its place among the events
-or_some : (a b : Option ℕ) → is_some (or_place a b) ≡ (is_some b || is_some a)
-or_some None None = refl
-or_some None (Some n) = refl
-or_some (Some m) None = refl
-or_some (Some m) (Some n) = refl
-
-pub whole_has : (h : List Event) (o : OpId) → is_some (whole_at h o) ≡ has_landed h o
-whole_has [] o = refl
-whole_has (e ∷ h) o =
-    let P : Bool → Type 0 = λ b. is_some (cond b (Some (length h)) None) ≡ b in
-    or_some (whole_at h o) (cond (is_land_of o e) (Some (length h)) None)
-    ∙ ap (λ b. b || is_some (whole_at h o)) (elim (is_land_of o e) as P [ true ↦ refl | false ↦ refl ])
-    ∙ ap (λ b. is_land_of o e || b) (whole_has h o)
-
-greatest_map : (f : OpId → ℕ) (xs : List Landing) → greatest f (map op_of_landing xs) ≡ greatest (λ (l : Landing). f l.op) xs
-greatest_map f [] = refl
-greatest_map f (x ∷ xs) = ap (λ n. max (f x.op) n) (greatest_map f xs)
-
-greatest_same : (f g : Landing → ℕ) → ((l : Landing) → f l ≡ g l) → (xs : List Landing) → greatest f xs ≡ greatest g xs
-greatest_same f g same [] = refl
-greatest_same f g same (x ∷ xs) = ap (λ n. max n (greatest f xs)) (same x) ∙ ap (λ n. max (g x) n) (greatest_same f g same xs)
-
 -- after what an event read was noted down
 pub record AfterRead (board : Board) (e : Event) (h : List Event) (old new : ClockState) (readings : List (OpId × Reading)) : Type 0 where
   pub known : new.known ≡ old.known
@@ -79,27 +59,19 @@ pub record AfterRead (board : Board) (e : Event) (h : List Event) (old new : Clo
 
 module _ (board : Board) (h : List Event) (notes : Notes) (stands : StandsFor board h notes) where
   -- what landed whole in a dword tells what the clocks say
-  word_told : (word : Rattle.audit_clocks.specs.declared.landings.Word.Word) (author : ℕ) → author < length board.masters
-      → greatest (told_by notes.whole notes.clocks.starts author) (writes_in word notes.landed) ≡ word_tells board (clocks_of board h) h (Rattle.audit_text.specs.Stands.dword word) author
-  word_told word author within =
-      let tells : OpId → ℕ = told_by notes.whole notes.clocks.starts author in
-      let list : List Landing = landed board h (Rattle.audit_text.specs.Stands.dword word) in
-      ap (λ ops. greatest tells ops) (stands.landed word)
-      ∙ greatest_map tells list
-      ∙ greatest_same (λ (l : Landing). tells l.op) (landing_tells (clocks_of board h) h author)
-      (λ l.
-      ap (λ found. cond (is_some found) (max (number (numbers_of l.op notes.clocks.starts) author) (own l.op author)) 0) (stands.whole l.op)
-      ∙ ap (λ b. cond b (max (number (numbers_of l.op notes.clocks.starts) author) (own l.op author)) 0) (whole_has h l.op)
-      ∙ ap (λ n. cond (has_landed h l.op) (max n (own l.op author)) 0) (stands.starts l.op author within)) list
+  tells_clocks : (word : Word) (author : ℕ) → author < length board.masters
+      → greatest (told_by notes.landings.whole notes.clocks.starts author) (writes_in word notes.landings.landed) ≡ word_tells board (clocks_of board h) h (dword word) author
+  tells_clocks word author within =
+      word_told board h notes.landings stands.landings notes.clocks.starts (λ o. (clocks_of board h).start o author) author (λ o _. stands.starts o author within) word
 
   act_read : (on : ℕ) (by : Rattle.history_model.specs.declared.event.By.By) (p : OpId) (step : Step) (place : Place) (new : ClockState) (readings : List (OpId × Reading))
-      → Reads (length board.masters) (length h) notes.landed notes.whole (option_map (read_of p) (reading_by board h on p step place)) notes.clocks new notes.readings readings
+      → Reads (length board.masters) (length h) notes.landings (option_map (read_of p) (reading_by board h on p step place)) notes.clocks new notes.readings readings
       → AfterRead board (Act on by p step place) h notes.clocks new readings
   act_read on by p step place new readings reads =
       let e : Event = Act on by p step place in
       let masters : ℕ = length board.masters in
       let clocks : Clocks = clocks_of board h in
-      let P : Option WordReading → Type 0 = λ here. reading_by board h on p step place ≡ here → Reads masters (length h) notes.landed notes.whole (option_map (read_of p) here) notes.clocks new notes.readings readings → AfterRead board e h notes.clocks new readings in
+      let P : Option WordReading → Type 0 = λ here. reading_by board h on p step place ≡ here → Reads masters (length h) notes.landings (option_map (read_of p) here) notes.clocks new notes.readings readings → AfterRead board e h notes.clocks new readings in
       (elim (reading_by board h on p step place) as P [
         | None ↦ λ none r.
             let nothing : (o : OpId) → reading_in board h o e ≡ None = λ o.
@@ -112,7 +84,7 @@ module _ (board : Board) (h : List Event) (notes : Notes) (stands : StandsFor bo
               readings_are = λ o. ap (λ xs. value_of o xs) r.1 ∙ stands.readings o ∙ ap (λ found. option_map (reading_as board) (reading_or found (last_reading board o h))) (sym (nothing o));
             }
         | Some reading ↦ λ some r.
-            let so : ReadSo masters (length h) notes.landed notes.whole (read_of p reading) notes.clocks new notes.readings readings = r in
+            let so : ReadSo masters (length h) notes.landings (read_of p reading) notes.clocks new notes.readings readings = r in
             let mine : reading_in board h p e ≡ Some reading = rw (Rattle.history_facts.proofs.RequestLemmas.same_op_self p) some in
             let before : reading.before ≡ h = before_in board h p e reading mine in
             record {
@@ -123,15 +95,15 @@ module _ (board : Board) (h : List Event) (notes : Notes) (stands : StandsFor bo
                   ap (λ found. number (Rattle.audit_clocks.specs.Tables.list_in found) author) (so.taught.each o)
                   ∙ (elim (same_op p o) as Q [
                     | true ↦
-                        so.tells.each author within ∙ word_told (word_read (read_of p reading)) author within
+                        so.tells.each author within ∙ tells_clocks (word_read (read_of p reading)) author within
                         ∙ ap (λ g. word_tells board clocks g reading.word author) (sym before)
                         ∙ sym (ap (λ found. taught_by board clocks (clocks.taught o) found author) some)
                     | false ↦ stands.taught o author within
                   ]);
               readings_are = λ o.
-                  let entry : Reading = Rattle.audit_text.specs.Notes.reading_of (read_of p reading) (length (writes_in (word_read (read_of p reading)) notes.landed)) (length h) in
+                  let entry : Reading = Rattle.audit_text.specs.Notes.reading_of (read_of p reading) (length (writes_in (word_read (read_of p reading)) notes.landings.landed)) (length h) in
                   let is_it : entry ≡ reading_as board reading =
-                  ap (λ n. Rattle.audit_text.specs.Notes.reading_of (read_of p reading) n (length h)) (ap (λ xs. length xs) (stands.landed (word_read (read_of p reading))) ∙ length-map (landed board h reading.word) op_of_landing)
+                  ap (λ n. Rattle.audit_text.specs.Notes.reading_of (read_of p reading) n (length h)) (ap (λ xs. length xs) (stands.landings.landed (word_read (read_of p reading))) ∙ length-map (landed board h reading.word) op_of_landing)
                   ∙ ap (λ g. Rattle.audit_text.specs.Notes.reading_of (read_of p reading) (length (landed board g reading.word)) (length g)) (sym before) in
                   let Q : Bool → Type 0 = λ b. cond b (Some entry) (value_of o notes.readings) ≡ option_map (reading_as board) (reading_or (cond b (reading_by board h on p step place) None) (last_reading board o h)) in
                   so.reading.each o
@@ -142,10 +114,10 @@ module _ (board : Board) (h : List Event) (notes : Notes) (stands : StandsFor bo
             }
       ]) refl reads
 
-  pub event_read : (e : Event) (new : ClockState) (readings : List (OpId × Reading)) → Reads (length board.masters) (length h) notes.landed notes.whole (read_in board e) notes.clocks new notes.readings readings → AfterRead board e h notes.clocks new readings
+  pub event_read : (e : Event) (new : ClockState) (readings : List (OpId × Reading)) → Reads (length board.masters) (length h) notes.landings (read_in board e) notes.clocks new notes.readings readings → AfterRead board e h notes.clocks new readings
   event_read (Act on by p step place) new readings reads =
       act_read on by p step place new readings
-      (subst (λ found. Reads (length board.masters) (length h) notes.landed notes.whole found notes.clocks new notes.readings readings) (read_same board h p on step place) reads)
+      (subst (λ found. Reads (length board.masters) (length h) notes.landings found notes.clocks new notes.readings readings) (read_same board h p on step place) reads)
   event_read (Arrive lane mark) new readings reads =
       record {
         known = ap (λ (c : ClockState). c.known) reads.0;

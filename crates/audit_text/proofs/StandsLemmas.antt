@@ -1,9 +1,9 @@
 -- What is noted down stands for one event more.
-use Rattle.std.proofs.Common.{◌≡◌, ◌<◌, ◌≤◌, ℕ, zero, suc, ◌+◌, ◌-◌, ◌^◌, max, Bool, true, false, ◌&&◌, ◌==◌, cond, eqb, eqb-true, nat_lt, length, map, replicate, slice_get, List, [], ◌∷◌, ◌++◌, Option, Some, None, is_some, refl, sym, ap, subst, ◌∙◌, arith, length-append}
+use Rattle.std.proofs.Common.{◌≡◌, ◌<◌, ◌≤◌, ℕ, zero, suc, ◌+◌, ◌-◌, max, Bool, true, false, ◌&&◌, ◌==◌, cond, eqb, eqb-true, nat_lt, length, map, replicate, slice_get, List, [], ◌∷◌, ◌++◌, Option, Some, None, is_some, refl, sym, ap, subst, ◌∙◌, arith, length-append}
 use Rattle.std.specs.Option.{option_map}
 use Rattle.std.proofs.Math.ListN.{get_or-map, get_or-append, get_or-eq_default}
 use Rattle.std.proofs.Math.Seq.{get_or-append_right}
-use Rattle.std.proofs.lemmas.List.{map-append, length-replicate, get_or-replicate}
+use Rattle.std.proofs.lemmas.List.{length-replicate, get_or-replicate}
 use Rattle.std.proofs.lemmas.Option.{slice_get_past, slice_get-get_or, slice_get_within}
 use Rattle.std.proofs.lemmas.Bool.Decides.{nat_tests}
 use Rattle.pci_command.specs.declared.op_id.OpId.{OpId}
@@ -17,8 +17,7 @@ use Rattle.history_model.specs.declared.event.Step.{Step}
 use Rattle.history_model.specs.declared.event.Event.{Event}
 use Rattle.history_model.specs.declared.event.Event.TheVariants.{Act, Arrive}
 use Rattle.history_model.specs.Program.{Ending, ended, turn_of}
-use Rattle.history_model.specs.Words.{through, landed, brought}
-use Rattle.history_model.specs.Knowledge.{value_in, is_write, last_reading}
+use Rattle.history_model.specs.Knowledge.{value_in, is_write}
 use Rattle.history_model.specs.Runs.{Run}
 use Rattle.history_facts.proofs.WantsLemmas.{wants-turn}
 use Rattle.audit_model.proofs.OwnLemmas.{turn_is_there}
@@ -31,9 +30,10 @@ use Rattle.audit_clocks.specs.Rows.{number, own, row, reached}
 use Rattle.audit_clocks.specs.Tables.{value_of, numbers_of, list_in}
 use Rattle.audit_clocks.specs.Clocks.{ClockState, Presented, Ended, known_at, since_at, told_at}
 use Rattle.audit_text.specs.declared.readings.Reading.{Reading}
-use Rattle.audit_text.specs.Notes.{Notes, few_of, count_of, or_place, Presents, EndsSo, Ends, ended_of, Happens}
-use Rattle.audit_text.specs.Stands.{StandsFor, op_of_landing, dword}
-use Rattle.audit_text.proofs.HitLemmas.{event_hit}
+use Rattle.dword_landings.specs.Notes.{no_landings}
+use Rattle.dword_landings.proofs.Laws.{landings_first, same_stand}
+use Rattle.audit_text.specs.Notes.{Notes, Presents, EndsSo, Ends, ended_of, Happens}
+use Rattle.audit_text.specs.Stands.{StandsFor}
 use Rattle.audit_text.proofs.ReadLemmas.{AfterRead, event_read, event_got}
 
 -- an operation that is there has a master
@@ -301,17 +301,8 @@ module _ (board : Board) (valid : IsValid board) (h : List Event) (notes : Notes
       let taught : (o : OpId) (author : ℕ) → author < M → number (numbers_of o happens.presented.taught) author ≡ (clocks_of board (e ∷ h)).taught o author =
       λ o author below. ap (λ (s : List (OpId × List ℕ)). number (numbers_of o s) author) start.taught ∙ read.taught o author below in
       let end : AfterEnd e new.clocks = event_ends e happens.presented new.clocks new.readings new.gots run (start.known ∙ read.known) start.starts taught happens.ends in
-      let few : (o : OpId) → count_of o notes.gone ≤ 2 ^ 100 = λ o. let at_most = stands.few o in let same = stands.gone o in let within = happens.within in omega (arith, at_most, same, within) in
-      let exact : (o : OpId) → few_of o notes.gone ≡ through h o = λ o. let at_most = few o in let same = stands.gone o in omega (arith, at_most, same) in
       record {
-        gone = λ o. let next = happens.gone.each o (few o) in let same = stands.gone o in omega (arith, next, same);
-        few = λ o. let small = happens.gone.small o in let old = stands.few o in omega (arith, small, old);
-        landed = λ word.
-            happens.landed.each word
-            ∙ ap (λ xs. xs ++ Rattle.audit_text.specs.Notes.event_hits board notes.gone e word) (stands.landed word)
-            ∙ ap (λ xs. map op_of_landing (landed board h (dword word)) ++ xs) (event_hit word board h notes.gone e exact)
-            ∙ sym (map-append op_of_landing (landed board h (dword word)) (brought board h (dword word) e));
-        whole = λ o. happens.whole.each o ∙ ap (λ found. or_place found (cond (Rattle.history_model.specs.Knowledge.is_land_of o e) (Some (length h)) None)) (stands.whole o);
+        landings = happens.happened.stands h refl (same_stand board h notes.landings happens.looked happens.same stands.landings);
         readings = read.readings_are;
         gots = event_got board h notes stands e happens.presented new.clocks new.readings new.gots read.readings_are happens.ends;
         masters = end.masters;
@@ -327,17 +318,14 @@ module _ (board : Board) (valid : IsValid board) (h : List Event) (notes : Notes
 
 -- before the first event
 pub stands_first : (board : Board) (notes : Notes)
-    → notes ≡ record { gone = []; landed = []; whole = []; readings = []; gots = []; clocks = record { known = replicate (length board.masters) (replicate (length board.masters) []); starts = []; taught = [] }; tolds = [] } → StandsFor board [] notes
+    → notes ≡ record { landings = no_landings; readings = []; gots = []; clocks = record { known = replicate (length board.masters) (replicate (length board.masters) []); starts = []; taught = [] } } → StandsFor board [] notes
 stands_first board notes is =
     let M : ℕ = length board.masters in
     let none : List (List OpId) = replicate M [] in
-    let first : Notes = record { gone = []; landed = []; whole = []; readings = []; gots = []; clocks = record { known = replicate M none; starts = []; taught = [] }; tolds = [] } in
+    let first : Notes = record { landings = no_landings; readings = []; gots = []; clocks = record { known = replicate M none; starts = []; taught = [] } } in
     let rows : (master : ℕ) → master < M → known_at (replicate M none) master ≡ none = λ master within. get_or-replicate M master none [] within in
     subst (StandsFor board []) (sym is) (record {
-      gone = λ o. refl;
-      few = λ o. omega arith;
-      landed = λ word. refl;
-      whole = λ o. refl;
+      landings = landings_first board;
       readings = λ o. refl;
       gots = λ o. refl;
       masters = length-replicate M none;

@@ -25,7 +25,7 @@ use Rattle.history_facts.proofs.AnswerLemmas.{answered_at}
 use Rattle.law_reach.proofs.Laws.{lane_there}
 use Rattle.law_reads.proofs.Laws.{read_answered, not_posted, read_or_not}
 use Rattle.law_fresh.proofs.Laws.{IsOf, brought_of, IsThere, landings_there}
-use Rattle.audit_text.proofs.HitLemmas.{none_landed}
+use Rattle.dword_landings.proofs.Laws.{none_landed}
 
 module _ (board : Board) (valid : IsValid board) where
   -- a read neither lands nor is a part

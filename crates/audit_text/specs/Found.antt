@@ -30,7 +30,7 @@ got_in notes o = flat (value_of o notes.gots)
 
 -- the writes of what landed in the dword before the reading
 abbrev pub landed_before : Notes → Reading → List OpId
-landed_before notes reading = take reading.landed (writes_in (word_of reading.target reading.space reading.address) notes.landed)
+landed_before notes reading = take reading.landed (writes_in (word_of reading.target reading.space reading.address) notes.landings.landed)
 
 -- before so many events
 abbrev pub is_before : ℕ → Option ℕ → Bool
@@ -39,7 +39,7 @@ is_before events (Some place) = nat_lt place events
 
 -- the write landed whole before the reading
 abbrev pub landed_whole : Notes → Reading → OpId → Bool
-landed_whole notes reading o = is_before reading.events (value_of o notes.whole)
+landed_whole notes reading o = is_before reading.events (value_of o notes.landings.whole)
 
 -- the last of these of which the operation knows
 abbrev pub last_known : Notes → OpId → Option OpId → List OpId → Option OpId

@@ -1,4 +1,3 @@
-pub mod Told
 pub mod Notes
 pub mod Lines
 pub mod Found

@@ -11,7 +11,7 @@ use Rattle.audit_text.specs.Found.{knows_by, landed_whole, shows_it}
 
 -- all that landed in the dword of a reading
 abbrev pub writes_at : Notes → Reading → List OpId
-writes_at notes reading = writes_in (word_of reading.target reading.space reading.address) notes.landed
+writes_at notes reading = writes_in (word_of reading.target reading.space reading.address) notes.landings.landed
 
 -- a write is there, and the read knows of it
 abbrev pub is_known : Notes → OpId → Option OpId → Bool
@@ -33,19 +33,19 @@ abbrev pub KnowsEarlier : Notes → OpId → List OpId → Type 0
 KnowsEarlier notes r writes = (i j : ℕ) → in_order_at (slice_get writes i) (slice_get writes j) ≡ true → is_known notes r (slice_get writes j) ≡ true → is_known notes r (slice_get writes i) ≡ true
 
 abbrev pub KnowsAlways : Notes → OpId → Type 0
-KnowsAlways notes r = (word : Word) → KnowsEarlier notes r (writes_in word notes.landed)
+KnowsAlways notes r = (word : Word) → KnowsEarlier notes r (writes_in word notes.landings.landed)
 
 -- where an operation tells of a write, the later ones of its author do
 abbrev pub TellsLater : Notes → OpId → List OpId → Type 0
 TellsLater notes w writes = (i j : ℕ) → in_order_at (slice_get writes i) (slice_get writes j) ≡ true → tells_of notes w (slice_get writes i) ≡ true → tells_of notes w (slice_get writes j) ≡ true
 
 abbrev pub TellsAlways : Notes → OpId → Type 0
-TellsAlways notes w = (word : Word) → TellsLater notes w (writes_in word notes.landed)
+TellsAlways notes w = (word : Word) → TellsLater notes w (writes_in word notes.landings.landed)
 
 -- so it is of every operation, and of every write of which a data phase landed
 pub record Searchable (notes : Notes) : Type 0 where
   pub known : (r : OpId) → KnowsAlways notes r
-  pub told : (word : Word) (i : ℕ) (w : OpId) → slice_get (writes_in word notes.landed) i ≡ Some w → TellsAlways notes w
+  pub told : (word : Word) (i : ℕ) (w : OpId) → slice_get (writes_in word notes.landings.landed) i ≡ Some w → TellsAlways notes w
 
 -- rising places
 abbrev pub AreRising : List ℕ → Type 0

@@ -1,31 +1,19 @@
 -- What an audit noted down stands for a run.
-use Rattle.std.specs.Prelude.{◌≡◌, ◌<◌, ◌≤◌, ◌*◌, ℕ, true, List, [], ◌∷◌, length, map, Option, Some, None, if◌then◌else◌}
+use Rattle.std.specs.Prelude.{◌≡◌, ◌<◌, ℕ, true, List, length}
 use Rattle.std.specs.Option.{option_map}
 use Rattle.pci_command.specs.declared.op_id.OpId.{OpId}
 use Rattle.board_model.specs.declared.board.Board.{Board}
-use Rattle.board_model.specs.Ways.{Dword}
 use Rattle.history_model.specs.declared.event.Event.{Event}
-use Rattle.history_model.specs.Words.{Landing, landed, through}
-use Rattle.history_model.specs.Knowledge.{Reading as WordReading, last_reading, got, is_land_of, is_write}
+use Rattle.history_model.specs.Words.{landed}
+use Rattle.history_model.specs.Knowledge.{Reading as WordReading, last_reading, got, is_write}
 use Rattle.law_fresh.specs.Aware.{aware_of}
 use Rattle.audit_model.specs.Clocks.{clocks_of}
-use Rattle.audit_clocks.specs.declared.landings.Word.{Word}
 use Rattle.audit_clocks.specs.Rows.{number, row}
-use Rattle.audit_clocks.specs.Tables.{value_of, numbers_of, writes_in}
+use Rattle.audit_clocks.specs.Tables.{value_of, numbers_of}
 use Rattle.audit_clocks.specs.Clocks.{known_at, since_at}
 use Rattle.audit_text.specs.declared.readings.Reading.{Reading}
-use Rattle.audit_text.specs.Notes.{Notes, flat, count_of, or_place}
-
-abbrev pub op_of_landing : Landing → OpId
-op_of_landing landing = landing.op
-
-abbrev pub dword : Word → Dword
-dword word = record { target = word.target; space = word.space; address = word.address }
-
--- how many events there were before the write landed whole, if it did
-abbrev pub whole_at : List Event → OpId → Option ℕ
-whole_at [] o = None
-whole_at (e ∷ h) o = or_place (whole_at h o) (if is_land_of o e then Some (length h) else None)
+use Rattle.dword_landings.specs.Notes.{AreLandings}
+use Rattle.audit_text.specs.Notes.{Notes, flat}
 
 -- a reading, by how much there was before it
 abbrev pub reading_as : Board → WordReading → Reading
@@ -41,10 +29,7 @@ reading_as board reading =
 
 -- what was noted down stands for a run of the board, of these events, the latest first
 pub record StandsFor (board : Board) (h : List Event) (notes : Notes) : Type 0 where
-  pub gone : (o : OpId) → count_of o notes.gone ≡ through h o
-  pub few : (o : OpId) → through h o ≤ 255 * length h
-  pub landed : (word : Word) → writes_in word notes.landed ≡ map op_of_landing (landed board h (dword word))
-  pub whole : (o : OpId) → value_of o notes.whole ≡ whole_at h o
+  pub landings : AreLandings board h notes.landings
   pub readings : (o : OpId) → value_of o notes.readings ≡ option_map (reading_as board) (last_reading board o h)
   pub gots : (o : OpId) → flat (value_of o notes.gots) ≡ option_map (reading_as board) (got board h o)
   -- a row for each author, of each master

@@ -1,13 +1,13 @@
 ghost use Rattle.std.specs.Prelude.{◌≡◌, OnOk, IfOk, length, take};
-ghost use Rattle.audit_text.specs.Notes.{Reads, Presents, Landed, Ends, Gets};
-ghost use Rattle.audit_text.specs.Told.{ToldsFor};
+ghost use Rattle.dword_landings.specs.Notes.{SameLandings};
+ghost use Rattle.dword_landings.specs.Told.{ToldsFor};
+ghost use Rattle.audit_text.specs.Notes.{Reads, Presents, Ends, Gets};
 
 use crate::ends::{Ended, end_in};
-use crate::landed::{is_land, record_landed, record_parted};
 use crate::readings::{Read, Reading, read_in, word_of};
-use crate::told::{Told, told_in};
-use audit_clocks::{Clocks, Landings, OpTable, Track, WordTable};
+use audit_clocks::{Clocks, OpTable, Track};
 use board_model::Board;
+use dword_landings::DwordLandings;
 use history_model::{By, Event};
 use pci_command::{NoMemory, OpId};
 use std::alloc::Global;
@@ -16,20 +16,14 @@ use std::marker::Model;
 /// What an audit notes down of a run.
 #[derive(Debug, Drop)]
 pub(crate) struct Ledger {
-    /// How many data phases of each write went through.
-    gone: OpTable<u128>,
-    /// The writes of the data phases that landed, by dword.
-    landed: Landings,
-    /// Of each write that landed whole, how many events there were before.
-    whole: OpTable<usize>,
+    /// What landed in each dword.
+    landings: DwordLandings,
     /// What each operation last read at a target.
     readings: OpTable<Reading>,
     /// What each read got that its master ended with a value, if it read that at a target.
     gots: OpTable<Option<Reading>>,
     /// What each master knows, and since when.
     clocks: Clocks,
-    /// What the landings of each dword tell that were looked at.
-    tolds: WordTable<Told>,
 }
 
 impl Model for Ledger {
@@ -37,11 +31,12 @@ impl Model for Ledger {
 
     ghost Value = { Notes };
 
-    ghost view = { λ k. record { gone = k.gone; landed = k.landed; whole = k.whole; readings = k.readings; gots = k.gots; clocks = k.clocks; tolds = k.tolds } };
+    ghost view = { λ k. record { landings = k.landings; readings = k.readings; gots = k.gots; clocks = k.clocks } };
 }
 
 impl Ledger {
     ghost use Rattle.std.specs.Prelude.{[], replicate};
+    ghost use Rattle.dword_landings.specs.Notes.{no_landings};
     ghost use Rattle.audit_text.specs.Notes.{Happens};
     ghost use Rattle.audit_clocks.specs.Tracks.{Tracked};
     ghost use Rattle.audit_text.specs.Found.{since_of, got_in, landed_before, landed_whole};
@@ -50,16 +45,13 @@ impl Ledger {
     /// Nothing happened.
     pub(crate) fn new(alloc: Global, board: &Board) -> Result<Ledger, NoMemory>
         ensures { let masters = length board.now.masters in
-            IfOk result (λ ledger. ledger ≡ record { gone = []; landed = []; whole = []; readings = []; gots = []; clocks = record { known = replicate masters (replicate masters []); starts = []; taught = [] }; tolds = [] }) }
+            IfOk result (λ ledger. ledger ≡ record { landings = no_landings; readings = []; gots = []; clocks = record { known = replicate masters (replicate masters []); starts = []; taught = [] } }) }
     {
         Ok(Ledger {
-            gone: OpTable::new(alloc),
-            landed: Landings::new(alloc),
-            whole: OpTable::new(alloc),
+            landings: DwordLandings::new(alloc),
             readings: OpTable::new(alloc),
             gots: OpTable::new(alloc),
             clocks: Clocks::new(alloc, board.masters.as_slice().len())?,
-            tolds: WordTable::new(alloc),
         })
     }
 
@@ -71,7 +63,7 @@ impl Ledger {
         index: usize,
         event: &Event,
     ) -> Result<(), NoMemory>
-        requires { ToldsFor (length board.now.masters) self.old.whole self.old.clocks.starts self.old.landed self.old.tolds }
+        requires { ToldsFor (length board.now.masters) self.old.landings.whole self.old.clocks.starts self.old.landings.landed self.old.landings.tolds }
         ensures { OnOk result (Happens board.now index event.now self.old self.new) }
     {
         let masters = board.masters.as_slice().len();
@@ -80,17 +72,13 @@ impl Ledger {
             alloc,
             masters,
             index,
-            &self.landed,
-            &self.whole,
-            &mut self.tolds,
+            &mut self.landings,
             read,
             &mut self.clocks,
             &mut self.readings,
         )?;
         record_start(alloc, &mut self.clocks, event)?;
-        record_landed(alloc, &mut self.landed, board, &self.gone, event)?;
-        record_whole(&mut self.whole, index, event)?;
-        record_parted(&mut self.gone, event)?;
+        self.landings.happen(alloc, board, index, event)?;
         let ended = end_in(event);
         record_end(
             alloc,
@@ -123,14 +111,14 @@ impl Ledger {
         ensures { result.now ≡ landed_before self.now reading.now }
     {
         let word = word_of(reading.target, reading.space, reading.address);
-        first_ops(self.landed.of(word), reading.landed)
+        first_ops(self.landings.of(word), reading.landed)
     }
 
     /// The places of what landed in the dword of the reading, along the programs of the authors.
     pub(crate) fn tracks(&self, reading: &Reading) -> &[Track]
         ensures { Tracked (writes_at self.now reading.now) result.now }
     {
-        self.landed
+        self.landings
             .tracks(word_of(reading.target, reading.space, reading.address))
     }
 
@@ -138,8 +126,8 @@ impl Ledger {
     pub(crate) fn landed_whole(&self, reading: &Reading, op: OpId) -> bool
         ensures { result ≡ landed_whole self.now reading.now op }
     {
-        match self.whole.get(op) {
-            Some(events) => *events < reading.events,
+        match self.landings.whole(op) {
+            Some(events) => events < reading.events,
             None => false,
         }
     }
@@ -150,23 +138,22 @@ fn record_read(
     alloc: Global,
     masters: usize,
     index: usize,
-    landed: &Landings,
-    whole: &OpTable<usize>,
-    tolds: &mut WordTable<Told>,
+    landings: &mut DwordLandings,
     read: Option<Read>,
     clocks: &mut Clocks,
     readings: &mut OpTable<Reading>,
 ) -> Result<(), NoMemory>
-    requires { ToldsFor masters whole.now clocks.old.starts landed.now tolds.old }
-    ensures reads { OnOk result (Reads masters index landed.now whole.now read clocks.old clocks.new readings.old readings.new) }
-    ensures tolds { OnOk result (ToldsFor masters whole.now clocks.old.starts landed.now tolds.new) }
+    requires { ToldsFor masters landings.old.whole clocks.old.starts landings.old.landed landings.old.tolds }
+    ensures reads { OnOk result (Reads masters index landings.old read clocks.old clocks.new readings.old readings.new) }
+    ensures tolds { OnOk result (ToldsFor masters landings.new.whole clocks.old.starts landings.new.landed landings.new.tolds) }
+    ensures same { OnOk result (SameLandings landings.old landings.new) }
 {
     match read {
         None => Ok(()),
         Some(read) => {
             let word = word_of(read.target, read.space, read.address);
-            let numbers = told_in(alloc, masters, clocks, whole, landed, tolds, word)?;
-            let count = landed.of(word).len();
+            let numbers = landings.told(alloc, masters, clocks.starts(), word)?;
+            let count = landings.of(word).len();
             clocks.teach(read.op, numbers)?;
             readings.put(
                 read.op,
@@ -193,18 +180,6 @@ fn record_start(alloc: Global, clocks: &mut Clocks, event: &Event) -> Result<(),
             op,
             ..
         } => clocks.present(alloc, op),
-        Event::Act { .. } | Event::Arrive { .. } => Ok(()),
-    }
-}
-
-/// The event may land all that was left of a write.
-fn record_whole(whole: &mut OpTable<usize>, index: usize, event: &Event) -> Result<(), NoMemory>
-    ensures { OnOk result (Landed event.now index whole.old whole.new) }
-{
-    match *event {
-        Event::Act { op, step, .. } if is_land(step) && whole.get(op).is_none() => {
-            whole.put(op, index)
-        }
         Event::Act { .. } | Event::Arrive { .. } => Ok(()),
     }
 }

@@ -8,15 +8,12 @@ mod chains;
 mod ends;
 mod findings;
 mod found;
-mod landed;
 mod ledger;
 mod lines;
 mod readings;
 mod search;
-mod told;
 
 pub use audit::audit_text;
 pub use findings::findings_of;
 pub use found::Found;
-pub use landed::{gone_of, lands};
 pub use lines::print_found;

@@ -19,9 +19,8 @@ use Rattle.history_model.specs.Words.{Landing, through, without, brings, brought
 use Rattle.history_model.specs.Knowledge.{is_landing_of}
 use Rattle.audit_clocks.specs.declared.landings.Word.{Word}
 use Rattle.audit_clocks.specs.Tables.{same_word}
-use Rattle.audit_text.specs.Notes.{few_of, count_of, hits, found_hits, place_hits, event_hits, lands}
-use Rattle.audit_text.specs.Stands.{dword, op_of_landing}
-use Rattle.audit_text.proofs.HitLemmas.{event_hit}
+use Rattle.dword_landings.specs.Hits.{dword, op_of_landing, few_of, count_of, hits, found_hits, place_hits, event_hits, lands}
+use Rattle.dword_landings.proofs.Laws.{event_hit}
 use Rattle.drawn_told.specs.declared.touches.Touch.{Touch}
 use Rattle.drawn_told.specs.Told.{landing_event}
 use Rattle.drawn_told.specs.Kept.{TouchTables, Touches, TellsTouches, touches_in, touches_from, found_touches, place_touches, event_touches, last_before}

@@ -18,8 +18,7 @@ use Rattle.history_model.specs.Words.{through, without, brings}
 use Rattle.history_model.specs.Knowledge.{is_land_of}
 use Rattle.audit_clocks.specs.declared.landings.Word.{Word}
 use Rattle.audit_clocks.specs.Tables.{value_of, list_in, same_word}
-use Rattle.audit_text.specs.Notes.{few_of, count_of, lands, Parted}
-use Rattle.audit_text.specs.Stands.{dword}
+use Rattle.dword_landings.specs.Hits.{dword, few_of, count_of, lands, Parted}
 use Rattle.drawn_told.specs.declared.touches.Touch.{Touch}
 use Rattle.drawn_told.specs.Told.{is_read_of, read_event, land_event, landing_event, spans_of, is_loud, is_key}
 use Rattle.drawn_told.specs.declared.told.Span.{Span}

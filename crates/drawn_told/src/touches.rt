@@ -1,12 +1,11 @@
-ghost use Rattle.std.specs.Prelude.{◌≡◌, ◌≤◌, ◌^◌, ◌+◌, [], ◌++◌, ◌∷◌, if◌then◌else◌, ◌&&◌, nat_lt, length, IfOk, OnOk};
+ghost use Rattle.std.specs.Prelude.{◌≡◌, ◌≤◌, ◌^◌, [], ◌++◌, ◌∷◌, if◌then◌else◌, ◌&&◌, nat_lt, length, IfOk, OnOk};
 ghost use Rattle.pci_command.specs.Same.{same_op, same_space};
-ghost use Rattle.audit_clocks.specs.Tables.{same_word, Puts};
-ghost use Rattle.audit_text.specs.Notes.{few_of, lands, Parted};
+ghost use Rattle.audit_clocks.specs.Tables.{same_word};
 ghost use Rattle.drawn_told.specs.Kept.{touches_in, touches_from, request_touches, place_touches, event_touches, last_before, Adds, Touches};
 
 use audit_clocks::{OpTable, Word};
-use audit_text::{gone_of, lands};
 use board_model::{Board, Place, request_of};
+use dword_landings::{gone_of, lands, record_parted};
 use history_core::{brought_by, dword_address, left_of};
 use history_model::{Event, Step};
 use pci_command::{NoMemory, OpId, Request, Space};
@@ -282,34 +281,4 @@ fn record_phases(
         writes.add(alloc, op, touch)?;
     }
     Ok(())
-}
-
-/// The data phases of a write that the event is a part of went through too.
-#[tactic(auto, using(audit_text::proofs::HitLemmas::parted_puts))]
-fn record_parted(gone: &mut OpTable<u128>, event: &Event) -> Result<(), NoMemory>
-    ensures { OnOk result (Parted event.now gone.old gone.new) }
-{
-    match *event {
-        Event::Act {
-            op,
-            step: Step::Part(phases),
-            ..
-        } => add_part(gone, op, phases),
-        Event::Act { .. } | Event::Arrive { .. } => Ok(()),
-    }
-}
-
-fn add_part(gone: &mut OpTable<u128>, op: OpId, phases: u8) -> Result<(), NoMemory>
-    ensures puts { OnOk result (Puts op (few_of op gone.old + phases) gone.old gone.new) }
-    ensures small { phases ≤ 255 }
-{
-    let count = with_more(gone_of(gone, op), phases);
-    gone.put(op, count)
-}
-
-fn with_more(count: u128, more: u8) -> u128
-    requires { count ≤ 2 ^ 100 }
-    ensures { result ≡ count + more }
-{
-    count + u128::from(more)
 }

@@ -7,7 +7,7 @@ use Rattle.list_facts.proofs.EachLemmas.{Each-weaker}
 use Rattle.pci_command.specs.declared.op_id.OpId.{OpId}
 use Rattle.board_model.specs.declared.board.Board.{Board}
 use Rattle.history_model.specs.declared.event.Event.{Event}
-use Rattle.history_model.specs.Words.{through, landed, brought}
+use Rattle.history_model.specs.Words.{Landing, through, landed, brought}
 use Rattle.history_model.specs.Knowledge.{is_land_of, has_landed}
 use Rattle.audit_clocks.specs.declared.landings.Word.{Word}
 use Rattle.audit_clocks.specs.Rows.{number, own}
@@ -139,3 +139,32 @@ same_stand board h old new same stands =
       landed = λ word. ap (λ entries. writes_in word entries) same.landed ∙ stands.landed word;
       whole = λ o. ap (λ entries. value_of o entries) same.whole ∙ stands.whole o;
     }
+
+-- What landed in a dword tells.
+
+greatest_map : (f : OpId → ℕ) (xs : List Landing) → greatest f (map op_of_landing xs) ≡ greatest (λ (l : Landing). f l.op) xs
+greatest_map f [] = refl
+greatest_map f (x ∷ xs) = ap (λ n. max (f x.op) n) (greatest_map f xs)
+
+greatest_same : (f g : Landing → ℕ) → ((l : Landing) → f l ≡ g l) → (xs : List Landing) → greatest f xs ≡ greatest g xs
+greatest_same f g same [] = refl
+greatest_same f g same (x ∷ xs) = ap (λ n. max n (greatest f xs)) (same x) ∙ ap (λ n. max (g x) n) (greatest_same f g same xs)
+
+-- with the numbers of those that landed whole
+pub word_told : (board : Board) (h : List Event) (notes : LandingNotes) → AreLandings board h notes → (starts : List (OpId × List ℕ)) (start : OpId → ℕ) (author : ℕ)
+    → ((o : OpId) → has_landed h o ≡ true → number (numbers_of o starts) author ≡ start o) → (word : Word)
+    → greatest (told_by notes.whole starts author) (writes_in word notes.landed) ≡ greatest (λ (l : Landing). cond (has_landed h l.op) (max (start l.op) (own l.op author)) 0) (landed board h (dword word))
+word_told board h notes stands starts start author same word =
+    let tells : OpId → ℕ = told_by notes.whole starts author in
+    let list : List Landing = landed board h (dword word) in
+    ap (λ ops. greatest tells ops) (stands.landed word)
+    ∙ greatest_map tells list
+    ∙ greatest_same (λ (l : Landing). tells l.op) (λ (l : Landing). cond (has_landed h l.op) (max (start l.op) (own l.op author)) 0) (λ l. tells_as l.op) list
+  where
+    tells_as : (o : OpId) → told_by notes.whole starts author o ≡ cond (has_landed h o) (max (start o) (own o author)) 0
+    tells_as o =
+        let n : ℕ = number (numbers_of o starts) author in
+        let P : Bool → Type 0 = λ b. has_landed h o ≡ b → cond b (max n (own o author)) 0 ≡ cond b (max (start o) (own o author)) 0 in
+        ap (λ found. cond (is_some found) (max n (own o author)) 0) (stands.whole o)
+        ∙ ap (λ b. cond b (max n (own o author)) 0) (whole_has h o)
+        ∙ (elim (has_landed h o) as P [ true ↦ λ is. ap (λ m. max m (own o author)) (same o is) | false ↦ λ _. refl ]) refl
