@@ -4,12 +4,7 @@
 pub use Rattle.dword_landings.proofs.StandLemmas.{landings_first, same_stand}
 -- nothing was told before the first event, and what was told goes over to a table with the same numbers
 pub use Rattle.dword_landings.proofs.StandLemmas.{tolds_first, tolds_over}
-<<<<<<< HEAD
--- which writes landed whole
-pub use Rattle.dword_landings.proofs.StandLemmas.{whole_has}
-=======
 -- which writes landed whole, and what those in a dword tell
 pub use Rattle.dword_landings.proofs.StandLemmas.{whole_has, word_told}
->>>>>>> 5d31a4fb46830c4ddee3aabae96c2a213bfcb8f6
 -- what an event brings to a dword is what its writes are said to bring; a step that brings nothing
 pub use Rattle.dword_landings.proofs.HitLemmas.{event_hit, none_landed}

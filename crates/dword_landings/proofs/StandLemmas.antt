@@ -1,7 +1,7 @@
 -- What is noted stands for one event more, and what was told stays told.
-use Rattle.std.proofs.Common.{◌≡◌, ◌<◌, ◌≤◌, ℕ, ◌^◌, max, Bool, true, false, ◌||◌, cond, length, map, List, [], ◌∷◌, ◌++◌, Option, Some, None, is_some, refl, sym, ap, subst, ◌∙◌, arith, length-append, append-nil}
+use Rattle.std.proofs.Common.{◌≡◌, ◌<◌, ◌≤◌, ℕ, ◌^◌, max, Bool, true, false, ◌||◌, cond, length, map, List, [], ◌∷◌, ◌++◌, Option, Some, None, is_some, refl, sym, ap, subst, ◌∙◌, arith, length-append, append-nil, take, get_or, reverse, ◌+◌}
 use Rattle.std.specs.List.{AllByRecursion}
-use Rattle.std.proofs.lemmas.List.{map-append, take-append-le}
+use Rattle.std.proofs.lemmas.List.{map-append, take-append-le, take_more, reverse-append, length-reverse, length-take-le}
 use Rattle.list_facts.specs.Lists.{greatest}
 use Rattle.list_facts.proofs.EachLemmas.{Each-weaker}
 use Rattle.pci_command.specs.declared.op_id.OpId.{OpId}
@@ -9,6 +9,7 @@ use Rattle.board_model.specs.declared.board.Board.{Board}
 use Rattle.history_model.specs.declared.event.Event.{Event}
 use Rattle.history_model.specs.Words.{Landing, through, landed, brought}
 use Rattle.history_model.specs.Knowledge.{is_land_of, has_landed}
+use Rattle.history_model.specs.Runs.{history_of}
 use Rattle.audit_clocks.specs.declared.landings.Word.{Word}
 use Rattle.audit_clocks.specs.Rows.{number, own}
 use Rattle.audit_clocks.specs.Tables.{value_of, numbers_of, writes_in, Lands}
@@ -168,3 +169,16 @@ word_told board h notes stands starts start author same word =
         ap (λ found. cond (is_some found) (max n (own o author)) 0) (stands.whole o)
         ∙ ap (λ b. cond b (max n (own o author)) 0) (whole_has h o)
         ∙ (elim (has_landed h o) as P [ true ↦ λ is. ap (λ m. max m (own o author)) (same o is) | false ↦ λ _. refl ]) refl
+
+-- the writes that landed whole, after one event more
+pub whole_more : (events : List Event) (i : ℕ) (d : Event) (old new : List (OpId × ℕ)) → i < length events → Landed (get_or events i d) i old new
+    → ((o : OpId) → value_of o old ≡ whole_at (history_of (take i events)) o) → (o : OpId) → value_of o new ≡ whole_at (history_of (take (i + 1) events)) o
+whole_more events i d old new within lands so_far o =
+    let e : Event = get_or events i d in
+    let h : List Event = history_of (take i events) in
+    let more : history_of (take (i + 1) events) ≡ e ∷ h = ap (λ (xs : List Event). reverse xs) (take_more events i d within) ∙ reverse-append (take i events) (e ∷ []) in
+    let many : i ≡ length h = sym (length-reverse (take i events) ∙ (length-take-le i events (omega (arith, within)))) in
+    lands.each o
+    ∙ ap (λ found. or_place found (cond (is_land_of o e) (Some i) None)) (so_far o)
+    ∙ ap (λ n. or_place (whole_at h o) (cond (is_land_of o e) (Some n) None)) many
+    ∙ ap (λ g. whole_at g o) (sym more)

@@ -1,8 +1,10 @@
-ghost use Rattle.std.specs.Prelude.{◌≡◌, ◌≤◌, ◌+◌, ◌^◌, length, OnOk};
+ghost use Rattle.std.specs.Prelude.{◌≡◌, ◌≤◌, ◌+◌, ◌^◌, [], length, IfOk, OnOk};
 ghost use Rattle.board_model.specs.declared.bridge.Place.TheVariants.{Target};
 ghost use Rattle.history_model.specs.Knowledge.{is_land_step};
-ghost use Rattle.audit_clocks.specs.Tables.{Lands, Puts};
-ghost use Rattle.dword_landings.specs.Hits.{few_of, hits, request_hits, place_hits, event_hits, lands, Landed, Parted};
+ghost use Rattle.history_model.specs.Runs.{history_of};
+ghost use Rattle.pci_command.specs.declared.op_id.OpId.{OpId};
+ghost use Rattle.audit_clocks.specs.Tables.{value_of, Lands, Puts};
+ghost use Rattle.dword_landings.specs.Hits.{few_of, hits, request_hits, place_hits, event_hits, lands, whole_at, Landed, Parted};
 
 use audit_clocks::{Landings, OpTable, Word};
 use board_model::{Board, Place, request_of};
@@ -184,6 +186,26 @@ pub(crate) fn record_whole(
         }
         Event::Act { .. } | Event::Arrive { .. } => Ok(()),
     }
+}
+
+/// Of each write that landed whole in these events, the first event first, how many there were before.
+pub fn whole_landings(alloc: Global, events: &[Event]) -> Result<OpTable<usize>, NoMemory>
+    ensures { IfOk result (λ whole. (op : OpId) → value_of op whole ≡ whole_at (history_of events.now) op) }
+{
+    let mut whole = OpTable::new(alloc);
+    record_each(&mut whole, events)?;
+    Ok(whole)
+}
+
+#[tactic(auto, using(crate::proofs::StandLemmas::whole_more))]
+fn record_each(whole: &mut OpTable<usize>, events: &[Event]) -> Result<(), NoMemory>
+    requires { whole.old ≡ [] }
+    ensures { OnOk result ((op : OpId) → value_of op whole.new ≡ whole_at (history_of events.now) op) }
+{
+    for (index, event) in events.iter().enumerate() {
+        record_whole(whole, index, event)?;
+    }
+    Ok(())
 }
 
 /// Whether all that is left of a write lands in the step.

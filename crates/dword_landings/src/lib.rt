@@ -7,5 +7,5 @@ mod landed;
 mod landings;
 mod told;
 
-pub use landed::{gone_of, lands, record_parted};
+pub use landed::{gone_of, lands, record_parted, whole_landings};
 pub use landings::DwordLandings;
