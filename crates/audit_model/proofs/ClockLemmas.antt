@@ -27,7 +27,7 @@ use Rattle.std.proofs.lemmas.Bool.{or_left, or_right}
 use Rattle.std.proofs.Math.Bool.{or-false}
 use Rattle.law_fresh.proofs.Laws.{IsBehind, Begun, Begun-turn, Begun-kept, WorldHas, ends_turn, knew, knows_kept, write_since, since_behind, before_in, or_either}
 use Rattle.audit_model.specs.Clocks.{Clocks, own, landing_tells, value_tells, known_after, clocks_of, reaches, taught_by}
-use Rattle.audit_model.proofs.OwnLemmas.{WriteOp, write_op, own_ended, run_turns}
+use Rattle.audit_model.proofs.OwnLemmas.{WriteOp, write_op, own_ended}
 use Rattle.audit_model.proofs.NamedLemmas.{Names, Entry, items_after, landings_after}
 
 pub bool_same : (a b : Bool) → (a ≡ true → b ≡ true) → (b ≡ true → a ≡ true) → a ≡ b
@@ -100,7 +100,7 @@ module _ (board : Board) (valid : IsValid board) (w : OpId) (write : WriteOp boa
       (elim (same_op o w) as P [
         | true ↦ λ _. or_right (is_some (aware.since o.master)) true refl
         | false ↦ λ other.
-            let ended_it : has_ended h w ≡ true = own_ended board w write h o (run_turns board h run) turn parts.0 parts.1 other in
+            let ended_it : has_ended h w ≡ true = own_ended board w write h o run turn parts.0 parts.1 other in
             let since = write_since board w h run ended_it in
             let some : is_some (aware.since w.master) ≡ true = ap is_some since.is in
             or_left (is_some (aware.since o.master)) false (subst (λ m. is_some (aware.since m) ≡ true) (sym parts.0) some)

@@ -192,8 +192,8 @@ module _ (board : Board) (w : OpId) (write : WriteOp board w) where
       (λ old. or_right (is_some (ends_as w e)) (has_ended h w) old) (λ now. or_left (is_some (ends_as w e)) (has_ended h w) now) (Before-turn h ends.1)
 
   -- where an operation is its master's turn, the write is it, or ended, or does not stand before it
-  pub own_ended : (h : List Event) (o : OpId) → TurnsEnd board h → turn_of board h o.master ≡ Some o → o.master ≡ w.master → w.index < o.index + 1 → same_op o w ≡ false → has_ended h w ≡ true
-  own_ended h o ends turn masters at_most other =
+  pub turns_ended : (h : List Event) (o : OpId) → TurnsEnd board h → turn_of board h o.master ≡ Some o → o.master ≡ w.master → w.index < o.index + 1 → same_op o w ≡ false → has_ended h w ≡ true
+  turns_ended h o ends turn masters at_most other =
       let Q : Bool → Type 0 = λ b. nat_lt w.index o.index ≡ b → has_ended h w ≡ true in
       let was : turn_of board h w.master ≡ Some o = subst (λ n. turn_of board h n ≡ Some o) masters turn in
       let before : w.index < o.index → has_ended h w ≡ true = subst (Before h) was (Before-turn h ends) in
@@ -208,7 +208,10 @@ module _ (board : Board) (w : OpId) (write : WriteOp board w) where
             cc
       ]) refl
 
--- of a run
-pub run_turns : (board : Board) (h : List Event) → Run board h → TurnsEnd board h
+-- so it is in a run
+run_turns : (board : Board) (h : List Event) → Run board h → TurnsEnd board h
 run_turns board [] run = tt
 run_turns board (e ∷ h) run = (λ ending is. ends_turn board e h ending run is, run_turns board h run.1)
+
+pub own_ended : (board : Board) (w : OpId) → WriteOp board w → (h : List Event) (o : OpId) → Run board h → turn_of board h o.master ≡ Some o → o.master ≡ w.master → w.index < o.index + 1 → same_op o w ≡ false → has_ended h w ≡ true
+own_ended board w write h o run turn masters at_most other = turns_ended board w write h o (run_turns board h run) turn masters at_most other

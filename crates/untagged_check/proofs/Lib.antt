@@ -1,4 +1,3 @@
-pub mod FindLemmas
 pub mod ListLemmas
-pub mod EndLemmas
+pub mod FoundLemmas
 pub mod VerdictLemmas

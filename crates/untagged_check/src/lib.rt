@@ -13,16 +13,15 @@ use bus_tree::Tree;
 use history_model::Event;
 use law_untagged::{apart_runs_are_alike, apart_runs_are_sound, stale_reads_break_freshness};
 use pci_command::{List, NoMemory};
-use stale::list_reads;
+use stale::stale_reads;
 use std::alloc::Global;
 use untagged_run::{Followed, follow};
 pub use verdict::{Stale, Untagged};
 
 /// What these events of a valid board are on bridges that keep no local master, the first event first.
-/// There are fewer than 2^32. Whether they are a run takes one look at each. Where masters are apart no
-/// read is stale, and none is looked at. Elsewhere the list takes a look at each write for each read, and
-/// for each write that had not landed by the reading of a word of it a replay, in which each event looks
-/// at those before.
+/// There are fewer than 2^32. Whether they are a run takes one look at each, and the list two more: an
+/// event takes a step for each master, and a read that ends a binary search for each master that writes
+/// its dword.
 pub fn check_untagged(alloc: Global, tree: &Tree, events: &[Event]) -> Result<Untagged, NoMemory>
     requires { length events.now < 2 ^ 32 }
     ensures { IfOk result (JudgesUntagged tree.now events.now) }
@@ -35,7 +34,7 @@ pub fn check_untagged(alloc: Global, tree: &Tree, events: &[Event]) -> Result<Un
     match follow(alloc, tree, events)? {
         Followed::NotRun { event, why } => Ok(Untagged::NotRun { event, why }),
         Followed::Run { gots } => {
-            let stale = list_reads(alloc, tree, events, gots.as_slice())?;
+            let stale = stale_reads(alloc, tree, events, gots.as_slice())?;
             Ok(Untagged::Run {
                 stale: List::from_vec(stale),
             })

@@ -29,7 +29,7 @@ use Rattle.law_untagged.proofs.ToldLemmas.{write_from}
 use Rattle.law_untagged.proofs.UntaggedOrderLemmas.{master_turn, untagged_in_order}
 use Rattle.audit_model.specs.Clocks.{own, reaches}
 use Rattle.audit_model.proofs.ClockLemmas.{bool_same, or_comm, lt_none, lt_max, lt_greatest, any_same, own_parts, own_same}
-use Rattle.audit_model.proofs.OwnLemmas.{WriteOp, TurnsEnd, own_ended}
+use Rattle.audit_model.proofs.OwnLemmas.{WriteOp, TurnsEnd, turns_ended}
 use Rattle.untagged_clocks.specs.Clocks.{Clocks, number_in, landing_tells, reads_at, told_by, got_tells, known_after, first_start, clocks_of}
 use Rattle.untagged_clocks.proofs.NamedLemmas.{Started, landings_started}
 use Rattle.untagged_clocks.proofs.ReadLemmas.{IsRead, ending_read}
@@ -52,7 +52,7 @@ module _ (board : Board) (w : OpId) (write : WriteOp board w) where
       (elim (same_op o w) as P [
         | true ↦ λ _. or_right (is_some (since o.master)) true refl
         | false ↦ λ other.
-            let ended_it : has_ended h w ≡ true = own_ended board w write h o (orderly_turns board h order) turn parts.0 parts.1 other in
+            let ended_it : has_ended h w ≡ true = turns_ended board w write h o (orderly_turns board h order) turn parts.0 parts.1 other in
             let from = write_from board w h order ended_it in
             let some : is_some (since w.master) ≡ true = ap is_some from.is in
             or_left (is_some (since o.master)) false (subst (λ m. is_some (since m) ≡ true) (sym parts.0) some)

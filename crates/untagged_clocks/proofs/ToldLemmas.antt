@@ -23,12 +23,12 @@ use Rattle.audit_model.proofs.OwnLemmas.{write_op, turn_is_there}
 use Rattle.untagged_clocks.specs.Clocks.{clocks_of}
 use Rattle.untagged_clocks.proofs.ClockLemmas.{Law, Law-run, turn_knows, knows_same, heard_same}
 
-run_along : (board : Board) (later h : List Event) → UntaggedRun board (later ++ h) → UntaggedRun board h
+pub run_along : (board : Board) (later h : List Event) → UntaggedRun board (later ++ h) → UntaggedRun board h
 run_along board [] h run = run
 run_along board (e ∷ later) h run = run_along board later h run.1
 
 -- the ending of an operation is one of it
-ends_it : (e : Event) (ending : Ending) → ended e ≡ Some ending → is_some (ends_as ending.op e) ≡ true
+pub ends_it : (e : Event) (ending : Ending) → ended e ≡ Some ending → is_some (ends_as ending.op e) ≡ true
 ends_it e ending is =
     let self = same_op_self ending.op in
     ap (λ (found : Option Ending). is_some (outcome_in ending.op found)) is ∙ rw self refl

@@ -36,7 +36,7 @@ use Rattle.audit_clocks.specs.Tables.{value_of, list_in, numbers_of, writes_in}
 use Rattle.dword_landings.specs.Hits.{dword, op_of_landing}
 use Rattle.dword_landings.specs.Notes.{LandingNotes, AreLandings, SameLandings}
 use Rattle.dword_landings.specs.Told.{told_by as tells_by, Tells, ToldsFor}
-use Rattle.dword_landings.proofs.Laws.{whole_has, tolds_over}
+use Rattle.dword_landings.proofs.Laws.{whole_has, tolds_over, word_told as landings_tell}
 use Rattle.untagged_run.specs.declared.got.Got.{Got}
 use Rattle.untagged_run.specs.Flat.{flat}
 use Rattle.untagged_run.specs.Gots.{word_at}
@@ -59,14 +59,6 @@ beside [] x zero other = cc
 beside [] x (suc i) other = refl
 beside (y ∷ xs) x zero other = refl
 beside (y ∷ xs) x (suc i) other = beside xs x i (grind (arith, nat_tests))
-
-greatest_map : (f : OpId → ℕ) (xs : List Landing) → greatest f (map op_of_landing xs) ≡ greatest (λ (l : Landing). f l.op) xs
-greatest_map f [] = refl
-greatest_map f (x ∷ xs) = ap (λ n. max (f x.op) n) (greatest_map f xs)
-
-greatest_same : (f g : Landing → ℕ) → ((l : Landing) → f l ≡ g l) → (xs : List Landing) → greatest f xs ≡ greatest g xs
-greatest_same f g same [] = refl
-greatest_same f g same (x ∷ xs) = ap (λ n. max n (greatest f xs)) (same x) ∙ ap (λ n. max (g x) n) (greatest_same f g same xs)
 
 -- What an event reads.
 
@@ -100,7 +92,7 @@ word_same board h (Act on by o step place) = by_same board h on o step place
 word_same board h (Arrive lane mark) = tt
 
 -- an operation's master is one of the board's
-master_within : (board : Board) (o : OpId) → is_some (op_of board o) ≡ true → o.master < length board.masters
+pub master_within : (board : Board) (o : OpId) → is_some (op_of board o) ≡ true → o.master < length board.masters
 master_within board o there =
     let P : Option Op → Type 0 = λ found. op_of board o ≡ found → is_some found ≡ true → o.master < length board.masters in
     (elim (op_of board o) as P [
@@ -114,16 +106,7 @@ module _ (board : Board) (h : List Event) (k : KnowerState) (old : Knows board h
 
   -- what landed whole in a dword tells what the clocks say
   word_told : (word : Word) (author : ℕ) → author < M → greatest (tells_by k.landings.whole k.starts author) (writes_in word k.landings.landed) ≡ word_tells board (clocks_of board h) h (dword word) author
-  word_told word author within =
-      let tells : OpId → ℕ = tells_by k.landings.whole k.starts author in
-      let list : List Landing = landed board h (dword word) in
-      ap (λ ops. greatest tells ops) (old.landings.landed word)
-      ∙ greatest_map tells list
-      ∙ greatest_same (λ (l : Landing). tells l.op) (landing_tells (clocks_of board h) h author)
-      (λ l.
-      ap (λ found. cond (is_some found) (max (number (numbers_of l.op k.starts) author) (own l.op author)) 0) (old.landings.whole l.op)
-      ∙ ap (λ b. cond b (max (number (numbers_of l.op k.starts) author) (own l.op author)) 0) (whole_has h l.op)
-      ∙ ap (λ n. cond (has_landed h l.op) (max n (own l.op author)) 0) (old.starts l.op author within)) list
+  word_told word author within = landings_tell board h k.landings old.landings k.starts (λ o. number_in ((clocks_of board h).start o) author) author (λ o is. old.starts o author within) word
 
   -- what was told by then
   told_next : (e : Event) (read : Option (List ℕ)) (place author : ℕ) → author < M → ToldAt M k.landings k.starts (word_in board e) read

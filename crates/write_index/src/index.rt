@@ -70,7 +70,8 @@ impl WriteIndex {
     {
         let found = self.words.take(word);
         let authors = authors_or_new(alloc, found).with(alloc, write)?;
-        self.words.put(word, authors)
+        self.words.put(word, authors)?;
+        Ok(())
     }
 }
 
