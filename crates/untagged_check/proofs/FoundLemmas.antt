@@ -2,7 +2,7 @@
 use Rattle.std.proofs.Common.{◌≡◌, ℕ, ◌+◌, ◌-◌, ◌<◌, ◌≤◌, Bool, true, false, not, ◌&&◌, ◌||◌, cond, eqb, nat_lt, List, [], ◌∷◌, ◌++◌, length, take, drop, reverse, get_or, slice_get, Option, Some, None, is_some, refl, sym, ap, subst, ◌∙◌, arith}
 use Rattle.std.specs.List.{find, list_any}
 use Rattle.std.proofs.lemmas.Bool.Decides.{nat_tests}
-use Rattle.std.proofs.lemmas.List.{take_more, reverse-append, take-append-drop}
+use Rattle.std.proofs.lemmas.List.{take_all, take_more, reverse-append, take-append-drop}
 use Rattle.std.proofs.lemmas.Option.{slice_get-get_or, slice_get_within}
 use Rattle.pci_command.specs.declared.op_id.OpId.{OpId}
 use Rattle.board_model.specs.declared.board.Board.{Board}
@@ -33,6 +33,7 @@ use Rattle.untagged_run.specs.Table.{IsGot, SameGot}
 use Rattle.untagged_run.specs.Course.{AreGots}
 use Rattle.untagged_told.specs.Knowers.{KnowerState, known_at, ended_op, Knows}
 use Rattle.untagged_told.proofs.NextLemmas.{master_within}
+use Rattle.write_index.specs.Entries.{Listing}
 use Rattle.write_index.specs.Pending.{is_before, landed_before, reaches_in, names, is_pending, first_pending}
 use Rattle.untagged_check.specs.Found.{IndexesRun, is_unlanded, first_unlanded, found_by, found_with, found_at, found_ending}
 
@@ -52,15 +53,18 @@ pending_is board h landed word events numbers whole =
 
 below_length : (h : List Event) (w : OpId) (n : ℕ) → whole_at h w ≡ Some n → n < length h
 below_length [] w n is = cc
-below_length (e ∷ h) w n is = by_older (whole_at h w) refl (subst (λ found. or_place found (cond (is_land_of w e) (Some (length h)) None) ≡ Some n) refl is)
+below_length (e ∷ h) w n is = let at_most = by_older (whole_at h w) refl (below_length h w n) is in omega (arith, at_most)
   where
     now : (b : Bool) → cond b (Some (length h)) None ≡ Some n → n < length h + 1
     now true same = let one : length h ≡ n = cc in omega (arith, one)
     now false same = cc
 
-    by_older : (older : Option ℕ) → whole_at h w ≡ older → or_place older (cond (is_land_of w e) (Some (length h)) None) ≡ Some n → n < length h + 1
-    by_older None none same = now (is_land_of w e) same
-    by_older (Some m) some same = let one : m ≡ n = cc in let below = below_length h w m some in omega (arith, one, below)
+    by_older : (older : Option ℕ) → whole_at h w ≡ older → (whole_at h w ≡ Some n → n < length h) → or_place (whole_at h w) (cond (is_land_of w e) (Some (length h)) None) ≡ Some n → n < length h + 1
+    by_older None none below same = now (is_land_of w e) (sym (ap (λ found. or_place found (cond (is_land_of w e) (Some (length h)) None)) none) ∙ same)
+    by_older (Some m) some below same =
+        let one : Some m ≡ Some n = sym (ap (λ found. or_place found (cond (is_land_of w e) (Some (length h)) None)) some) ∙ same in
+        let older = below (some ∙ one) in
+        omega (arith, older)
 
 -- before so many events
 landed_then : (later before : List Event) (w : OpId) → is_before (length before) (whole_at (later ++ before) w) ≡ has_landed before w
@@ -207,3 +211,26 @@ listed_more board events gots i d k old new within run are knows so_far is =
     subst (λ g. found_ending board g k.known (flat (slice_get gots i)) (ended_op (ended e)) ≡ stale_ending board g (ended e)) split.1 there in
     is ∙ (ap (λ xs. xs ++ found_ending board (history_of events) k.known (flat (slice_get gots i)) (ended_op (ended e))) so_far
     ∙ (ap (λ xs. stale_in board (history_of events) h ++ xs) here ∙ ap (λ g. stale_in board (history_of events) g) (sym more)))
+
+-- what is listed and known, one event further
+pub list_next : (board made : Board) (events : List Event) (gots : List (Option Got)) (i : ℕ) (d : Event) (index : List (Word × List Listing)) (old_knowers knowers : KnowerState) (old new : List StaleRead) (got : Option Got)
+    → made ≡ board → i < length events → RunBy Untagged board (history_of events) → AreGots board events gots → IndexesRun board (history_of events) index → got ≡ flat (slice_get gots i)
+    → ((h : List Event) → Knows made h old_knowers → UntaggedRun made (get_or events i d ∷ h) → SameGot got (ending_reading made h (get_or events i d)) → Knows made (get_or events i d ∷ h) knowers)
+    → ((any : Board) (h : List Event) → IndexesRun any h index → new ≡ old ++ found_ending any h knowers.known got (ended_op (ended (get_or events i d))))
+    → (old ≡ stale_in board (history_of events) (history_of (take i events))) × Knows board (history_of (take i events)) old_knowers
+    → (new ≡ stale_in board (history_of events) (history_of (take (i + 1) events))) × Knows board (history_of (take (i + 1) events)) knowers
+list_next board made events gots i d index old_knowers knowers old new got same_board within run are indexes is happens adds so_far =
+    let e : Event = get_or events i d in
+    let h : List Event = history_of (take i events) in
+    let more : history_of (take (i + 1) events) ≡ e ∷ h = ap (λ (xs : List Event). reverse xs) (take_more events i d within) ∙ reverse-append (take i events) (e ∷ []) in
+    let steps : (h : List Event) → Knows board h old_knowers → UntaggedRun board (e ∷ h) → SameGot got (ending_reading board h e) → Knows board (e ∷ h) knowers =
+    subst (λ b. (h : List Event) → Knows b h old_knowers → UntaggedRun b (e ∷ h) → SameGot got (ending_reading b h e) → Knows b (e ∷ h) knowers) same_board happens in
+    let same : SameGot got (ending_reading board h e) = subst (λ found. SameGot found (ending_reading board h e)) (sym is) (are.each i d within) in
+    let knows : Knows board (e ∷ h) knowers = steps h so_far.1 (run_then board events i d within run) same in
+    let found : new ≡ old ++ found_ending board (history_of events) knowers.known (flat (slice_get gots i)) (ended_op (ended e)) =
+    adds board (history_of events) indexes ∙ ap (λ g. old ++ found_ending board (history_of events) knowers.known g (ended_op (ended e))) is in
+    (listed_more board events gots i d knowers old new within run are knows so_far.0 found, subst (λ g. Knows board g knowers) (sym more) knows)
+
+-- all of it
+pub list_whole : (board : Board) (events : List Event) (i : ℕ) (now : List StaleRead) → length events ≤ i → now ≡ stale_in board (history_of events) (history_of (take i events)) → now ≡ stale_in board (history_of events) (history_of events)
+list_whole board events i now over is = is ∙ ap (λ (es : List Event). stale_in board (history_of events) (history_of es)) (take_all i events over)

@@ -1,5 +1,4 @@
-ghost use Rattle.std.specs.Prelude.{◌≡◌, ◌++◌, [], List, IfOk, OnOk, slice_get};
-ghost use Rattle.std.specs.Option.{option_copied};
+ghost use Rattle.std.specs.Prelude.{◌≡◌, ◌++◌, ◌-◌, [], List, IfOk, OnOk, slice_get};
 ghost use Rattle.board_model.specs.declared.board.Board.{Board};
 ghost use Rattle.history_model.specs.declared.event.Event.{Event};
 ghost use Rattle.history_model.specs.declared.rule.Rule.TheVariants.{Untagged};
@@ -9,9 +8,10 @@ ghost use Rattle.law_untagged.specs.Stale.{stale_of};
 ghost use Rattle.untagged_run.specs.Course.{AreGots};
 ghost use Rattle.untagged_told.specs.Knowers.{ended_op, Knows};
 ghost use Rattle.untagged_check.specs.Judged.{reads_of, listed};
-ghost use Rattle.untagged_check.specs.Found.{IndexesRun, found_at, found_ending};
+ghost use Rattle.untagged_check.specs.Found.{IndexesRun, first_unlanded, found_at, found_by, found_ending, found_with};
 
 use crate::verdict::Stale;
+use audit_clocks::Numbers;
 use bus_tree::Tree;
 use dword_landings::whole_landings;
 use history_model::Event;
@@ -122,13 +122,40 @@ fn stale_at(
 ) -> Option<Stale>
     ensures { (board : Board) (h : List Event) → IndexesRun board h index.now → listed result ≡ found_at board h read got (slice_get knowers.now.known read.master) }
 {
-    let known = knowers.known(read.master)?;
-    let got = got?;
+    match knowers.known(read.master) {
+        None => None,
+        Some(known) => stale_with(index, known, got, read),
+    }
+}
+
+/// The same by what its master knows.
+fn stale_with(
+    index: &WriteIndex,
+    known: &Numbers,
+    got: Option<Got>,
+    read: OpId,
+) -> Option<Stale>
+    ensures { (board : Board) (h : List Event) → IndexesRun board h index.now → listed result ≡ found_with board h read known.now got }
+{
+    match got {
+        None => None,
+        Some(got) => stale_by(read, got.event, first_unlanded(index, known, got)),
+    }
+}
+
+/// The first write of the dword that had not landed before the reading, and that is known.
+fn first_unlanded(index: &WriteIndex, known: &Numbers, got: Got) -> Option<OpId>
+    ensures { (board : Board) (h : List Event) → IndexesRun board h index.now → result ≡ first_unlanded board h got.word (got.event - 1) known.now }
+{
     let before = (got.event as usize).saturating_sub(1);
-    let write = index.first(got.word, before, known)?;
-    Some(Stale {
-        read,
-        write,
-        event: got.event,
-    })
+    index.first(got.word, before, known)
+}
+
+fn stale_by(read: OpId, event: u32, write: Option<OpId>) -> Option<Stale>
+    ensures { listed result ≡ found_by read event write }
+{
+    match write {
+        None => None,
+        Some(write) => Some(Stale { read, write, event }),
+    }
 }
