@@ -14,3 +14,5 @@ pub use Rattle.board_laws.proofs.EndLemmas.{WayEnds-tree, rank-falls}
 pub use Rattle.board_laws.proofs.StepLemmas.{steps, Up, Down}
 -- the bridge that is found by a number has it
 pub use Rattle.board_laws.proofs.WayLemmas.{number_of}
+-- a valid board has at most 256 masters
+pub use Rattle.board_laws.proofs.FewLemmas.{few_masters}

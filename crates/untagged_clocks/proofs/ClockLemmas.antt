@@ -1,6 +1,6 @@
 -- A master knows of a write exactly where its number for the write's author is above the write's.
-use Rattle.std.proofs.Common.{◌≡◌, ℕ, ◌+◌, ◌<◌, max, Bool, true, false, ◌&&◌, ◌||◌, ◌==◌, cond, eqb, eqb-true, nat_lt, List, [], ◌∷◌, ◌++◌, length, Option, Some, None, is_some, refl, sym, ap, subst, ◌∙◌, arith}
-use Rattle.std.specs.List.{list_any, AllByRecursion}
+use Rattle.std.proofs.Common.{◌≡◌, ℕ, max, Bool, true, false, ◌&&◌, ◌||◌, ◌==◌, cond, eqb, eqb-true, nat_lt, List, [], ◌∷◌, ◌++◌, length, Option, Some, None, is_some, refl, sym, ap, subst, ◌∙◌, arith}
+use Rattle.std.specs.List.{list_any}
 use Rattle.std.proofs.lemmas.Bool.{or_left, or_right}
 use Rattle.std.proofs.lemmas.Bool.Decides.{nat_tests}
 use Rattle.std.proofs.Math.Bool.{or-false}
@@ -8,21 +8,18 @@ use Rattle.list_facts.specs.Lists.{greatest}
 use Rattle.list_facts.proofs.EachLemmas.{Each-weaker}
 use Rattle.pci_command.specs.declared.op_id.OpId.{OpId}
 use Rattle.pci_command.specs.Same.{same_op}
-use Rattle.board_model.specs.declared.bridge.Place.{Place}
 use Rattle.board_model.specs.declared.board.Board.{Board}
-use Rattle.board_model.specs.Ways.{Dword}
 use Rattle.history_model.specs.declared.event.By.TheVariants.{Master, Lane as ByLane}
-use Rattle.history_model.specs.declared.event.Step.{Step}
 use Rattle.history_model.specs.declared.event.Event.{Event}
 use Rattle.history_model.specs.declared.event.Event.TheVariants.{Act, Arrive}
 use Rattle.history_model.specs.Program.{Ending, ended, turn_of}
 use Rattle.history_model.specs.Words.{Landing, landed}
 use Rattle.history_model.specs.Knowledge.{Reading, has_landed, has_ended}
-use Rattle.history_facts.proofs.RequestLemmas.{same_op_true, same_op_self}
-use Rattle.law_untagged.specs.Untagged.{untagged_wants, UntaggedRun}
+use Rattle.history_facts.proofs.RequestLemmas.{same_op_true}
+use Rattle.law_untagged.specs.Untagged.{UntaggedRun}
 use Rattle.law_untagged.specs.Origins.{ending_reading}
 use Rattle.law_untagged.specs.Heard.{Since, is_behind, knows, speaks, heard, first_known, untagged_since}
-use Rattle.law_untagged.specs.Orderly.{Begun, InOrder, Orderly, Front}
+use Rattle.law_untagged.specs.Orderly.{Begun, Orderly, Front}
 use Rattle.law_untagged.proofs.OrderLemmas.{or_either, IsBehind, Begun-kept, Begun-turn, front_self, front_more}
 use Rattle.law_untagged.proofs.HeardLemmas.{knows_front, knew_front, heard_before, heard_after, since_behind}
 use Rattle.law_untagged.proofs.ToldLemmas.{write_from}

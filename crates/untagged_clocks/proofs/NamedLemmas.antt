@@ -1,5 +1,5 @@
 -- What is on the lanes, and what landed, its master presented: what that knew then is noted, and stays.
-use Rattle.std.proofs.Common.{◌≡◌, ℕ, Bool, true, false, ◌&&◌, ◌==◌, cond, List, [], ◌∷◌, Option, Some, None, is_some, refl, sym, ap, subst, ◌∙◌}
+use Rattle.std.proofs.Common.{◌≡◌, ℕ, Bool, true, false, ◌==◌, cond, List, [], ◌∷◌, Option, Some, None, is_some, refl, sym, ap, subst, ◌∙◌}
 use Rattle.std.specs.List.{find, AllByRecursion}
 use Rattle.list_facts.specs.Lists.{before}
 use Rattle.list_facts.proofs.EachLemmas.{Each-find, Each-weaker, Each-append}

@@ -1,5 +1,5 @@
 -- Each reading that a read got is a Read event at a target, which stands in the run.
-use Rattle.std.proofs.Common.{◌≡◌, ℕ, Bool, true, false, ◌&&◌, cond, List, [], ◌∷◌, ◌++◌, Option, Some, None, refl, sym, ap, subst, ◌∙◌}
+use Rattle.std.proofs.Common.{◌≡◌, ℕ, Bool, true, false, ◌&&◌, cond, List, [], ◌∷◌, Option, Some, None, refl, sym, subst, ◌∙◌}
 use Rattle.std.specs.List.{find}
 use Rattle.pci_command.specs.declared.op_id.OpId.{OpId}
 use Rattle.pci_command.specs.Same.{same_op}

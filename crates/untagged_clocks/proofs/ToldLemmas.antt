@@ -1,5 +1,5 @@
 -- A read was told of a write exactly where its master's numbers, as of the read's end, reach it.
-use Rattle.std.proofs.Common.{◌≡◌, ℕ, Bool, true, false, ◌&&◌, ◌||◌, not, cond, eqb, List, [], ◌∷◌, ◌++◌, Option, Some, None, is_some, refl, sym, ap, subst, ◌∙◌, arith}
+use Rattle.std.proofs.Common.{◌≡◌, Bool, true, false, ◌||◌, not, cond, eqb, List, [], ◌∷◌, ◌++◌, Option, Some, None, is_some, refl, sym, ap, subst, ◌∙◌, arith}
 use Rattle.std.proofs.lemmas.Bool.{and_parts}
 use Rattle.std.proofs.lemmas.Bool.Decides.{nat_tests}
 use Rattle.pci_command.specs.declared.op_id.OpId.{OpId}
@@ -14,7 +14,7 @@ use Rattle.law_untagged.specs.Untagged.{UntaggedRun}
 use Rattle.law_untagged.specs.Origins.{ending_reading, untagged_got}
 use Rattle.law_untagged.specs.Heard.{Since, knows, heard, first_known, untagged_since, untagged_was_told}
 use Rattle.law_untagged.specs.Orderly.{Begun, Orderly, Front}
-use Rattle.law_untagged.proofs.OrderLemmas.{Begun-turn, front_self, front_more, front_front, front_orderly}
+use Rattle.law_untagged.proofs.OrderLemmas.{Begun-turn, front_self, front_more, front_front}
 use Rattle.law_untagged.proofs.HeardLemmas.{ending_front, got_reads}
 use Rattle.law_untagged.proofs.ToldLemmas.{got_along}
 use Rattle.law_untagged.proofs.UntaggedOrderLemmas.{untagged_in_order}

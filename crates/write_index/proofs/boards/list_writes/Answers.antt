@@ -3,7 +3,7 @@ use Rattle.board_model.specs.declared.op.Op.{Op}
 use Rattle.board_model.specs.declared.agents.Master.{Master}
 use Rattle.board_model.specs.declared.board.Board.{Board}
 use Rattle.bus_tree.proofs.DecodableLemmas.{IsDecodable-valid}
-use Rattle.causal_audit.proofs.MasterLemmas.{few_masters}
+use Rattle.board_laws.proofs.Laws.{few_masters}
 use Rattle.law_untagged.specs.Stale.{ops_by, ops_from}
 use Rattle.write_index.specs.Kept.{Lists}
 use Rattle.write_index.proofs.WalkLemmas.{few_at, master_more}
