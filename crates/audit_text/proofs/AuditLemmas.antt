@@ -1,5 +1,5 @@
 -- What was noted down and found so far, after one event more.
-use Rattle.std.proofs.Common.{◌≡◌, ℕ, ◌+◌, ◌<◌, ◌≤◌, take, drop, get_or, length, reverse, replicate, List, [], ◌∷◌, ◌++◌, sym, ap, subst, ◌∙◌, arith}
+use Rattle.std.proofs.Common.{◌≡◌, ℕ, ◌+◌, ◌<◌, ◌≤◌, take, drop, get_or, length, reverse, List, [], ◌∷◌, ◌++◌, sym, ap, subst, ◌∙◌, arith}
 use Rattle.std.proofs.lemmas.List.{length-reverse, length-take-le, take_more, take_all, reverse-append, take-append-drop}
 use Rattle.board_model.specs.declared.board.Board.{Board}
 use Rattle.history_model.specs.declared.event.Event.{Event}
@@ -9,10 +9,9 @@ use Rattle.law_slots.proofs.Laws.{Run-before}
 use Rattle.audit_model.specs.Audit.{Finding, findings}
 use Rattle.audit_model.specs.Audit as audit
 use Rattle.board_model.specs.Valid.{IsValid}
-use Rattle.dword_landings.specs.Notes.{no_landings}
 use Rattle.dword_landings.specs.Told.{ToldsFor}
 use Rattle.dword_landings.proofs.Laws.{tolds_first}
-use Rattle.audit_text.specs.Notes.{Notes, end_in, Happens}
+use Rattle.audit_text.specs.Notes.{Notes, no_notes, end_in, Happens}
 use Rattle.audit_text.specs.Search.{Searchable}
 use Rattle.audit_text.specs.Stands.{StandsFor}
 use Rattle.audit_text.specs.Found.{findings_in}
@@ -26,8 +25,7 @@ pub record SoFar (board : Board) (h : List Event) (notes : Notes) (all : List Fi
   pub tolds : ToldsFor (length board.masters) notes.landings.whole notes.clocks.starts notes.landings.landed notes.landings.tolds
   pub found_is : all ≡ findings board h
 
-pub so_far_none : (board : Board) (notes : Notes) (all : List Finding) → all ≡ []
-    → notes ≡ record { landings = no_landings; readings = []; gots = []; clocks = record { known = replicate (length board.masters) (replicate (length board.masters) []); starts = []; taught = [] } } → SoFar board [] notes all
+pub so_far_none : (board : Board) (notes : Notes) (all : List Finding) → all ≡ [] → notes ≡ no_notes (length board.masters) → SoFar board [] notes all
 so_far_none board notes all none is =
     record {
       stands = stands_first board notes is;
@@ -35,11 +33,11 @@ so_far_none board notes all none is =
       found_is = none;
     }
 
-step : (board : Board) (valid : IsValid board) (h : List Event) (e : Event) (notes next : Notes) (all longer more : List Finding) (index : ℕ) → Run board (e ∷ h) → index ≡ length h → SoFar board h notes all
+step : (board : Board) (valid : IsValid board) (h : List Event) (e : Event) (notes next : Notes) (all longer : List Finding) (index : ℕ) → Run board (e ∷ h) → index ≡ length h → SoFar board h notes all
     → Happens board index e notes next
-    → longer ≡ all ++ more → more ≡ findings_in (length board.masters) next (end_in e)
+    → longer ≡ all ++ findings_in (length board.masters) next (end_in e)
     → SoFar board (e ∷ h) next longer
-step board valid h e notes next all longer more index run counted so happens longer_is more_is =
+step board valid h e notes next all longer index run counted so happens longer_is =
     let stands : StandsFor board (e ∷ h) next = stands_next board valid h notes so.stands e index next run counted happens in
     let found : findings_in (length board.masters) next (end_in e) ≡ audit.findings_in board (e ∷ h) (ended e) = found_same board valid (e ∷ h) next run stands e in
     let new : List Finding = audit.findings_in board (e ∷ h) (ended e) in
@@ -48,7 +46,7 @@ step board valid h e notes next all longer more index run counted so happens lon
       tolds = tolds_next board h e index notes next run so.stands stands happens;
       found_is =
           longer_is
-          ∙ ap (λ xs. all ++ xs) (more_is ∙ found)
+          ∙ ap (λ xs. all ++ xs) found
           ∙ ap (λ xs. xs ++ new) so.found_is;
     }
 
@@ -60,20 +58,19 @@ first_run board events i run =
     Run-before board (reverse (drop i events)) (history_of (take i events)) (subst (Run board) turned run)
 
 -- one event more of a trace
-pub so_far_more : (board : Board) (valid : IsValid board) (events : List Event) (i : ℕ) (d : Event) (notes next : Notes) (all longer more : List Finding) → Run board (history_of events) → i < length events
+pub so_far_more : (board : Board) (valid : IsValid board) (events : List Event) (i : ℕ) (d : Event) (notes next : Notes) (all longer : List Finding) → Run board (history_of events) → i < length events
     → SoFar board (history_of (take i events)) notes all
     → Happens board i (get_or events i d) notes next
-    → longer ≡ all ++ more
-    → more ≡ findings_in (length board.masters) next (end_in (get_or events i d))
+    → longer ≡ all ++ findings_in (length board.masters) next (end_in (get_or events i d))
     → SoFar board (history_of (take (i + 1) events)) next longer
-so_far_more board valid events i d notes next all longer more run within so happens longer_is more_is =
+so_far_more board valid events i d notes next all longer run within so happens longer_is =
     let e : Event = get_or events i d in
     let h : List Event = history_of (take i events) in
     let turned : history_of (take (i + 1) events) ≡ e ∷ h =
     ap (λ (xs : List Event). reverse xs) (take_more events i d within) ∙ reverse-append (take i events) (e ∷ []) in
     let run_e : Run board (e ∷ h) = subst (Run board) turned (first_run board events (i + 1) run) in
     let counted : i ≡ length h = sym (length-reverse (take i events) ∙ length-take-le i events (omega (arith, within))) in
-    subst (λ g. SoFar board g next longer) (sym turned) (step board valid h e notes next all longer more i run_e counted so happens longer_is more_is)
+    subst (λ g. SoFar board g next longer) (sym turned) (step board valid h e notes next all longer i run_e counted so happens longer_is)
 
 -- all events
 pub so_far_all : (board : Board) (events : List Event) (i : ℕ) (notes : Notes) (all : List Finding) → length events ≤ i → SoFar board (history_of (take i events)) notes all → all ≡ findings board (history_of events)

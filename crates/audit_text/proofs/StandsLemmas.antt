@@ -30,9 +30,8 @@ use Rattle.audit_clocks.specs.Rows.{number, own, row, reached}
 use Rattle.audit_clocks.specs.Tables.{value_of, numbers_of, list_in}
 use Rattle.audit_clocks.specs.Clocks.{ClockState, Presented, Ended, known_at, since_at, told_at}
 use Rattle.audit_text.specs.declared.readings.Reading.{Reading}
-use Rattle.dword_landings.specs.Notes.{no_landings}
 use Rattle.dword_landings.proofs.Laws.{landings_first, same_stand}
-use Rattle.audit_text.specs.Notes.{Notes, Presents, EndsSo, Ends, ended_of, Happens}
+use Rattle.audit_text.specs.Notes.{Notes, no_notes, Presents, EndsSo, Ends, ended_of, Happens}
 use Rattle.audit_text.specs.Stands.{StandsFor}
 use Rattle.audit_text.proofs.ReadLemmas.{AfterRead, event_read, event_got}
 
@@ -317,12 +316,10 @@ module _ (board : Board) (valid : IsValid board) (h : List Event) (notes : Notes
   stands_next e index new run is happens = happened e new run (subst (λ n. Happens board n e notes new) is happens)
 
 -- before the first event
-pub stands_first : (board : Board) (notes : Notes)
-    → notes ≡ record { landings = no_landings; readings = []; gots = []; clocks = record { known = replicate (length board.masters) (replicate (length board.masters) []); starts = []; taught = [] } } → StandsFor board [] notes
+pub stands_first : (board : Board) (notes : Notes) → notes ≡ no_notes (length board.masters) → StandsFor board [] notes
 stands_first board notes is =
     let M : ℕ = length board.masters in
     let none : List (List OpId) = replicate M [] in
-    let first : Notes = record { landings = no_landings; readings = []; gots = []; clocks = record { known = replicate M none; starts = []; taught = [] } } in
     let rows : (master : ℕ) → master < M → known_at (replicate M none) master ≡ none = λ master within. get_or-replicate M master none [] within in
     subst (StandsFor board []) (sym is) (record {
       landings = landings_first board;

@@ -1,5 +1,5 @@
 -- What an audit notes down of a run, and what each event adds to it.
-use Rattle.std.specs.Prelude.{◌≡◌, ℕ, List, [], length, Option, Some, None, is_some}
+use Rattle.std.specs.Prelude.{◌≡◌, ℕ, List, [], length, replicate, Option, Some, None, is_some}
 use Rattle.std.specs.Option.{option_map}
 use Rattle.pci_command.specs.declared.command.Space.{Space}
 use Rattle.pci_command.specs.declared.op_id.OpId.{OpId}
@@ -14,7 +14,7 @@ use Rattle.audit_clocks.specs.declared.landings.Word.{Word}
 use Rattle.audit_clocks.specs.Tables.{value_of, writes_in, Puts}
 use Rattle.audit_clocks.specs.Clocks.{ClockState, Presented, Ended}
 use Rattle.dword_landings.specs.Told.{Tells, ToldsFor}
-use Rattle.dword_landings.specs.Notes.{LandingNotes, Happened, SameLandings}
+use Rattle.dword_landings.specs.Notes.{LandingNotes, no_landings, Happened, SameLandings}
 use Rattle.audit_text.specs.declared.readings.Reading.{Reading}
 use Rattle.audit_text.specs.declared.readings.Read.{Read as ReadAt}
 use Rattle.audit_text.specs.declared.ends.Ended.{Ended as EndedOp}
@@ -28,6 +28,16 @@ pub record Notes : Type 0 where
   pub gots : List (OpId × Option Reading)
   -- what each master knows
   pub clocks : ClockState
+
+-- before the first event, of so many masters
+abbrev pub no_notes : ℕ → Notes
+no_notes masters =
+    record {
+      landings = no_landings;
+      readings = [];
+      gots = [];
+      clocks = record { known = replicate masters (replicate masters []); starts = []; taught = [] };
+    }
 
 -- what is there, of what may be there
 abbrev pub flat : {X : Type 0} → Option (Option X) → Option X

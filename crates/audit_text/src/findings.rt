@@ -2,7 +2,7 @@ ghost use Rattle.std.specs.Prelude.{◌≡◌, ◌≤◌, ◌++◌, ◌∷◌, l
 ghost use Rattle.board_model.specs.Valid.{IsValid};
 ghost use Rattle.history_model.specs.Runs.{Run, history_of};
 ghost use Rattle.audit_model.specs.Audit.{findings};
-ghost use Rattle.audit_text.specs.Notes.{end_in};
+ghost use Rattle.audit_text.specs.Notes.{no_notes, end_in};
 ghost use Rattle.audit_text.specs.Search.{Searchable, TellsAlways};
 ghost use Rattle.audit_text.specs.Found.{listed, finding_of, findings_in, findings_as, findings_by};
 
@@ -37,19 +37,41 @@ fn find_all(alloc: Global, board: &Board, events: &[Event]) -> Result<Vec<Found>
     ensures { IfOk result (λ found. found.items ≡ findings board.now (history_of events.now)) }
 {
     let mut ledger = Ledger::new(alloc, board)?;
+    find_with(alloc, board, events, &mut ledger)
+}
+
+/// The same, with a ledger in which nothing is noted down.
+fn find_with(
+    alloc: Global,
+    board: &Board,
+    events: &[Event],
+    ledger: &mut Ledger,
+) -> Result<Vec<Found>, NoMemory>
+    requires valid { IsValid board.now }
+    requires run { Run board.now (history_of events.now) }
+    requires empty { ledger.old ≡ no_notes (length board.now.masters) }
+    ensures { IfOk result (λ found. found.items ≡ findings board.now (history_of events.now)) }
+{
     let mut all = Vec::new(alloc);
     for (index, event) in events.iter().enumerate() {
         ledger.happen(alloc, board, index, event)?;
-        let found = found_in(alloc, board, &ledger, event)?;
-        add(&mut all, found)?;
+        add_found(alloc, board, ledger, event, &mut all)?;
     }
     Ok(all)
 }
 
-fn add(all: &mut Vec<Found>, found: Option<Found>) -> Result<(), NoMemory>
-    ensures { OnOk result (all.new.items ≡ all.old.items ++ listed found) }
+/// What the read that the event ends knew, behind what was found.
+fn add_found(
+    alloc: Global,
+    board: &Board,
+    ledger: &Ledger,
+    event: &Event,
+    all: &mut Vec<Found>,
+) -> Result<(), NoMemory>
+    requires { Searchable ledger.now }
+    ensures { OnOk result (all.new.items ≡ all.old.items ++ findings_in (length board.now.masters) ledger.now (end_in event.now)) }
 {
-    match found {
+    match found_in(alloc, board, ledger, event)? {
         Some(found) => {
             all.push(found)?;
             Ok(())

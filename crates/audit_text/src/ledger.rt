@@ -35,23 +35,21 @@ impl Model for Ledger {
 }
 
 impl Ledger {
-    ghost use Rattle.std.specs.Prelude.{[], replicate};
-    ghost use Rattle.dword_landings.specs.Notes.{no_landings};
-    ghost use Rattle.audit_text.specs.Notes.{Happens};
+    ghost use Rattle.audit_text.specs.Notes.{Happens, no_notes};
     ghost use Rattle.audit_clocks.specs.Tracks.{Tracked};
     ghost use Rattle.audit_text.specs.Found.{since_of, got_in, landed_before, landed_whole};
     ghost use Rattle.audit_text.specs.Search.{writes_at};
 
     /// Nothing happened.
     pub(crate) fn new(alloc: Global, board: &Board) -> Result<Ledger, NoMemory>
-        ensures { let masters = length board.now.masters in
-            IfOk result (λ ledger. ledger ≡ record { landings = no_landings; readings = []; gots = []; clocks = record { known = replicate masters (replicate masters []); starts = []; taught = [] } }) }
+        ensures { IfOk result (λ ledger. ledger ≡ no_notes (length board.now.masters)) }
     {
+        let clocks = Clocks::new(alloc, board.masters.as_slice().len())?;
         Ok(Ledger {
             landings: DwordLandings::new(alloc),
             readings: OpTable::new(alloc),
             gots: OpTable::new(alloc),
-            clocks: Clocks::new(alloc, board.masters.as_slice().len())?,
+            clocks,
         })
     }
 

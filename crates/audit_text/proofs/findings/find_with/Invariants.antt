@@ -1,7 +1,7 @@
 use Rattle.std.proofs.Common.{take}
 use Rattle.history_model.specs.Runs.{history_of}
 use Rattle.audit_text.proofs.AuditLemmas.{SoFar}
-use Rattle.audit_text.proofs.findings.find_all.Given as goal
+use Rattle.audit_text.proofs.findings.find_with.Given as goal
 
 -- what was noted down and found of the events so far
 abbrev pub invariant-loop-index : goal.invariant-loop-index
