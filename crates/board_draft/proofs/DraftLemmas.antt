@@ -1,7 +1,6 @@
 -- A statement that its words saw to, added to a sound draft, leaves a sound draft.
 use Rattle.std.proofs.Common.{subst, sym, ◌≡◌, ℕ, ◌+◌, Bool, true, List, length, refl, arith, lit≤}
 use Rattle.std.specs.Prelude.{Result, Ok, nat_le, nat_lt}
-use Rattle.std.specs.List.{list_all}
 use Rattle.std.proofs.lemmas.Bool.{and_from, and_parts, or_parts, not-false, leb-false, leb-true, ltb-false, le-leb}
 use Rattle.list_facts.specs.Lists.{total}
 use Rattle.list_facts.proofs.TotalLemmas.{total-push}

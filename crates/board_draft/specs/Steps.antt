@@ -15,3 +15,9 @@ abbrev pub Answers : {A : Type 0} → Result A AddFault → Result A LineFault �
 Answers (Ok x) expected = expected ≡ Ok x
 Answers (Err (Fault fault)) expected = expected ≡ Err fault
 Answers (Err NoMemory) expected = Unit {0}
+
+-- what was changed is then exactly what is to be answered, unless there was no memory
+abbrev pub Changes : {U A : Type 0} → Result U AddFault → A → Result A LineFault → Type 0
+Changes (Ok done) changed expected = expected ≡ Ok changed
+Changes (Err (Fault fault)) changed expected = expected ≡ Err fault
+Changes (Err NoMemory) changed expected = Unit {0}

@@ -1,6 +1,6 @@
-ghost use Rattle.std.specs.Prelude.{◌≡◌, ◌<◌, ◌≤◌, IfOk};
-ghost use Rattle.board_draft.specs.Steps.{Answers};
-ghost use Rattle.board_draft.specs.Drafts.{board_of};
+ghost use Rattle.std.specs.Prelude.{◌≡◌, ◌<◌, ◌≤◌, IfOk, OnOk};
+ghost use Rattle.board_draft.specs.Steps.{Changes};
+ghost use Rattle.board_draft.specs.Drafts.{board_of, draft_of, with_owner};
 ghost use Rattle.board_draft.specs.Add.{add, tries_in};
 ghost use Rattle.board_draft.specs.Counts.{IsCountOf};
 
@@ -16,6 +16,7 @@ use board_model::{Board, tries_of};
 use board_statements::Statement;
 use pci_command::NoMemory;
 use std::alloc::Global;
+use std::mem;
 
 /// The board of a draft.
 pub(crate) fn board_of(alloc: Global, draft: Draft) -> Result<Board, NoMemory>
@@ -26,45 +27,50 @@ pub(crate) fn board_of(alloc: Global, draft: Draft) -> Result<Board, NoMemory>
         mut board,
         owner,
     } = draft;
-    match owner {
-        Owner::Nobody => {}
-        Owner::OfTarget(target) => push(alloc, &mut board.targets, target)?,
-        Owner::OfMaster(master) => push(alloc, &mut board.masters, master)?,
-    }
+    join(alloc, &mut board, owner)?;
     Ok(board)
+}
+
+/// Ends the details of the target or master that began last.
+pub(crate) fn close(alloc: Global, draft: &mut Draft) -> Result<(), NoMemory>
+    ensures { OnOk result (draft.new ≡ draft_of draft.old.wide (board_of draft.old)) }
+{
+    let owner = mem::replace(&mut draft.owner, Owner::Nobody);
+    join(alloc, &mut draft.board, owner)
+}
+
+/// A target or master stands behind the others of its kind.
+fn join(alloc: Global, board: &mut Board, owner: Owner) -> Result<(), NoMemory>
+    ensures { OnOk result (board.new ≡ with_owner board.old owner) }
+{
+    match owner {
+        Owner::Nobody => Ok(()),
+        Owner::OfTarget(target) => push(alloc, &mut board.targets, target),
+        Owner::OfMaster(master) => push(alloc, &mut board.masters, master),
+    }
 }
 
 /// One more statement of a draft that has these counts.
 pub(crate) fn add(
     alloc: Global,
-    draft: Draft,
+    draft: &mut Draft,
     counts: &Counts,
     statement: Statement,
-) -> Result<Draft, AddFault>
-    requires { IsCountOf counts.now (board_of draft) }
-    ensures { Answers result (add draft statement) }
+) -> Result<(), AddFault>
+    requires { IsCountOf counts.now (board_of draft.old) }
+    ensures { Changes result draft.new (add draft.old statement) }
 {
-    let wide = draft.wide;
     match statement {
-        Statement::NewBridge(bridge) => add_bridge(alloc, wide, board_of(alloc, draft)?, bridge),
+        Statement::NewBridge(bridge) => add_bridge(alloc, draft, bridge),
         Statement::NewHeader {
             device,
             bytes,
             posted,
             delayed,
-        } => add_header(
-            alloc,
-            wide,
-            board_of(alloc, draft)?,
-            device,
-            &bytes,
-            posted,
-            delayed,
-        ),
+        } => add_header(alloc, draft, device, &bytes, posted, delayed),
         Statement::NewTarget { name, bus, device } => {
             let fault = counts.agent_fault(&name, bus);
-            let board = board_of(alloc, draft)?;
-            add_target(alloc, wide, board, fault, name, bus, device)
+            add_target(alloc, draft, fault, name, bus, device)
         }
         Statement::Identifies { vendor, model } => identify(draft, vendor, model),
         Statement::Stalls(tokens) => stall(draft, tokens),
@@ -74,14 +80,11 @@ pub(crate) fn add(
         Statement::Opens(opening) => open_word(alloc, draft, opening),
         Statement::NewMaster { name, bus } => {
             let fault = counts.agent_fault(&name, bus);
-            let board = board_of(alloc, draft)?;
-            add_master(alloc, wide, board, fault, name, bus)
+            add_master(alloc, draft, fault, name, bus)
         }
         Statement::Does { op, too_many } => operate(alloc, draft, counts.operations, op, too_many),
-        Statement::Discards(planned) => {
-            add_discard(alloc, wide, board_of(alloc, draft)?, planned)
-        }
-        Statement::Drops(planned) => add_drop(alloc, wide, board_of(alloc, draft)?, planned),
+        Statement::Discards(planned) => add_discard(alloc, draft, planned),
+        Statement::Drops(planned) => add_drop(alloc, draft, planned),
     }
 }
 

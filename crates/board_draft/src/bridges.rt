@@ -1,53 +1,45 @@
 ghost use Rattle.std.specs.Prelude.{◌≡◌, ◌<◌, ◌≤◌, ◌||◌, ◌^◌, nat_le, length};
 ghost use Rattle.std.specs.List.{list_any};
 ghost use Rattle.board_model.specs.WellFormed.{has_bus, children_on};
-ghost use Rattle.board_draft.specs.Steps.{Answers};
+ghost use Rattle.board_draft.specs.Steps.{Changes};
+ghost use Rattle.board_draft.specs.declared.draft.Owner.TheVariants.{Nobody};
+ghost use Rattle.board_draft.specs.Drafts.{board_of};
 ghost use Rattle.board_draft.specs.Bridges.{is_whole, are_windows_whole, is_ordered, are_windows_ordered, put_bridge, add_bridge, fault_of, is_too_wide, bridge_of, put_header, add_header};
 
+use crate::add::close;
 use crate::lists::push;
-use crate::{AddFault, Draft, Owner};
+use crate::{AddFault, Draft};
 use board_model::{Board, Bridge, Window};
 use board_statements::LineFault;
 use bridge_header::{HeaderFault, Windows, decode};
 use std::alloc::Global;
 
-pub(crate) fn add_bridge(
-    alloc: Global,
-    wide: bool,
-    board: Board,
-    bridge: Bridge,
-) -> Result<Draft, AddFault>
-    ensures { Answers result (add_bridge wide board bridge) }
+pub(crate) fn add_bridge(alloc: Global, draft: &mut Draft, bridge: Bridge) -> Result<(), AddFault>
+    ensures { Changes result draft.new (add_bridge draft.old.wide (board_of draft.old) bridge) }
 {
+    close(alloc, draft)?;
     if !are_windows_whole(&bridge) {
         return Err(AddFault::Fault(LineFault::Unaligned));
     }
     if !are_windows_ordered(&bridge) {
         return Err(AddFault::Fault(LineFault::PastItsSpace));
     }
-    put_bridge(alloc, wide, board, bridge)
+    put_bridge(alloc, draft, bridge)
 }
 
-fn put_bridge(
-    alloc: Global,
-    wide: bool,
-    mut board: Board,
-    bridge: Bridge,
-) -> Result<Draft, AddFault>
-    ensures { Answers result (put_bridge wide board bridge) }
+fn put_bridge(alloc: Global, draft: &mut Draft, bridge: Bridge) -> Result<(), AddFault>
+    requires { draft.old.owner ≡ Nobody }
+    ensures { Changes result draft.new (put_bridge draft.old.wide draft.old.board bridge) }
 {
-    if some_has_bus(board.bridges.as_slice(), bridge.bus) {
+    let bridges = draft.board.bridges.as_slice();
+    if some_has_bus(bridges, bridge.bus) {
         return Err(AddFault::Fault(LineFault::BusUsed));
     }
-    if board.bridges.as_slice().len() >= 31 || has_eight_children(&board, bridge.parent) {
+    if bridges.len() >= 31 || has_eight_children(&draft.board, bridge.parent) {
         return Err(AddFault::Fault(LineFault::OverLimit));
     }
-    push(alloc, &mut board.bridges, bridge)?;
-    Ok(Draft {
-        wide,
-        board,
-        owner: Owner::Nobody,
-    })
+    push(alloc, &mut draft.board.bridges, bridge)?;
+    Ok(())
 }
 
 fn some_has_bus(bridges: &[Bridge], bus: u8) -> bool
@@ -105,37 +97,37 @@ fn is_ordered(window: Option<Window>) -> bool
 
 pub(crate) fn add_header(
     alloc: Global,
-    wide: bool,
-    board: Board,
+    draft: &mut Draft,
     device: u8,
     bytes: &[u8; 64],
     posted: u8,
     delayed: u8,
-) -> Result<Draft, AddFault>
-    ensures { Answers result (add_header wide board device bytes.now posted delayed) }
+) -> Result<(), AddFault>
+    ensures { Changes result draft.new (add_header draft.old.wide (board_of draft.old) device bytes.now posted delayed) }
 {
-    put_header(alloc, wide, board, device, posted, delayed, decode(bytes))
+    close(alloc, draft)?;
+    put_header(alloc, draft, device, posted, delayed, decode(bytes))
 }
 
 fn put_header(
     alloc: Global,
-    wide: bool,
-    board: Board,
+    draft: &mut Draft,
     device: u8,
     posted: u8,
     delayed: u8,
     reading: Result<Windows, HeaderFault>,
-) -> Result<Draft, AddFault>
-    ensures { Answers result (put_header wide board device posted delayed reading) }
+) -> Result<(), AddFault>
+    requires { draft.old.owner ≡ Nobody }
+    ensures { Changes result draft.new (put_header draft.old.wide draft.old.board device posted delayed reading) }
 {
     match reading {
         Err(fault) => Err(AddFault::Fault(fault_of(fault))),
         Ok(windows) => {
-            if is_too_wide(wide, windows.pref) {
+            if is_too_wide(draft.wide, windows.pref) {
                 return Err(AddFault::Fault(LineFault::WideWindow));
             }
             let bridge = bridge_of(windows, device, posted, delayed);
-            put_bridge(alloc, wide, board, bridge)
+            put_bridge(alloc, draft, bridge)
         }
     }
 }

@@ -47,7 +47,7 @@ impl Agent {
 }
 
 impl Counts {
-    ghost use Rattle.std.specs.Prelude.{◌≡◌, ℕ, ◌+◌, ◌<◌, ◌≤◌, IfOk, Some, slice_index, string_bytes};
+    ghost use Rattle.std.specs.Prelude.{◌≡◌, ℕ, ◌+◌, ◌<◌, ◌≤◌, OnOk, Some, slice_index, string_bytes};
     ghost use Rattle.std.specs.HashSet.{contains_text};
     ghost use Rattle.board_draft.specs.Drafts.{empty_board};
     ghost use Rattle.board_draft.specs.Counts.{IsCountOf, IsGrown, fault_in, name_and_bus};
@@ -83,27 +83,26 @@ impl Counts {
         None
     }
 
-    /// With that target or master, and with so many operations more.
-    pub(crate) fn grown(self, agent: Option<Agent>, tries: u32) -> Result<Counts, NoMemory>
-        requires agents { (bus : ℕ) → bus < 256 → slice_index self.agents bus ≤ 8 }
-        requires operations { self.operations + tries ≤ 65536 }
-        ensures { IfOk result (λ counts. IsGrown self counts (name_and_bus agent) tries) }
+    /// Adds that target or master, and so many operations.
+    pub(crate) fn grow(&mut self, agent: Option<Agent>, tries: u32) -> Result<(), NoMemory>
+        requires agents { (bus : ℕ) → bus < 256 → slice_index self.old.agents bus ≤ 8 }
+        requires operations { self.old.operations + tries ≤ 65536 }
+        ensures { OnOk result (IsGrown self.old self.new (name_and_bus agent) tries) }
     {
-        let mut counts = match agent {
-            None => self,
-            Some(agent) => self.with_agent(agent)?,
-        };
-        counts.operations += tries;
-        Ok(counts)
+        if let Some(agent) = agent {
+            self.add_agent(agent)?;
+        }
+        self.operations += tries;
+        Ok(())
     }
 
-    fn with_agent(mut self, agent: Agent) -> Result<Counts, NoMemory>
-        requires { slice_index self.agents agent.bus ≤ 8 }
-        ensures { IfOk result (λ counts. IsGrown self counts (name_and_bus (Some agent)) 0) }
+    fn add_agent(&mut self, agent: Agent) -> Result<(), NoMemory>
+        requires { slice_index self.old.agents agent.bus ≤ 8 }
+        ensures { OnOk result (IsGrown self.old self.new (name_and_bus (Some agent)) 0) }
     {
         let Agent { name, bus } = agent;
         self.agents[usize::from(bus)] += 1;
         self.names.insert(name)?;
-        Ok(self)
+        Ok(())
     }
 }

@@ -1,50 +1,38 @@
 ghost use Rattle.std.specs.Prelude.{◌≡◌, ◌+◌, ◌≤◌, ◌||◌};
 ghost use Rattle.board_model.specs.Requests.{tries_of};
-ghost use Rattle.board_draft.specs.Steps.{Answers};
+ghost use Rattle.board_draft.specs.Steps.{Changes};
+ghost use Rattle.board_draft.specs.Drafts.{board_of};
 ghost use Rattle.board_draft.specs.Targets.{agent_fault};
-ghost use Rattle.board_draft.specs.Masters.{add_master, master_in, is_aligned, passes_block, add_op};
+ghost use Rattle.board_draft.specs.Masters.{add_master, is_aligned, passes_block, add_op};
 
+use crate::add::close;
 use crate::lists::{empty, push};
 use crate::{AddFault, Draft, Owner};
-use board_model::{Board, Master, Name, Op, tries_of};
+use board_model::{Master, Name, Op, tries_of};
 use board_statements::LineFault;
 use std::alloc::Global;
 
 /// A master, unless a name or a limit forbids it by that fault.
 pub(crate) fn add_master(
     alloc: Global,
-    wide: bool,
-    board: Board,
+    draft: &mut Draft,
     fault: Option<LineFault>,
     name: Name,
     bus: u8,
-) -> Result<Draft, AddFault>
-    requires { fault ≡ agent_fault board name bus }
-    ensures { Answers result (add_master wide board name bus) }
+) -> Result<(), AddFault>
+    requires { fault ≡ agent_fault (board_of draft.old) name bus }
+    ensures { Changes result draft.new (add_master draft.old.wide (board_of draft.old) name bus) }
 {
+    close(alloc, draft)?;
     if let Some(fault) = fault {
         return Err(AddFault::Fault(fault));
     }
-    let master = Master {
+    draft.owner = Owner::OfMaster(Master {
         name,
         bus,
         ops: empty(alloc),
-    };
-    Ok(Draft {
-        wide,
-        board,
-        owner: Owner::OfMaster(master),
-    })
-}
-
-/// The master whose operation the line may give.
-pub(crate) fn master_in(owner: Owner) -> Result<Master, LineFault>
-    ensures { result ≡ master_in owner }
-{
-    match owner {
-        Owner::OfMaster(master) => Ok(master),
-        Owner::Nobody | Owner::OfTarget(_) => Err(LineFault::NoOwner),
-    }
+    });
+    Ok(())
 }
 
 fn is_aligned(op: &Op) -> bool
@@ -78,9 +66,9 @@ pub(crate) fn add_op(
     before: u32,
     op: Op,
     too_many: bool,
-    mut master: Master,
-) -> Result<Master, AddFault>
-    ensures { Answers result (add_op before op too_many master) }
+    master: &mut Master,
+) -> Result<(), AddFault>
+    ensures { Changes result master.new (add_op before op too_many master.old) }
 {
     if !is_aligned(&op) {
         return Err(AddFault::Fault(LineFault::Unaligned));
@@ -94,5 +82,5 @@ pub(crate) fn add_op(
         return Err(AddFault::Fault(LineFault::OverLimit));
     }
     push(alloc, &mut master.ops, op)?;
-    Ok(master)
+    Ok(())
 }

@@ -1,46 +1,36 @@
-ghost use Rattle.board_draft.specs.Steps.{Answers};
+ghost use Rattle.board_draft.specs.Steps.{Changes};
+ghost use Rattle.board_draft.specs.Drafts.{board_of};
 ghost use Rattle.board_draft.specs.Plans.{add_discard, add_drop};
 
+use crate::add::close;
 use crate::lists::push;
-use crate::{AddFault, Draft, Owner};
-use board_model::{Board, Planned};
+use crate::{AddFault, Draft};
+use board_model::Planned;
 use board_statements::LineFault;
 use std::alloc::Global;
 
 pub(crate) fn add_discard(
     alloc: Global,
-    wide: bool,
-    mut board: Board,
+    draft: &mut Draft,
     planned: Planned,
-) -> Result<Draft, AddFault>
-    ensures { Answers result (add_discard wide board planned) }
+) -> Result<(), AddFault>
+    ensures { Changes result draft.new (add_discard draft.old.wide (board_of draft.old) planned) }
 {
-    if board.discards.as_slice().len() >= 1024 {
+    close(alloc, draft)?;
+    if draft.board.discards.as_slice().len() >= 1024 {
         return Err(AddFault::Fault(LineFault::OverLimit));
     }
-    push(alloc, &mut board.discards, planned)?;
-    Ok(Draft {
-        wide,
-        board,
-        owner: Owner::Nobody,
-    })
+    push(alloc, &mut draft.board.discards, planned)?;
+    Ok(())
 }
 
-pub(crate) fn add_drop(
-    alloc: Global,
-    wide: bool,
-    mut board: Board,
-    planned: Planned,
-) -> Result<Draft, AddFault>
-    ensures { Answers result (add_drop wide board planned) }
+pub(crate) fn add_drop(alloc: Global, draft: &mut Draft, planned: Planned) -> Result<(), AddFault>
+    ensures { Changes result draft.new (add_drop draft.old.wide (board_of draft.old) planned) }
 {
-    if board.drops.as_slice().len() >= 1024 {
+    close(alloc, draft)?;
+    if draft.board.drops.as_slice().len() >= 1024 {
         return Err(AddFault::Fault(LineFault::OverLimit));
     }
-    push(alloc, &mut board.drops, planned)?;
-    Ok(Draft {
-        wide,
-        board,
-        owner: Owner::Nobody,
-    })
+    push(alloc, &mut draft.board.drops, planned)?;
+    Ok(())
 }

@@ -1,7 +1,11 @@
-ghost use Rattle.std.specs.Prelude.{◌≡◌, [], ◌∷◌};
+ghost use Rattle.std.specs.Prelude.{◌≡◌, [], ◌∷◌, OnOk};
 ghost use Rattle.std.specs.List.{find};
 ghost use Rattle.board_model.specs.declared.agents.Target.{Target};
 ghost use Rattle.board_model.specs.WellFormed.{is_target_named};
+ghost use Rattle.board_draft.specs.Steps.{Changes};
+ghost use Rattle.board_draft.specs.Drafts.{board_of};
+ghost use Rattle.board_draft.specs.Counts.{IsCountOf};
+ghost use Rattle.board_draft.specs.Add.{add};
 ghost use Rattle.board_draft.specs.Targets.{bus_in, owned};
 
 use crate::add::{add, board_of, tries_in};
@@ -75,11 +79,11 @@ impl Sheet {
     pub fn add(self, alloc: Global, statement: Statement) -> Result<Sheet, AddFault>
         ensures { Answers result (add self statement) }
     {
-        let Sheet { draft, counts } = self;
-        let tries = tries_in(&statement);
-        let agent = Agent::of(alloc, &statement)?;
-        let draft = add(alloc, draft, &counts, statement)?;
-        let counts = counts.grown(agent, tries)?;
+        let Sheet {
+            mut draft,
+            mut counts,
+        } = self;
+        add_counted(alloc, &mut draft, &mut counts, statement)?;
         Ok(Sheet { draft, counts })
     }
 
@@ -127,6 +131,24 @@ impl Sheet {
         let Sheet { draft, counts: _ } = self;
         board_of(alloc, draft)
     }
+}
+
+/// One more statement of a draft, and of its counts.
+fn add_counted(
+    alloc: Global,
+    draft: &mut Draft,
+    counts: &mut Counts,
+    statement: Statement,
+) -> Result<(), AddFault>
+    requires { IsCountOf counts.old (board_of draft.old) }
+    ensures draft { Changes result draft.new (add draft.old statement) }
+    ensures counts { OnOk result (IsCountOf counts.new (board_of draft.new)) }
+{
+    let tries = tries_in(&statement);
+    let agent = Agent::of(alloc, &statement)?;
+    add(alloc, draft, counts, statement)?;
+    counts.grow(agent, tries)?;
+    Ok(())
 }
 
 fn bus_of_named(targets: &[Target], name: &Name) -> Option<u8>

@@ -1,12 +1,14 @@
 ghost use Rattle.std.specs.Prelude.{◌≡◌, ◌+◌, ◌*◌, ◌<◌, ◌≤◌, ◌||◌, ◌^◌, nat_le, nat_lt, length};
 ghost use Rattle.list_facts.specs.Lists.{total};
 ghost use Rattle.board_model.specs.WellFormed.{registers_of};
-ghost use Rattle.board_draft.specs.Steps.{Answers};
-ghost use Rattle.board_draft.specs.Targets.{agent_fault, new_target, add_target, target_in, unit_of, end_of, is_in_units, fits, put_range, put_abort, add_range, add_abort, add_opening, on_target};
+ghost use Rattle.board_draft.specs.Steps.{Changes};
+ghost use Rattle.board_draft.specs.Drafts.{board_of};
+ghost use Rattle.board_draft.specs.Targets.{agent_fault, new_target, add_target, unit_of, end_of, is_in_units, fits, put_range, put_abort, add_range, add_abort, add_opening};
 
+use crate::add::close;
 use crate::lists::{empty, push};
 use crate::{AddFault, Draft, Owner};
-use board_model::{Board, Name, Opening, Range, Target};
+use board_model::{Name, Opening, Range, Target};
 use board_statements::LineFault;
 use pci_command::Space;
 use std::alloc::Global;
@@ -14,25 +16,21 @@ use std::alloc::Global;
 /// A target, unless a name or a limit forbids it by that fault.
 pub(crate) fn add_target(
     alloc: Global,
-    wide: bool,
-    board: Board,
+    draft: &mut Draft,
     fault: Option<LineFault>,
     name: Name,
     bus: u8,
     device: u8,
-) -> Result<Draft, AddFault>
-    requires { fault ≡ agent_fault board name bus }
-    ensures { Answers result (add_target wide board name bus device) }
+) -> Result<(), AddFault>
+    requires { fault ≡ agent_fault (board_of draft.old) name bus }
+    ensures { Changes result draft.new (add_target draft.old.wide (board_of draft.old) name bus device) }
 {
+    close(alloc, draft)?;
     if let Some(fault) = fault {
         return Err(AddFault::Fault(fault));
     }
-    let target = new_target(alloc, name, bus, device);
-    Ok(Draft {
-        wide,
-        board,
-        owner: Owner::OfTarget(target),
-    })
+    draft.owner = Owner::OfTarget(new_target(alloc, name, bus, device));
+    Ok(())
 }
 
 fn new_target(alloc: Global, name: Name, bus: u8, device: u8) -> Target
@@ -49,16 +47,6 @@ fn new_target(alloc: Global, name: Name, bus: u8, device: u8) -> Target
         ranges: empty(alloc),
         aborts: empty(alloc),
         openings: empty(alloc),
-    }
-}
-
-/// The target whose details the line may give.
-pub(crate) fn target_in(owner: Owner) -> Result<Target, LineFault>
-    ensures { result ≡ target_in owner }
-{
-    match owner {
-        Owner::OfTarget(target) => Ok(target),
-        Owner::Nobody | Owner::OfMaster(_) => Err(LineFault::NoOwner),
     }
 }
 
@@ -105,21 +93,21 @@ pub(crate) fn add_range(
     alloc: Global,
     wide: bool,
     range: Range,
-    target: Target,
-) -> Result<Target, AddFault>
-    ensures { Answers result (add_range wide range target) }
+    target: &mut Target,
+) -> Result<(), AddFault>
+    ensures { Changes result target.new (add_range wide range target.old) }
 {
     put_range(alloc, target, fits(wide, range)?)
 }
 
-fn put_range(alloc: Global, mut target: Target, range: Range) -> Result<Target, AddFault>
-    ensures { Answers result (put_range target range) }
+fn put_range(alloc: Global, target: &mut Target, range: Range) -> Result<(), AddFault>
+    ensures { Changes result target.new (put_range target.old range) }
 {
     if !has_registers(target.ranges.as_slice(), &range) {
         return Err(AddFault::Fault(LineFault::OverLimit));
     }
     push(alloc, &mut target.ranges, range)?;
-    Ok(target)
+    Ok(())
 }
 
 /// Whether six base address registers are enough for these ranges and one more.
@@ -153,29 +141,29 @@ pub(crate) fn add_abort(
     alloc: Global,
     wide: bool,
     range: Range,
-    target: Target,
-) -> Result<Target, AddFault>
-    ensures { Answers result (add_abort wide range target) }
+    target: &mut Target,
+) -> Result<(), AddFault>
+    ensures { Changes result target.new (add_abort wide range target.old) }
 {
     put_abort(alloc, target, fits(wide, range)?)
 }
 
-fn put_abort(alloc: Global, mut target: Target, range: Range) -> Result<Target, AddFault>
-    ensures { Answers result (put_abort target range) }
+fn put_abort(alloc: Global, target: &mut Target, range: Range) -> Result<(), AddFault>
+    ensures { Changes result target.new (put_abort target.old range) }
 {
     if target.aborts.as_slice().len() >= 6 {
         return Err(AddFault::Fault(LineFault::OverLimit));
     }
     push(alloc, &mut target.aborts, range)?;
-    Ok(target)
+    Ok(())
 }
 
 pub(crate) fn add_opening(
     alloc: Global,
     opening: Opening,
-    mut target: Target,
-) -> Result<Target, AddFault>
-    ensures { Answers result (add_opening opening target) }
+    target: &mut Target,
+) -> Result<(), AddFault>
+    ensures { Changes result target.new (add_opening opening target.old) }
 {
     if opening.address % 4 != 0 {
         return Err(AddFault::Fault(LineFault::Unaligned));
@@ -184,5 +172,5 @@ pub(crate) fn add_opening(
         return Err(AddFault::Fault(LineFault::OverLimit));
     }
     push(alloc, &mut target.openings, opening)?;
-    Ok(target)
+    Ok(())
 }

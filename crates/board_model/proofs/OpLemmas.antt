@@ -1,5 +1,5 @@
 -- The operation that a name names: where it stands, and that it is well formed where the board is.
-use Rattle.std.proofs.Common.{◌≡◌, ℕ, ◌≤◌, ◌<◌, true, cond, nat_lt, List, length, Option, Some, None, refl, subst, arith, lit≤, slice_get, eqb-true}
+use Rattle.std.proofs.Common.{◌≡◌, ℕ, ◌<◌, true, cond, nat_lt, List, length, Option, Some, None, refl, subst, arith, lit≤, slice_get, eqb-true}
 use Rattle.std.specs.Option.{option_and_then}
 use Rattle.std.proofs.lemmas.Bool.{and_parts, ltb-true}
 use Rattle.std.proofs.lemmas.Option.{cond_some, slice_get_within}

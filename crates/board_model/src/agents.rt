@@ -2,7 +2,7 @@ use crate::{Name, Op};
 use pci_command::{List, Space};
 
 /// A range of byte addresses, of `size` bytes from `base` on.
-#[derive(Clone, Copy, Debug, Default, PartialEq, Eq, PartialOrd, Ord, Hash)]
+#[derive(Clone, Copy, Debug, Default, PartialEq, Eq)]
 pub struct Range {
     pub space: Space,
     pub base: u64,
@@ -10,7 +10,7 @@ pub struct Range {
 }
 
 /// What a dword of a target holds before the first event. Words not named open as 0.
-#[derive(Clone, Copy, Debug, Default, PartialEq, Eq, PartialOrd, Ord, Hash)]
+#[derive(Clone, Copy, Debug, Default, PartialEq, Eq)]
 pub struct Opening {
     pub space: Space,
     pub address: u64,

@@ -3,7 +3,7 @@ use pci_command::List;
 
 /// The item of its kind that comes as number `count`, from 1, on the lane of the bridge to
 /// secondary bus `bus`.
-#[derive(Clone, Copy, Debug, Default, PartialEq, Eq, PartialOrd, Ord, Hash)]
+#[derive(Clone, Copy, Debug, Default, PartialEq, Eq)]
 pub struct Planned {
     pub bus: u8,
     pub up: bool,

@@ -15,7 +15,7 @@ pub struct Window {
 
 /// A PCI-to-PCI bridge (PCI-to-PCI Bridge Architecture 1.1, section 3.2; section number from
 /// memory).
-#[derive(Clone, Copy, Debug, Default, PartialEq, Eq, PartialOrd, Ord, Hash)]
+#[derive(Clone, Copy, Debug, Default, PartialEq, Eq)]
 pub struct Bridge {
     /// Its secondary bus, by which the bridge is named.
     pub bus: u8,

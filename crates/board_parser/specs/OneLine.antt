@@ -1,5 +1,5 @@
 -- How one line of a board text is read, behind the lines before it.
-use Rattle.std.specs.Prelude.{ℕ, Bool, List, length, Option, Some, None, Result, Ok, Err, nat_lt, ◌==◌, if◌then◌else◌}
+use Rattle.std.specs.Prelude.{ℕ, Bool, List, length, Option, Some, None, Result, Ok, Err, nat_lt, if◌then◌else◌}
 use Rattle.board_text.specs.Lines.{line_fault}
 use Rattle.board_text.specs.declared.reader.BadLine.{BadLine}
 use Rattle.board_text.specs.declared.reader.BadLine.TheVariants as bad_lines
@@ -18,13 +18,17 @@ begin None = Err NoFirstLine
 begin (Some wide) = Ok (Some (first_draft wide))
 
 -- each later line with words is a statement that is added to the draft
+abbrev pub read_statement : Draft → List (List ℕ) → Result Draft LineFault
+read_statement draft words = statement_of draft.wide words >>= add draft
+
+-- the draft is there
 abbrev pub some_of : Result Draft LineFault → Result (Option Draft) LineFault
 some_of (Ok draft) = Ok (Some draft)
 some_of (Err fault) = Err fault
 
 abbrev pub read_words : Option Draft → List (List ℕ) → Result (Option Draft) LineFault
 read_words None words = begin (first_line_of words)
-read_words (Some draft) words = some_of (statement_of draft.wide words >>= add draft)
+read_words (Some draft) words = some_of (read_statement draft words)
 
 -- a line without words is skipped
 abbrev pub read_more : Option Draft → List (List ℕ) → Result (Option Draft) LineFault

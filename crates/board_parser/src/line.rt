@@ -2,7 +2,7 @@ ghost use Rattle.std.specs.Prelude.{◌≡◌, nat_lt, length};
 ghost use Rattle.board_text.specs.Tokens.{words_of};
 ghost use Rattle.board_statements.specs.Statements.{statement_of, first_line_of};
 ghost use Rattle.board_draft.specs.Steps.{Answers};
-ghost use Rattle.board_parser.specs.OneLine.{read_line, read_words, text_fault};
+ghost use Rattle.board_parser.specs.OneLine.{read_line, read_words, read_statement, text_fault};
 
 use board_draft::{AddFault, Sheet};
 use board_statements::{LineFault, first_line, has_words, statement_of};
@@ -43,9 +43,13 @@ fn read_words(alloc: Global, sheet: Option<Sheet>, line: &[u8]) -> Result<Option
             None => Err(AddFault::Fault(LineFault::NoFirstLine)),
             Some(wide) => Ok(Some(Sheet::new(alloc, wide))),
         },
-        Some(sheet) => {
-            let statement = statement_of(sheet.is_wide(), line)?;
-            Ok(Some(sheet.add(alloc, statement)?))
-        }
+        Some(sheet) => Ok(Some(read_statement(alloc, sheet, line)?)),
     }
+}
+
+fn read_statement(alloc: Global, sheet: Sheet, line: &[u8]) -> Result<Sheet, AddFault>
+    ensures { Answers result (read_statement sheet (words_of line.now)) }
+{
+    let statement = statement_of(sheet.is_wide(), line)?;
+    sheet.add(alloc, statement)
 }

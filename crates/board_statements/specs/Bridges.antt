@@ -26,7 +26,18 @@ abort_mode = optional (codes "abort") false do
   bit ← decimal 0 1
   give (bit == 1)
 
--- `bridge B on Q dev D last S`, and then what may be left out, in this order
+-- what may be left out of the line of a bridge, in this order
+abbrev pub bridge_options : Bool → ℕ → ℕ → ℕ → ℕ → Reader Statement
+bridge_options wide bus parent device last = do
+  mem ← window (codes "mem") false
+  pref ← window (codes "pref") wide
+  io ← window (codes "io") false
+  posted ← depth (codes "posted")
+  delayed ← depth (codes "delayed")
+  mode ← abort_mode
+  give (NewBridge (record { bus = bus; parent = parent; device = device; last = last; mem = mem; pref = pref; io = io; posted = posted; delayed = delayed; mode = mode }))
+
+-- `bridge B on Q dev D last S`, and then what may be left out
 unfoldable pub bridge_form : Bool → Reader Statement
 bridge_form wide = do
   bus ← decimal 1 255
@@ -36,13 +47,7 @@ bridge_form wide = do
   device ← decimal 0 31
   fixed (codes "last")
   last ← decimal 0 255
-  mem ← window (codes "mem") false
-  pref ← window (codes "pref") wide
-  io ← window (codes "io") false
-  posted ← depth (codes "posted")
-  delayed ← depth (codes "delayed")
-  mode ← abort_mode
-  give (NewBridge (record { bus = bus; parent = parent; device = device; last = last; mem = mem; pref = pref; io = io; posted = posted; delayed = delayed; mode = mode }))
+  bridge_options wide bus parent device last
 
 -- `header D BYTES`, and then what may be left out
 unfoldable pub header_form : Reader Statement

@@ -8,19 +8,10 @@ use Rattle.board_statements.specs.declared.fault.LineFault.TheVariants.{WrongWor
 use Rattle.board_statements.specs.declared.keyword.Form.{Form}
 use Rattle.board_statements.specs.declared.keyword.Form.TheVariants.{Bridge, Header, Target, Id, Stall, Burst, Range, Abort, Word, Master, Reads, WritesBurst, WritesPort, ReadsRegister, WritesRegister, Polls, Discard, Drop}
 
-unfoldable pub form_of : List ℕ → Result Form LineFault
-form_of word =
-    if bytes_eq word (codes "bridge") then Ok Bridge
-    else if bytes_eq word (codes "header") then Ok Header
-    else if bytes_eq word (codes "target") then Ok Target
-    else if bytes_eq word (codes "id") then Ok Id
-    else if bytes_eq word (codes "stall") then Ok Stall
-    else if bytes_eq word (codes "burst") then Ok Burst
-    else if bytes_eq word (codes "range") then Ok Range
-    else if bytes_eq word (codes "abort") then Ok Abort
-    else if bytes_eq word (codes "word") then Ok Word
-    else if bytes_eq word (codes "master") then Ok Master
-    else if bytes_eq word (codes "mr") then Ok (Reads MemRead)
+-- those of a master's program, and of what is discarded or dropped
+abbrev pub traffic_form_of : List ℕ → Result Form LineFault
+traffic_form_of word =
+    if bytes_eq word (codes "mr") then Ok (Reads MemRead)
     else if bytes_eq word (codes "mrl") then Ok (Reads MemReadLine)
     else if bytes_eq word (codes "mrm") then Ok (Reads MemReadMultiple)
     else if bytes_eq word (codes "ior") then Ok (Reads IoRead)
@@ -34,3 +25,17 @@ form_of word =
     else if bytes_eq word (codes "discard") then Ok Discard
     else if bytes_eq word (codes "drop") then Ok Drop
     else Err WrongWord
+
+unfoldable pub form_of : List ℕ → Result Form LineFault
+form_of word =
+    if bytes_eq word (codes "bridge") then Ok Bridge
+    else if bytes_eq word (codes "header") then Ok Header
+    else if bytes_eq word (codes "target") then Ok Target
+    else if bytes_eq word (codes "id") then Ok Id
+    else if bytes_eq word (codes "stall") then Ok Stall
+    else if bytes_eq word (codes "burst") then Ok Burst
+    else if bytes_eq word (codes "range") then Ok Range
+    else if bytes_eq word (codes "abort") then Ok Abort
+    else if bytes_eq word (codes "word") then Ok Word
+    else if bytes_eq word (codes "master") then Ok Master
+    else traffic_form_of word

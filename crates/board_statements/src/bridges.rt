@@ -1,12 +1,12 @@
 ghost use Rattle.std.specs.Prelude.{false};
 ghost use Rattle.board_statements.specs.Words.{Gives, choice, give};
-ghost use Rattle.board_statements.specs.Bridges.{window, base_limit, depth, abort_mode, bridge_form, header_form};
+ghost use Rattle.board_statements.specs.Bridges.{window, base_limit, depth, abort_mode, bridge_options, bridge_form, header_form};
 
 use crate::words::Words;
 use crate::{LineFault, Statement};
 use board_model::{Bridge, Window};
 
-/// `bridge B on Q dev D last S`, and then what may be left out, in its order.
+/// `bridge B on Q dev D last S`, and then what may be left out.
 #[tactic(auto, unfolding(crate::specs::Bridges::bridge_form))]
 pub fn bridge(words: &mut Words, wide: bool) -> Result<Statement, LineFault>
     ensures { Gives result words.new (bridge_form wide words.old) }
@@ -18,6 +18,20 @@ pub fn bridge(words: &mut Words, wide: bool) -> Result<Statement, LineFault>
     let device = words.decimal_byte(0, 31)?;
     words.fixed(b"last")?;
     let last = words.decimal_byte(0, 255)?;
+    bridge_options(words, wide, bus, parent, device, last)
+}
+
+/// What may be left out of the line of a bridge, in its order.
+fn bridge_options(
+    words: &mut Words,
+    wide: bool,
+    bus: u8,
+    parent: u8,
+    device: u8,
+    last: u8,
+) -> Result<Statement, LineFault>
+    ensures { Gives result words.new (bridge_options wide bus parent device last words.old) }
+{
     let mem = window(words, b"mem", false)?;
     let pref = window(words, b"pref", wide)?;
     let io = window(words, b"io", false)?;

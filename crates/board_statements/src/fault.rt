@@ -2,7 +2,7 @@ use board_text::NumberFault;
 use thiserror::Error;
 
 /// The letter of a fault of the board text.
-#[derive(Clone, Copy, Debug, PartialEq, Eq, PartialOrd, Ord, Hash)]
+#[derive(Clone, Copy, Debug, PartialEq, Eq)]
 pub enum Family {
     /// A fault of the text.
     L,
@@ -13,7 +13,7 @@ pub enum Family {
 }
 
 /// What is wrong with a line of a board text.
-#[derive(Clone, Copy, Debug, PartialEq, Eq, PartialOrd, Ord, Hash, Error)]
+#[derive(Clone, Copy, Debug, PartialEq, Eq, Error)]
 pub enum LineFault {
     #[error("a byte that no line may have")]
     BadByte,

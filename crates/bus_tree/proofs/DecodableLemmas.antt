@@ -1,5 +1,5 @@
 -- A board in form whose buses are there and are numbered as a tree is decodable.
-use Rattle.std.proofs.Common.{◌≡◌, ◌<◌, Bool, true, false, nat_le, not, ◌||◌, List, [], ◌∷◌, length, refl, arith, All}
+use Rattle.std.proofs.Common.{◌≡◌, ◌<◌, Bool, true, false, not, ◌||◌, List, [], ◌∷◌, refl, arith, All}
 use Rattle.std.specs.List.{list_all, list_any}
 use Rattle.std.proofs.lemmas.Bool.{and_parts, or_parts}
 use Rattle.std.proofs.lemmas.List.Elements.{All-cons}

@@ -14,7 +14,7 @@ pub enum Space {
 
 /// A bus command (PCI Local Bus 2.2, section 3.1.1, from memory), without the reserved ones, Interrupt
 /// Acknowledge, Special Cycle and Dual Address Cycle.
-#[derive(Clone, Copy, Debug, Default, PartialEq, Eq, PartialOrd, Ord, Hash)]
+#[derive(Clone, Copy, Debug, Default, PartialEq, Eq)]
 pub enum Command {
     IoRead,
     IoWrite,
@@ -30,7 +30,7 @@ pub enum Command {
 
 /// What the ordering table tells apart: a posted memory write, a delayed read or write request,
 /// and a delayed read or write completion (PCI Local Bus 2.2, appendix E).
-#[derive(Clone, Copy, Debug, Default, PartialEq, Eq, PartialOrd, Ord, Hash)]
+#[derive(Clone, Copy, Debug, Default, PartialEq, Eq)]
 pub enum Kind {
     /// Posted memory write.
     #[default]
