@@ -175,13 +175,7 @@ fn begins_on(
     }
 }
 
-fn begin(
-    alloc: Global,
-    sheet: Sheet,
-    name: Name,
-    bus: u8,
-    poll: Op,
-) -> Result<Sheet, LineError>
+fn begin(alloc: Global, sheet: Sheet, name: Name, bus: u8, poll: Op) -> Result<Sheet, LineError>
     ensures { Adds result (begins_on sheet name (Some bus) poll) }
 {
     let sheet = add_master(alloc, sheet, name, bus)?;
