@@ -6,13 +6,20 @@ use Rattle.std.proofs.lemmas.List.{append-nil, append_assoc}
 use Rattle.lane_items.specs.declared.item.Item.{Item}
 use Rattle.bus_core.specs.declared.given.Sent.{Sent}
 use Rattle.bus_core.specs.Calls.{items_at}
-use Rattle.bus_segment.specs.Ends.{EndAfter, SendsOne, SendsAt, SendsBoth}
+use Rattle.bus_segment.specs.Ends.{EndAfter, HasRoom, SendsOne, SendsAt, SendsBoth}
 
 -- where nothing is, the list has ended
 none_beyond : {X : Type 0} (xs : List X) (n : ℕ) → slice_get xs n ≡ None → length xs ≤ n
 none_beyond [] n none = omega arith
 none_beyond (x ∷ xs) zero none = cc
 none_beyond (x ∷ xs) (suc n) none = let rest = none_beyond xs n none in omega arith
+
+-- there is one end at a place
+pub room_at : {End : Type 0} (kept : End → ℕ) (ends : List End) (place : ℕ) (end : End) → slice_get ends place ≡ Some end → kept end < 32 → (other : End) → slice_get ends place ≡ Some other → kept other < 32
+room_at kept ends place end there less other at =
+    let both = sym there ∙ at in
+    let same : end ≡ other = cc in
+    subst (λ e. kept e < 32) same less
 
 module _ {End : Type 0} (had sent got : End → List Item) (paired : End → End → Type 0) where
   -- nothing happened at an end
@@ -118,3 +125,18 @@ module _ {End : Type 0} (had sent got : End → List Item) (paired : End → End
               | Some middle ↦ λ there. end_then end middle after (items_at over n) (items_at back n) (one.each n end middle was there) (two.each n middle after there is)
             ]) refl;
       }
+
+  -- what is sent at one port leaves room at another
+  none_at : (item : Sent) (n : ℕ) → item.place ≢ n → items_at (Some item) n ≡ []
+  none_at item n apart =
+      let P : Bool → Type 0 = λ b. (item.place == n) ≡ b → cond b (item.item ∷ []) [] ≡ [] in
+      (elim (item.place == n) as P [
+        | true ↦ λ here. absurd (apart (eqb-true item.place n here))
+        | false ↦ λ _. refl
+      ]) refl
+
+  pub room_behind : (kept : End → ℕ) (old new : List End) (over back : Option Sent) → SendsAt had sent got paired old over new → HasRoom kept old back
+      → ((a b : Sent) → over ≡ Some a → back ≡ Some b → a.place ≢ b.place) → HasRoom kept new back
+  room_behind kept old new over None sends room apart = tt
+  room_behind kept old new None (Some later) sends room apart = λ end there. room end (sym (sends.others later.place refl) ∙ there)
+  room_behind kept old new (Some first) (Some later) sends room apart = λ end there. room end (sym (sends.others later.place (none_at first later.place (apart first later refl refl))) ∙ there)

@@ -8,3 +8,4 @@ pub mod TurnLemmas
 pub mod StepLemmas
 pub mod RetryLemmas
 pub mod Laws
+pub mod PlaceLemmas

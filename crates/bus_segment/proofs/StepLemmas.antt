@@ -1,5 +1,5 @@
 -- How far stamps and counts get in a step of a turn.
-use Rattle.std.proofs.Common.{◌≡◌, ◌≢◌, ℕ, ◌+◌, ◌<◌, ◌≤◌, max, Bool, true, false, cond, ◌==◌, nat_lt, List, [], ◌∷◌, ◌++◌, length, option_to_list, Option, Some, None, inl, inr, refl, sym, ap, subst, ◌∙◌, arith, slice_get}
+use Rattle.std.proofs.Common.{◌≡◌, ℕ, ◌+◌, ◌<◌, ◌≤◌, max, Bool, true, false, cond, ◌==◌, nat_lt, List, [], ◌∷◌, ◌++◌, length, Option, Some, None, inl, inr, refl, sym, ap, subst, ◌∙◌, arith, slice_get}
 use Rattle.std.specs.List.{AllByRecursion}
 use Rattle.std.proofs.lemmas.Bool.{eqb-true, eqb-false, ltb-true, ltb-false}
 use Rattle.std.proofs.lemmas.Option.{slice_get_within}
@@ -15,8 +15,8 @@ use Rattle.bus_core.specs.declared.given.Presented.TheVariants.{Nothing, Retried
 use Rattle.bus_core.specs.Calls.{stamp_of, items_at, IsStamped}
 use Rattle.bus_core.specs.Serves.{HasStamp, SendsStamped}
 use Rattle.bus_segment.specs.Segment.{SegmentView}
-use Rattle.bus_segment.specs.Ends.{EndAfter, SendsBoth, ReceivesOne, sent_at}
-use Rattle.bus_segment.specs.Turn.{IsRecorded, Records, Finishes, IsArrived, IsNotArrived, Takes}
+use Rattle.bus_segment.specs.Ends.{SendsBoth, ReceivesOne, sent_at}
+use Rattle.bus_segment.specs.Turn.{Records, Finishes, IsArrived, IsNotArrived, Takes}
 use Rattle.bus_segment.specs.Steps.{AllItems, StampsRise, NothingCame}
 use Rattle.bus_segment.proofs.DoesLemmas.{there_at}
 

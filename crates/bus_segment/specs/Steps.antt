@@ -1,5 +1,5 @@
 -- How far a step of a turn goes: in stamps and counts, and where it does nothing.
-use Rattle.std.specs.Prelude.{◌≡◌, ◌≢◌, ℕ, ◌+◌, ◌≤◌, Bool, true, List, [], length, Some, slice_get}
+use Rattle.std.specs.Prelude.{◌≡◌, ◌≢◌, ℕ, ◌+◌, ◌≤◌, Bool, true, List, [], Some, slice_get}
 use Rattle.std.specs.List.{AllByRecursion}
 use Rattle.pci_command.specs.declared.op_id.OpId.{OpId}
 use Rattle.board_model.specs.declared.bridge.Lane.{Lane as BridgeLane}
@@ -12,7 +12,7 @@ use Rattle.history_model.specs.Answers.{wants_in, answer_in}
 use Rattle.law_local.specs.Quiet.{IsRetry}
 use Rattle.lane_items.specs.declared.item.Item.{Item}
 use Rattle.lane_items.specs.Lane.{in_hand}
-use Rattle.bus_core.specs.Bus.{BusView, Shape, shape_of, arrivals_at, BusStands}
+use Rattle.bus_core.specs.Bus.{BusView, Shape, arrivals_at, BusStands}
 use Rattle.bus_core.specs.Calls.{stamp_of}
 
 -- Stamps.

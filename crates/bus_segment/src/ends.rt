@@ -12,8 +12,8 @@ pub(crate) fn has_room<L: LaneEnd>(ends: &[L], sent: Option<Sent>) -> bool
     ensures full { result ≡ false → LacksRoom L.kept ends.now sent }
 {
     match sent {
-        Some(sent) if sent.place < ends.len() => ends[sent.place].room() > 0,
-        Some(_) | None => true,
+        Some(sent) => sent.place >= ends.len() || ends[sent.place].room() > 0,
+        None => true,
     }
 }
 

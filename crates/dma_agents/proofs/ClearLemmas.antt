@@ -1,18 +1,17 @@
 -- Whether a flag is clear, as it is looked up.
-use Rattle.std.proofs.Common.{◌≡◌, ℕ, zero, suc, ◌+◌, ◌-◌, ◌*◌, ◌%◌, ◌^◌, ◌<◌, ◌≤◌, Bool, true, false, ◌&&◌, ◌||◌, not, ◌==◌, cond, eqb, min, bit_and, filter, List, [], ◌∷◌, ◌++◌, length, take, drop, slice_index_or, refl, sym, ap, subst, ◌∙◌, arith}
+use Rattle.std.proofs.Common.{◌≡◌, ℕ, zero, suc, ◌+◌, ◌-◌, ◌%◌, ◌^◌, ◌<◌, ◌≤◌, Bool, true, false, ◌&&◌, ◌||◌, ◌==◌, cond, eqb, min, bit_and, filter, List, [], ◌∷◌, ◌++◌, length, take, drop, slice_index_or, refl, sym, ap, subst, ◌∙◌, arith}
 use Rattle.std.specs.List.{list_all, list_any}
 use Rattle.std.proofs.lemmas.Bool.Decides.{nat_tests}
 use Rattle.std.proofs.lemmas.Nat.{and_mask}
 use Rattle.std.proofs.lemmas.List.{take_all}
 use Rattle.list_facts.specs.Lists.{total}
-use Rattle.pci_command.specs.declared.command.Command.{Command}
 use Rattle.pci_command.specs.declared.command.Command.TheVariants.{MemWrite}
 use Rattle.pci_command.specs.declared.phases.Phase.{Phase}
 use Rattle.pci_command.specs.Same.{same_command}
 use Rattle.board_model.specs.declared.agents.Target.{Target}
 use Rattle.board_model.specs.declared.op.Op.{Op}
 use Rattle.board_model.specs.Requests.{command_of, address_on, phases_of}
-use Rattle.law_delivered.specs.Clear.{is_value, phases_at, written_at, brings_value, rings, is_whole, rings_whole, holds, opens_otherwise}
+use Rattle.law_delivered.specs.Clear.{phases_at, written_at, brings_value, rings, is_whole, rings_whole, holds, opens_otherwise}
 
 -- Counts up to two.
 

@@ -1,5 +1,5 @@
 -- The lines of a text up to its line `devices`.
-use Rattle.std.proofs.Common.{◌≡◌, ℕ, Bool, true, false, cond, List, [], ◌∷◌, ◌++◌, append_assoc, Option, Some, None, refl, codes}
+use Rattle.std.proofs.Common.{◌≡◌, ℕ, false, List, [], ◌∷◌, ◌++◌, append_assoc, Option, Some, None, refl, codes}
 use Rattle.trace_reader.specs.Parts.{behind_lines}
 use Rattle.dma_agents.specs.Made.{is_line, with_before, until_devices}
 

@@ -1,12 +1,11 @@
 -- A board that is made is well formed.
-use Rattle.std.proofs.Common.{◌≡◌, ℕ, zero, suc, ◌+◌, ◌≤◌, Bool, true, false, ◌&&◌, cond, not, nat_le, nat_lt, List, [], ◌∷◌, length, drop, Option, Some, None, Result, Ok, Err, refl, sym, ap, subst, ◌∙◌, arith, codes}
+use Rattle.std.proofs.Common.{◌≡◌, ℕ, ◌+◌, Bool, true, false, ◌&&◌, cond, not, nat_le, nat_lt, List, [], ◌∷◌, length, drop, Option, Some, None, Result, Ok, Err, refl, subst, codes}
 use Rattle.std.specs.Str.{bytes_eq}
 use Rattle.std.specs.List.{list_all}
-use Rattle.std.proofs.lemmas.Bool.{and_parts, and_from}
-use Rattle.pci_command.specs.declared.phases.Phase.{Phase}
+use Rattle.std.proofs.lemmas.Bool.{and_parts}
 use Rattle.board_model.specs.declared.board.Board.{Board}
 use Rattle.board_model.specs.declared.op.Op.{Op}
-use Rattle.board_model.specs.WellFormed.{is_within, is_well_formed_op, is_well_formed_phase, is_well_formed}
+use Rattle.board_model.specs.WellFormed.{is_within, is_well_formed}
 use Rattle.board_text.specs.Lines.{lines_of, line_fault}
 use Rattle.board_text.specs.Tokens.{words_of}
 use Rattle.board_statements.specs.declared.fault.LineFault.{LineFault}
@@ -25,7 +24,7 @@ use Rattle.board_parser.proofs.WordKindLemmas.{decimal-within}
 use Rattle.board_parser.proofs.ReadingLemmas.{SomeSound, lines-sound}
 use Rattle.msi_agents.specs.Message.{message_of}
 use Rattle.device_faults.specs.declared.DeviceFault.{DeviceFault}
-use Rattle.device_faults.specs.declared.DeviceFault.TheVariants.{Misshapen, Misplaced, NameUsed, OverLimit}
+use Rattle.device_faults.specs.declared.DeviceFault.TheVariants.{Misshapen, Misplaced, NameUsed}
 use Rattle.dma_agents.specs.declared.fault.MakeFault.{MakeFault}
 use Rattle.dma_agents.specs.declared.fault.MakeFault.TheVariants.{Device as OfLine}
 use Rattle.dma_agents.specs.declared.line.Flag.{Flag}
@@ -34,7 +33,7 @@ use Rattle.dma_agents.specs.declared.line.DeviceLine.TheVariants.{Device, Handle
 use Rattle.dma_agents.specs.declared.line.Owner.{Owner}
 use Rattle.dma_agents.specs.declared.line.Owner.TheVariants.{Nobody}
 use Rattle.dma_agents.specs.declared.making.Making.{Making}
-use Rattle.dma_agents.specs.Put.{cut, write_in, writes_from, dwords_in, first_in}
+use Rattle.dma_agents.specs.Put.{cut}
 use Rattle.dma_agents.specs.DeviceLines.{name_in, flag_form, device_form, handler_form, seeded, put_form, get_form, look_form, sent, send_form, form_behind, device_line}
 use Rattle.dma_agents.specs.Adding.{stands, is_placed, poll_of, read_of, message_to, limited, then_adds, add_one, add_ops, begins_on, begins, bus_of, bus_there, added, line_added}
 use Rattle.dma_agents.specs.Made.{is_faultless, is_line, is_blank, with_draft, by_form, line_read, fault_behind, behind_end, then_lines, lines_read, unclear, Made, by_flags, by_lines, by_board, until_devices, by_parts, by_first, made_read, board_in}

@@ -5,3 +5,4 @@ pub mod FormedLemmas
 pub mod CutLemmas
 pub mod ClearLemmas
 pub mod MakeLemmas
+pub mod SaidLemmas

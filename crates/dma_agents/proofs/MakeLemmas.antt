@@ -1,5 +1,5 @@
 -- The parts of a device text make up what it reads as.
-use Rattle.std.proofs.Common.{◌≡◌, ℕ, ◌+◌, Bool, true, false, cond, List, [], ◌∷◌, length, drop, Option, Some, None, Result, Ok, Err, refl, sym, ap, subst, ◌∙◌, arith, codes}
+use Rattle.std.proofs.Common.{◌≡◌, ℕ, ◌+◌, Bool, cond, List, [], length, drop, Option, Some, None, Result, Ok, Err, sym, ap, ◌∙◌}
 use Rattle.std.specs.List.{slice_range}
 use Rattle.board_text.specs.Lines.{lines_of}
 use Rattle.board_statements.specs.declared.fault.LineFault.{LineFault}
@@ -12,7 +12,7 @@ use Rattle.dma_agents.specs.declared.fault.MakeFault.TheVariants.{Board as OfBoa
 use Rattle.dma_agents.specs.declared.line.Owner.TheVariants.{Nobody}
 use Rattle.dma_agents.specs.declared.making.Making.{Making}
 use Rattle.dma_agents.specs.declared.parts.DevicesLine.{DevicesLine}
-use Rattle.dma_agents.specs.Made.{is_line, Made, by_lines, by_board, until_devices, by_parts, by_first, lines_read, made_read}
+use Rattle.dma_agents.specs.Made.{Made, by_lines, by_board, until_devices, by_parts, by_first, lines_read, made_read}
 use Rattle.dma_agents.specs.Parts.{StartsBehind, Finds, IsWithout}
 
 -- behind the right first line

@@ -72,6 +72,17 @@ abbrev pub by_form : Making → ℕ → Result DeviceLine LineFault → Result M
 by_form making number (Ok line) = with_draft making number line (line_added making.owner making.sheet line)
 by_form making number (Err fault) = Err Misshapen
 
+-- what a line by itself says, where it has words
+abbrev pub form_of : Result DeviceLine LineFault → Result (Option DeviceLine) DeviceFault
+form_of (Ok line) = Ok (Some line)
+form_of (Err fault) = Err Misshapen
+
+abbrev pub said_by : List ℕ → Result (Option DeviceLine) DeviceFault
+said_by line =
+    if is_faultless (line_fault line)
+    then (if nat_lt 0 (length (words_of line)) then form_of (device_line (words_of line)) else Ok None)
+    else Err Misshapen
+
 -- what a line of this number adds, or its first fault; one without words adds nothing
 abbrev pub line_read : Making → ℕ → List ℕ → Result Making DeviceFault
 line_read making number line =

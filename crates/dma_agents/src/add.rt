@@ -1,13 +1,14 @@
 //! What a line of devices adds to the sheet of a board.
 
-ghost use Rattle.std.specs.Prelude.{◌≡◌, Ok, Err, ◌∷◌, [], Result};
+ghost use Rattle.std.specs.Prelude.{◌≡◌, Ok, Err, ◌∷◌, [], Some, Result, not, if◌then◌else◌};
 ghost use Rattle.board_draft.specs.declared.draft.Draft.{Draft};
 ghost use Rattle.board_draft.specs.Drafts.{board_of};
 ghost use Rattle.board_draft.specs.Masters.{add_master};
 ghost use Rattle.board_draft.specs.Steps.{Answers};
 ghost use Rattle.board_statements.specs.declared.fault.LineFault.{LineFault};
+ghost use Rattle.device_faults.specs.declared.DeviceFault.TheVariants.{Misplaced};
 ghost use Rattle.dma_agents.specs.Put.{cut};
-ghost use Rattle.dma_agents.specs.Adding.{Adds, stands, is_placed, poll_of, read_of, message_to, limited, add_one, add_ops, begins, bus_of, bus_there, added, line_added};
+ghost use Rattle.dma_agents.specs.Adding.{Adds, stands, is_placed, poll_of, read_of, message_to, limited, add_one, add_ops, begins, begins_on, bus_of, bus_there, added, line_added};
 
 use crate::{DeviceLine, Flag, Owner, Put, cut};
 use board_draft::{AddFault, Sheet};
@@ -45,13 +46,22 @@ pub(crate) fn line_added(
 ) -> Result<Sheet, LineError>
     ensures { Adds result (line_added owner sheet line) }
 {
-    if !stands(owner, &line) {
-        return Err(LineError::Fault(DeviceFault::Misshapen));
+    if stands(owner, &line) {
+        placed_added(alloc, sheet, line)
+    } else {
+        Err(LineError::Fault(DeviceFault::Misshapen))
     }
-    if !is_placed(&line) {
-        return Err(LineError::Fault(DeviceFault::Misplaced));
+}
+
+/// The sheet behind a line that stands behind its device or handler.
+fn placed_added(alloc: Global, sheet: Sheet, line: DeviceLine) -> Result<Sheet, LineError>
+    ensures { Adds result (if not (is_placed line) then Err Misplaced else added sheet line) }
+{
+    if is_placed(&line) {
+        added(alloc, sheet, line)
+    } else {
+        Err(LineError::Fault(DeviceFault::Misplaced))
     }
-    added(alloc, sheet, line)
 }
 
 fn stands(owner: Owner, line: &DeviceLine) -> bool
@@ -116,7 +126,7 @@ fn bus_there(sheet: &Sheet, bus: u8) -> Option<u8>
     if sheet.has_bus(bus) { Some(bus) } else { None }
 }
 
-// A master of this name on this bus, with its first operation.
+/// A master of this name on this bus, with its first operation.
 fn begins(
     alloc: Global,
     sheet: Sheet,
@@ -126,15 +136,48 @@ fn begins(
 ) -> Result<Sheet, LineError>
     ensures { Adds result (begins sheet name bus poll) }
 {
-    let Some(name) = name else {
-        return Err(LineError::Fault(DeviceFault::NameUsed));
-    };
-    if sheet.has_name(&name) {
-        return Err(LineError::Fault(DeviceFault::NameUsed));
+    match name {
+        Some(name) => begins_as(alloc, sheet, name, bus, poll),
+        None => Err(LineError::Fault(DeviceFault::NameUsed)),
     }
-    let Some(bus) = bus else {
-        return Err(LineError::Fault(DeviceFault::NotThere));
-    };
+}
+
+/// Under this name, where it is not used already.
+fn begins_as(
+    alloc: Global,
+    sheet: Sheet,
+    name: Name,
+    bus: Option<u8>,
+    poll: Op,
+) -> Result<Sheet, LineError>
+    ensures { Adds result (begins sheet (Some name) bus poll) }
+{
+    if sheet.has_name(&name) {
+        Err(LineError::Fault(DeviceFault::NameUsed))
+    } else {
+        begins_on(alloc, sheet, name, bus, poll)
+    }
+}
+
+/// On this bus, where it is there.
+fn begins_on(
+    alloc: Global,
+    sheet: Sheet,
+    name: Name,
+    bus: Option<u8>,
+    poll: Op,
+) -> Result<Sheet, LineError>
+    ensures { Adds result (begins_on sheet name bus poll) }
+{
+    match bus {
+        Some(bus) => begin(alloc, sheet, name, bus, poll),
+        None => Err(LineError::Fault(DeviceFault::NotThere)),
+    }
+}
+
+fn begin(alloc: Global, sheet: Sheet, name: Name, bus: u8, poll: Op) -> Result<Sheet, LineError>
+    ensures { Adds result (begins_on sheet name (Some bus) poll) }
+{
     let sheet = add_master(alloc, sheet, name, bus)?;
     add_one(alloc, sheet, poll)
 }
@@ -171,8 +214,10 @@ fn limited(added: Result<Sheet, AddFault>) -> Result<Sheet, LineError>
 fn add_put(alloc: Global, sheet: Sheet, put: Put) -> Result<Sheet, LineError>
     ensures { Adds result (add_ops sheet (cut put)) }
 {
-    let ops = cut(alloc, put)?;
-    add_ops(alloc, sheet, ops.into_vec())
+    match cut(alloc, put) {
+        Ok(ops) => add_ops(alloc, sheet, ops.into_vec()),
+        Err(NoMemory) => Err(LineError::NoMemory),
+    }
 }
 
 fn add_ops(alloc: Global, mut sheet: Sheet, mut ops: Vec<Op>) -> Result<Sheet, LineError>

@@ -4,7 +4,7 @@ ghost use Rattle.std.specs.Prelude.{◌≡◌, ◌+◌, ◌<◌, ◌≤◌, ◌^
 ghost use Rattle.std.specs.List.{list_all};
 ghost use Rattle.board_text.specs.Lines.{lines_of};
 ghost use Rattle.dma_agents.specs.Adding.{Adds, line_added};
-ghost use Rattle.dma_agents.specs.Made.{TellsMaking, owner_behind, lines_behind, is_line, is_blank, fault_behind, with_draft, line_read, lines_read};
+ghost use Rattle.dma_agents.specs.Made.{TellsMaking, owner_behind, lines_behind, is_line, is_blank, fault_behind, behind_end, said_by, with_draft, line_read, lines_read};
 
 use crate::add::{LineError, line_added};
 use crate::forms::device_line;
@@ -45,10 +45,7 @@ pub(crate) fn lines_read(
     let mut at = from;
     while let Some((line, next)) = next_line(bytes, at) {
         if is_end(line) && is_blank_from(bytes, next) {
-            return match fault_behind(bytes, next, number + 1) {
-                None => Ok(making),
-                Some(line) => Err(misshapen(line)),
-            };
+            return behind_end(making, fault_behind(bytes, next, number + 1));
         }
         match line_read(alloc, making, number, line) {
             Ok(read) => making = read,
@@ -64,6 +61,16 @@ pub(crate) fn lines_read(
         at = next;
     }
     Err(misshapen(number))
+}
+
+/// What is read, where no line past the last has a fault.
+fn behind_end(making: Making, past: Option<u32>) -> Result<Making, MakeFault>
+    ensures { result ≡ behind_end making past }
+{
+    match past {
+        None => Ok(making),
+        Some(line) => Err(misshapen(line)),
+    }
 }
 
 ghost use Rattle.device_faults.specs.declared.DeviceFault.TheVariants.{Misshapen};
@@ -82,15 +89,26 @@ pub(crate) fn misshapen(line: u32) -> MakeFault
 fn line_read(alloc: Global, making: Making, number: u32, line: &[u8]) -> Result<Making, LineError>
     ensures { Adds result (line_read making number line.now) }
 {
+    match said_by(line) {
+        Ok(Some(said)) => with_line(alloc, making, number, said),
+        Ok(None) => Ok(making),
+        Err(fault) => Err(LineError::Fault(fault)),
+    }
+}
+
+/// What the line says, if it has words.
+fn said_by(line: &[u8]) -> Result<Option<DeviceLine>, DeviceFault>
+    ensures { result ≡ said_by line.now }
+{
     if !is_faultless(line) {
-        return Err(LineError::Fault(DeviceFault::Misshapen));
+        return Err(DeviceFault::Misshapen);
     }
     if !has_words(line) {
-        return Ok(making);
+        return Ok(None);
     }
     match device_line(line) {
-        Err(_) => Err(LineError::Fault(DeviceFault::Misshapen)),
-        Ok(said) => with_line(alloc, making, number, said),
+        Ok(said) => Ok(Some(said)),
+        Err(_) => Err(DeviceFault::Misshapen),
     }
 }
 

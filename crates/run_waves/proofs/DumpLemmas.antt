@@ -16,41 +16,55 @@ use Rattle.run_waves.specs.declared.signal.Signal.{Signal}
 use Rattle.run_waves.specs.Signals.{signals_of}
 use Rattle.run_waves.specs.Shown.{Moment, past, beginning, next, ending}
 use Rattle.run_waves.specs.Scenes.{IsAt, ReadsFrom, scene_of}
-use Rattle.run_waves.specs.Dump.{time_line, head_lines, value_lines, change_lines, moment_lines, moments, dump_lines}
+use Rattle.run_waves.specs.Dump.{time_line, head_lines, value_lines, change_lines, moment_lines, moments, first_lines, dump_lines}
 
--- after so many events
-pub record SoFar (board : Board) (events : List Event) (signals : List Signal) (old text : List ℕ) (shown : List Reading) (kept : KeptState) (waiting : List Bool) (scene : Option Scene) (i : ℕ) : Type 0 where
+-- after so many events: what is to be written in all
+pub record SoFar (board : Board) (events : List Event) (signals : List Signal) (whole text : List ℕ) (shown : List Reading) (kept : KeptState) (waiting : List Bool) (scene : Option Scene) (i : ℕ) : Type 0 where
   pub moment : Moment
   pub past_is : past moment ≡ history_of (take i events)
   pub at : IsAt board moment kept waiting scene
   pub reads : ReadsFrom board moment signals shown 0
-  pub so_far : text ++ text_of (moments board (i + 1) moment (drop i events)) ≡ old ++ text_of (dump_lines board events)
+  pub so_far : text ++ text_of (moments board (i + 1) moment (drop i events)) ≡ whole
+
+-- before the first event
+pub first_so_far : (board : Board) (events : List Event) (signals : List Signal) (text : List ℕ) (shown : List Reading) (kept : KeptState) (waiting : List Bool) (scene : Option Scene)
+    → IsAt board beginning kept waiting scene → ReadsFrom board beginning signals shown 0 → SoFar board events signals (text ++ text_of (moments board 1 beginning events)) text shown kept waiting scene 0
+first_so_far board events signals text shown kept waiting scene at reads = record { moment = beginning; past_is = refl; at = at; reads = reads; so_far = refl }
+
+-- what the signals read before the first event, by the program's own board, signals and readings
+pub first_reads : (given board : Board) (signals s1 : List Signal) (shown r1 : List Reading) (kept : KeptState) (waiting : List Bool) (scene : Option Scene) → given ≡ board → signals ≡ s1 → shown ≡ r1
+    → IsAt board beginning kept waiting scene → ((m : Moment) → IsAt given m kept waiting scene → ReadsFrom given m signals shown 0) → ReadsFrom board beginning s1 r1 0
+first_reads given board signals s1 shown r1 kept waiting scene same signals_are shown_are at reads =
+    let there : IsAt given beginning kept waiting scene = subst (λ (b : Board). IsAt b beginning kept waiting scene) (sym same) at in
+    let here : ReadsFrom board beginning signals shown 0 = subst (λ (b : Board). ReadsFrom b beginning signals shown 0) same (reads beginning there) in
+    subst (λ (l : List Reading). ReadsFrom board beginning s1 l 0) shown_are (subst (λ (l : List Signal). ReadsFrom board beginning l shown 0) signals_are here)
 
 -- the text before the first event, by its parts
-first_text : (head : List Line) (zero vars : Line) (values : List Line) (end : Line) (rest : List Line) (old t1 t2 t3 t4 t5 : List ℕ) → t1 ≡ old ++ text_of head → t2 ≡ t1 ++ line_text zero → t3 ≡ t2 ++ line_text vars
-    → t4 ≡ t3 ++ text_of values → t5 ≡ t4 ++ line_text end → t5 ++ text_of rest ≡ old ++ text_of (head ++ (zero ∷ vars ∷ (values ++ (end ∷ rest))))
-first_text head zero vars values end rest old t1 t2 t3 t4 t5 one two three four five =
+first_text : (zero vars : Line) (values : List Line) (end : Line) (rest : List Line) (t1 t2 t3 t4 t5 : List ℕ) → t2 ≡ t1 ++ line_text zero → t3 ≡ t2 ++ line_text vars
+    → t4 ≡ t3 ++ text_of values → t5 ≡ t4 ++ line_text end → t5 ++ text_of rest ≡ t1 ++ text_of (zero ∷ vars ∷ (values ++ (end ∷ rest)))
+first_text zero vars values end rest t1 t2 t3 t4 t5 two three four five =
     let r5 : List ℕ = text_of (end ∷ rest) in
     let r4 : List ℕ = text_of (values ++ (end ∷ rest)) in
     let r3 : List ℕ = text_of (vars ∷ (values ++ (end ∷ rest))) in
-    let r2 : List ℕ = text_of (zero ∷ vars ∷ (values ++ (end ∷ rest))) in
     ap (λ (t : List ℕ). t ++ text_of rest) five ∙ append_assoc t4 (line_text end) (text_of rest)
     ∙ ap (λ (t : List ℕ). t ++ r5) four ∙ append_assoc t3 (text_of values) r5 ∙ ap (λ (t : List ℕ). t3 ++ t) (sym (text_of-append values (end ∷ rest)))
     ∙ ap (λ (t : List ℕ). t ++ r4) three ∙ append_assoc t2 (line_text vars) r4
     ∙ ap (λ (t : List ℕ). t ++ r3) two ∙ append_assoc t1 (line_text zero) r3
-    ∙ ap (λ (t : List ℕ). t ++ r2) one ∙ append_assoc old (text_of head) r2 ∙ ap (λ (t : List ℕ). old ++ t) (sym (text_of-append head (zero ∷ vars ∷ (values ++ (end ∷ rest)))))
 
-so_far_first : (given board : Board) (events : List Event) (signals : List Signal) (vars end : Line) (old t1 t2 t3 t4 t5 : List ℕ) (shown : List Reading) (kept : KeptState) (waiting : List Bool) (scene : Option Scene) → given ≡ board
-    → signals ≡ signals_of given → IsAt board beginning kept waiting scene → ((m : Moment) → IsAt given m kept waiting scene → ReadsFrom given m signals shown 0)
-    → t1 ≡ old ++ text_of (head_lines given) → t2 ≡ t1 ++ line_text (time_line 0) → t3 ≡ t2 ++ line_text vars
-    → ((b : Board) → ReadsFrom b beginning signals shown 0 → t4 ≡ t3 ++ text_of (value_lines b beginning 0 signals)) → t5 ≡ t4 ++ line_text end
-    → t5 ++ text_of (moments board 1 beginning events) ≡ old ++ text_of (head_lines board ++ (time_line 0 ∷ vars ∷ (value_lines board beginning 0 (signals_of board) ++ (end ∷ moments board 1 beginning events))))
-so_far_first given board events signals vars end old t1 t2 t3 t4 t5 shown kept waiting scene same signals_are at reads one two three four five =
-    let P : Board → Type 0 = λ b. t5 ++ text_of (moments b 1 beginning events) ≡ old ++ text_of (head_lines b ++ (time_line 0 ∷ vars ∷ (value_lines b beginning 0 (signals_of b) ++ (end ∷ moments b 1 beginning events)))) in
-    let there : IsAt given beginning kept waiting scene = subst (λ (b : Board). IsAt b beginning kept waiting scene) (sym same) at in
-    let values : t4 ≡ t3 ++ text_of (value_lines given beginning 0 (signals_of given)) = four given (reads beginning there) ∙ ap (λ (l : List Signal). t3 ++ text_of (value_lines given beginning 0 l)) signals_are in
-    let here : P given = first_text (head_lines given) (time_line 0) vars (value_lines given beginning 0 (signals_of given)) end (moments given 1 beginning events) old t1 t2 t3 t4 t5 one two three values five in
-    subst P same here
+pub first_written : (board : Board) (signals : List Signal) (rest : List Line) (t1 t2 t3 t4 t5 : List ℕ) → t2 ≡ t1 ++ line_text (time_line 0) → t3 ≡ t2 ++ line_text (codes "$dumpvars" ∷ [])
+    → t4 ≡ t3 ++ text_of (value_lines board beginning 0 signals) → t5 ≡ t4 ++ line_text (codes "$end" ∷ []) → t5 ++ text_of rest ≡ t1 ++ text_of (first_lines board signals rest)
+first_written board signals rest t1 t2 t3 t4 t5 two three four five =
+    first_text (time_line 0) (codes "$dumpvars" ∷ []) (value_lines board beginning 0 signals) (codes "$end" ∷ []) rest t1 t2 t3 t4 t5 two three four five
+
+-- the head, what is shown before the first event, and what changes at each moment
+pub all_written : (board : Board) (events : List Event) (signals : List Signal) (old t1 t5 new : List ℕ) → signals ≡ signals_of board → t1 ≡ old ++ text_of (head_lines board)
+    → t5 ++ text_of (moments board 1 beginning events) ≡ t1 ++ text_of (first_lines board signals (moments board 1 beginning events)) → new ≡ t5 ++ text_of (moments board 1 beginning events)
+    → new ≡ old ++ text_of (dump_lines board events)
+all_written board events signals old t1 t5 new signals_are head first rest =
+    let behind : List Line = moments board 1 beginning events in
+    let body : List Line = first_lines board (signals_of board) behind in
+    rest ∙ first ∙ ap (λ (l : List Signal). t1 ++ text_of (first_lines board l behind)) signals_are ∙ ap (λ (t : List ℕ). t ++ text_of body) head ∙ append_assoc old (text_of (head_lines board)) (text_of body)
+    ∙ ap (λ (t : List ℕ). old ++ t) (sym (text_of-append (head_lines board) body))
 
 -- the first events of a run are a run
 first_run : (board : Board) (events : List Event) (i : ℕ) → Run board (history_of events) → Run board (history_of (take i events))
@@ -67,12 +81,12 @@ allowed_next board events i d before run within is =
     subst (λ (h : List Event). Allowed board h e) (sym is) both.0
 
 -- one event more
-so_far_next : (board : Board) (events : List Event) (signals : List Signal) (old text longer : List ℕ) (shown changed : List Reading) (kept after : KeptState) (waiting later : List Bool) (scene now : Option Scene) (i : ℕ) (d : Event)
-    → (so : SoFar board events signals old text shown kept waiting scene i) → i < length events → signals ≡ signals_of board
+so_far_next : (board : Board) (events : List Event) (signals : List Signal) (whole text longer : List ℕ) (shown changed : List Reading) (kept after : KeptState) (waiting later : List Bool) (scene now : Option Scene) (i : ℕ) (d : Event)
+    → (so : SoFar board events signals whole text shown kept waiting scene i) → i < length events → signals ≡ signals_of board
     → IsAt board (next so.moment (get_or events i d)) after later now → ReadsFrom board (next so.moment (get_or events i d)) signals changed 0
     → longer ≡ text ++ text_of (time_line (i + 1) ∷ change_lines board so.moment (next so.moment (get_or events i d)) 0 signals)
-    → SoFar board events signals old longer changed after later now (i + 1)
-so_far_next board events signals old text longer shown changed kept after waiting later scene now i d so within signals_are at reads is =
+    → SoFar board events signals whole longer changed after later now (i + 1)
+so_far_next board events signals whole text longer shown changed kept after waiting later scene now i d so within signals_are at reads is =
     let e : Event = get_or events i d in
     let m : Moment = so.moment in
     let to : Moment = next m e in
@@ -98,33 +112,16 @@ at_rest board m kept after waiting later scene now at kept_is waits_are none =
     subst (λ (k : KeptState). IsAt board (ending m) k later now) (sym kept_is) (subst (λ (l : List Bool). IsAt board (ending m) kept l now) (sym waits_are) there)
 
 -- all of it
-so_far_all : (board : Board) (events : List Event) (signals : List Signal) (old text longer : List ℕ) (shown : List Reading) (kept : KeptState) (waiting : List Bool) (scene : Option Scene) (i : ℕ)
-    → (so : SoFar board events signals old text shown kept waiting scene i) → length events ≡ i → signals ≡ signals_of board
-    → longer ≡ text ++ text_of (time_line (i + 1) ∷ change_lines board so.moment (ending so.moment) 0 signals) → longer ≡ old ++ text_of (dump_lines board events)
-so_far_all board events signals old text longer shown kept waiting scene i so all signals_are is =
+so_far_all : (board : Board) (events : List Event) (signals : List Signal) (whole text longer : List ℕ) (shown : List Reading) (kept : KeptState) (waiting : List Bool) (scene : Option Scene) (i : ℕ)
+    → (so : SoFar board events signals whole text shown kept waiting scene i) → length events ≡ i → signals ≡ signals_of board
+    → longer ≡ text ++ text_of (time_line (i + 1) ∷ change_lines board so.moment (ending so.moment) 0 signals) → longer ≡ whole
+so_far_all board events signals whole text longer shown kept waiting scene i so all signals_are is =
     let m : Moment = so.moment in
     let none : drop i events ≡ [] = drop_all i events (omega arith) in
     is ∙ ap (λ (l : List Signal). text ++ text_of (time_line (i + 1) ∷ change_lines board m (ending m) 0 l)) signals_are
     ∙ ap (λ (l : List Event). text ++ text_of (moments board (i + 1) m l)) (sym none) ∙ so.so_far
 
 -- the same, of what the program has of them: its board, its signals and its readings
-
-pub first_so_far : (given board : Board) (events : List Event) (signals s1 s2 : List Signal) (shown s3 : List Reading) (old t1 t2 t3 t4 t5 : List ℕ) (kept : KeptState) (waiting : List Bool) (scene : Option Scene) → given ≡ board
-    → s1 ≡ signals → s2 ≡ signals → s3 ≡ shown → signals ≡ signals_of given → IsAt board beginning kept waiting scene → ((m : Moment) → IsAt given m kept waiting scene → ReadsFrom given m s1 shown 0)
-    → t1 ≡ old ++ text_of (head_lines given) → t2 ≡ t1 ++ line_text (time_line 0) → t3 ≡ t2 ++ line_text (codes "$dumpvars" ∷ [])
-    → ((b : Board) → ReadsFrom b beginning s2 s3 0 → t4 ≡ t3 ++ text_of (value_lines b beginning 0 s2)) → t5 ≡ t4 ++ line_text (codes "$end" ∷ []) → SoFar board events signals old t5 shown kept waiting scene 0
-first_so_far given board events signals s1 s2 shown s3 old t1 t2 t3 t4 t5 kept waiting scene same s1_is s2_is s3_is signals_are at reads one two three four five =
-    let there : IsAt given beginning kept waiting scene = subst (λ (b : Board). IsAt b beginning kept waiting scene) (sym same) at in
-    let all : (m : Moment) → IsAt given m kept waiting scene → ReadsFrom given m signals shown 0 = λ m at_m. subst (λ (l : List Signal). ReadsFrom given m l shown 0) s1_is (reads m at_m) in
-    let values : (b : Board) → ReadsFrom b beginning signals shown 0 → t4 ≡ t3 ++ text_of (value_lines b beginning 0 signals) = λ b r.
-    four b (subst (λ (l : List Signal). ReadsFrom b beginning l s3 0) (sym s2_is) (subst (λ (l : List Reading). ReadsFrom b beginning signals l 0) (sym s3_is) r)) ∙ ap (λ (l : List Signal). t3 ++ text_of (value_lines b beginning 0 l)) s2_is in
-    record {
-      moment = beginning;
-      past_is = refl;
-      at = at;
-      reads = subst (λ (b : Board). ReadsFrom b beginning signals shown 0) same (all beginning there);
-      so_far = so_far_first given board events signals (codes "$dumpvars" ∷ []) (codes "$end" ∷ []) old t1 t2 t3 t4 t5 shown kept waiting scene same signals_are at all one two three values five;
-    }
 
 -- what a moment writes
 abbrev Writes : Board → List Signal → Option Scene → List Reading → KeptState → List Bool → Option Scene → ℕ → List ℕ → List ℕ → Type 0
@@ -134,24 +131,24 @@ Writes board signals from shown kept waiting scene n text longer =
 abbrev Tells : Board → List Signal → List Reading → KeptState → List Bool → Option Scene → Type 0
 Tells board signals changed kept waiting scene = (after : Moment) → IsAt board after kept waiting scene → ReadsFrom board after signals changed 0
 
-pub next_so_far : (given board : Board) (events : List Event) (signals s1 : List Signal) (old text longer : List ℕ) (shown changed : List Reading) (kept after : KeptState) (waiting later : List Bool) (scene from now : Option Scene) (i : ℕ) (d : Event)
-    → (so : SoFar board events signals old text shown kept waiting scene i) → i < length events → given ≡ board → s1 ≡ signals → signals ≡ signals_of given → from ≡ scene
+pub next_so_far : (given board : Board) (events : List Event) (signals s1 : List Signal) (whole text longer : List ℕ) (shown changed : List Reading) (kept after : KeptState) (waiting later : List Bool) (scene from now : Option Scene) (i : ℕ) (d : Event)
+    → (so : SoFar board events signals whole text shown kept waiting scene i) → i < length events → given ≡ board → s1 ≡ signals → signals ≡ signals_of given → from ≡ scene
     → IsAt board (next so.moment (get_or events i d)) after later now → Writes given s1 from shown after later now (i + 1) text longer → Tells given s1 changed after later now
-    → SoFar board events signals old longer changed after later now (i + 1)
-next_so_far given board events signals s1 old text longer shown changed kept after waiting later scene from now i d so within same s1_is signals_are from_is at writes tells =
+    → SoFar board events signals whole longer changed after later now (i + 1)
+next_so_far given board events signals s1 whole text longer shown changed kept after waiting later scene from now i d so within same s1_is signals_are from_is at writes tells =
     let to : Moment = next so.moment (get_or events i d) in
     let w1 : Writes board s1 from shown after later now (i + 1) text longer = subst (λ (b : Board). Writes b s1 from shown after later now (i + 1) text longer) same writes in
     let w2 : Writes board signals from shown after later now (i + 1) text longer = subst (λ (l : List Signal). Writes board l from shown after later now (i + 1) text longer) s1_is w1 in
     let r1 : Tells board s1 changed after later now = subst (λ (b : Board). Tells b s1 changed after later now) same tells in
     let r2 : Tells board signals changed after later now = subst (λ (l : List Signal). Tells board l changed after later now) s1_is r1 in
-    so_far_next board events signals old text longer shown changed kept after waiting later scene now i d so within (signals_are ∙ ap signals_of same) at (r2 to at) (w2 so.moment to (from_is ∙ so.at.scene_is) so.reads at)
+    so_far_next board events signals whole text longer shown changed kept after waiting later scene now i d so within (signals_are ∙ ap signals_of same) at (r2 to at) (w2 so.moment to (from_is ∙ so.at.scene_is) so.reads at)
 
-pub all_so_far : (given board : Board) (events : List Event) (signals s1 : List Signal) (old text longer : List ℕ) (shown : List Reading) (kept after : KeptState) (waiting later : List Bool) (scene from now : Option Scene) (i n : ℕ)
-    → (so : SoFar board events signals old text shown kept waiting scene i) → length events ≡ i → n ≡ i + 1 → given ≡ board → s1 ≡ signals → signals ≡ signals_of given → from ≡ scene → after ≡ kept → later ≡ waiting → now ≡ None
-    → Writes given s1 from shown after later now n text longer → longer ≡ old ++ text_of (dump_lines board events)
-all_so_far given board events signals s1 old text longer shown kept after waiting later scene from now i n so all number same s1_is signals_are from_is kept_is waits_are none writes =
+pub all_so_far : (given board : Board) (events : List Event) (signals s1 : List Signal) (whole text longer : List ℕ) (shown : List Reading) (kept after : KeptState) (waiting later : List Bool) (scene from now : Option Scene) (i n : ℕ)
+    → (so : SoFar board events signals whole text shown kept waiting scene i) → length events ≡ i → n ≡ i + 1 → given ≡ board → s1 ≡ signals → signals ≡ signals_of given → from ≡ scene → after ≡ kept → later ≡ waiting → now ≡ None
+    → Writes given s1 from shown after later now n text longer → longer ≡ whole
+all_so_far given board events signals s1 whole text longer shown kept after waiting later scene from now i n so all number same s1_is signals_are from_is kept_is waits_are none writes =
     let at : IsAt board (ending so.moment) after later now = at_rest board so.moment kept after waiting later scene now so.at kept_is waits_are none in
     let w1 : Writes board s1 from shown after later now n text longer = subst (λ (b : Board). Writes b s1 from shown after later now n text longer) same writes in
     let w2 : Writes board signals from shown after later now n text longer = subst (λ (l : List Signal). Writes board l from shown after later now n text longer) s1_is w1 in
-    so_far_all board events signals old text longer shown kept waiting scene i so all (signals_are ∙ ap signals_of same)
+    so_far_all board events signals whole text longer shown kept waiting scene i so all (signals_are ∙ ap signals_of same)
     (w2 so.moment (ending so.moment) (from_is ∙ so.at.scene_is) so.reads at ∙ ap (λ (k : ℕ). text ++ text_of (time_line k ∷ change_lines board so.moment (ending so.moment) 0 signals)) number)

@@ -185,6 +185,10 @@ abbrev pub moments : Board → ℕ → Moment → List Event → List Line
 moments board n from [] = moment_lines board n from (ending from)
 moments board n from (e ∷ events) = moment_lines board n from (next from e) ++ moments board (n + 1) (next from e) events
 
+-- what all signals show before the first event, and then these lines
+abbrev pub first_lines : Board → List Signal → List Line → List Line
+first_lines board signals rest = time_line 0 ∷ (codes "$dumpvars" ∷ []) ∷ (value_lines board beginning 0 signals ++ ((codes "$end" ∷ []) ∷ rest))
+
 abbrev pub dump_lines : Board → List Event → List Line
 dump_lines board events =
     head_lines board

@@ -1,11 +1,12 @@
-ghost use Rattle.std.specs.Prelude.{◌≡◌, ◌∷◌, ◌++◌, length, not, string_bytes, IfOk, OnOk};
+ghost use Rattle.std.specs.Prelude.{◌≡◌, List, ◌∷◌, ◌++◌, length, not, string_bytes, IfOk, OnOk};
 ghost use Rattle.board_model.specs.declared.board.Board.{Board};
-ghost use Rattle.board_printer.specs.Lines.{line_text, text_of};
+ghost use Rattle.board_printer.specs.Lines.{Line, line_text, text_of};
 ghost use Rattle.history_model.specs.Runs.{Run, history_of};
 ghost use Rattle.run_waves.specs.declared.signal.Signal.TheVariants.{Bus};
 ghost use Rattle.run_waves.specs.Shown.{Moment, beginning, idle_part, shown};
+ghost use Rattle.run_waves.specs.Signals.{signals_of};
 ghost use Rattle.run_waves.specs.Scenes.{IsAt, Reads, ReadsFrom, shown_of, scene_of, shown_on, new_line, bus_change};
-ghost use Rattle.run_waves.specs.Dump.{same_shown, value_line, value_lines, time_line, change_line, change_lines, dump_lines, dump_of};
+ghost use Rattle.run_waves.specs.Dump.{same_shown, value_line, value_lines, time_line, change_line, change_lines, first_lines, moments, dump_lines, dump_of};
 
 use crate::head::print_head;
 use crate::lines::{is_idle, print_idle, print_part, print_reading};
@@ -42,14 +43,45 @@ fn print_dump(
     let signals = print_head(alloc, text, board)?;
     let mut watch = Watch::new(alloc, tree)?;
     let mut shown = readings_of(alloc, board, &watch, &signals)?;
+    print_first(text, &signals, &shown)?;
+    print_moments(text, tree, events, &signals, &mut shown, &mut watch)?;
+    Ok(())
+}
+
+/// What all signals show before the first event.
+fn print_first(text: &mut String, signals: &[Signal], shown: &[Reading]) -> Result<(), AllocError>
+    requires { length signals.now ≡ length shown.now }
+    ensures { (board : Board) (rest : List Line) → ReadsFrom board beginning signals.now shown.now 0
+        → OnOk result (string_bytes text.new ++ text_of rest ≡ string_bytes text.old ++ text_of (first_lines board signals.now rest)) }
+{
     print_time(text, 0)?;
     writeln!(text, "$dumpvars")?;
-    print_values(text, &signals, &shown)?;
+    print_values(text, signals, shown)?;
     writeln!(text, "$end")?;
+    Ok(())
+}
+
+/// What changes at each moment: one for each event, and the last.
+fn print_moments(
+    text: &mut String,
+    tree: &Tree,
+    events: &[Event],
+    signals: &[Signal],
+    shown: &mut Vec<Reading>,
+    watch: &mut Watch,
+) -> Result<(), AllocError>
+    requires run { Run tree.now (history_of events.now) }
+    requires each { length signals.now ≡ length shown.old.items }
+    requires signals { signals.now ≡ signals_of tree.now }
+    requires at { IsAt tree.now beginning watch.old.kept watch.old.waits.items watch.old.scene }
+    requires reads { ReadsFrom tree.now beginning signals.now shown.old.items 0 }
+    ensures { OnOk result (string_bytes text.new ≡ string_bytes text.old ++ text_of (moments tree.now 1 beginning events.now)) }
+{
+    let board = tree.board();
     for (number, event) in events.iter().enumerate() {
         let from = watch.scene();
         watch.happen(tree, event);
-        print_moment(text, board, number + 1, &signals, &mut shown, from, &watch)?;
+        print_moment(text, board, number + 1, signals, shown, from, watch)?;
     }
     let from = watch.scene();
     watch.rest();
@@ -57,10 +89,10 @@ fn print_dump(
         text,
         board,
         events.len() + 1,
-        &signals,
-        &mut shown,
+        signals,
+        shown,
         from,
-        &watch,
+        watch,
     )?;
     Ok(())
 }

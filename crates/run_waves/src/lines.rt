@@ -4,7 +4,7 @@ ghost use Rattle.board_model.specs.declared.board.Board.{Board};
 ghost use Rattle.board_printer.specs.Lines.{line_text};
 ghost use Rattle.trace_text.specs.Words.{place_words};
 ghost use Rattle.run_waves.specs.Shown.Shown.{Text};
-ghost use Rattle.run_waves.specs.Shown.{idle_part, kind_word, op_shown, to_shown, value_shown, item_word};
+ghost use Rattle.run_waves.specs.Shown.{idle_part, kind_word, initiator_word, op_shown, to_shown, value_shown, item_word};
 ghost use Rattle.run_waves.specs.Scenes.{scene_part, shown_of, value_in};
 ghost use Rattle.run_waves.specs.Dump.{value_line, same_shown};
 
@@ -57,24 +57,58 @@ pub(crate) fn print_part(
 {
     match part {
         BusPart::Event => writeln!(text, "s{} {}", kind_of(&scene.event), Code(number)),
-        BusPart::By => match scene.event {
-            Event::Act { by, .. } => writeln!(text, "s{} {}", ByWord(by), Code(number)),
-            Event::Arrive { lane, .. } => writeln!(text, "s{} {}", LaneWord(lane), Code(number)),
-        },
-        BusPart::Op => {
-            text.push_str("s")?;
-            print_op(text, board, scene)?;
-            writeln!(text, " {}", Code(number))
-        }
-        BusPart::To => {
-            text.push_str("s")?;
-            print_to(text, board, scene)?;
-            writeln!(text, " {}", Code(number))
-        }
-        BusPart::Value => match value_of(&scene.event) {
-            Some(value) => writeln!(text, "b{value:b} {}", Code(number)),
-            None => writeln!(text, "bz {}", Code(number)),
-        },
+        BusPart::By => print_by_line(text, number, &scene.event),
+        BusPart::Op => print_op_line(text, board, number, scene),
+        BusPart::To => print_to_line(text, board, number, scene),
+        BusPart::Value => print_value_line(text, number, &scene.event),
+    }
+}
+
+/// Who presents it, or the lane of an arrival.
+fn print_by_line(text: &mut String, number: usize, event: &Event) -> Result<(), AllocError>
+    ensures { OnOk result (string_bytes text.new ≡ string_bytes text.old ++ line_text (value_line number (Text (initiator_word event.now)))) }
+{
+    match *event {
+        Event::Act { by, .. } => writeln!(text, "s{} {}", ByWord(by), Code(number)),
+        Event::Arrive { lane, .. } => writeln!(text, "s{} {}", LaneWord(lane), Code(number)),
+    }
+}
+
+/// The operation.
+fn print_op_line(
+    text: &mut String,
+    board: &Board,
+    number: usize,
+    scene: &Scene,
+) -> Result<(), AllocError>
+    ensures { OnOk result (string_bytes text.new ≡ string_bytes text.old ++ line_text (value_line number (Text (op_shown board.now scene.now.event scene.now.item)))) }
+{
+    text.push_str("s")?;
+    print_op(text, board, scene)?;
+    writeln!(text, " {}", Code(number))
+}
+
+/// Who claims it, or what arrives.
+fn print_to_line(
+    text: &mut String,
+    board: &Board,
+    number: usize,
+    scene: &Scene,
+) -> Result<(), AllocError>
+    ensures { OnOk result (string_bytes text.new ≡ string_bytes text.old ++ line_text (value_line number (Text (to_shown board.now scene.now.event scene.now.item)))) }
+{
+    text.push_str("s")?;
+    print_to(text, board, scene)?;
+    writeln!(text, " {}", Code(number))
+}
+
+/// The value that is read.
+fn print_value_line(text: &mut String, number: usize, event: &Event) -> Result<(), AllocError>
+    ensures { OnOk result (string_bytes text.new ≡ string_bytes text.old ++ line_text (value_line number (value_shown event.now))) }
+{
+    match value_of(event) {
+        Some(value) => writeln!(text, "b{value:b} {}", Code(number)),
+        None => writeln!(text, "bz {}", Code(number)),
     }
 }
 

@@ -23,9 +23,18 @@ pub fn check(alloc: Global, tree: &Tree, events: &[Event]) -> Result<Verdict, No
     ensures { IfOk result (Judges tree.now events.now) }
 {
     let mut kept = Kept::new(alloc, tree)?;
-    match take_all(&mut kept, tree, events) {
-        Some((event, why)) => Ok(Verdict::NotRun { event, why }),
-        None => Ok(verdict_of_run(&kept, tree)),
+    Ok(judged(&mut kept, tree, events))
+}
+
+/// The verdict, by what is kept of a run without events.
+fn judged(kept: &mut Kept, tree: &Tree, events: &[Event]) -> Verdict
+    requires few { length events.now < 2 ^ 32 }
+    requires start { StandsFor tree.now [] kept.old }
+    ensures { Judges tree.now events.now result }
+{
+    match take_all(kept, tree, events) {
+        Some((event, why)) => Verdict::NotRun { event, why },
+        None => verdict_of_run(kept, tree),
     }
 }
 

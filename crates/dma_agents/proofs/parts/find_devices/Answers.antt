@@ -1,6 +1,5 @@
-use Rattle.std.proofs.Common.{◌≡◌, ◌<◌, ◌∷◌, [], ◌++◌, Bool, false, List, ℕ, length, drop, codes, inl, inr, ap, sym, ◌∙◌, arith, rules, tests}
+use Rattle.std.proofs.Common.{◌≡◌, ◌<◌, ◌∷◌, [], false, List, ℕ, length, drop, codes, inl, inr, ap, sym, ◌∙◌, arith, rules, tests}
 use Rattle.std.specs.List.{slice_range}
-use Rattle.std.specs.Str.{bytes_eq}
 use Rattle.std.proofs.lemmas.Bool.{cases_lt}
 use Rattle.std.proofs.lemmas.List.{length-append}
 use Rattle.board_text.specs.Lines.{lines_of}

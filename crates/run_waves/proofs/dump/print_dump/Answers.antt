@@ -1,55 +1,41 @@
-use Rattle.std.proofs.Common.{◌≡◌, ◌<◌, ◌+◌, List, length, sym, ap, ◌∙◌, arith, string_bytes}
-use Rattle.pci_command.specs.declared.op_id.OpId.{OpId}
-use Rattle.board_model.specs.declared.bridge.Place.TheVariants.{Target}
-use Rattle.history_model.specs.declared.event.By.TheVariants.{Master}
-use Rattle.history_model.specs.declared.event.Step.TheVariants.{Land}
-use Rattle.history_model.specs.declared.event.Event.{Event}
-use Rattle.history_model.specs.declared.event.Event.TheVariants.{Act}
+use Rattle.std.proofs.Common.{List, length, refl, sym, ap, ◌++◌, ◌∙◌, string_bytes}
+use Rattle.board_model.specs.declared.board.Board.{Board}
+use Rattle.board_printer.specs.Lines.{text_of}
+use Rattle.run_waves.specs.declared.reading.Reading.{Reading}
 use Rattle.run_waves.specs.declared.signal.Signal.{Signal}
-use Rattle.run_waves.specs.Shown.{past}
-use Rattle.run_waves.proofs.DumpLemmas.{first_so_far, next_so_far, all_so_far, allowed_next}
+use Rattle.run_waves.specs.Signals.{signals_of}
+use Rattle.run_waves.specs.Shown.{beginning}
+use Rattle.run_waves.specs.Dump.{head_lines, moments}
+use Rattle.run_waves.proofs.DumpLemmas.{first_reads, all_written}
 use Rattle.run_waves.proofs.dump.print_dump.Goals as goal
 
-pub loop-number-init : goal.loop-number-init
-loop-number-init c =
-    let signals = c.in_ok-signals.signals.items in
-    let shown = c.in_ok-shown.shown.items in
+pub print_first-requires : goal.print_first-requires
+print_first-requires c =
+    ap (λ (l : List Signal). length l) (c.deref-2.ensures.value ∙ sym c.deref.ensures.value) ∙ sym c.in_ok-shown.ensures.each ∙ ap (λ (l : List Reading). length l) (sym c.deref-3.ensures.value)
+
+pub print_moments-requires : goal.print_moments-requires
+print_moments-requires c =
+    let board = c.board-board.result.now in
     let watch = c.in_ok-watch.watch in
     record {
-      each = sym (c.in_ok-shown.ensures.each ∙ ap (λ (l : List Signal). length l) c.deref.ensures.value);
-      so = first_so_far c.board-board.result.now c.args.tree.now c.args.events.now signals c.deref.result.now c.deref-2.result.now shown c.deref-3.result.now
-          (string_bytes c.args.text.now) (string_bytes c.print_head.new.text) (string_bytes c.print_time.new.text) (string_bytes c.writeln.new.self) (string_bytes c.print_values.new.text) (string_bytes c.writeln-2.new.self)
-          watch.kept watch.waits.items watch.scene c.board-board.ensures.value c.deref.ensures.value c.deref-2.ensures.value c.deref-3.ensures.value c.in_ok-signals.ensures.signals
-          c.in_ok-watch.ensures c.in_ok-shown.ensures.reads c.in_ok-signals.ensures.text c.in_ok-print_time.ensures c.in_ok-writeln.ensures.bytes c.in_ok-print_values.ensures c.in_ok-writeln-2.ensures.bytes;
-    }
-
-pub loop-number-preserved : goal.loop-number-preserved
-loop-number-preserved c =
-    let tree = c.args.tree.now in
-    let events = c.args.events.now in
-    let i = c.loop-number.number in
-    let signals = c.in_ok-signals.signals.items in
-    let was = c.loop-number.watch in
-    let is = c.happen.new.self in
-    let so = c.loop-number.invariant.so in
-    let d : Event = Act 0 Master (record { master = 0; index = 0; attempt = 0 }) Land (Target 0) in
-    let within : i < length events = c.loop-number-test.true in
-    let allowed = allowed_next tree events i d (past so.moment) c.requires within so.past_is in
-    let at = c.happen.ensures so.moment so.at allowed in
-    record {
-      each = c.loop-number.invariant.each ∙ sym c.in_ok-print_moment.ensures.each;
-      so = next_so_far c.board-board.result.now tree events signals c.deref-in-loop-number.result.now (string_bytes c.args.text.now) (string_bytes c.loop-number.text) (string_bytes c.print_moment.new.text)
-          c.loop-number.shown.items c.print_moment.new.shown.items was.kept is.kept was.waits.items is.waits.items was.scene c.scene-from.result is.scene i d so within
-          c.board-board.ensures.value c.deref-in-loop-number.ensures.value c.in_ok-signals.ensures.signals c.scene-from.ensures at c.in_ok-print_moment.ensures.text c.in_ok-print_moment.ensures.reads;
+      run = c.requires;
+      each = ap (λ (l : List Signal). length l) (c.deref-4.ensures.value ∙ sym c.deref.ensures.value) ∙ sym c.in_ok-shown.ensures.each;
+      signals = c.deref-4.ensures.value ∙ c.in_ok-signals.ensures.signals ∙ ap signals_of c.board-board.ensures.value;
+      at = c.in_ok-watch.ensures;
+      reads = first_reads board c.args.tree.now c.deref.result.now c.deref-4.result.now c.in_ok-shown.shown.items c.in_ok-shown.shown.items watch.kept watch.waits.items watch.scene
+          c.board-board.ensures.value (c.deref.ensures.value ∙ sym c.deref-4.ensures.value) refl c.in_ok-watch.ensures c.in_ok-shown.ensures.reads;
     }
 
 pub returns : goal.returns
 returns c =
-    let signals = c.in_ok-signals.signals.items in
-    let was = c.loop-number.watch in
-    let is = c.rest.new.self in
-    let so = c.loop-number.invariant.so in
-    let end : length c.args.events.now ≡ c.loop-number.number = omega (arith, c.loop-number-test.false, c.loop-number.auto.number-end) in
-    all_so_far c.board-board.result.now c.args.tree.now c.args.events.now signals c.deref-4.result.now (string_bytes c.args.text.now) (string_bytes c.loop-number.text) (string_bytes c.print_moment-2.new.text)
-    c.loop-number.shown.items was.kept is.kept was.waits.items is.waits.items was.scene c.scene-from-2.result is.scene c.loop-number.number (length c.args.events.now + 1) so end (ap (λ n. n + 1) end)
-    c.board-board.ensures.value c.deref-4.ensures.value c.in_ok-signals.ensures.signals c.scene-from-2.ensures c.rest.ensures.kept (ap (λ w. w.items) c.rest.ensures.waits) c.rest.ensures.scene c.in_ok-print_moment-2.ensures.text
+    let board = c.board-board.result.now in
+    let tree = c.args.tree.now in
+    let events = c.args.events.now in
+    let watch = c.in_ok-watch.watch in
+    let same = c.board-board.ensures.value in
+    let reads = first_reads board tree c.deref.result.now c.deref-2.result.now c.in_ok-shown.shown.items c.deref-3.result.now watch.kept watch.waits.items watch.scene
+        same (c.deref.ensures.value ∙ sym c.deref-2.ensures.value) (sym c.deref-3.ensures.value) c.in_ok-watch.ensures c.in_ok-shown.ensures.reads in
+    all_written tree events c.deref-2.result.now (string_bytes c.args.text.now) (string_bytes c.print_head.new.text) (string_bytes c.print_first.new.text) (string_bytes c.print_moments.new.text)
+    (c.deref-2.ensures.value ∙ c.in_ok-signals.ensures.signals ∙ ap signals_of same)
+    (c.in_ok-signals.ensures.text ∙ ap (λ (b : Board). string_bytes c.args.text.now ++ text_of (head_lines b)) same)
+    (c.in_ok-print_first.ensures tree (moments tree 1 beginning events) reads) c.in_ok-print_moments.ensures
