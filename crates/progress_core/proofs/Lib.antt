@@ -1,3 +1,4 @@
 pub mod SumLemmas
 pub mod ProgramLemmas
 pub mod RunningLemmas
+pub mod ReachLemmas
