@@ -6,7 +6,7 @@ use crate::Machine;
 use lspci_text::Function;
 
 /// A device number on a bus, by the text.
-#[derive(Clone, Copy, Debug, PartialEq, Eq, PartialOrd, Ord, Hash)]
+#[derive(Clone, Copy, Debug, PartialEq, Eq)]
 pub struct DevicePlace {
     pub bus: u8,
     pub device: u8,

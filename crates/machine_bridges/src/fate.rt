@@ -2,14 +2,14 @@ use board_model::Window;
 use std::fmt;
 
 /// The buses from the first to the last.
-#[derive(Clone, Copy, Debug, PartialEq, Eq, PartialOrd, Ord, Hash)]
+#[derive(Clone, Copy, Debug, PartialEq, Eq)]
 pub struct Buses {
     pub first: u8,
     pub last: u8,
 }
 
 /// Why a bridge is left out. Buses are those of the text.
-#[derive(Clone, Copy, Debug, PartialEq, Eq, PartialOrd, Ord, Hash)]
+#[derive(Clone, Copy, Debug, PartialEq, Eq)]
 pub enum NoBridge {
     /// No bridge that is taken leads to this bus, on which it is.
     NoWay(u8),
@@ -26,7 +26,7 @@ pub enum NoBridge {
 }
 
 /// Why a window of a bridge is closed.
-#[derive(Clone, Copy, Debug, PartialEq, Eq, PartialOrd, Ord, Hash)]
+#[derive(Clone, Copy, Debug, PartialEq, Eq)]
 pub enum NoWindow {
     /// Its registers are zero.
     Zero,
@@ -38,7 +38,7 @@ pub enum NoWindow {
     Meets(u8),
 }
 
-#[derive(Clone, Copy, Debug, PartialEq, Eq, PartialOrd, Ord, Hash)]
+#[derive(Clone, Copy, Debug, PartialEq, Eq)]
 pub enum WindowFate {
     /// The bridge has none.
     Absent,
@@ -47,7 +47,7 @@ pub enum WindowFate {
 }
 
 /// A bridge of the board.
-#[derive(Clone, Copy, Debug, PartialEq, Eq, PartialOrd, Ord, Hash)]
+#[derive(Clone, Copy, Debug, PartialEq, Eq)]
 pub struct TakenBridge {
     /// The bus on which it is, by the text.
     pub parent: u8,
@@ -61,7 +61,7 @@ pub struct TakenBridge {
     pub io: WindowFate,
 }
 
-#[derive(Clone, Copy, Debug, PartialEq, Eq, PartialOrd, Ord, Hash)]
+#[derive(Clone, Copy, Debug, PartialEq, Eq)]
 pub enum BridgeFate {
     LeftOut(NoBridge),
     Taken(TakenBridge),

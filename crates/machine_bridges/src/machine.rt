@@ -7,7 +7,7 @@ use pci_command::{List, NoMemory};
 use std::alloc::Global;
 
 /// The bus from which on a machine is looked at.
-#[derive(Clone, Copy, Debug, PartialEq, Eq, PartialOrd, Ord, Hash)]
+#[derive(Clone, Copy, Debug, PartialEq, Eq)]
 pub struct Root {
     pub domain: u32,
     pub bus: u8,

@@ -1,7 +1,7 @@
-ghost use Rattle.std.specs.Prelude.{◌≡◌, ◌++◌, ◌<◌, ◌≤◌, ◌^◌, ◌==◌, length, map, IfOk};
+ghost use Rattle.std.specs.Prelude.{◌≡◌, ◌++◌, ◌<◌, ◌≤◌, ◌^◌, ◌==◌, length, map, take, drop, [], if◌then◌else◌, IfOk};
 ghost use Rattle.std.specs.List.{list_any, count_by};
 ghost use Rattle.machine_bridges.specs.Bridges.{place_of};
-ghost use Rattle.machine_targets.specs.Devices.{is_placed, claims_something, device_fate, same_device, begins_with, run_length, judged_device, target_place, placed_by, by_device, devices_behind, devices_of};
+ghost use Rattle.machine_targets.specs.Devices.{is_placed, claims_something, device_fate, same_device, begins_with, run_length, judged_device, target_place, is_target, placed_by, by_device, devices_behind, devices_of};
 
 use crate::functions::functions_behind;
 use crate::{Device, DeviceFate, Judged, Placed, RangeFate};
@@ -94,19 +94,35 @@ fn judged_device(
         functions,
     )?;
     let fate = device_fate(machine, bridges, taken, place, judged.as_slice());
-    if let DeviceFate::Target(device) = fate {
-        let bus = place.bus;
-        taken.given.push(DevicePlace { bus, device })?;
-        taken.targets.push(DevicePlace { bus, device })?;
-    } else {
-        taken.placed.truncate(before);
-    }
+    settle(taken, before, place.bus, fate)?;
     Ok(Device {
         bus: place.bus,
         device: place.device,
         fate,
         functions: judged,
     })
+}
+
+/// A target has its device number, and what was placed for it stays: for no other device does it.
+fn settle(
+    taken: &mut Taken,
+    before: usize,
+    bus: u8,
+    fate: DeviceFate,
+) -> Result<(), NoMemory>
+    requires { before ≤ length taken.old.placed.items }
+    ensures placed { IfOk result (λ _. taken.new.placed.items ≡ take before taken.old.placed.items ++ (if is_target fate then drop before taken.old.placed.items else [])) }
+    ensures targets { IfOk result (λ _. taken.new.targets.items ≡ taken.old.targets.items ++ target_place bus fate) }
+    ensures given { IfOk result (λ _. taken.new.given.items ≡ taken.old.given.items ++ target_place bus fate) }
+{
+    match fate {
+        DeviceFate::Target(device) => {
+            taken.given.push(DevicePlace { bus, device })?;
+            taken.targets.push(DevicePlace { bus, device })?;
+        }
+        _ => taken.placed.truncate(before),
+    }
+    Ok(())
 }
 
 fn device_fate(

@@ -8,7 +8,7 @@ use pci_command::{List, Space};
 use std::fmt;
 
 /// Why a range is left out. Buses are those of the text.
-#[derive(Clone, Copy, Debug, PartialEq, Eq, PartialOrd, Ord, Hash)]
+#[derive(Clone, Copy, Debug, PartialEq, Eq)]
 pub enum NoRange {
     /// The register tells of none.
     Flawed(Flaw),
@@ -29,7 +29,7 @@ pub enum NoRange {
 }
 
 /// What becomes of a range: the board has it, with these addresses, or it is left out.
-#[derive(Clone, Copy, Debug, PartialEq, Eq, PartialOrd, Ord, Hash)]
+#[derive(Clone, Copy, Debug, PartialEq, Eq)]
 pub enum RangeFate {
     Taken(Window),
     LeftOut(NoRange),
@@ -44,14 +44,14 @@ impl Default for RangeFate {
 }
 
 /// What a base address register asks for, and what becomes of it.
-#[derive(Clone, Copy, Debug, Default, PartialEq, Eq, PartialOrd, Ord, Hash)]
+#[derive(Clone, Copy, Debug, Default, PartialEq, Eq)]
 pub struct Judged {
     pub found: Found,
     pub fate: RangeFate,
 }
 
 /// A range that is taken: its bus by the text, and its addresses.
-#[derive(Clone, Copy, Debug, PartialEq, Eq, PartialOrd, Ord, Hash)]
+#[derive(Clone, Copy, Debug, PartialEq, Eq)]
 pub struct Placed {
     pub bus: u8,
     pub space: Space,
@@ -59,7 +59,7 @@ pub struct Placed {
 }
 
 /// What becomes of a device.
-#[derive(Clone, Copy, Debug, PartialEq, Eq, PartialOrd, Ord, Hash)]
+#[derive(Clone, Copy, Debug, PartialEq, Eq)]
 pub enum DeviceFate {
     /// No bridge of the board leads to its bus.
     NoWay,

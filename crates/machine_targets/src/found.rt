@@ -8,7 +8,7 @@ use pci_command::Space;
 use std::fmt;
 
 /// Why a register tells of no range.
-#[derive(Clone, Copy, Debug, PartialEq, Eq, PartialOrd, Ord, Hash)]
+#[derive(Clone, Copy, Debug, PartialEq, Eq)]
 pub enum Flaw {
     /// It is the last one, and wants an upper half.
     NoHalf,
@@ -19,7 +19,7 @@ pub enum Flaw {
 }
 
 /// What a base address register asks for.
-#[derive(Clone, Copy, Debug, Default, PartialEq, Eq, PartialOrd, Ord, Hash)]
+#[derive(Clone, Copy, Debug, Default, PartialEq, Eq)]
 pub struct Found {
     /// The number of the register, from 0.
     pub number: u8,
