@@ -1,13 +1,13 @@
 /// One direction through the bridge to secondary bus `bus`: up to its primary bus, or down to its
 /// secondary bus.
-#[derive(Clone, Copy, Debug, Default, PartialEq, Eq, PartialOrd, Ord, Hash)]
+#[derive(Clone, Copy, Debug, Default, PartialEq, Eq)]
 pub struct Lane {
     pub bus: u8,
     pub up: bool,
 }
 
 /// A window of addresses from `base` to `limit`, both included.
-#[derive(Clone, Copy, Debug, Default, PartialEq, Eq, PartialOrd, Ord, Hash)]
+#[derive(Clone, Copy, Debug, Default, PartialEq, Eq)]
 pub struct Window {
     pub base: u64,
     pub limit: u64,
@@ -41,7 +41,7 @@ pub struct Bridge {
 
 /// Who claims a request: a target by its place in the board, the header of the bridge to that
 /// secondary bus, a lane of a bridge, or nobody.
-#[derive(Clone, Copy, Debug, Default, PartialEq, Eq, PartialOrd, Ord, Hash)]
+#[derive(Clone, Copy, Debug, Default, PartialEq, Eq)]
 pub enum Place {
     Target(u16),
     Header(u8),

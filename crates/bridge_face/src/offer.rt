@@ -1,7 +1,7 @@
 use pci_command::OpId;
 
 /// An item that stands at a face and may be driven on its bus now.
-#[derive(Clone, Copy, Debug, Default, PartialEq, Eq, PartialOrd, Ord, Hash)]
+#[derive(Clone, Copy, Debug, Default, PartialEq, Eq)]
 pub struct Offer {
     pub op: OpId,
     /// Whether it is a delayed request; else it is a posted write.

@@ -1,7 +1,7 @@
 use bitflags::{Flag, Flags, bitflag_items};
 
 /// Bits of the command register of a bridge (PCI-to-PCI Bridge Architecture 1.1, section 3.2, from memory).
-#[derive(Clone, Copy, Debug, Default, PartialEq, Eq, PartialOrd, Ord, Hash)]
+#[derive(Clone, Copy, Debug, Default, PartialEq, Eq)]
 pub struct CommandBits(u16);
 
 bitflag_items! {
@@ -40,7 +40,7 @@ impl Flags for CommandBits {
 }
 
 /// Bits of the bridge control register (PCI-to-PCI Bridge Architecture 1.1, section 3.2.5.18, from memory).
-#[derive(Clone, Copy, Debug, Default, PartialEq, Eq, PartialOrd, Ord, Hash)]
+#[derive(Clone, Copy, Debug, Default, PartialEq, Eq)]
 pub struct BridgeControl(u16);
 
 bitflag_items! {

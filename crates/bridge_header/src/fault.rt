@@ -1,7 +1,7 @@
 use thiserror::Error;
 
 /// Why a header is refused. Of several causes the first in this order is named.
-#[derive(Clone, Copy, Debug, PartialEq, Eq, PartialOrd, Ord, Hash, Error)]
+#[derive(Clone, Copy, Debug, PartialEq, Eq, Error)]
 pub enum HeaderFault {
     /// The header type, without its highest bit, is not 1.
     #[error("the header type is not 1")]

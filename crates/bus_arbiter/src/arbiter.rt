@@ -8,7 +8,7 @@ const LINES: u8 = 32;
 
 /// An arbiter of 32 request lines. A contract sees it as the line with which its next search
 /// begins: line 0 at first, and then the one behind the last granted line, in a circle.
-#[derive(Clone, Copy, Debug, PartialEq, Eq, Hash)]
+#[derive(Clone, Copy, Debug, PartialEq, Eq)]
 pub struct Arbiter {
     next: u8,
 }

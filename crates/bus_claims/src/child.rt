@@ -7,7 +7,7 @@ use bridge_header::Windows;
 use pci_command::Space;
 
 /// A bridge below the bus: its device number there, 0 to 31, and what its header says.
-#[derive(Clone, Copy, Debug, Default, PartialEq, Eq, PartialOrd, Ord, Hash)]
+#[derive(Clone, Copy, Debug, Default, PartialEq, Eq)]
 pub struct Child {
     pub device: u8,
     pub windows: Windows,

@@ -7,7 +7,7 @@ use std::marker::Model;
 
 /// A delayed completion that stands: the slot of its request, the operation, how it ended, and the
 /// number of its arrival at this half of the bridge.
-#[derive(Clone, Copy, Debug, Default, PartialEq, Eq, PartialOrd, Ord, Hash)]
+#[derive(Clone, Copy, Debug, Default, PartialEq, Eq)]
 pub struct Done {
     pub slot: u8,
     pub op: OpId,

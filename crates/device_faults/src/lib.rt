@@ -8,7 +8,7 @@ use thiserror::Error;
 
 /// What is wrong with the text of devices on a board, in the order in which the faults of one line
 /// are looked for.
-#[derive(Clone, Copy, Debug, PartialEq, Eq, PartialOrd, Ord, Hash, Error)]
+#[derive(Clone, Copy, Debug, PartialEq, Eq, Error)]
 pub enum DeviceFault {
     /// The marks of the text are not there, or a line is none that may stand at its place.
     #[error("no line of a device text that may stand here")]

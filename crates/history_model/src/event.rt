@@ -2,7 +2,7 @@ use board_model::{Lane, Place};
 use pci_command::{OpId, Outcome};
 
 /// What the board has an arrival do to its item.
-#[derive(Clone, Copy, Debug, Default, PartialEq, Eq, PartialOrd, Ord, Hash)]
+#[derive(Clone, Copy, Debug, Default, PartialEq, Eq)]
 pub enum Mark {
     /// It stands, or acts.
     #[default]
@@ -15,7 +15,7 @@ pub enum Mark {
 }
 
 /// Who presents an operation on a bus: its own master, or the lane of a bridge that ends there.
-#[derive(Clone, Copy, Debug, Default, PartialEq, Eq, PartialOrd, Ord, Hash)]
+#[derive(Clone, Copy, Debug, Default, PartialEq, Eq)]
 pub enum By {
     #[default]
     Master,
@@ -23,7 +23,7 @@ pub enum By {
 }
 
 /// How a transaction on a bus ended, where it did not end in a fruitless Retry.
-#[derive(Clone, Copy, Debug, Default, PartialEq, Eq, PartialOrd, Ord, Hash)]
+#[derive(Clone, Copy, Debug, Default, PartialEq, Eq)]
 pub enum Step {
     /// A target took what was left of a write.
     #[default]
@@ -47,7 +47,7 @@ pub enum Step {
 }
 
 /// One event: a transaction on a bus, or the arrival of the oldest item in flight on a lane.
-#[derive(Clone, Copy, Debug, PartialEq, Eq, PartialOrd, Ord, Hash)]
+#[derive(Clone, Copy, Debug, PartialEq, Eq)]
 pub enum Event {
     Act {
         bus: u8,
@@ -63,7 +63,7 @@ pub enum Event {
 }
 
 /// An event with the stamp that orders the events of different buses.
-#[derive(Clone, Copy, Debug, PartialEq, Eq, PartialOrd, Ord, Hash)]
+#[derive(Clone, Copy, Debug, PartialEq, Eq)]
 pub struct Stamped {
     pub stamp: u32,
     pub event: Event,

@@ -3,7 +3,7 @@ use board_model::Place;
 use pci_command::{OpId, Outcome};
 
 /// What a lane carries.
-#[derive(Clone, Copy, Debug, Default, PartialEq, Eq, PartialOrd, Ord, Hash)]
+#[derive(Clone, Copy, Debug, Default, PartialEq, Eq)]
 pub enum Carried {
     /// A posted memory write.
     Post {
@@ -31,7 +31,7 @@ pub enum Carried {
 
 /// A slot held at the face where a delayed request was latched: its number, which local master
 /// presented the request there, and the operation.
-#[derive(Clone, Copy, Debug, Default, PartialEq, Eq, PartialOrd, Ord, Hash)]
+#[derive(Clone, Copy, Debug, Default, PartialEq, Eq)]
 pub struct Slot {
     pub number: u8,
     pub by: By,
@@ -39,7 +39,7 @@ pub struct Slot {
 }
 
 /// Why a bridge answers with Retry and nothing happens.
-#[derive(Clone, Copy, Debug, PartialEq, Eq, PartialOrd, Ord, Hash)]
+#[derive(Clone, Copy, Debug, PartialEq, Eq)]
 pub enum Cause {
     /// It owes as many posted writes as it holds.
     Full,
@@ -52,7 +52,7 @@ pub enum Cause {
 }
 
 /// What an operation that is presented on a bus is answered.
-#[derive(Clone, Copy, Debug, PartialEq, Eq, PartialOrd, Ord, Hash)]
+#[derive(Clone, Copy, Debug, PartialEq, Eq)]
 pub enum Answer {
     /// An event: this step, by the one who claims it.
     Gives { step: Step, place: Place },

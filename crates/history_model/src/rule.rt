@@ -3,7 +3,7 @@ use board_model::Lane;
 
 /// What a bridge keeps of who presented a delayed request, and whether one waits for an older one
 /// that is the same on its bus.
-#[derive(Clone, Copy, Debug, Default, PartialEq, Eq, PartialOrd, Ord, Hash)]
+#[derive(Clone, Copy, Debug, Default, PartialEq, Eq)]
 pub enum Rule {
     /// The local master, so that each completion goes to the one that asked for it.
     #[default]

@@ -1,7 +1,7 @@
 use std::fmt;
 
 /// Why an event is not allowed after those before it.
-#[derive(Clone, Copy, Debug, PartialEq, Eq, PartialOrd, Ord, Hash)]
+#[derive(Clone, Copy, Debug, PartialEq, Eq)]
 pub enum Why {
     /// The initiator does not present that operation on that bus now.
     NotPresented,

@@ -10,7 +10,7 @@ use history_model::{By, Slot};
 use pci_command::{OpId, Request};
 
 /// An operation as an initiator presents it on a bus.
-#[derive(Clone, Copy, Debug, PartialEq, Eq, PartialOrd, Ord, Hash)]
+#[derive(Clone, Copy, Debug, PartialEq, Eq)]
 pub struct Presented {
     pub bus: u8,
     pub by: By,

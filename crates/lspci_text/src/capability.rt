@@ -5,7 +5,7 @@ use crate::digits::{begins_with, behind, byte_at, hex_length};
 use crate::region::indented;
 
 /// What kind of PCI a function names among its capabilities.
-#[derive(Clone, Copy, Debug, PartialEq, Eq, PartialOrd, Ord, Hash)]
+#[derive(Clone, Copy, Debug, PartialEq, Eq)]
 pub enum Kind {
     Express,
     PciX,

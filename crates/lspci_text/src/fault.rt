@@ -2,7 +2,7 @@ use pci_command::NoMemory;
 use thiserror::Error;
 
 /// Why a text is not what `lspci` writes of a machine.
-#[derive(Clone, Copy, Debug, PartialEq, Eq, PartialOrd, Ord, Hash, Error)]
+#[derive(Clone, Copy, Debug, PartialEq, Eq, Error)]
 pub enum LspciFault {
     #[error("no line is a slot line")]
     NoSlot,

@@ -1,6 +1,6 @@
 /// The name of an operation: its master and its index there, both from 0 in the order of the
 /// board, and the try of a poll, from 0 (0 for all but polls).
-#[derive(Clone, Copy, Debug, Default, PartialEq, Eq, PartialOrd, Ord, Hash)]
+#[derive(Clone, Copy, Debug, Default, PartialEq, Eq, Hash)]
 pub struct OpId {
     pub master: u16,
     pub index: u16,
@@ -8,7 +8,7 @@ pub struct OpId {
 }
 
 /// How an operation ended.
-#[derive(Clone, Copy, Debug, Default, PartialEq, Eq, PartialOrd, Ord, Hash)]
+#[derive(Clone, Copy, Debug, Default, PartialEq, Eq)]
 pub enum Outcome {
     /// A read gave this dword.
     Value(u32),

@@ -6,7 +6,7 @@ use std::marker::Model;
 
 /// A posted memory write that stands: its operation, and the number of its arrival at this half of
 /// the bridge.
-#[derive(Clone, Copy, Debug, Default, PartialEq, Eq, PartialOrd, Ord, Hash)]
+#[derive(Clone, Copy, Debug, Default, PartialEq, Eq)]
 pub struct Post {
     pub op: OpId,
     pub arrival: u64,

@@ -1,5 +1,5 @@
 /// What a target answers to an access that it claims.
-#[derive(Clone, Copy, Debug, PartialEq, Eq, PartialOrd, Ord, Hash)]
+#[derive(Clone, Copy, Debug, PartialEq, Eq)]
 pub enum Access {
     /// Retry, while it has stall tokens: one is used, and the operation stays.
     Stall,

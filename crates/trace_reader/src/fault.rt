@@ -2,7 +2,7 @@ use board_statements::LineFault;
 use thiserror::Error;
 
 /// What is wrong with the lines of a trace outside its board.
-#[derive(Clone, Copy, Debug, PartialEq, Eq, PartialOrd, Ord, Hash, Error)]
+#[derive(Clone, Copy, Debug, PartialEq, Eq, Error)]
 pub enum TraceLineFault {
     #[error("the first line is not `pcitrace 1`")]
     NoFirstLine,
