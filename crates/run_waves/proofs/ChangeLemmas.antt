@@ -1,21 +1,18 @@
 -- What is written of a signal between two moments.
-use Rattle.std.proofs.Common.{◌≡◌, ℕ, ◌+◌, ◌<◌, ◌≤◌, suc, Bool, true, false, not, cond, ◌||◌, ◌==◌, List, [], ◌∷◌, ◌++◌, length, drop, get_or, Option, Some, None, refl, sym, ap, subst, ◌∙◌, arith, append_assoc, append-nil}
+use Rattle.std.proofs.Common.{◌≡◌, ℕ, ◌+◌, ◌<◌, ◌≤◌, suc, Bool, true, false, not, cond, ◌||◌, List, [], ◌∷◌, ◌++◌, length, drop, get_or, Option, Some, None, refl, sym, ap, subst, ◌∙◌, arith, append_assoc, append-nil}
 use Rattle.std.proofs.lemmas.List.{drop_all}
 use Rattle.std.proofs.Math.Seq.{drop-cons}
 use Rattle.board_model.specs.declared.board.Board.{Board}
 use Rattle.history_model.specs.declared.event.Event.{Event}
-use Rattle.history_model.specs.Local.{bus_of}
 use Rattle.board_printer.specs.Lines.{Line, line_text, text_of}
 use Rattle.board_printer.proofs.LineLemmas.{text_of-append}
 use Rattle.run_waves.specs.declared.scene.Scene.{Scene}
-use Rattle.run_waves.specs.declared.reading.Reading.{Reading}
 use Rattle.run_waves.specs.declared.signal.BusPart.{BusPart}
-use Rattle.run_waves.specs.declared.signal.BusPart.TheVariants as parts
 use Rattle.run_waves.specs.declared.signal.Signal.{Signal}
-use Rattle.run_waves.specs.declared.signal.Signal.TheVariants.{Bus, Lane, Index, Try, Waits, Stall}
+use Rattle.run_waves.specs.declared.signal.Signal.TheVariants.{Bus}
 use Rattle.run_waves.specs.Shown.{Moment, beginning, Shown, is_event_on, idle_part, part_of, shown}
-use Rattle.run_waves.specs.Scenes.{Reads, scene_at, scene_of, is_scene_on, shown_by, shown_on, new_line, bus_change, shown_of}
-use Rattle.run_waves.specs.Dump.{value_line, value_lines, same_shown, is_written, change_line, change_lines}
+use Rattle.run_waves.specs.Scenes.{scene_at, scene_of, is_scene_on, shown_by, shown_on, new_line, bus_change}
+use Rattle.run_waves.specs.Dump.{value_line, value_lines, same_shown, change_line, change_lines}
 
 -- a scene is that of its moment
 on_same : (board : Board) (bus : ℕ) (before : List Event) (event : Option Event) → is_scene_on board bus (scene_at board before event) ≡ is_event_on board bus event

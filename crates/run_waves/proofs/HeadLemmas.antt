@@ -1,15 +1,14 @@
 -- The declarations, bus by bus and signal by signal.
-use Rattle.std.proofs.Common.{◌≡◌, ℕ, ◌+◌, ◌<◌, ◌≤◌, suc, zero, Bool, true, false, List, [], ◌∷◌, ◌++◌, length, drop, get_or, refl, sym, ap, subst, ◌∙◌, arith, append_assoc, append-nil}
+use Rattle.std.proofs.Common.{◌≡◌, ℕ, ◌+◌, true, false, List, [], ◌∷◌, ◌++◌, length, drop, refl, sym, ap, ◌∙◌, arith, append_assoc, append-nil}
 use Rattle.std.specs.List.{filter, flat_map, range_with_len}
-use Rattle.std.proofs.lemmas.List.{length-append, drop_all}
-use Rattle.std.proofs.Math.Seq.{drop-cons}
+use Rattle.std.proofs.lemmas.List.{length-append}
 use Rattle.board_model.specs.declared.board.Board.{Board}
 use Rattle.board_model.specs.Valid.{is_bus}
 use Rattle.board_printer.specs.Lines.{Line, line_text, text_of}
 use Rattle.board_printer.proofs.LineLemmas.{text_of-append}
 use Rattle.run_waves.specs.declared.signal.Signal.{Signal}
 use Rattle.run_waves.specs.Signals.{signals_on}
-use Rattle.run_waves.specs.Dump.{var_line, var_lines, scope_lines, scopes}
+use Rattle.run_waves.specs.Dump.{scope_lines, scopes}
 use Rattle.run_waves.proofs.PassLemmas.{passing_one, passing_none}
 
 -- the buses below a number

@@ -1,5 +1,5 @@
 -- A master waits where it presented its turn before: what follows in its program it never presented.
-use Rattle.std.proofs.Common.{◌≡◌, ◌≢◌, ℕ, ◌+◌, ◌<◌, ◌≤◌, Bool, true, false, cond, eqb, ◌||◌, ◌==◌, List, [], ◌∷◌, length, Option, Some, None, refl, sym, ap, subst, ◌∙◌, arith, eqb-true}
+use Rattle.std.proofs.Common.{◌≡◌, ℕ, Bool, true, false, cond, eqb, ◌||◌, List, [], ◌∷◌, Option, Some, None, refl, sym, ap, subst, ◌∙◌, arith}
 use Rattle.std.specs.List.{list_any}
 use Rattle.std.proofs.lemmas.Bool.Decides.{nat_tests}
 use Rattle.pci_command.specs.declared.op_id.OpId.{OpId}
@@ -11,7 +11,7 @@ use Rattle.history_model.specs.declared.event.By.TheVariants.{Master, Lane as By
 use Rattle.history_model.specs.declared.event.Step.{Step}
 use Rattle.history_model.specs.declared.event.Event.{Event}
 use Rattle.history_model.specs.declared.event.Event.TheVariants.{Act, Arrive}
-use Rattle.history_model.specs.Program.{Ending, ended, ending_of, master_outcome, follows, turn_after, turn_of}
+use Rattle.history_model.specs.Program.{ending_of, master_outcome, follows, turn_after, turn_of}
 use Rattle.history_model.specs.Knowledge.{stands_after}
 use Rattle.history_model.specs.Answers.{is_turn}
 use Rattle.history_model.specs.Runs.{Run, Allowed}
@@ -19,7 +19,7 @@ use Rattle.history_facts.proofs.RequestLemmas.{same_op_true}
 use Rattle.history_facts.proofs.WantsLemmas.{wants-turn}
 use Rattle.law_changes.proofs.Laws.{turn_master}
 use Rattle.law_fresh.proofs.BehindLemmas.{IsBehind, follows_behind, Begun, Begun-turn, Begun-kept}
-use Rattle.run_waves.specs.Shown.{is_presented_by, presents_in, waits}
+use Rattle.run_waves.specs.Shown.{presents_in, waits}
 
 same_self : (o : OpId) → same_op o o ≡ true
 same_self o = grind (arith, nat_tests)

@@ -1,12 +1,11 @@
 -- What a signal shows after so many events of a run.
-use Rattle.std.specs.Prelude.{ℕ, Bool, true, false, ◌-◌, List, [], ◌∷◌, length, Option, Some, None, codes, count_by, not, ◌&&◌, ◌==◌, if◌then◌else◌, slice_get}
+use Rattle.std.specs.Prelude.{ℕ, Bool, true, false, ◌-◌, List, [], ◌∷◌, length, Option, Some, None, codes, count_by, ◌==◌, if◌then◌else◌, slice_get}
 use Rattle.std.specs.List.{list_any, concat}
 use Rattle.std.specs.Option.{option_map_or}
 use Rattle.pci_command.specs.declared.op_id.OpId.{OpId}
 use Rattle.pci_command.specs.declared.op_id.Outcome.{Outcome}
 use Rattle.pci_command.specs.declared.op_id.Outcome.TheVariants as outcomes
 use Rattle.pci_command.specs.Same.{same_op}
-use Rattle.board_model.specs.declared.bridge.Place.{Place}
 use Rattle.board_model.specs.declared.board.Board.{Board}
 use Rattle.history_model.specs.declared.event.By.{By}
 use Rattle.history_model.specs.declared.event.By.TheVariants.{Master, Lane as ByLane}

@@ -7,9 +7,7 @@ use Rattle.board_model.specs.declared.bridge.Lane.{Lane as BridgeLane}
 use Rattle.board_model.specs.declared.board.Board.{Board}
 use Rattle.history_model.specs.Answers.{is_on}
 use Rattle.run_report.specs.Report.{buses_of}
-use Rattle.run_waves.specs.declared.signal.BusPart.{BusPart}
 use Rattle.run_waves.specs.declared.signal.BusPart.TheVariants as parts
-use Rattle.run_waves.specs.declared.signal.LaneCount.{LaneCount}
 use Rattle.run_waves.specs.declared.signal.LaneCount.TheVariants.{Owed, Held, Flight, Posts, Requests, Completions}
 use Rattle.run_waves.specs.declared.signal.Signal.{Signal}
 use Rattle.run_waves.specs.declared.signal.Signal.TheVariants.{Bus, Lane, Index, Try, Waits, Stall}

@@ -85,15 +85,7 @@ fn print_moments(
     }
     let from = watch.scene();
     watch.rest();
-    print_moment(
-        text,
-        board,
-        events.len() + 1,
-        signals,
-        shown,
-        from,
-        watch,
-    )?;
+    print_moment(text, board, events.len() + 1, signals, shown, from, watch)?;
     Ok(())
 }
 

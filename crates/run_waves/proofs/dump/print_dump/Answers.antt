@@ -34,7 +34,7 @@ returns c =
     let watch = c.in_ok-watch.watch in
     let same = c.board-board.ensures.value in
     let reads = first_reads board tree c.deref.result.now c.deref-2.result.now c.in_ok-shown.shown.items c.deref-3.result.now watch.kept watch.waits.items watch.scene
-        same (c.deref.ensures.value ∙ sym c.deref-2.ensures.value) (sym c.deref-3.ensures.value) c.in_ok-watch.ensures c.in_ok-shown.ensures.reads in
+    same (c.deref.ensures.value ∙ sym c.deref-2.ensures.value) (sym c.deref-3.ensures.value) c.in_ok-watch.ensures c.in_ok-shown.ensures.reads in
     all_written tree events c.deref-2.result.now (string_bytes c.args.text.now) (string_bytes c.print_head.new.text) (string_bytes c.print_first.new.text) (string_bytes c.print_moments.new.text)
     (c.deref-2.ensures.value ∙ c.in_ok-signals.ensures.signals ∙ ap signals_of same)
     (c.in_ok-signals.ensures.text ∙ ap (λ (b : Board). string_bytes c.args.text.now ++ text_of (head_lines b)) same)

@@ -1,4 +1,4 @@
-use Rattle.std.proofs.Common.{◌≡◌, List, ℕ, ◌++◌, sym, ap, subst, ◌∙◌, append_assoc, string_bytes}
+use Rattle.std.proofs.Common.{List, ℕ, ◌++◌, sym, ap, subst, ◌∙◌, append_assoc, string_bytes}
 use Rattle.std.proofs.lemmas.Result.{IfOk-equal}
 use Rattle.board_printer.specs.Lines.{line_text, text_of}
 use Rattle.run_waves.specs.declared.reading.Reading.{Reading}

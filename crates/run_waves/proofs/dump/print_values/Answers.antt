@@ -1,4 +1,4 @@
-use Rattle.std.proofs.Common.{◌≡◌, ◌<◌, ◌++◌, false, length, get_or, refl, arith, string_bytes}
+use Rattle.std.proofs.Common.{◌<◌, ◌++◌, false, length, get_or, arith, string_bytes}
 use Rattle.std.proofs.lemmas.Option.{slice_get-get_or}
 use Rattle.board_printer.specs.Lines.{text_of}
 use Rattle.run_waves.specs.declared.reading.Reading.{Reading}

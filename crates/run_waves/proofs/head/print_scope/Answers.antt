@@ -1,4 +1,4 @@
-use Rattle.std.proofs.Common.{◌≡◌, [], ◌∷◌, ◌++◌, List, codes, drop, length, ap, ◌∙◌, string_bytes}
+use Rattle.std.proofs.Common.{[], ◌∷◌, ◌++◌, List, codes, length, ap, ◌∙◌, string_bytes}
 use Rattle.std.proofs.lemmas.Result.{IfOk-weaker}
 use Rattle.board_printer.specs.Lines.{text_of}
 use Rattle.run_waves.specs.declared.signal.Signal.{Signal}

@@ -1,4 +1,4 @@
-use Rattle.std.proofs.Common.{◌≡◌, ℕ, ◌++◌, true, false, [], List, length, sym, ap, subst, ◌∙◌, arith, string_bytes, append-nil}
+use Rattle.std.proofs.Common.{◌≡◌, ℕ, ◌++◌, [], List, sym, subst, ◌∙◌, arith, string_bytes, append-nil}
 use Rattle.std.specs.List.{flat_map}
 use Rattle.board_model.specs.Valid.{is_bus}
 use Rattle.board_printer.specs.Lines.{text_of}
