@@ -1,12 +1,11 @@
 -- What a run has left by what is kept of it is what it has left by its history, and so is whether it is complete.
-use Rattle.std.proofs.Common.{◌≡◌, ℕ, Bool, true, false, ◌+◌, ◌*◌, ◌-◌, ◌<◌, ◌≤◌, ◌↔◌, List, [], ◌∷◌, length, drop, Option, Some, None, refl, sym, ap, subst, ◌∙◌, slice_get, add-one, arith, if◌then◌else◌}
+use Rattle.std.proofs.Common.{◌≡◌, ℕ, true, false, ◌+◌, ◌*◌, ◌-◌, ◌↔◌, List, [], ◌∷◌, length, drop, Option, Some, None, refl, sym, ap, subst, ◌∙◌, slice_get, add-one, arith, if◌then◌else◌}
 use Rattle.std.specs.List.{AllByRecursion}
 use Rattle.list_facts.specs.Lists.{total}
 use Rattle.list_facts.proofs.AnyLemmas.{total_same}
 use Rattle.pci_command.specs.declared.op_id.OpId.{OpId}
 use Rattle.board_model.specs.declared.agents.Master.{Master as MasterAgent}
 use Rattle.board_model.specs.declared.agents.Target.{Target as TargetAgent}
-use Rattle.board_model.specs.declared.board.Planned.{Planned}
 use Rattle.board_model.specs.declared.bridge.Bridge.{Bridge}
 use Rattle.board_model.specs.declared.bridge.Lane.{Lane as BridgeLane}
 use Rattle.board_model.specs.declared.op.Op.{Op}
@@ -22,11 +21,11 @@ use Rattle.history_model.specs.World.{World, world_of}
 use Rattle.history_model.specs.Program.{turn_of}
 use Rattle.history_model.specs.Words.{through}
 use Rattle.history_model.specs.Answers.{stalls_used}
-use Rattle.history_model.specs.Runs.{Run, Complete, IsIdle}
+use Rattle.history_model.specs.Runs.{Complete, IsIdle}
 use Rattle.history_model.specs.Left as m
 use Rattle.law_slots.specs.Depths.{Within}
 use Rattle.progress_core.proofs.RunningLemmas.{IsRunning-valid}
-use Rattle.kept_state.specs.State.{KeptState, or_zero, turn_in, lane_in, tokens_in, gone_in}
+use Rattle.kept_state.specs.State.{KeptState, or_zero, turn_in, tokens_in, gone_in}
 use Rattle.kept_state.specs.Stands.{StandsFor}
 use Rattle.kept_state.proofs.LookLemmas as look
 use Rattle.kept_left.specs.Now.{world_now, posted_now, post_now, flying_now, standing_now, lane_now, bridge_now, op_now, turn_now, program_now, programs_now, stalls_now, left_now, CompleteNow}

@@ -1,5 +1,5 @@
 -- How far the slots of an operation reach, lane by lane of its way.
-use Rattle.std.proofs.Common.{◌≡◌, ◌≢◌, ℕ, zero, suc, ◌+◌, ◌-◌, Bool, true, false, cond, [], None, Some, refl, sym, ap, ◌∙◌, arith}
+use Rattle.std.proofs.Common.{◌≡◌, ◌≢◌, ℕ, zero, suc, ◌+◌, ◌-◌, true, false, cond, [], None, Some, refl, sym, ap, ◌∙◌, arith}
 use Rattle.std.specs.List.{list_any}
 use Rattle.pci_command.specs.declared.op_id.OpId.{OpId}
 use Rattle.board_model.specs.declared.board.Board.{Board}
@@ -39,7 +39,7 @@ reach_unheld world o board op on (suc n) lane claimed unheld =
 pub reach_held : (world : World) (o : OpId) (board : Board) (op : Op) (on most next : ℕ) (lane : BridgeLane)
     → most ≢ 0 → claim board on (request_on op on) ≡ Lane lane → list_any (is_slot_of o) (world lane).held ≡ true → next ≡ end_of board lane
     → (let rest : Reach = reach_of world o (route_within (most - 1) board op next).lanes in
-      reach_of world o (route_within most board op on).lanes ≡ record { lanes = rest.lanes + 1; last = Some (lane_or rest.last lane) })
+    reach_of world o (route_within most board op on).lanes ≡ record { lanes = rest.lanes + 1; last = Some (lane_or rest.last lane) })
 reach_held world o board op on zero next lane some claimed held goes = absurd (some refl)
 reach_held world o board op on (suc n) next lane some claimed held goes =
     let onwards : BridgeLane → Route = λ l. route_within n board op (end_of board l) in

@@ -1,5 +1,5 @@
 -- A run of a valid board.
-use Rattle.std.proofs.Common.{◌≡◌, ℕ, ◌≤◌, List, false, nat_lt, length, arith}
+use Rattle.std.proofs.Common.{◌≡◌, ℕ, ◌≤◌, List, false, nat_lt, arith}
 use Rattle.std.proofs.lemmas.Bool.Decides.{nat_tests}
 use Rattle.board_model.specs.declared.board.Board.{Board}
 use Rattle.board_model.specs.Ways.{bound_of}

@@ -1,8 +1,7 @@
-use Rattle.std.proofs.Common.{◌≡◌, ◌-◌, refl, sym, ap, ◌∙◌}
+use Rattle.std.proofs.Common.{◌-◌, refl, sym, ap, ◌∙◌}
 use Rattle.board_model.specs.Claims.{claim}
-use Rattle.board_model.specs.Requests.{request_on}
 use Rattle.board_model.specs.Ways.{route_within}
-use Rattle.board_model.specs.declared.bridge.Place.TheVariants.{Target, Header, Lane, Nobody}
+use Rattle.board_model.specs.declared.bridge.Place.TheVariants.{Target, Header, Nobody}
 use Rattle.history_model.specs.Left.{reach_of}
 use Rattle.history_model.specs.World.{World, world_of}
 use Rattle.history_model.specs.Runs.{history_of}
