@@ -7,7 +7,7 @@ use std::alloc::Global;
 use std::marker::Model;
 
 /// Where each read was read at a target, and where each write landed.
-#[derive(Debug, Drop)]
+#[derive(Drop)]
 pub(crate) struct Ends {
     /// The last Read of each operation at a target.
     reads: OpTable<u32>,

@@ -1,9 +1,10 @@
-ghost use Rattle.std.specs.Prelude.{◌≡◌, ◌<◌, ◌^◌, ◌||◌, ◌==◌, ℕ, false, is_some, length, replicate, List, IfOk, OnOk};
+ghost use Rattle.std.specs.Prelude.{◌≡◌, ◌<◌, ◌^◌, ◌+◌, [], ◌||◌, ◌==◌, ℕ, false, is_some, length, replicate, List, IfOk, OnOk};
 ghost use Rattle.pci_command.specs.declared.op_id.OpId.{OpId};
 ghost use Rattle.audit_clocks.specs.Tables.{value_of};
 ghost use Rattle.std.specs.List.{list_any};
 ghost use Rattle.pci_command.specs.Same.{same_op};
-ghost use Rattle.board_model.specs.declared.board.Board.{Board};
+ghost use Rattle.board_model.specs.declared.board.Board.{Board as BoardNow};
+ghost use Rattle.audit_model.specs.Audit.{findings};
 ghost use Rattle.history_model.specs.declared.event.Event.{Event};
 ghost use Rattle.history_model.specs.Runs.{Run, history_of};
 ghost use Rattle.drawn_told.specs.Told.{span_of, spans_in, is_loud_in, is_key_in, is_event_of};
@@ -13,6 +14,7 @@ use crate::ends::Ends;
 use crate::touches::Landed;
 use audit_clocks::{OpTable, Word};
 use audit_text::{Found, findings_of};
+use board_model::Board;
 use bus_tree::Tree;
 use history_model::Event;
 use pci_command::{List, NoMemory, OpId};
@@ -50,24 +52,49 @@ pub fn told_of(alloc: Global, tree: &Tree, events: &[Event]) -> Result<Told, NoM
     requires few { length events.now < 2 ^ 31 }
     ensures { IfOk result (TellsTold tree.now events.now) }
 {
-    let board = tree.board();
     let mut ends = Ends::new(alloc);
     let mut landed = Landed::new(alloc);
+    note_all(alloc, tree.board(), &mut ends, &mut landed, events)?;
+    let found = findings_of(alloc, tree, events)?;
+    told_by(alloc, &ends, &landed, events.len() + 1, found)
+}
+
+/// All events happen, one after another.
+fn note_all(
+    alloc: Global,
+    board: &Board,
+    ends: &mut Ends,
+    landed: &mut Landed,
+    events: &[Event],
+) -> Result<(), NoMemory>
+    requires few { length events.now < 2 ^ 31 }
+    requires ends { TellsEnds [] ends.old }
+    requires landed { TellsTouches board.now [] landed.old }
+    ensures ends { OnOk result (TellsEnds (history_of events.now) ends.new) }
+    ensures landed { OnOk result (TellsTouches board.now (history_of events.now) landed.new) }
+{
     for (before, event) in events.iter().enumerate() {
         let n = (before + 1) as u32;
         ends.happen(n, event)?;
         landed.happen(alloc, board, n, event)?;
     }
-    let found = findings_of(alloc, tree, events)?;
-    let spans = spans_of(alloc, &ends, &landed, found.as_slice())?;
+    Ok(())
+}
+
+/// What these lines of a run tell, of which this was noted down; its events have numbers below `count`.
+fn told_by(
+    alloc: Global,
+    ends: &Ends,
+    landed: &Landed,
+    count: usize,
+    found: List<Found>,
+) -> Result<Told, NoMemory>
+    ensures { (board : BoardNow) (events : List Event) → TellsEnds (history_of events) ends.now → TellsTouches board (history_of events) landed.now
+        → found ≡ findings board (history_of events) → count ≡ length events + 1 → IfOk result (TellsTold board events) }
+{
+    let spans = spans_of(alloc, ends, landed, found.as_slice())?;
     let loud = loud_of(alloc, found.as_slice())?;
-    let keys = keys_of(
-        alloc,
-        &ends,
-        events.len() + 1,
-        found.as_slice(),
-        spans.as_slice(),
-    )?;
+    let keys = keys_of(alloc, ends, count, found.as_slice(), spans.as_slice())?;
     Ok(Told {
         found,
         spans,
@@ -83,7 +110,8 @@ fn spans_of(
     landed: &Landed,
     found: &[Found],
 ) -> Result<Vec<Span>, NoMemory>
-    ensures { (board : Board) (h : List Event) → TellsEnds h ends.now → TellsTouches board h landed.now → IfOk result (λ spans. spans.items ≡ spans_in board h found.now) }
+    ensures told { (board : BoardNow) (h : List Event) → TellsEnds h ends.now → TellsTouches board h landed.now → IfOk result (λ spans. spans.items ≡ spans_in board h found.now) }
+    ensures many { IfOk result (λ spans. length spans.items ≡ length found.now) }
 {
     let mut spans = Vec::new(alloc);
     for one in found {
@@ -93,7 +121,7 @@ fn spans_of(
 }
 
 fn span_of(ends: &Ends, landed: &Landed, found: &Found) -> Span
-    ensures { (board : Board) (h : List Event) → TellsEnds h ends.now → TellsTouches board h landed.now → result ≡ span_of board h found.now }
+    ensures { (board : BoardNow) (h : List Event) → TellsEnds h ends.now → TellsTouches board h landed.now → result ≡ span_of board h found.now }
 {
     let read = ends.read(found.read);
     let word = Word {
@@ -134,7 +162,7 @@ fn keys_of(
     spans: &[Span],
 ) -> Result<Vec<bool>, NoMemory>
     requires { length found.now ≡ length spans.now }
-    ensures { (board : Board) (h : List Event) → TellsEnds h ends.now → spans.now ≡ spans_in board h found.now → IfOk result (λ keys. (n : ℕ) → 0 < n → n < count → key_at keys.items n ≡ is_key_in board h found.now n) }
+    ensures { (board : BoardNow) (h : List Event) → TellsEnds h ends.now → spans.now ≡ spans_in board h found.now → IfOk result (λ keys. (n : ℕ) → 0 < n → n < count → key_at keys.items n ≡ is_key_in board h found.now n) }
 {
     let mut keys = no_keys(alloc, count)?;
     for line in 0..found.len() {

@@ -13,14 +13,14 @@ use std::alloc::Global;
 use std::marker::Model;
 
 /// A data phase that landed in a dword, by an event.
-#[derive(Clone, Copy, Debug)]
+#[derive(Clone, Copy)]
 pub(crate) struct Touch {
     pub(crate) word: Word,
     pub(crate) event: u32,
 }
 
 /// Data phases that landed, in their order.
-#[derive(Debug, Drop)]
+#[derive(Drop)]
 pub(crate) struct TouchList {
     touches: Vec<Touch>,
 }
@@ -35,7 +35,7 @@ impl Model for TouchList {
 }
 
 /// The data phases that landed of each write.
-#[derive(Debug, Drop)]
+#[derive(Drop)]
 pub(crate) struct TouchTable {
     lists: OpTable<TouchList>,
 }
@@ -51,7 +51,7 @@ impl Model for TouchTable {
 }
 
 /// What landed, and how much of each write went through.
-#[derive(Debug, Drop)]
+#[derive(Drop)]
 pub(crate) struct Landed {
     gone: OpTable<u128>,
     writes: TouchTable,

@@ -1,10 +1,9 @@
 -- Which bridges of a machine a board can have, and why the others are left out.
-use Rattle.std.specs.Prelude.{ℕ, Bool, zero, suc, ◌+◌, List, [], ◌∷◌, ◌++◌, Option, Some, None, length, map, ◌==◌, ◌&&◌, ◌||◌, not, nat_lt, nat_le, slice_index, if◌then◌else◌}
+use Rattle.std.specs.Prelude.{ℕ, Bool, zero, suc, List, [], ◌∷◌, ◌++◌, Option, Some, None, length, map, ◌==◌, ◌&&◌, ◌||◌, not, nat_lt, nat_le, slice_index, if◌then◌else◌}
 use Rattle.std.specs.List.{find, list_any, count_by}
 use Rattle.lspci_text.specs.declared.function.Function.{Function}
 use Rattle.machine_bridges.specs.declared.machine.Machine.{Machine}
 use Rattle.machine_bridges.specs.declared.fate.Buses.{Buses}
-use Rattle.machine_bridges.specs.declared.fate.NoBridge.{NoBridge}
 use Rattle.machine_bridges.specs.declared.fate.NoBridge.TheVariants.{NoWay, WrongBuses, OutsideBuses, SharedBuses, Full, NoDevice}
 use Rattle.machine_bridges.specs.declared.fate.BridgeFate.{BridgeFate}
 use Rattle.machine_bridges.specs.declared.fate.BridgeFate.TheVariants.{LeftOut, Taken}

@@ -1,8 +1,7 @@
 -- The functions of a machine that are looked at: those of one domain, by kind and in order. Registers are read by offset, low
 -- byte first (PCI Local Bus Specification 2.2, section 6.1; from memory).
-use Rattle.std.specs.Prelude.{ℕ, Bool, ◌+◌, ◌*◌, ◌-◌, ◌^◌, List, [], ◌∷◌, Option, Some, None, min, ◌==◌, ◌&&◌, not, nat_lt, if◌then◌else◌, slice_index}
+use Rattle.std.specs.Prelude.{ℕ, Bool, ◌+◌, ◌*◌, ◌-◌, ◌^◌, List, [], ◌∷◌, Option, Some, None, min, ◌==◌, not, nat_lt, if◌then◌else◌, slice_index}
 use Rattle.std.specs.List.{filter, insert, position_or_len}
-use Rattle.lspci_text.specs.declared.slot.Slot.{Slot}
 use Rattle.lspci_text.specs.declared.function.Function.{Function}
 use Rattle.bridge_header.specs.HeaderBytes.{bits}
 use Rattle.machine_bridges.specs.declared.machine.Root.{Root}

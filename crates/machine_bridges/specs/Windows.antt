@@ -1,6 +1,6 @@
 -- Which windows of a bridge a board can have: PCI-to-PCI Bridge Architecture Specification 1.1, sections 3.2.5.6 to 3.2.5.9
 -- (from memory).
-use Rattle.std.specs.Prelude.{ℕ, Bool, false, List, [], ◌∷◌, ◌++◌, Option, Some, None, option_to_list, ◌==◌, ◌&&◌, ◌||◌, not, nat_le, slice_index, if◌then◌else◌}
+use Rattle.std.specs.Prelude.{ℕ, Bool, false, List, [], ◌++◌, Option, Some, None, option_to_list, ◌==◌, ◌&&◌, ◌||◌, not, nat_le, slice_index, if◌then◌else◌}
 use Rattle.std.specs.List.{find, list_any}
 use Rattle.pci_command.specs.declared.command.Space.{Space}
 use Rattle.pci_command.specs.declared.command.Space.TheVariants.{Mem, Io, Cfg}

@@ -1,5 +1,5 @@
 -- The registers that are left, step by step.
-use Rattle.std.proofs.Common.{◌≡◌, ℕ, zero, suc, ◌<◌, ◌-◌, true, false, ◌++◌, List, [], nat_lt, refl, arith}
+use Rattle.std.proofs.Common.{◌≡◌, ℕ, zero, suc, ◌<◌, ◌-◌, true, false, ◌++◌, [], nat_lt, refl, arith}
 use Rattle.lspci_text.specs.declared.function.Function.{Function}
 use Rattle.machine_targets.specs.Registers.{found_at, behind, found_from}
 

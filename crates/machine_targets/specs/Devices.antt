@@ -1,5 +1,5 @@
 -- The devices of a machine as targets of a board: all functions with one bus and device number are one target.
-use Rattle.std.specs.Prelude.{ℕ, suc, Bool, ◌+◌, List, [], ◌∷◌, ◌++◌, Option, Some, None, true, false, is_none, map, length, not, ◌==◌, ◌&&◌, if◌then◌else◌}
+use Rattle.std.specs.Prelude.{ℕ, suc, Bool, ◌+◌, List, [], ◌∷◌, ◌++◌, Option, Some, None, true, false, is_none, map, not, ◌==◌, ◌&&◌, if◌then◌else◌}
 use Rattle.std.specs.List.{list_any, count_by, flat_map}
 use Rattle.lspci_text.specs.declared.function.Function.{Function}
 use Rattle.machine_bridges.specs.declared.machine.Machine.{Machine}

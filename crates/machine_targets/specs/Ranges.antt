@@ -1,5 +1,5 @@
 -- Which ranges of a device a board can have, and why the others are left out.
-use Rattle.std.specs.Prelude.{◌≤◌, ℕ, Bool, ◌+◌, ◌-◌, ◌*◌, ◌/◌, ◌^◌, List, [], ◌∷◌, ◌++◌, Option, Some, None, not, ◌==◌, ◌&&◌, ◌||◌, nat_lt, nat_le, if◌then◌else◌}
+use Rattle.std.specs.Prelude.{◌≤◌, ℕ, Bool, ◌+◌, ◌-◌, ◌*◌, ◌/◌, ◌^◌, List, Option, Some, None, not, ◌==◌, ◌&&◌, nat_lt, nat_le, if◌then◌else◌}
 use Rattle.std.specs.List.{find, list_any}
 use Rattle.pci_command.specs.declared.command.Space.{Space}
 use Rattle.pci_command.specs.declared.command.Space.TheVariants.{Mem, Io, Cfg}
@@ -11,7 +11,7 @@ use Rattle.machine_bridges.specs.Windows.{shares, is_reached, passes_some, decod
 use Rattle.machine_targets.specs.declared.found.Flaw.{Flaw}
 use Rattle.machine_targets.specs.declared.found.Found.{Found}
 use Rattle.machine_targets.specs.declared.fate.NoRange.{NoRange}
-use Rattle.machine_targets.specs.declared.fate.NoRange.TheVariants.{Flawed, OfBridge, Off, PassesEnd, SixRegisters, InNone, MeetsBridge, MeetsRange}
+use Rattle.machine_targets.specs.declared.fate.NoRange.TheVariants.{Flawed, Off, PassesEnd, SixRegisters, InNone, MeetsBridge, MeetsRange}
 use Rattle.machine_targets.specs.declared.fate.RangeFate.{RangeFate}
 use Rattle.machine_targets.specs.declared.fate.RangeFate.TheVariants.{Taken, LeftOut}
 use Rattle.machine_targets.specs.declared.fate.Placed.{Placed}

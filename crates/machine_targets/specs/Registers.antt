@@ -1,5 +1,5 @@
 -- What the base address registers of a function ask for: PCI Local Bus Specification 2.2, section 6.2.5.1 (from memory).
-use Rattle.std.specs.Prelude.{ℕ, Bool, zero, suc, ◌+◌, ◌*◌, ◌^◌, List, [], ◌∷◌, ◌++◌, Option, Some, None, is_none, not, ◌==◌, ◌&&◌, ◌||◌, nat_lt, if◌then◌else◌, slice_get}
+use Rattle.std.specs.Prelude.{ℕ, Bool, zero, suc, ◌+◌, ◌*◌, ◌^◌, List, [], ◌∷◌, ◌++◌, Option, Some, None, is_none, not, ◌==◌, ◌&&◌, nat_lt, if◌then◌else◌, slice_get}
 use Rattle.pci_command.specs.declared.command.Space.{Space}
 use Rattle.pci_command.specs.declared.command.Space.TheVariants.{Mem, Io}
 use Rattle.bridge_header.specs.HeaderBytes.{bits, register_4}

@@ -104,12 +104,7 @@ fn judged_device(
 }
 
 /// A target has its device number, and what was placed for it stays: for no other device does it.
-fn settle(
-    taken: &mut Taken,
-    before: usize,
-    bus: u8,
-    fate: DeviceFate,
-) -> Result<(), NoMemory>
+fn settle(taken: &mut Taken, before: usize, bus: u8, fate: DeviceFate) -> Result<(), NoMemory>
     requires { before ≤ length taken.old.placed.items }
     ensures placed { IfOk result (λ _. taken.new.placed.items ≡ take before taken.old.placed.items ++ (if is_target fate then drop before taken.old.placed.items else [])) }
     ensures targets { IfOk result (λ _. taken.new.targets.items ≡ taken.old.targets.items ++ target_place bus fate) }

@@ -1,4 +1,4 @@
-ghost use Rattle.std.specs.Prelude.{◌≡◌, ◌+◌, ◌≤◌, ◌<◌, true, false, length, map, IfOk};
+ghost use Rattle.std.specs.Prelude.{◌≡◌, ◌+◌, ◌≤◌, ◌<◌, true, false, length, map, IfOk, OnOk};
 ghost use Rattle.board_model.specs.Valid.{IsValid};
 ghost use Rattle.board_model.specs.Ways.{bound_of};
 ghost use Rattle.history_model.specs.Runs.{Run, Complete, history_of};
@@ -54,10 +54,25 @@ fn run_all<L: LaneEnd + Drop>(
     requires steady { IsSteady L.had L.sent L.got L.kept L.paired board.now (all_seen workers.items) above.now 0 }
     ensures { IfOk result (λ events. IsCompleteRun board.now (history_of events)) }
 {
+    run_phases(workers.as_mut_slice(), board, above)?;
+    merge_all(alloc, workers)
+}
+
+/// The phases, up to the first that makes no event.
+fn run_phases<L: LaneEnd + Drop>(
+    workers: &mut [Worker<L>],
+    board: &Board,
+    above: &[Above],
+) -> Result<(), NoMemory>
+    requires valid { IsValid board.now }
+    requires crosses { CrossesAtSettle L.had L.got }
+    requires steady { IsSteady L.had L.sent L.got L.kept L.paired board.now (all_seen workers.old) above.now 0 }
+    ensures { OnOk result (IsCompleteRun board.now (history_of_all (all_seen workers.new))) }
+{
     phases_are_few::<L>();
     for phases in 0..TOO_MANY_PHASES {
-        if !run_phase(workers.as_mut_slice(), board, above, phases)? {
-            return merge_all(alloc, workers);
+        if !run_phase(workers, board, above, phases)? {
+            return Ok(());
         }
     }
     unreachable!()

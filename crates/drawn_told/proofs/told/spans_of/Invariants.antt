@@ -1,4 +1,4 @@
-use Rattle.std.proofs.Common.{◌≡◌, ◌++◌, List, drop}
+use Rattle.std.proofs.Common.{◌≡◌, ◌++◌, List, length, drop}
 use Rattle.board_model.specs.declared.board.Board.{Board}
 use Rattle.history_model.specs.declared.event.Event.{Event}
 use Rattle.drawn_told.specs.Told.{spans_in}
@@ -7,5 +7,8 @@ use Rattle.drawn_told.proofs.told.spans_of.Given as goal
 
 -- the lines so far, and those to come
 abbrev pub invariant-loop-one : goal.invariant-loop-one
-invariant-loop-one l = (board : Board) (h : List Event) → TellsEnds h l.ends → TellsTouches board h l.landed →
-    l.spans.items ++ spans_in board h (drop l.one-index l.found) ≡ spans_in board h l.found
+invariant-loop-one l = record {
+  told : (board : Board) (h : List Event) → TellsEnds h l.ends → TellsTouches board h l.landed →
+      l.spans.items ++ spans_in board h (drop l.one-index l.found) ≡ spans_in board h l.found;
+  many : length l.spans.items ≡ l.one-index;
+}

@@ -1,7 +1,7 @@
 use Rattle.std.proofs.Common.{take}
 use Rattle.history_model.specs.Runs.{history_of}
 use Rattle.drawn_told.specs.Kept.{TellsEnds, TellsTouches}
-use Rattle.drawn_told.proofs.told.told_of.Given as goal
+use Rattle.drawn_told.proofs.told.note_all.Given as goal
 
 -- what was noted down of the events so far
 abbrev pub invariant-loop-before : goal.invariant-loop-before
