@@ -114,12 +114,7 @@ fn add(stale: &mut Vec<Stale>, found: Option<Stale>) -> Result<(), NoMemory>
 }
 
 /// The read, which got this, where it breaks freshness, and the first write for which it does.
-fn stale_at(
-    index: &WriteIndex,
-    knowers: &Knowers,
-    got: Option<Got>,
-    read: OpId,
-) -> Option<Stale>
+fn stale_at(index: &WriteIndex, knowers: &Knowers, got: Option<Got>, read: OpId) -> Option<Stale>
     ensures { (board : Board) (h : List Event) → IndexesRun board h index.now → listed result ≡ found_at board h read got (slice_get knowers.now.known read.master) }
 {
     match knowers.known(read.master) {
@@ -129,12 +124,7 @@ fn stale_at(
 }
 
 /// The same by what its master knows.
-fn stale_with(
-    index: &WriteIndex,
-    known: &Numbers,
-    got: Option<Got>,
-    read: OpId,
-) -> Option<Stale>
+fn stale_with(index: &WriteIndex, known: &Numbers, got: Option<Got>, read: OpId) -> Option<Stale>
     ensures { (board : Board) (h : List Event) → IndexesRun board h index.now → listed result ≡ found_with board h read known.now got }
 {
     match got {

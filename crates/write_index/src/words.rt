@@ -6,10 +6,10 @@ ghost use Rattle.write_index.specs.Kept.{dwords_written, Writes};
 
 use crate::entry::Write;
 use crate::index::WriteIndex;
+use audit_clocks::Word;
 use board_claim::is_in_ranges;
 use board_model::{Board, Op, Place, Target, op_of, request_of, request_on};
 use bus_tree::route_of;
-use audit_clocks::Word;
 use history_core::dword_address;
 use pci_command::{NoMemory, OpId, Phase, Request};
 use std::alloc::Global;
