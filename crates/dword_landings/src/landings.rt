@@ -66,7 +66,7 @@ impl DwordLandings {
     }
 
     /// What those writes tell that landed whole in the dword; of so many masters, and by what each
-    /// operation knew as its master last presented it. Each landing is looked at once as it is new,
+    /// operation knew as its master presented it. Each landing is looked at once as it is new,
     /// and then at each call as long as the rest of its write did not land.
     pub fn told(
         &mut self,
