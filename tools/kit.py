@@ -73,8 +73,8 @@ def once_for_each_crate(rtlib):
 
 def keep_statements(rtlib):
     """Has each library proved and built into out/rlib/statements/ with what other crates may cite of it, and not with its proofs,
-    as the gate has it: a check above then reads a small part of what it would read. (Below out/rlib/ the
-    gate leaves such files alone; what rt itself builds there takes their place.)"""
+    as the gate has it: a check above then reads a small part of what it would read. (Below out/rlib/ the gate leaves such
+    files alone; what rt itself builds there takes their place.)"""
     make = rtlib.Crate.__init__
 
     def begin(self, *given, **named):
