@@ -4,8 +4,8 @@ ghost use Rattle.board_model.specs.Requests.{is_posted};
 ghost use Rattle.board_model.specs.Ways.{way, aborts_at, pieces_in, pieces_at, pieces_by, cost_of_try, cost_of, longest_way, bound_of};
 ghost use Rattle.bus_tree.specs.Decodable.{IsDecodable};
 
-use crate::claims::some_holds;
 use crate::ways::route_of;
+use board_claim::is_in_ranges;
 use board_model::{Board, Master, Op, Place, Target, request_on, tries_of};
 use pci_command::{Command, Request};
 
@@ -120,10 +120,10 @@ fn pieces_at(targets: &[Target], place: u16, request: &Request, phases: u8) -> u
 fn aborts_at(target: &Target, request: &Request) -> bool
     ensures { result ≡ aborts_at target.now request.now }
 {
-    some_holds(
+    is_in_ranges(
         target.aborts.as_slice(),
         request.command.space(),
-        request.address,
+        u128::from(request.address),
     )
 }
 
