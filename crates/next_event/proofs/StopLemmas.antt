@@ -19,8 +19,8 @@ use Rattle.history_model.specs.Answers.{bridge_to, presents}
 use Rattle.history_model.specs.Runs.{Run, Allowed, IsIdle, Complete, mark_of_first}
 use Rattle.law_progress.specs.Next.{Next}
 use Rattle.law_progress.proofs.Laws.{Sound-valid, no_bridge_empty, goes_on}
-use Rattle.next_event.specs.Fits.{BusesFit}
-use Rattle.next_event.specs.Next.{next_of}
+use Rattle.board_model.specs.Fits.{BusesFit}
+use Rattle.history_model.specs.Next.{next_of}
 use Rattle.next_event.proofs.SoundLemmas.{next_allowed}
 use Rattle.next_event.proofs.WantLemmas.{at_master, master_wants, lane_wants}
 use Rattle.next_event.proofs.VainLemmas.{none_allowed}

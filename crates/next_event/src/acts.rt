@@ -5,7 +5,7 @@ ghost use Rattle.history_model.specs.World.{world_of};
 ghost use Rattle.history_model.specs.Program.{turn_of};
 ghost use Rattle.history_model.specs.Answers.{wants, answer};
 ghost use Rattle.history_model.specs.Runs.{Run, history_of};
-ghost use Rattle.next_event.specs.Next.{first_bus, first_in, first_below, up_from, given_on, first_lane, act_given, act_of, act_of_item, act_of_lane, act_of_turn, act_of_masters, act_on, first_act};
+ghost use Rattle.history_model.specs.Next.{first_bus, first_in, first_below, up_from, given_on, first_lane, act_given, act_of, act_of_item, act_of_lane, act_of_turn, act_of_masters, act_on, first_act};
 
 use crate::lanes::{down_to, ends_on, up_from};
 use board_model::{Board, Lane};

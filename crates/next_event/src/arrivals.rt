@@ -1,7 +1,7 @@
 ghost use Rattle.std.specs.Prelude.{◌≡◌, IsTrue};
 ghost use Rattle.board_model.specs.WellFormed.{is_well_formed};
 ghost use Rattle.history_model.specs.Runs.{Run, history_of, next_mark};
-ghost use Rattle.next_event.specs.Next.{first_bus, up_from, given_on, first_lane, arrival_of, arrival_at, first_arrival};
+ghost use Rattle.history_model.specs.Next.{first_bus, up_from, given_on, first_lane, arrival_of, arrival_at, first_arrival};
 
 use crate::lanes::{down_to, ends_on, up_from};
 use board_model::{Board, Lane};

@@ -3,7 +3,7 @@ use Rattle.board_model.specs.declared.board.Board.{Board}
 use Rattle.history_model.specs.declared.event.Event.{Event}
 use Rattle.history_model.specs.Program.{turn_of}
 use Rattle.history_model.specs.Runs.{history_of}
-use Rattle.next_event.specs.Next.{act_of_turn}
+use Rattle.history_model.specs.Next.{act_of_turn}
 use Rattle.next_event.proofs.FirstLemmas.{below_found}
 use Rattle.next_event.proofs.acts.act_of_masters.Goals as goal
 
