@@ -9,7 +9,7 @@ use history_core::next_mark;
 use history_model::{Event, Mark};
 
 /// The first arrival, by increasing bus and there by line.
-#[tactic(auto, using(crate::proofs::FirstLemmas::first_more))]
+#[tactic(auto, using(law_progress::proofs::NextFirstLemmas::first_more))]
 pub(crate) fn first_arrival(board: &Board, before: &[Event]) -> Option<Event>
     requires formed { IsTrue (is_well_formed board.now) }
     requires run { Run board.now (history_of before.now) }
@@ -36,7 +36,7 @@ fn arrival_on(board: &Board, before: &[Event], bus: u8) -> Option<Event>
 }
 
 /// The first arrival on the bus from a bridge below, by increasing number.
-#[tactic(auto, using(crate::proofs::FirstLemmas::first_more))]
+#[tactic(auto, using(law_progress::proofs::NextFirstLemmas::first_more))]
 fn arrival_from_below(board: &Board, before: &[Event], bus: u8) -> Option<Event>
     requires formed { IsTrue (is_well_formed board.now) }
     requires run { Run board.now (history_of before.now) }

@@ -5,8 +5,8 @@ use Rattle.history_model.specs.declared.event.Event.{Event}
 use Rattle.history_model.specs.Runs.{Allowed, Complete, history_of}
 use Rattle.board_model.specs.Fits.{BusesFit}
 use Rattle.history_model.specs.Next.{next_of}
-use Rattle.next_event.proofs.SoundLemmas.{next_allowed}
-use Rattle.next_event.proofs.StopLemmas.{next_complete}
+use Rattle.law_progress.proofs.NextSoundLemmas.{next_allowed}
+use Rattle.law_progress.proofs.NextStopLemmas.{next_complete}
 use Rattle.next_event.proofs.next_event.Goals as goal
 
 pub returns-clause-allowed : goal.returns-clause-allowed

@@ -6,8 +6,8 @@ use Rattle.history_model.specs.declared.event.Event.{Event}
 use Rattle.history_model.specs.Runs.{Allowed, Complete}
 use Rattle.board_model.specs.Fits.{BusesFit}
 use Rattle.history_model.specs.Next.{first_bus, next_of}
-use Rattle.next_event.proofs.SoundLemmas.{next_allowed}
-use Rattle.next_event.proofs.StopLemmas.{next_complete}
+use Rattle.law_progress.proofs.NextSoundLemmas.{next_allowed}
+use Rattle.law_progress.proofs.NextStopLemmas.{next_complete}
 use Rattle.kept_state.specs.State.{KeptState}
 use Rattle.kept_next.specs.Lines.{BusLines, AreLines}
 use Rattle.kept_next.specs.Now.{arrival_on, act_on_now}
