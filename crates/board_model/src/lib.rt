@@ -10,6 +10,7 @@ mod fits;
 mod name;
 mod op;
 mod requests;
+mod word;
 
 pub use agents::{Master, Opening, Range, Target};
 pub use board::{Board, Planned};
@@ -19,3 +20,4 @@ pub use fits::board_fits;
 pub use name::Name;
 pub use op::Op;
 pub use requests::{is_posted, op_of, request_of, request_on, tries_of};
+pub use word::Word;
