@@ -9,7 +9,9 @@ mod buses;
 mod fits;
 mod name;
 mod op;
+mod registers;
 mod requests;
+mod windows;
 mod word;
 
 pub use agents::{Master, Opening, Range, Target};
@@ -19,5 +21,7 @@ pub use buses::{bridge_to, end_of, has_bridge_to, is_bus, primary_of};
 pub use fits::board_fits;
 pub use name::Name;
 pub use op::Op;
+pub use registers::{registers_fit, registers_of};
 pub use requests::{is_posted, op_of, request_of, request_on, tries_of};
+pub use windows::window_holds;
 pub use word::Word;

@@ -7,7 +7,7 @@ mod refusal;
 mod tree;
 mod ways;
 
-pub use bound::{cost_of_program, cost_of_try, is_posted, longest_way, pieces_by};
+pub use bound::{cost_of_program, cost_of_try, longest_way, pieces_by};
 pub use refusal::TreeRefusal;
 pub use tree::{Tree, validate};
 pub use ways::{Route, route_of};

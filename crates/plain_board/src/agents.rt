@@ -1,9 +1,8 @@
-ghost use Rattle.std.specs.Prelude.{◌≡◌, ◌<◌, nat_le};
+ghost use Rattle.std.specs.Prelude.{◌≡◌, ◌<◌};
 ghost use Rattle.std.specs.List.{list_all, list_any};
-ghost use Rattle.list_facts.specs.Lists.{total};
-ghost use Rattle.board_model.specs.WellFormed.{is_within, is_block, is_range_in, is_well_formed_range, is_dword_in, is_well_formed_opening, registers_of, is_well_formed_target, is_target_named, is_master_named, are_masters_named_apart, are_targets_named_apart};
+ghost use Rattle.board_model.specs.WellFormed.{is_within, is_block, is_range_in, is_well_formed_range, is_dword_in, is_well_formed_opening, is_well_formed_target, is_target_named, is_master_named, are_masters_named_apart, are_targets_named_apart};
 
-use board_model::{Master, Opening, Range, Target};
+use board_model::{Master, Opening, Range, Target, registers_fit};
 use pci_command::Space;
 
 pub(crate) fn are_targets_well_formed(targets: &[Target]) -> bool
@@ -53,24 +52,6 @@ fn is_block(range: &Range, unit: u64, end: u128) -> bool
     let past = u128::from(range.base) + u128::from(range.size);
     let size = u128::from(range.size);
     range.base % unit == 0 && range.size % unit == 0 && range.size > 0 && size < end && past <= end
-}
-
-fn registers_fit(ranges: &[Range], most: u8) -> bool
-    ensures { result ≡ nat_le (total registers_of ranges.now) most }
-{
-    match ranges.split_first() {
-        None => true,
-        Some((range, rest)) => {
-            let own = registers_of(range);
-            own <= most && registers_fit(rest, most - own)
-        }
-    }
-}
-
-fn registers_of(range: &Range) -> u8
-    ensures { result ≡ registers_of range.now }
-{
-    if range.base < 0x1_0000_0000 { 1 } else { 2 }
 }
 
 fn are_openings_well_formed(openings: &[Opening]) -> bool

@@ -1,10 +1,10 @@
 ghost use Rattle.std.specs.Prelude.{◌≡◌, IsTrue};
-ghost use Rattle.board_model.specs.Claims.{window_holds, bridge_holds};
+ghost use Rattle.board_model.specs.Claims.{bridge_holds};
 ghost use Rattle.board_model.specs.WellFormed.{is_well_formed_bridge};
 ghost use Rattle.board_model.specs.Valid.{is_numbered};
 ghost use Rattle.plain_decode.specs.Decoding.{holds_elsewhere};
 
-use board_model::{Bridge, Window};
+use board_model::{Bridge, window_holds};
 use bridge_header::read_back;
 use pci_command::Space;
 
@@ -16,6 +16,7 @@ pub fn claim_down(bridge: &Bridge, space: Space, address: u64) -> bool
     ensures { result ≡ bridge_holds space address bridge.now }
 {
     let windows = read_back(bridge);
+    let address = u128::from(address);
     match space {
         Space::Mem => window_holds(windows.mem, address) || window_holds(windows.pref, address),
         Space::Io => window_holds(windows.io, address),
@@ -33,14 +34,5 @@ pub fn claim_up(bridge: &Bridge, space: Space, address: u64) -> bool
     match space {
         Space::Mem | Space::Io => !claim_down(bridge, space, address),
         Space::Cfg => false,
-    }
-}
-
-fn window_holds(window: Option<Window>, address: u64) -> bool
-    ensures { result ≡ window_holds address window }
-{
-    match window {
-        None => false,
-        Some(window) => window.base <= address && address <= window.limit,
     }
 }
