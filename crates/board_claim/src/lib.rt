@@ -9,9 +9,9 @@ ghost use Rattle.std.specs.List.{find, list_any, position_from};
 ghost use Rattle.board_model.specs.declared.bridge.Bridge.{Bridge};
 ghost use Rattle.board_model.specs.declared.agents.Target.{Target};
 ghost use Rattle.board_model.specs.WellFormed.{is_well_formed};
-ghost use Rattle.board_model.specs.Claims.{range_holds, window_holds, bridge_holds, decodes_down, claim_upwards, claim_by_bridge, claim_by_address, claim_by_header, claim_by_device, claim_by_bus, is_type_0, device_in, bus_in, claim_in_configuration, claim_in_space, claim};
+ghost use Rattle.board_model.specs.Claims.{range_holds, bridge_holds, decodes_down, claim_upwards, claim_by_bridge, claim_by_address, claim_by_header, claim_by_device, claim_by_bus, is_type_0, device_in, bus_in, claim_in_configuration, claim_in_space, claim};
 
-use board_model::{Board, Bridge, Lane, Place, Range, Target, Window, bridge_to};
+use board_model::{Board, Bridge, Lane, Place, Range, Target, bridge_to, window_holds};
 use pci_command::{Request, Space};
 
 /// Who claims the request on the bus.
@@ -124,15 +124,6 @@ fn bridge_holds(bridge: &Bridge, space: Space, address: u128) -> bool
         Space::Mem => window_holds(bridge.mem, address) || window_holds(bridge.pref, address),
         Space::Io => window_holds(bridge.io, address),
         Space::Cfg => false,
-    }
-}
-
-fn window_holds(window: Option<Window>, address: u128) -> bool
-    ensures { result ≡ window_holds address window }
-{
-    match window {
-        Some(window) => u128::from(window.base) <= address && address <= u128::from(window.limit),
-        None => false,
     }
 }
 

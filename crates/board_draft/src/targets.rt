@@ -8,7 +8,7 @@ ghost use Rattle.board_draft.specs.Targets.{agent_fault, new_target, add_target,
 use crate::add::close;
 use crate::lists::{empty, push};
 use crate::{AddFault, Draft, Owner};
-use board_model::{Name, Opening, Range, Target};
+use board_model::{Name, Opening, Range, Target, registers_fit, registers_of};
 use board_statements::LineFault;
 use pci_command::Space;
 use std::alloc::Global;
@@ -116,25 +116,6 @@ fn has_registers(ranges: &[Range], more: &Range) -> bool
 {
     let own = registers_of(more);
     registers_fit(ranges, 6 - own)
-}
-
-fn registers_fit(ranges: &[Range], most: u8) -> bool
-    ensures { result ≡ nat_le (total registers_of ranges.now) most }
-{
-    match ranges.split_first() {
-        None => true,
-        Some((range, rest)) => {
-            let own = registers_of(range);
-            own <= most && registers_fit(rest, most - own)
-        }
-    }
-}
-
-fn registers_of(range: &Range) -> u8
-    ensures value { result ≡ registers_of range.now }
-    ensures few { result ≤ 2 }
-{
-    if range.base < 0x1_0000_0000 { 1 } else { 2 }
 }
 
 pub(crate) fn add_abort(

@@ -1,6 +1,7 @@
 ghost use Rattle.std.specs.Prelude.{◌<◌, ◌^◌, length};
 
-use board_text::{BadLine, NumberFault, TextFault, check_line, decimal, hex, lines, next_line};
+use board_text::{BadLine, NumberFault, check_line, decimal, hex, next_line};
+use plain_board::{TextFault, lines};
 use std::alloc::Global;
 use std::test::Fail;
 

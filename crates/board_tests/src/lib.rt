@@ -2,8 +2,6 @@
 #![tactic(auto)]
 
 #[cfg(test)]
-mod address_decode_tests;
-#[cfg(test)]
 mod board_model_tests;
 #[cfg(test)]
 mod board_text_tests;
@@ -13,3 +11,5 @@ mod bridge_header_tests;
 mod device_header_tests;
 #[cfg(test)]
 mod pci_command_tests;
+#[cfg(test)]
+mod plain_decode_tests;

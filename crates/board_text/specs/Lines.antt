@@ -1,5 +1,5 @@
 -- A text is lines, and what a line may be.
-use Rattle.std.specs.Prelude.{ℕ, Bool, ◌+◌, List, [], ◌∷◌, length, Option, Some, None, nat_lt, nat_le, ◌==◌, ◌&&◌, ◌||◌, if◌then◌else◌}
+use Rattle.std.specs.Prelude.{ℕ, Bool, List, [], ◌∷◌, length, Option, Some, None, nat_lt, nat_le, ◌==◌, ◌&&◌, ◌||◌, if◌then◌else◌}
 use Rattle.std.specs.List.{list_all, slice_split}
 use Rattle.board_text.specs.declared.reader.BadLine.{BadLine}
 use Rattle.board_text.specs.declared.reader.BadLine.TheVariants.{TooLong, BadByte}
@@ -24,13 +24,3 @@ is_allowed byte = byte == 9 || (nat_le 32 byte && nat_le byte 126)
 -- a line longer than 256 bytes is too long; else one with a byte that no line may have is bad for it
 abbrev pub line_fault : List ℕ → Option BadLine
 line_fault line = if nat_lt 256 (length line) then Some TooLong else if list_all is_allowed line then None else Some BadByte
-
--- the fault of the line of this number, if it has one, and else that of a later line
-abbrev pub fault_or : ℕ → Option BadLine → Option (ℕ × BadLine) → Option (ℕ × BadLine)
-fault_or number None later = later
-fault_or number (Some fault) later = Some (number, fault)
-
--- the first line with a fault, by its number, and its fault, where the first line has this number
-abbrev pub first_fault : ℕ → List (List ℕ) → Option (ℕ × BadLine)
-first_fault number [] = None
-first_fault number (line ∷ lines) = fault_or number (line_fault line) (first_fault (number + 1) lines)

@@ -3,10 +3,8 @@
 
 mod numbers;
 mod reader;
-mod text;
 mod tokens;
 
 pub use numbers::{NumberFault, decimal, hex};
 pub use reader::{BadLine, check_line, next_line};
-pub use text::{Line, TextFault, lines};
 pub use tokens::{Token, tokens_of};

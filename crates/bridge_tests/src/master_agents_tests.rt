@@ -1,4 +1,4 @@
-use board_forms::well_formed;
+use plain_board::well_formed;
 use board_model::{Board, Master, Name, Op};
 use master_agents::{MasterState, Through};
 use pci_command::{Command, List, OpId, Outcome, Phase, Phases, Space};

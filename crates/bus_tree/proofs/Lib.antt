@@ -1,4 +1,3 @@
-pub mod FoundLemmas
 pub mod GreatestLemmas
 pub mod FewLemmas
 pub mod DecodableLemmas

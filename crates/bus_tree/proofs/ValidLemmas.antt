@@ -8,7 +8,7 @@ use Rattle.board_model.specs.Valid.{IsValid}
 use Rattle.board_faults.specs.declared.fault.TreeFault.{TreeFault}
 use Rattle.board_faults.specs.Faults.{first_fault_of}
 use Rattle.bus_tree.specs.Decodable.{IsDecodable}
-use Rattle.bus_tree.proofs.DecodableLemmas.{IsDecodable-tree}
+use Rattle.bus_tree.proofs.DecodableLemmas.{IsDecodable-formed}
 
 -- where no fault is named, the first is not there, and none of the others is named
 passed : (has : Bool) (fault : TreeFault) (later : Option TreeFault) → (if has then Some fault else later) ≡ None → (has ≡ false) × (later ≡ None)
@@ -17,7 +17,7 @@ passed false fault later none = (refl, none)
 
 pub IsDecodable-passed : (board : Board) → is_well_formed board ≡ true → first_fault_of board ≡ None → IsDecodable board
 IsDecodable-passed board formed none =
-    let one = passed _ _ _ none in let two = passed _ _ _ one.1 in IsDecodable-tree board formed one.0 two.0
+    IsDecodable-formed board formed (passed _ _ _ none).0
 
 not_above : (most n : ℕ) → n ≤ most → nat_lt most n ≡ false
 not_above most n within = grind (arith, nat_tests)

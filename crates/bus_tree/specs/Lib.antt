@@ -1,4 +1,2 @@
 pub mod Decodable
-pub mod Hops
 pub mod Refusals
-pub mod Lengths

@@ -1,13 +1,12 @@
 ghost use Rattle.std.specs.Prelude.{◌≡◌, ◌+◌, ◌*◌, ◌^◌, ◌<◌, ◌≤◌, All, length, slice_get};
 ghost use Rattle.list_facts.specs.Lists.{total, greatest};
-ghost use Rattle.board_model.specs.Requests.{is_posted};
 ghost use Rattle.board_model.specs.Ways.{way, aborts_at, pieces_in, pieces_at, pieces_by, cost_of_try, cost_of, longest_way, bound_of};
 ghost use Rattle.bus_tree.specs.Decodable.{IsDecodable};
 
-use crate::claims::some_holds;
 use crate::ways::route_of;
-use board_model::{Board, Master, Op, Place, Target, request_on, tries_of};
-use pci_command::{Command, Request};
+use board_claim::is_in_ranges;
+use board_model::{Board, Master, Op, Place, Target, is_posted, request_on, tries_of};
+use pci_command::Request;
 
 /// How many events a run of the board has at most.
 pub(crate) fn bound_of(board: &Board) -> u64
@@ -86,13 +85,6 @@ pub fn cost_of_try(board: &Board, bus: u8, op: &Op) -> u32
     }
 }
 
-/// Whether a request is a posted write: every other one is delayed.
-pub fn is_posted(request: &Request) -> bool
-    ensures { result ≡ is_posted request.now }
-{
-    request.command.code() == Command::MemWrite.code()
-}
-
 /// In how many pieces a write of so many data phases reaches the end of its way.
 pub fn pieces_by(board: &Board, request: &Request, phases: u8, owner: Place) -> u16
     requires { All (λ target. 0 < target.burst) board.now.targets }
@@ -120,10 +112,10 @@ fn pieces_at(targets: &[Target], place: u16, request: &Request, phases: u8) -> u
 fn aborts_at(target: &Target, request: &Request) -> bool
     ensures { result ≡ aborts_at target.now request.now }
 {
-    some_holds(
+    is_in_ranges(
         target.aborts.as_slice(),
         request.command.space(),
-        request.address,
+        u128::from(request.address),
     )
 }
 

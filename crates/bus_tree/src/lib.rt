@@ -3,17 +3,11 @@
 #![tactic(auto)]
 
 mod bound;
-mod claims;
-mod hop;
-mod hops;
 mod refusal;
 mod tree;
 mod ways;
 
-pub use bound::{cost_of_program, cost_of_try, is_posted, longest_way, pieces_by};
-pub use claims::claim_on;
-pub use hop::Hop;
-pub use hops::{next_hop, way_length};
+pub use bound::{cost_of_program, cost_of_try, longest_way, pieces_by};
 pub use refusal::TreeRefusal;
 pub use tree::{Tree, validate};
 pub use ways::{Route, route_of};

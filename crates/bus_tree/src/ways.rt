@@ -2,7 +2,7 @@ ghost use Rattle.std.specs.Prelude.{◌≡◌, ◌≤◌, length};
 ghost use Rattle.board_model.specs.Ways.{route_within, route_of};
 ghost use Rattle.bus_tree.specs.Decodable.{IsDecodable};
 
-use crate::claims::claim_on;
+use board_claim::claim;
 use board_model::{Board, Op, Place, end_of, request_on};
 
 /// How many lanes the way of an operation takes, and the bus and the owner where it ends.
@@ -31,7 +31,7 @@ fn route_within(board: &Board, op: &Op, on: u8, most: u8) -> Route
     ensures owner { result.owner ≡ (route_within most board.now op.now on).owner }
     ensures short { result.lanes ≤ most }
 {
-    let owner = claim_on(board, on, &request_on(op, on));
+    let owner = claim(board, on, &request_on(op, on));
     if most == 0 {
         return ends_at(on, owner);
     }

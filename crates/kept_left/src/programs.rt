@@ -8,8 +8,7 @@ ghost use Rattle.kept_left.specs.Running.{IsRunning};
 
 use crate::carried::posted;
 use crate::waiting::delayed_left;
-use board_model::{Board, Master, Op, op_of, request_on};
-use bus_tree::is_posted;
+use board_model::{Board, Master, Op, is_posted, op_of, request_on};
 use kept_state::Kept;
 use pci_command::OpId;
 use progress_core::{behind_left, tries_left};

@@ -6,8 +6,9 @@ ghost use Rattle.kept_state.specs.State.{lane_in};
 ghost use Rattle.kept_left.specs.Now.{world_now};
 ghost use Rattle.kept_left.specs.Running.{IsRunning};
 
+use board_claim::claim;
 use board_model::{Board, Lane, Op, Place, end_of, request_on};
-use bus_tree::{claim_on, route_of};
+use bus_tree::route_of;
 use kept_state::Kept;
 use pci_command::OpId;
 use progress_core::{Reach, found_left, has_slot};
@@ -34,7 +35,7 @@ fn reach_of(kept: &Kept, board: &Board, on: u8, op: OpId, found: &Op, most: u8) 
     if most == 0 {
         return Reach::none();
     }
-    match claim_on(board, on, &request_on(found, on)) {
+    match claim(board, on, &request_on(found, on)) {
         Place::Lane(lane) => {
             if !holds_slot(kept, board, lane, op) {
                 return Reach::none();

@@ -10,8 +10,8 @@ ghost use Rattle.progress_core.specs.Running.{IsRunning};
 
 use crate::carried::posted_left;
 use crate::waiting::delayed_left;
-use board_model::{Board, Master, Op, op_of, request_on, tries_of};
-use bus_tree::{cost_of_program, cost_of_try, is_posted};
+use board_model::{Board, Master, Op, is_posted, op_of, request_on, tries_of};
+use bus_tree::{cost_of_program, cost_of_try};
 use history_core::{through, turn_of};
 use history_model::Event;
 use pci_command::OpId;

@@ -9,8 +9,9 @@ ghost use Rattle.history_model.specs.Local.{is_ask_of, is_gone_of};
 ghost use Rattle.history_model.specs.Left.{is_slot_of, lane_or, reach_of, slot_left, reach_left, delayed_left};
 ghost use Rattle.progress_core.specs.Running.{IsRunning};
 
+use board_claim::claim;
 use board_model::{Board, Lane, Op, Place, end_of, request_on};
-use bus_tree::{claim_on, route_of};
+use bus_tree::route_of;
 use history_core::is_same_op;
 use history_model::{Carried, Event, Slot};
 use lane_replay::{BridgeLanes, LaneTables};
@@ -69,7 +70,7 @@ fn reach_of(board: &Board, events: &[Event], on: u8, op: OpId, found: &Op, most:
     if most == 0 {
         return Reach::none();
     }
-    match claim_on(board, on, &request_on(found, on)) {
+    match claim(board, on, &request_on(found, on)) {
         Place::Lane(lane) => {
             if !holds_slot(board, events, lane, op) {
                 return Reach::none();

@@ -2,7 +2,7 @@ ghost use Rattle.std.specs.Prelude.{IfNone, IsTrue};
 ghost use Rattle.board_model.specs.WellFormed.{is_well_formed};
 ghost use Rattle.history_model.specs.Runs.{Run, history_of};
 
-use board_forms::well_formed;
+use plain_board::well_formed;
 use board_model::{Board, Bridge, Lane, Master, Name, Op, Place, Planned, Range, Target, Window};
 use history_core::{allowed, complete};
 use history_model::{By, Event, Mark, Step, Why};

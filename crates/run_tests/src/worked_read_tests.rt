@@ -1,6 +1,6 @@
 ghost use Rattle.history_model.specs.Runs.{Run, history_of};
 
-use board_forms::well_formed;
+use plain_board::well_formed;
 use board_model::{Board, Bridge, Lane, Master, Name, Op, Place, Range, Target, Window};
 use bus_tree::{Tree, validate};
 use history_core::allowed;

@@ -2,7 +2,6 @@ ghost use Rattle.std.specs.Prelude.{◌≡◌, ◌+◌, ◌-◌, ◌≤◌, [], 
 ghost use Rattle.std.specs.Option.{option_map};
 ghost use Rattle.std.specs.List.{list_any};
 ghost use Rattle.pci_command.specs.declared.command.Space.TheVariants.{Mem};
-ghost use Rattle.board_model.specs.Claims.{window_holds};
 ghost use Rattle.board_model.specs.WellFormed.{is_burst_in};
 ghost use Rattle.write_combining.specs.Writes.{memory_write};
 ghost use Rattle.write_combining.specs.Joins.{may_combine, may_merge, is_prefetchable, join_writes, join_of};
@@ -11,7 +10,7 @@ ghost use Rattle.write_combining.specs.Kept.{KeepsPair};
 
 use crate::joined_brings_the_same;
 use crate::merge::{are_apart, chained, merged_phase, shared};
-use board_model::{Board, Op, Window};
+use board_model::{Board, Op, window_holds};
 use pci_command::{Command, Phase, Phases};
 
 /// A memory write of a program: the address of its first dword, and its data phases.
@@ -120,14 +119,5 @@ fn is_prefetchable(board: &Board, address: u64) -> bool
     let bridges = board.bridges.as_slice();
     bridges
         .iter()
-        .any(|bridge| window_holds(address, &bridge.pref))
-}
-
-fn window_holds(address: u64, window: &Option<Window>) -> bool
-    ensures { result ≡ window_holds address window.now }
-{
-    match window {
-        None => false,
-        Some(window) => window.base <= address && address <= window.limit,
-    }
+        .any(|bridge| window_holds(bridge.pref, u128::from(address)))
 }
