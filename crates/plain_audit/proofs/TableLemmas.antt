@@ -1,7 +1,7 @@
 -- The places say who knows, after every event.
 use Rattle.std.proofs.Common.{◌≡◌, ℕ, zero, suc, ◌<◌, ◌≤◌, Bool, true, false, ◌&&◌, ◌||◌, not, ◌==◌, cond, eqb, eqb-true, get_or, set, nat_lt, is_none, ◌≢◌, length, length-set, replicate, take, drop, reverse, take-append-drop, ◌+◌, get_or-set_same, get_or-set_other, List, [], ◌∷◌, ◌++◌, append_assoc, Option, Some, None, is_some, refl, sym, ap, subst, ◌∙◌, arith}
 use Rattle.std.proofs.lemmas.Bool.Decides.{nat_tests}
-use Rattle.std.specs.List.{find, list_any, AllByRecursion}
+use Rattle.std.specs.List.{find, list_any}
 use Rattle.std.proofs.lemmas.List.{take_more, take_all, length-replicate, reverse-append}
 use Rattle.list_facts.proofs.EachLemmas.{Each-weaker}
 use Rattle.pci_command.specs.declared.op_id.OpId.{OpId}
@@ -18,7 +18,7 @@ use Rattle.history_model.specs.Runs.{Run, history_of}
 use Rattle.law_slots.proofs.Laws.{Run-before}
 use Rattle.law_fresh.specs.Aware.{is_behind, knows, first_known, shows, shown, taught_by, taught_after, aware_of}
 use Rattle.law_fresh.specs.Told.{was_told}
-use Rattle.law_fresh.proofs.Laws.{Begun, knows_kept, Front, front_run, front_end, knew_before, before_in, LandingBegun, LandingsBegun-run}
+use Rattle.law_fresh.proofs.Laws.{Front, front_run, front_end, before_in, LandingBegun, LandingsBegun-run}
 use Rattle.audit_model.specs.Chains.{op_in}
 use Rattle.plain_audit.specs.Places.{knows_by, shows_by, first_shown, shown_after, last_shown, brings_it, is_open, learned, ArePlaces}
 use Rattle.audit_model.proofs.MasterLemmas.{has_place, ended_there}
