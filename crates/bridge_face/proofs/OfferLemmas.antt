@@ -70,14 +70,9 @@ passes_done row true = others_pass row (completion_kind true) tt
 passes_done row false = others_pass row (completion_kind false) tt
 
 -- no delayed request passes a posted write
-pub ask_post : (b : Bool) → may_pass (request_kind b) Pmw ≡ false
+ask_post : (b : Bool) → may_pass (request_kind b) Pmw ≡ false
 ask_post true = refl
 ask_post false = refl
-
--- the completion of a read passes no posted write, that of a write passes all
-pub done_post : (b : Bool) → not (may_pass (completion_kind b) Pmw) ≡ b
-done_post true = refl
-done_post false = refl
 
 not_or : (a b : Bool) → (not a && not b) ≡ not (a || b)
 not_or true b = refl

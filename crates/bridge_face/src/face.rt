@@ -376,10 +376,18 @@ impl Face {
         ensures { Some result ≡ option_map (λ ask. is_offered self.now.posts.posts (take place self.now.asks.asks) ask) (slice_get self.now.asks.asks place) }
     {
         let (_, _, arrival) = self.asks.get(place);
-        let kind = request_kind(self.asks.is_read(place));
-        let first = may_pass(kind, Kind::Pmw) || self.came_before(arrival);
+        let first = self.goes_first(place, arrival);
         let equal = self.asks.older_equal(place);
         first && !equal
+    }
+
+    /// Whether the delayed request at this place, which came with this arrival, goes before the posted
+    /// writes: it may pass them, or none stands that came before.
+    fn goes_first(&self, place: u8, arrival: u64) -> bool
+        requires { place < length self.now.asks.asks }
+        ensures { result ≡ came_before arrival self.now.posts.posts }
+    {
+        may_pass(request_kind(self.asks.is_read(place)), Kind::Pmw) || self.came_before(arrival)
     }
 
     /// Whether no posted write stands that came before.
