@@ -4,3 +4,4 @@ pub mod Claims
 pub mod Ways
 pub mod WellFormed
 pub mod Valid
+pub mod Fits

@@ -1,6 +1,6 @@
 ghost use Rattle.std.specs.Prelude.{◌≡◌, [], ◌∷◌};
 ghost use Rattle.std.specs.Option.{option_map};
-ghost use Rattle.board_model.specs.Requests.{op_of, tries_of, read_in, read_phases, configuration_address, command_of, address_on, phases_of, request_on, request_of};
+ghost use Rattle.board_model.specs.Requests.{op_of, tries_of, read_in, read_phases, configuration_address, command_of, address_on, phases_of, request_on, request_of, is_posted};
 
 use crate::{Board, Op};
 use pci_command::{Command, OpId, Phase, Phases, Request, Space};
@@ -26,6 +26,13 @@ pub fn op_of(board: &Board, op: OpId) -> Option<&Op>
     } else {
         None
     }
+}
+
+/// Whether it is a posted write: a write in memory is posted, every other request is delayed.
+pub fn is_posted(request: &Request) -> bool
+    ensures { result ≡ is_posted request.now }
+{
+    request.command.code() == Command::MemWrite.code()
 }
 
 /// How often an operation may be tried: a poll its tries, any other once.

@@ -9,3 +9,4 @@ pub mod Local
 pub mod Knowledge
 pub mod Left
 pub mod Steps
+pub mod Next

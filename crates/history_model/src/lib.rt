@@ -1,5 +1,5 @@
-//! A history of a board: its events, and what a run is. `history_core` computes what is defined
-//! here.
+//! A history of a board: its events, and what a run is. `machine_steps` computes what is defined
+//! here of one step, `plain_replay` what is defined of a run.
 #![tactic(auto)]
 
 mod event;

@@ -12,7 +12,7 @@ use Rattle.history_model.specs.declared.why.Why.{Why}
 use Rattle.history_model.specs.Runs.{Run, Allowed}
 use Rattle.history_model.specs.Local.{bus_of}
 use Rattle.law_local.proofs.Laws.{other_stays}
-use Rattle.next_event.specs.Next.{act_on}
+use Rattle.history_model.specs.Next.{act_on}
 use Rattle.kept_state.specs.State.{KeptState}
 use Rattle.kept_state.specs.Stands.{StandsFor}
 use Rattle.kept_next.specs.Now.{act_on_now}

@@ -9,7 +9,7 @@ use Rattle.history_model.specs.declared.event.Event.{Event}
 use Rattle.history_model.specs.Program.{turn_of}
 use Rattle.history_model.specs.Answers.{is_on, is_turn, answer}
 use Rattle.law_changes.proofs.Laws.{turn_master}
-use Rattle.next_event.specs.Next.{first_in, first_below, first_bus, down_to, up_from, ends_on, given_on, first_lane, act_given, act_of_turn}
+use Rattle.history_model.specs.Next.{first_in, first_below, first_bus, down_to, up_from, ends_on, given_on, first_lane, act_given, act_of_turn}
 use Rattle.kept_next.specs.Lines.{listed, ups_below, lanes_ending, masters_below}
 
 or_assoc : {Y : Type 0} (a b c : Option Y) → option_or (option_or a b) c ≡ option_or a (option_or b c)

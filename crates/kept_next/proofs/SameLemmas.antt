@@ -15,7 +15,7 @@ use Rattle.history_model.specs.Lanes.{LaneState}
 use Rattle.history_model.specs.World.{world_of}
 use Rattle.history_model.specs.Program.{turn_of}
 use Rattle.history_model.specs.Answers.{wants, answer}
-use Rattle.next_event.specs.Next.{first_in, first_below, first_bus, first_lane, arrival_of, arrival_at, first_arrival, act_given, act_of, act_of_item, act_of_lane, act_of_turn, act_of_masters, act_on, first_act, next_of}
+use Rattle.history_model.specs.Next.{first_in, first_below, first_bus, first_lane, arrival_of, arrival_at, first_arrival, act_given, act_of, act_of_item, act_of_lane, act_of_turn, act_of_masters, act_on, first_act, next_of}
 use Rattle.kept_state.specs.State.{KeptState, turn_in, lane_in}
 use Rattle.kept_state.specs.Answer.{answer_now}
 use Rattle.kept_state.specs.Stands.{StandsFor}

@@ -3,7 +3,7 @@ use Rattle.std.specs.Prelude.{◌≡◌, ◌<◌, ℕ, zero, suc, List, [], ◌�
 use Rattle.board_model.specs.declared.bridge.Lane.{Lane as BridgeLane}
 use Rattle.board_model.specs.declared.board.Board.{Board}
 use Rattle.history_model.specs.Answers.{is_on}
-use Rattle.next_event.specs.Next.{down_to, up_from, ends_on}
+use Rattle.history_model.specs.Next.{down_to, up_from, ends_on}
 
 -- the lines of a bus: the lanes that end there, and its masters
 pub record BusLines : Type 0 where

@@ -9,7 +9,7 @@ use Rattle.history_model.specs.declared.event.By.TheVariants.{Master, Lane as By
 use Rattle.history_model.specs.declared.event.Event.{Event}
 use Rattle.history_model.specs.declared.item.Carried.{Carried}
 use Rattle.history_model.specs.declared.item.Carried.TheVariants.{Post, Ask, Done, Room, Gone}
-use Rattle.next_event.specs.Next.{first_in, act_given, arrival_of}
+use Rattle.history_model.specs.Next.{first_in, act_given, arrival_of}
 use Rattle.kept_state.specs.State.{KeptState, turn_in, lane_in, wants_now, mark_in}
 use Rattle.kept_state.specs.Answer.{answer_now}
 use Rattle.kept_next.specs.Lines.{lanes_ending, masters_below}

@@ -1,7 +1,7 @@
 ghost use Rattle.std.specs.Prelude.{◌≡◌, IsTrue, true};
 ghost use Rattle.board_model.specs.WellFormed.{is_well_formed};
 ghost use Rattle.history_model.specs.declared.event.By.TheVariants.{Lane as ByLane};
-ghost use Rattle.next_event.specs.Next.{first_in};
+ghost use Rattle.history_model.specs.Next.{first_in};
 ghost use Rattle.kept_next.specs.Now.{arrival_now, act_now, item_now, lane_now, master_now};
 
 use board_model::{Board, Lane};

@@ -7,7 +7,7 @@ ghost use Rattle.history_model.specs.declared.event.Event.{Event};
 ghost use Rattle.history_model.specs.Runs.{Allowed, Complete};
 ghost use Rattle.history_core.specs.Verdicts.{Holds, cause_in};
 ghost use Rattle.history_model.specs.Local.{bus_of};
-ghost use Rattle.next_event.specs.Next.{first_bus, first_in, next_of};
+ghost use Rattle.history_model.specs.Next.{first_bus, first_in, next_of};
 ghost use Rattle.kept_state.specs.Stands.{StandsFor};
 ghost use Rattle.kept_next.specs.Lines.{AreLines};
 ghost use Rattle.kept_next.specs.Now.{arrival_now, arrival_on, lane_now, master_now, act_on_now};
@@ -15,11 +15,10 @@ ghost use Rattle.kept_next.specs.Course.{KnowsQuiet, IsCourse, HasCourse};
 
 use crate::acts::{act_of_lanes, act_of_masters, arrival_of_lanes};
 use crate::lines::Lines;
-use board_model::{Board, end_of};
+use board_model::{Board, board_fits, end_of};
 use bus_tree::Tree;
 use history_model::{Event, Why};
 use kept_state::Kept;
-use next_event::buses_fit;
 use pci_command::NoMemory;
 use std::alloc::Global;
 
@@ -68,7 +67,7 @@ impl Course {
     {
         let board = tree.board();
         // its bus numbers are as wide as their fields
-        buses_fit(board);
+        board_fits(board);
         next_now(&self.kept, board, self.lines.as_slice(), &mut self.quiet)
     }
 

@@ -18,7 +18,8 @@ use Rattle.history_model.specs.Lanes.{Both, arrives, item_ends}
 use Rattle.history_model.specs.World.{noted, world_by, enters, lane_outcome}
 use Rattle.lane_replay.specs.Bridge.{lanes_of, turned, moved_on, place_on, leaves_on, initiator_on, lanes_after}
 use Rattle.lane_replay.proofs.LaneLemmas.{lanes_after_event}
-use Rattle.kept_state.specs.State.{place_of, other_than, happens_on, changed_at, lanes_next, bus_at, bus_by}
+use Rattle.kept_state.specs.State.{place_of, other_than, happens_on, lanes_next, bus_at, bus_by}
+use Rattle.list_facts.specs.Lists.{changed_at}
 use Rattle.kept_state.proofs.PlaceLemmas.{places_apart, changed_same, changed_other}
 
 -- an event changes the lanes of no other bridge than those of the lane that claims and of the lane that presents

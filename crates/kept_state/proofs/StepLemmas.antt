@@ -48,7 +48,8 @@ use Rattle.lane_replay.proofs.RoomLemmas.{Counted, counted_after, room_after}
 use Rattle.kept_state.specs.Rooms.{RoomAt, HaveRooms}
 use Rattle.kept_state.specs.State.{place_of}
 use Rattle.kept_state.specs.declared.table.Word.{Word}
-use Rattle.kept_state.specs.State.{KeptState, turns_next, lanes_next, gone_in, wants_now, changed_at, changed_with}
+use Rattle.kept_state.specs.State.{KeptState, turns_next, lanes_next, gone_in, wants_now}
+use Rattle.list_facts.specs.Lists.{changed_at, changed_with}
 use Rattle.kept_state.specs.Words.{place_at, dword, landed_by}
 use Rattle.kept_state.specs.Answer.{answer_now, HoldsNow, values_of, values_next, next_state}
 use Rattle.kept_state.specs.Stands.{StandsForBy}

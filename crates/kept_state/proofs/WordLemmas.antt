@@ -11,7 +11,8 @@ use Rattle.kept_state.specs.declared.table.Word.{Word}
 use Rattle.std.specs.Prelude.{slice_get}
 use Rattle.history_model.specs.Words.{mask_in}
 use Rattle.history_core.specs.Values.{value_merged}
-use Rattle.kept_state.specs.State.{WordPlaces, changed_at}
+use Rattle.kept_state.specs.State.{WordPlaces}
+use Rattle.list_facts.specs.Lists.{changed_at}
 use Rattle.kept_state.proofs.PlaceLemmas.{changed_same, changed_other}
 use Rattle.kept_state.specs.Words.{same_word, place_at, merged_at, landed_in}
 

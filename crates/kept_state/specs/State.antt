@@ -15,7 +15,7 @@ use Rattle.history_model.specs.Lanes.{LaneState, Both, empty_lane}
 use Rattle.history_model.specs.Answers.{is_on, is_turn, presents_by}
 use Rattle.history_model.specs.Runs.{mark_of_first}
 use Rattle.lane_replay.specs.Bridge.{turned, lanes_after}
-use Rattle.std.proofs.Math.ListN.{set}
+use Rattle.list_facts.specs.Lists.{changed_at}
 use Rattle.board_model.specs.declared.bridge.Place.{Place}
 use Rattle.board_model.specs.declared.bridge.Place.TheVariants.{Target, Header, Lane, Nobody}
 use Rattle.history_model.specs.declared.event.Step.{Step}
@@ -90,16 +90,6 @@ or_zero (Some n) = n
 -- how many data phases of an operation went through
 abbrev pub gone_in : List (List ℕ) → OpId → ℕ
 gone_in gone o = or_zero (slice_get (list_in (slice_get gone o.master)) o.index)
-
--- a list with what its place holds changed
-abbrev pub changed_with : {X : Type 0} → (X → X) → List X → ℕ → Option X → List X
-changed_with f xs place None = xs
-changed_with f xs place (Some x) = set xs place (f x)
-
--- the same at a place, where there is one
-abbrev pub changed_at : {X : Type 0} → (X → X) → List X → Option ℕ → List X
-changed_at f xs None = xs
-changed_at f xs (Some place) = changed_with f xs place (slice_get xs place)
 
 -- so many more data phases of the operation went through
 abbrev pub gone_added : OpId → ℕ → List (List ℕ) → List (List ℕ)

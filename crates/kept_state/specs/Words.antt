@@ -17,7 +17,8 @@ use Rattle.device_header.specs.Registers.{merge_of}
 use Rattle.history_model.specs.declared.event.Step.{Step}
 use Rattle.history_model.specs.Words.{mask_in, without, brings, opens_as}
 use Rattle.kept_state.specs.declared.table.Word.{Word}
-use Rattle.kept_state.specs.State.{WordPlaces, changed_at, or_zero}
+use Rattle.kept_state.specs.State.{WordPlaces, or_zero}
+use Rattle.list_facts.specs.Lists.{changed_at}
 
 -- the dword that is meant
 abbrev pub dword : Word → Dword

@@ -1,5 +1,6 @@
 ghost use Rattle.std.specs.Prelude.{◌≡◌, ◌≤◌, ◌<◌, ◌+◌, ◌^◌, Some, slice_get, length};
-ghost use Rattle.kept_state.specs.State.{or_zero, gone_in, gone_added, changed_at, list_in};
+ghost use Rattle.kept_state.specs.State.{or_zero, gone_in, gone_added, list_in};
+ghost use Rattle.list_facts.specs.Lists.{changed_at};
 
 use board_model::{Board, Op};
 use history_model::{Event, Step};

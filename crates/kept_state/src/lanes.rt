@@ -1,5 +1,5 @@
 ghost use Rattle.std.specs.Prelude.{◌≡◌, ◌==◌, Some};
-ghost use Rattle.kept_state.specs.State.{changed_at};
+ghost use Rattle.list_facts.specs.Lists.{changed_at};
 ghost use Rattle.kept_state.specs.Rooms.{RoomAt};
 ghost use Rattle.lane_replay.specs.Bridge.{lanes_after};
 ghost use Rattle.std.specs.Option.{option_copied};

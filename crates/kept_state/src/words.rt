@@ -2,7 +2,8 @@ ghost use Rattle.std.specs.Prelude.{◌≡◌, ◌≤◌, ◌+◌, ◌*◌, ◌^
 ghost use Rattle.history_model.specs.Words.{mask_in};
 ghost use Rattle.device_header.specs.Registers.{merge_of};
 ghost use Rattle.std.specs.Prelude.{slice_get};
-ghost use Rattle.kept_state.specs.State.{changed_at, or_zero};
+ghost use Rattle.kept_state.specs.State.{or_zero};
+ghost use Rattle.list_facts.specs.Lists.{changed_at};
 
 use crate::table::{Word, WordTable};
 use board_model::{Board, Op, Place, request_on};

@@ -10,3 +10,9 @@ pub mod AskLemmas
 pub mod TurnLemmas
 pub mod GoOnLemmas
 pub mod Laws
+pub mod NextFirstLemmas
+pub mod NextNoneLemmas
+pub mod NextWantLemmas
+pub mod NextSoundLemmas
+pub mod NextVainLemmas
+pub mod NextStopLemmas

@@ -5,7 +5,7 @@ ghost use Rattle.history_model.specs.World.{world_of};
 ghost use Rattle.history_model.specs.Program.{turn_of};
 ghost use Rattle.history_model.specs.Answers.{wants, answer};
 ghost use Rattle.history_model.specs.Runs.{Run, history_of};
-ghost use Rattle.next_event.specs.Next.{first_bus, first_in, first_below, up_from, given_on, first_lane, act_given, act_of, act_of_item, act_of_lane, act_of_turn, act_of_masters, act_on, first_act};
+ghost use Rattle.history_model.specs.Next.{first_bus, first_in, first_below, up_from, given_on, first_lane, act_given, act_of, act_of_item, act_of_lane, act_of_turn, act_of_masters, act_on, first_act};
 
 use crate::lanes::{down_to, ends_on, up_from};
 use board_model::{Board, Lane};
@@ -15,7 +15,7 @@ use lane_replay::{BridgeLanes, Presented};
 use pci_command::OpId;
 
 /// The first act, by increasing bus and there by line.
-#[tactic(auto, using(crate::proofs::FirstLemmas::first_more))]
+#[tactic(auto, using(law_progress::proofs::NextFirstLemmas::first_more))]
 pub(crate) fn first_act(board: &Board, before: &[Event]) -> Option<Event>
     requires formed { IsTrue (is_well_formed board.now) }
     requires run { Run board.now (history_of before.now) }
@@ -54,7 +54,7 @@ fn act_of_lanes(board: &Board, before: &[Event], bus: u8) -> Option<Event>
 }
 
 /// The first act on the bus of a bridge below, by increasing number.
-#[tactic(auto, using(crate::proofs::FirstLemmas::first_more))]
+#[tactic(auto, using(law_progress::proofs::NextFirstLemmas::first_more))]
 fn act_from_below(board: &Board, before: &[Event], bus: u8) -> Option<Event>
     requires formed { IsTrue (is_well_formed board.now) }
     requires run { Run board.now (history_of before.now) }
@@ -132,7 +132,7 @@ fn act_by_lane(board: &Board, before: &[Event], bus: u8, lane: Lane, op: OpId) -
 }
 
 /// The first act of a master on the bus, in the order of the board.
-#[tactic(auto, using(crate::proofs::FirstLemmas::first_more, board_claim::proofs::FewLemmas::few_masters_before, board_claim::proofs::FewLemmas::master_more))]
+#[tactic(auto, using(law_progress::proofs::NextFirstLemmas::first_more, board_claim::proofs::FewLemmas::few_masters_before, board_claim::proofs::FewLemmas::master_more))]
 fn act_of_masters(board: &Board, before: &[Event], bus: u8) -> Option<Event>
     requires formed { IsTrue (is_well_formed board.now) }
     requires run { Run board.now (history_of before.now) }

@@ -1,7 +1,7 @@
 ghost use Rattle.std.specs.Prelude.{◌≡◌, IsTrue};
 ghost use Rattle.board_model.specs.WellFormed.{is_well_formed};
 ghost use Rattle.history_model.specs.Runs.{Run, history_of, next_mark};
-ghost use Rattle.next_event.specs.Next.{first_bus, up_from, given_on, first_lane, arrival_of, arrival_at, first_arrival};
+ghost use Rattle.history_model.specs.Next.{first_bus, up_from, given_on, first_lane, arrival_of, arrival_at, first_arrival};
 
 use crate::lanes::{down_to, ends_on, up_from};
 use board_model::{Board, Lane};
@@ -9,7 +9,7 @@ use history_core::next_mark;
 use history_model::{Event, Mark};
 
 /// The first arrival, by increasing bus and there by line.
-#[tactic(auto, using(crate::proofs::FirstLemmas::first_more))]
+#[tactic(auto, using(law_progress::proofs::NextFirstLemmas::first_more))]
 pub(crate) fn first_arrival(board: &Board, before: &[Event]) -> Option<Event>
     requires formed { IsTrue (is_well_formed board.now) }
     requires run { Run board.now (history_of before.now) }
@@ -36,7 +36,7 @@ fn arrival_on(board: &Board, before: &[Event], bus: u8) -> Option<Event>
 }
 
 /// The first arrival on the bus from a bridge below, by increasing number.
-#[tactic(auto, using(crate::proofs::FirstLemmas::first_more))]
+#[tactic(auto, using(law_progress::proofs::NextFirstLemmas::first_more))]
 fn arrival_from_below(board: &Board, before: &[Event], bus: u8) -> Option<Event>
     requires formed { IsTrue (is_well_formed board.now) }
     requires run { Run board.now (history_of before.now) }

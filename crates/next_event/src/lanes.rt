@@ -1,5 +1,5 @@
 ghost use Rattle.std.specs.Prelude.{◌≡◌};
-ghost use Rattle.next_event.specs.Next.{down_to, up_from, ends_on};
+ghost use Rattle.history_model.specs.Next.{down_to, up_from, ends_on};
 
 use board_model::{Board, Lane, end_of, has_bridge_to};
 

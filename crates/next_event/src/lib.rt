@@ -4,22 +4,20 @@
 
 mod acts;
 mod arrivals;
-mod fits;
 mod lanes;
 
 ghost use Rattle.std.specs.Prelude.{◌≡◌, ◌↔◌, IfSome, IsTrue, None};
 ghost use Rattle.board_model.specs.WellFormed.{is_well_formed};
 ghost use Rattle.history_model.specs.Runs.{Run, Allowed, Complete, history_of};
-ghost use Rattle.next_event.specs.Next.{next_of};
+ghost use Rattle.history_model.specs.Next.{next_of};
 
 pub use crate::acts::act_given;
 use crate::acts::first_act;
 pub use crate::arrivals::arrival_of;
 use crate::arrivals::first_arrival;
 pub use crate::lanes::ends_on;
-use board_model::Board;
+use board_model::{Board, board_fits};
 use bus_tree::Tree;
-pub use fits::buses_fit;
 use history_model::Event;
 
 /// The next event of a run in a fixed order: the first arrival that is allowed, by increasing bus
@@ -34,7 +32,7 @@ pub fn next_event(tree: &Tree, events: &[Event]) -> Option<Event>
     ensures complete { result ≡ None ↔ Complete tree.now (history_of events.now) }
 {
     let board = tree.board();
-    buses_fit(board);
+    board_fits(board);
     next_on(board, events)
 }
 

@@ -14,4 +14,4 @@ pub use list::List;
 pub use no_memory::NoMemory;
 pub use op_id::{OpId, Outcome};
 pub use phases::{Phase, Phases};
-pub use request::{Request, address_phases, same_request};
+pub use request::{Request, address_phases, same_op, same_request};

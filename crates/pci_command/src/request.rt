@@ -1,7 +1,8 @@
 ghost use Rattle.std.specs.Prelude.{◌≡◌, ◌↔◌, IsTrue};
 ghost use Rattle.pci_command.specs.Request.{address_phases_of};
+ghost use Rattle.pci_command.specs.Same.{same_op};
 
-use crate::{Command, Phase, Phases};
+use crate::{Command, OpId, Phase, Phases};
 use arrayvec::ArrayVec;
 
 /// A request as it is driven on a bus: a plain command, a byte address (64 bits in memory, below
@@ -39,6 +40,13 @@ fn same_phases(a: &[Phase], b: &[Phase]) -> bool
     ensures { IsTrue result ↔ (a.now ≡ b.now) }
 {
     a == b
+}
+
+/// Whether two names are of one operation.
+pub fn same_op(a: OpId, b: OpId) -> bool
+    ensures { result ≡ same_op a b }
+{
+    a.master == b.master && a.index == b.index && a.attempt == b.attempt
 }
 
 /// The code of the command Dual Address Cycle, which carries the low half of a 64-bit address.

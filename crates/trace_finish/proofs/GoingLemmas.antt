@@ -5,7 +5,7 @@ use Rattle.board_model.specs.declared.board.Board.{Board}
 use Rattle.history_model.specs.declared.event.Event.{Event}
 use Rattle.history_model.specs.Runs.{Run, Allowed, history_of}
 use Rattle.history_model.specs.Left.{left_of}
-use Rattle.next_event.specs.Next.{next_of}
+use Rattle.history_model.specs.Next.{next_of}
 use Rattle.trace_finish.specs.Finishing.{GoesOn}
 
 -- a run that went on by its next events so far

@@ -1,5 +1,5 @@
 use Rattle.std.proofs.Common.{◌≡◌, drop}
-use Rattle.next_event.specs.Next.{first_in}
+use Rattle.history_model.specs.Next.{first_in}
 use Rattle.kept_next.specs.Now.{item_now}
 use Rattle.kept_next.proofs.acts.act_of_items.Given as goal
 

@@ -1,5 +1,5 @@
 use Rattle.std.proofs.Common.{◌≡◌, drop}
-use Rattle.next_event.specs.Next.{first_in}
+use Rattle.history_model.specs.Next.{first_in}
 use Rattle.kept_next.specs.Now.{arrival_now}
 use Rattle.kept_next.proofs.acts.arrival_of_lanes.Given as goal
 

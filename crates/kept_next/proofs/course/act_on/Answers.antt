@@ -1,7 +1,7 @@
 use Rattle.std.proofs.Common.{◌≡◌, ◌<◌, ℕ, Some, ap, ◌∙◌, slice_get}
 use Rattle.std.specs.Option.{option_or}
 use Rattle.board_model.specs.declared.board.Board.{Board}
-use Rattle.next_event.specs.Next.{first_in}
+use Rattle.history_model.specs.Next.{first_in}
 use Rattle.kept_state.specs.State.{KeptState}
 use Rattle.kept_next.specs.Lines.{BusLines, lines_of}
 use Rattle.kept_next.specs.Now.{lane_now, master_now, act_on_now}

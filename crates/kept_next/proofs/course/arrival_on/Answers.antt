@@ -1,6 +1,6 @@
 use Rattle.std.proofs.Common.{◌≡◌, ◌<◌, ℕ, Some, ap, ◌∙◌, slice_get}
 use Rattle.board_model.specs.declared.board.Board.{Board}
-use Rattle.next_event.specs.Next.{first_in}
+use Rattle.history_model.specs.Next.{first_in}
 use Rattle.kept_next.specs.Lines.{BusLines, lines_of}
 use Rattle.kept_next.specs.Now.{arrival_now}
 use Rattle.kept_next.proofs.RowLemmas.{read_there, none_there}

@@ -1,5 +1,5 @@
 use Rattle.std.proofs.Common.{◌≡◌, None, length}
-use Rattle.next_event.specs.Next.{first_below}
+use Rattle.history_model.specs.Next.{first_below}
 use Rattle.kept_next.specs.Now.{act_on_now}
 use Rattle.kept_next.specs.Course.{KnowsQuiet}
 use Rattle.kept_next.proofs.course.first_act.Given as goal

@@ -1,6 +1,6 @@
 use Rattle.std.proofs.Common.{◌≡◌, ℕ, Option, Some, None, arith}
 use Rattle.history_model.specs.declared.event.Event.{Event}
-use Rattle.next_event.proofs.FirstLemmas.{first_more, bus_found, bus_none}
+use Rattle.law_progress.proofs.NextFirstLemmas.{first_more, bus_found, bus_none}
 use Rattle.kept_next.specs.Now.{arrival_on}
 use Rattle.kept_next.proofs.course.first_arrival.Goals as goal
 

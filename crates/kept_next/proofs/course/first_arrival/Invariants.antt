@@ -1,5 +1,5 @@
 use Rattle.std.proofs.Common.{◌≡◌, None}
-use Rattle.next_event.specs.Next.{first_below}
+use Rattle.history_model.specs.Next.{first_below}
 use Rattle.kept_next.specs.Now.{arrival_on}
 use Rattle.kept_next.proofs.course.first_arrival.Given as goal
 

@@ -1,5 +1,5 @@
 use Rattle.std.proofs.Common.{◌≡◌, ◌++◌, ℕ, ap, ◌∙◌, arith}
-use Rattle.next_event.specs.Next.{down_to}
+use Rattle.history_model.specs.Next.{down_to}
 use Rattle.kept_next.specs.Lines.{listed, ups_below}
 use Rattle.kept_next.proofs.lines.lanes_ending.Goals as goal
 

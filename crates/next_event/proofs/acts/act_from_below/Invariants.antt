@@ -1,6 +1,6 @@
 use Rattle.std.proofs.Common.{◌≡◌, None}
 use Rattle.history_model.specs.Runs.{history_of}
-use Rattle.next_event.specs.Next.{first_below, up_from, given_on, act_of_lane}
+use Rattle.history_model.specs.Next.{first_below, up_from, given_on, act_of_lane}
 use Rattle.next_event.proofs.acts.act_from_below.Given as goal
 
 -- nothing of the bridges so far

@@ -1,6 +1,6 @@
 use Rattle.std.proofs.Common.{◌≡◌, drop}
 use Rattle.history_model.specs.Runs.{history_of}
-use Rattle.next_event.specs.Next.{first_in, act_of_item}
+use Rattle.history_model.specs.Next.{first_in, act_of_item}
 use Rattle.next_event.proofs.acts.act_of_items.Given as goal
 
 -- the first of the items to come is the first of all

@@ -4,7 +4,7 @@ use Rattle.history_model.specs.Lanes.{LaneState}
 use Rattle.history_model.specs.World.{World, world_of}
 use Rattle.history_model.specs.Runs.{history_of}
 use Rattle.history_core.proofs.FaceLemmas.{lane_is}
-use Rattle.next_event.specs.Next.{first_in, act_of_item}
+use Rattle.history_model.specs.Next.{first_in, act_of_item}
 use Rattle.next_event.proofs.acts.act_of_lane.Goals as goal
 
 pub returns : goal.returns

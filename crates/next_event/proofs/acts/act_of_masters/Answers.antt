@@ -3,8 +3,8 @@ use Rattle.board_model.specs.declared.board.Board.{Board}
 use Rattle.history_model.specs.declared.event.Event.{Event}
 use Rattle.history_model.specs.Program.{turn_of}
 use Rattle.history_model.specs.Runs.{history_of}
-use Rattle.next_event.specs.Next.{act_of_turn}
-use Rattle.next_event.proofs.FirstLemmas.{below_found}
+use Rattle.history_model.specs.Next.{act_of_turn}
+use Rattle.law_progress.proofs.NextFirstLemmas.{below_found}
 use Rattle.next_event.proofs.acts.act_of_masters.Goals as goal
 
 pub returns-in-Some : goal.returns-in-Some

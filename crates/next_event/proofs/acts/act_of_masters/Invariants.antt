@@ -3,7 +3,7 @@ use Rattle.std.specs.List.{AllByRecursion}
 use Rattle.board_model.specs.declared.agents.Master.{Master}
 use Rattle.history_model.specs.Program.{turn_of}
 use Rattle.history_model.specs.Runs.{history_of}
-use Rattle.next_event.specs.Next.{first_below, act_of_turn}
+use Rattle.history_model.specs.Next.{first_below, act_of_turn}
 use Rattle.next_event.proofs.acts.act_of_masters.Given as goal
 
 -- nothing of the masters so far; and each of them is on one of 256 buses

@@ -2,8 +2,8 @@ use Rattle.std.proofs.Common.{◌≡◌, ℕ, Option, Some, arith}
 use Rattle.board_model.specs.declared.board.Board.{Board}
 use Rattle.history_model.specs.declared.event.Event.{Event}
 use Rattle.history_model.specs.Runs.{history_of}
-use Rattle.next_event.specs.Next.{act_on}
-use Rattle.next_event.proofs.FirstLemmas.{bus_found, bus_none}
+use Rattle.history_model.specs.Next.{act_on}
+use Rattle.law_progress.proofs.NextFirstLemmas.{bus_found, bus_none}
 use Rattle.next_event.proofs.acts.first_act.Goals as goal
 
 pub returns-in-Some : goal.returns-in-Some

@@ -1,6 +1,6 @@
 use Rattle.std.proofs.Common.{◌≡◌, None}
 use Rattle.history_model.specs.Runs.{history_of}
-use Rattle.next_event.specs.Next.{first_below, act_on}
+use Rattle.history_model.specs.Next.{first_below, act_on}
 use Rattle.next_event.proofs.acts.first_act.Given as goal
 
 -- nothing on the buses so far

@@ -1,6 +1,6 @@
 use Rattle.std.proofs.Common.{◌≡◌, None}
 use Rattle.history_model.specs.Runs.{history_of}
-use Rattle.next_event.specs.Next.{first_below, up_from, given_on, arrival_at}
+use Rattle.history_model.specs.Next.{first_below, up_from, given_on, arrival_at}
 use Rattle.next_event.proofs.arrivals.arrival_from_below.Given as goal
 
 -- nothing from the bridges so far

@@ -1,6 +1,6 @@
 use Rattle.std.proofs.Common.{◌≡◌, None}
 use Rattle.history_model.specs.Runs.{history_of}
-use Rattle.next_event.specs.Next.{first_below, first_lane, arrival_at}
+use Rattle.history_model.specs.Next.{first_below, first_lane, arrival_at}
 use Rattle.next_event.proofs.arrivals.first_arrival.Given as goal
 
 -- nothing on the buses so far

@@ -2,7 +2,7 @@ use Rattle.std.proofs.Common.{◌≡◌, ◌∷◌, ◌++◌, [], List, Some, ru
 use Rattle.board_model.specs.declared.board.Board.{Board}
 use Rattle.history_model.specs.declared.event.Event.{Event}
 use Rattle.history_model.specs.Runs.{Allowed, history_of}
-use Rattle.next_event.specs.Next.{next_of}
+use Rattle.history_model.specs.Next.{next_of}
 use Rattle.kept_next.specs.Course.{IsCourse}
 use Rattle.trace_finish.proofs.GoingLemmas.{WentOn, history_push, went_on_more, left_fell}
 use Rattle.trace_finish.proofs.finishing.to_the_end.Goals as goal

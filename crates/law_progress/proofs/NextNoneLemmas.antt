@@ -13,9 +13,9 @@ use Rattle.board_model.specs.WellFormed.{has_bus}
 use Rattle.board_model.specs.Valid.{has_bridge_to}
 use Rattle.board_model.specs.Ways.{primary_in, end_of}
 use Rattle.history_model.specs.Answers.{bridge_to}
-use Rattle.next_event.specs.Fits.{BridgeFits, BusesFit}
-use Rattle.next_event.specs.Next.{first_below, first_bus, down_to, up_from, ends_on, given_on, first_lane}
-use Rattle.next_event.proofs.FirstLemmas.{below_or}
+use Rattle.board_model.specs.Fits.{BridgeFits, BusesFit}
+use Rattle.history_model.specs.Next.{first_below, first_bus, down_to, up_from, ends_on, given_on, first_lane}
+use Rattle.law_progress.proofs.NextFirstLemmas.{below_or}
 
 -- nothing of two is nothing of each
 pub or_none_both : {Y : Type 0} (a b : Option Y) → option_or a b ≡ None → (a ≡ None) × (b ≡ None)

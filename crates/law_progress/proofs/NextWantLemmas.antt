@@ -17,7 +17,7 @@ use Rattle.history_model.specs.Program.{turn_of}
 use Rattle.history_model.specs.Answers.{is_on, is_turn, presents_item, presents, wants}
 use Rattle.history_facts.proofs.RequestLemmas.{same_op_true}
 use Rattle.list_facts.proofs.EachLemmas.{Each-slice_get}
-use Rattle.next_event.specs.Fits.{MasterFits}
+use Rattle.board_model.specs.Fits.{MasterFits}
 
 -- what is presented stands
 pub presents_some : (board : Board) (on : ℕ) (o : OpId) (xs : List Carried) → presents board on o xs ≡ true → (item : Carried) × (find (is_of o) xs ≡ Some item)

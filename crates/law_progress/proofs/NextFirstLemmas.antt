@@ -1,7 +1,7 @@
 -- Looks in order: how far a loop has come, and what it found.
 use Rattle.std.proofs.Common.{◌≡◌, ℕ, zero, suc, ◌+◌, ◌<◌, Option, Some, None, refl, sym, subst, ◌⊎◌, inl, inr, ⊎_elim, arith}
 use Rattle.std.specs.Option.{option_or}
-use Rattle.next_event.specs.Next.{first_below, first_bus}
+use Rattle.history_model.specs.Next.{first_below, first_bus}
 
 -- where the first of two is not there, it is the second
 pub or_none : {Y : Type 0} (a b : Option Y) → a ≡ None → option_or a b ≡ b

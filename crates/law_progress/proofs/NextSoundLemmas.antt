@@ -17,7 +17,7 @@ use Rattle.history_model.specs.World.{world_of}
 use Rattle.history_model.specs.Program.{turn_of}
 use Rattle.history_model.specs.Answers.{wants, answer}
 use Rattle.history_model.specs.Runs.{next_mark, Allowed}
-use Rattle.next_event.specs.Next.{first_in, first_below, first_bus, down_to, up_from, ends_on, given_on, first_lane, arrival_of, arrival_at, first_arrival, act_given, act_of, act_of_item, act_of_lane, act_of_turn, act_of_masters, act_on, first_act, next_of}
+use Rattle.history_model.specs.Next.{first_in, first_below, first_bus, down_to, up_from, ends_on, given_on, first_lane, arrival_of, arrival_at, first_arrival, act_given, act_of, act_of_item, act_of_lane, act_of_turn, act_of_masters, act_on, first_act, next_of}
 
 -- what holds of each of two holds of the first that is there
 or_holds : {Y : Type 0} (P : Y → Type 0) (a b : Option Y) → IfSome a P → IfSome b P → IfSome (option_or a b) P

@@ -18,12 +18,14 @@ use Rattle.history_model.specs.Program.{turn_of}
 use Rattle.history_model.specs.Answers.{bridge_to, presents}
 use Rattle.history_model.specs.Runs.{Run, Allowed, IsIdle, Complete, mark_of_first}
 use Rattle.law_progress.specs.Next.{Next}
-use Rattle.law_progress.proofs.Laws.{Sound-valid, no_bridge_empty, goes_on}
-use Rattle.next_event.specs.Fits.{BusesFit}
-use Rattle.next_event.specs.Next.{next_of}
-use Rattle.next_event.proofs.SoundLemmas.{next_allowed}
-use Rattle.next_event.proofs.WantLemmas.{at_master, master_wants, lane_wants}
-use Rattle.next_event.proofs.VainLemmas.{none_allowed}
+use Rattle.law_progress.proofs.SoundLemmas.{Sound-valid}
+use Rattle.law_progress.proofs.ArrivalLemmas.{no_bridge_empty}
+use Rattle.law_progress.proofs.GoOnLemmas.{goes_on}
+use Rattle.board_model.specs.Fits.{BusesFit}
+use Rattle.history_model.specs.Next.{next_of}
+use Rattle.law_progress.proofs.NextSoundLemmas.{next_allowed}
+use Rattle.law_progress.proofs.NextWantLemmas.{at_master, master_wants, lane_wants}
+use Rattle.law_progress.proofs.NextVainLemmas.{none_allowed}
 
 module _ (board : Board) (h : List Event) (run : Run board h) where
   -- where a run is complete every lane is idle

@@ -1,10 +1,10 @@
 ghost use Rattle.std.specs.List.{AllByRecursion};
-ghost use Rattle.next_event.specs.Fits.{BridgeFits, MasterFits, BusesFit};
+ghost use Rattle.board_model.specs.Fits.{BridgeFits, MasterFits, BusesFit};
 
-use board_model::{Board, Bridge, Master};
+use crate::{Board, Bridge, Master};
 
 /// Each board of the program has bus numbers as wide as their fields.
-pub fn buses_fit(board: &Board)
+pub fn board_fits(board: &Board)
     ensures { BusesFit board.now }
 {
     bridges_fit(board.bridges.as_slice());

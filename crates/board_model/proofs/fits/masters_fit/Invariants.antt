@@ -1,7 +1,7 @@
 use Rattle.std.proofs.Common.{take}
 use Rattle.std.specs.List.{AllByRecursion}
-use Rattle.next_event.specs.Fits.{MasterFits}
-use Rattle.next_event.proofs.fits.masters_fit.Given as goal
+use Rattle.board_model.specs.Fits.{MasterFits}
+use Rattle.board_model.proofs.fits.masters_fit.Given as goal
 
 -- the masters so far
 abbrev pub invariant-loop-master : goal.invariant-loop-master

@@ -1,7 +1,7 @@
 use Rattle.std.proofs.Common.{take}
 use Rattle.std.specs.List.{AllByRecursion}
-use Rattle.next_event.specs.Fits.{BridgeFits}
-use Rattle.next_event.proofs.fits.bridges_fit.Given as goal
+use Rattle.board_model.specs.Fits.{BridgeFits}
+use Rattle.board_model.proofs.fits.bridges_fit.Given as goal
 
 -- the bridges so far
 abbrev pub invariant-loop-bridge : goal.invariant-loop-bridge

@@ -23,11 +23,11 @@ use Rattle.history_model.specs.Program.{turn_of}
 use Rattle.history_model.specs.Answers.{bridge_to, presents, wants, answer}
 use Rattle.history_model.specs.Runs.{Run, Allowed, mark_of_first, next_mark}
 use Rattle.history_facts.proofs.RequestLemmas.{same_op_true}
-use Rattle.law_progress.proofs.Laws.{no_bridge_empty}
-use Rattle.next_event.specs.Fits.{BusesFit}
-use Rattle.next_event.specs.Next.{first_in, first_lane, arrival_of, arrival_at, first_arrival, act_given, act_of, act_of_item, act_of_lane, act_of_turn, act_of_masters, act_on, first_act, next_of}
-use Rattle.next_event.proofs.NoneLemmas.{or_none_both, below_none, bus_gives_none, IsOnBoard, IsOnBoard-found, lanes_give_none}
-use Rattle.next_event.proofs.WantLemmas.{presents_some, at_master, master_bus, master_wants, lane_wants}
+use Rattle.law_progress.proofs.ArrivalLemmas.{no_bridge_empty}
+use Rattle.board_model.specs.Fits.{BusesFit}
+use Rattle.history_model.specs.Next.{first_in, first_lane, arrival_of, arrival_at, first_arrival, act_given, act_of, act_of_item, act_of_lane, act_of_turn, act_of_masters, act_on, first_act, next_of}
+use Rattle.law_progress.proofs.NextNoneLemmas.{or_none_both, below_none, bus_gives_none, IsOnBoard, IsOnBoard-found, lanes_give_none}
+use Rattle.law_progress.proofs.NextWantLemmas.{presents_some, at_master, master_bus, master_wants, lane_wants}
 
 module _ (board : Board) (h : List Event) (run : Run board h) where
   -- where a lane looks for an act of each item in vain, one that it presents has none
