@@ -8,8 +8,10 @@ use Rattle.pci_command.specs.declared.request.Request.{Request}
 use Rattle.pci_command.specs.declared.op_id.OpId.{OpId}
 use Rattle.pci_command.specs.Same.{same_op, same_command}
 use Rattle.pci_command.specs.declared.command.Command.TheVariants.{MemWrite}
+use Rattle.pci_command.specs.declared.command.Kind.{Kind}
 use Rattle.pci_command.specs.declared.command.Kind.TheVariants.{Pmw}
 use Rattle.order_table.specs.Order.{may_pass}
+use Rattle.order_table.proofs.Laws.{others_pass}
 use Rattle.board_model.specs.declared.board.Board.{Board}
 use Rattle.board_model.specs.Requests.{request_of, reads, same_requests, command_of}
 use Rattle.history_model.specs.declared.item.Carried.{Carried}
@@ -58,26 +60,16 @@ HasOne board bus (Done op slot outcome) = Unit {0}
 HasOne board bus Room = Unit {0}
 HasOne board bus (Gone slot) = Unit {0}
 
-ask_reads : (a b : Bool) → may_pass (request_kind a) (request_kind b) ≡ true
-ask_reads true true = refl
-ask_reads true false = refl
-ask_reads false true = refl
-ask_reads false false = refl
+-- posted writes alone are in the way: not a delayed request, nor a completion
+passes_ask : (row : Kind) (b : Bool) → may_pass row (request_kind b) ≡ true
+passes_ask row true = others_pass row (request_kind true) tt
+passes_ask row false = others_pass row (request_kind false) tt
 
-ask_done : (a b : Bool) → may_pass (request_kind a) (completion_kind b) ≡ true
-ask_done true true = refl
-ask_done true false = refl
-ask_done false true = refl
-ask_done false false = refl
+passes_done : (row : Kind) (b : Bool) → may_pass row (completion_kind b) ≡ true
+passes_done row true = others_pass row (completion_kind true) tt
+passes_done row false = others_pass row (completion_kind false) tt
 
-post_ask : (b : Bool) → may_pass Pmw (request_kind b) ≡ true
-post_ask true = refl
-post_ask false = refl
-
-post_done : (b : Bool) → may_pass Pmw (completion_kind b) ≡ true
-post_done true = refl
-post_done false = refl
-
+-- no delayed request passes a posted write
 ask_post : (b : Bool) → may_pass (request_kind b) Pmw ≡ false
 ask_post true = refl
 ask_post false = refl
@@ -116,11 +108,11 @@ module _ (board : Board) (bus : ℕ) where
   ask_goes op slot [] passed = refl
   ask_goes op slot (Post q ∷ older) passed = absurd passed.0
   ask_goes op slot (Ask q other ∷ older) passed =
-      let may = ask_reads (reads board op) (reads board q) in
+      let may = passes_ask (request_kind (reads board op)) (reads board q) in
       let rest = ask_goes op slot older passed.1 in
       rw (may, rest) (not_or (same_requests board bus op q) (has_same board bus op older))
   ask_goes op slot (Done q other outcome ∷ older) passed =
-      let may = ask_done (reads board op) (reads board q) in
+      let may = passes_done (request_kind (reads board op)) (reads board q) in
       let rest = ask_goes op slot older passed.1 in
       rw (may, rest) refl
   ask_goes op slot (Room ∷ older) passed = absurd passed.0
@@ -129,8 +121,8 @@ module _ (board : Board) (bus : ℕ) where
   post_goes : (op : OpId) (older : List Carried) → AllByRecursion IsPassed older → list_all (goes_before board bus (Post op)) older ≡ true
   post_goes op [] passed = refl
   post_goes op (Post q ∷ older) passed = absurd passed.0
-  post_goes op (Ask q other ∷ older) passed = let may = post_ask (reads board q) in let rest = post_goes op older passed.1 in rw (may, rest) refl
-  post_goes op (Done q other outcome ∷ older) passed = let may = post_done (reads board q) in let rest = post_goes op older passed.1 in rw (may, rest) refl
+  post_goes op (Ask q other ∷ older) passed = let may = passes_ask Pmw (reads board q) in let rest = post_goes op older passed.1 in rw (may, rest) refl
+  post_goes op (Done q other outcome ∷ older) passed = let may = passes_done Pmw (reads board q) in let rest = post_goes op older passed.1 in rw (may, rest) refl
   post_goes op (Room ∷ older) passed = absurd passed.0
   post_goes op (Gone other ∷ older) passed = absurd passed.0
 

@@ -3,6 +3,7 @@ ghost use Rattle.bridge_face.specs.State.{FaceState};
 ghost use Rattle.board_model.specs.Requests.{is_posted};
 ghost use Rattle.pci_command.specs.Same.{same_op};
 ghost use Rattle.bridge_face.specs.Offers.{answered_with};
+ghost use Rattle.history_model.specs.Answers.{request_kind, completion_kind};
 
 use crate::{Offer, Reply};
 use arrayvec::ArrayVec;
@@ -10,7 +11,8 @@ use delayed_completions::DoneTable;
 use delayed_requests::{AskTable, SlotTable};
 use history_model::{Cause, Mark};
 use lane_items::Item;
-use pci_command::{Command, OpId, Outcome, Request};
+use order_table::may_pass;
+use pci_command::{Command, Kind, OpId, Outcome, Request};
 use posted_queue::PostedTable;
 use std::marker::Model;
 
@@ -124,7 +126,8 @@ impl Face {
         }
     }
 
-    /// The completion of the own slot, if it came.
+    /// The completion of the own slot, if it came: Behind where it may not pass posted writes, and one
+    /// stands that is older. Posted writes alone are in the way.
     fn take(&mut self, slot: u8, read: bool) -> Reply
         requires { IsHeld slot self.old.slots.slots }
         ensures { let reply = taken_reply self.old slot read (done_at slot self.old.dones.dones) in (result ≡ reply.0) × (self.new ≡ reply.1) }
@@ -132,7 +135,7 @@ impl Face {
         match self.dones.find(slot) {
             None => Reply::Retry(Cause::Waiting),
             Some((outcome, arrival)) => {
-                if read && self.is_behind(arrival) {
+                if !may_pass(completion_kind(read), Kind::Pmw) && self.is_behind(arrival) {
                     Reply::Retry(Cause::Behind)
                 } else {
                     self.slots.free(slot);
@@ -366,15 +369,25 @@ impl Face {
         offers
     }
 
-    /// Whether the delayed request at this place may be driven now.
+    /// Whether the delayed request at this place may be driven now: it may pass posted writes, or none
+    /// stands that is older, and it has no older equal one. Posted writes alone are in the way.
     fn is_offered(&self, place: u8) -> bool
         requires { place < length self.now.asks.asks }
         ensures { Some result ≡ option_map (λ ask. is_offered self.now.posts.posts (take place self.now.asks.asks) ask) (slice_get self.now.asks.asks place) }
     {
         let (_, _, arrival) = self.asks.get(place);
-        let first = self.came_before(arrival);
+        let first = self.goes_first(place, arrival);
         let equal = self.asks.older_equal(place);
         first && !equal
+    }
+
+    /// Whether the delayed request at this place, which came with this arrival, goes before the posted
+    /// writes: it may pass them, or none stands that came before.
+    fn goes_first(&self, place: u8, arrival: u64) -> bool
+        requires { place < length self.now.asks.asks }
+        ensures { result ≡ came_before arrival self.now.posts.posts }
+    {
+        may_pass(request_kind(self.asks.is_read(place)), Kind::Pmw) || self.came_before(arrival)
     }
 
     /// Whether no posted write stands that came before.
@@ -449,6 +462,20 @@ fn is_same(a: OpId, b: OpId) -> bool
     ensures { result ≡ same_op a b }
 {
     a == b
+}
+
+/// The kind of a delayed request that reads or writes.
+fn request_kind(reads: bool) -> Kind
+    ensures { result ≡ request_kind reads }
+{
+    if reads { Kind::Drr } else { Kind::Dwr }
+}
+
+/// The kind of a completion of a read or of a write.
+fn completion_kind(reads: bool) -> Kind
+    ensures { result ≡ completion_kind reads }
+{
+    if reads { Kind::Drc } else { Kind::Dwc }
 }
 
 /// What goes back for an item that ended.

@@ -1,6 +1,7 @@
 ghost use Rattle.std.specs.Prelude.{◌≡◌, ◌+◌, ◌<◌, ◌≤◌, ◌==◌, ◌↔◌, Some, [], ◌∷◌, ◌++◌, length, slice_get, remove, IsTrue};
 ghost use Rattle.std.specs.Option.{option_map};
 ghost use Rattle.std.specs.List.{Any, list_any};
+ghost use Rattle.pci_command.specs.Command.{is_read};
 
 use arrayvec::ArrayVec;
 use pci_command::{OpId, Request, same_request};
@@ -108,6 +109,17 @@ impl AskTable {
     {
         let ask = &self.standing.as_slice()[place as usize];
         (ask.op, ask.slot, ask.arrival)
+    }
+
+    /// Whether the request at this place reads.
+    pub fn is_read(&self, place: u8) -> bool
+        requires { place < length self.now.asks }
+        ensures value { Some result ≡
+            option_map (λ ask. is_read ask.request.command) (slice_get self.now.asks place) }
+        ensures is_table { IsAskTable self.now }
+    {
+        let asks = self.standing.as_slice();
+        asks[place as usize].request.command.is_read()
     }
 
     /// The request at this place leaves, and the others keep their order.

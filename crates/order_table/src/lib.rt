@@ -2,7 +2,9 @@
 //! transaction may pass which older one that goes the same way through the bridge.
 #![tactic(auto)]
 
-ghost use Rattle.std.specs.Prelude.{◌≡◌, ◌↔◌, IsTrue, IsNone, All, not, position};
+ghost use Rattle.std.specs.Prelude.{◌≡◌, ◌↔◌, IsTrue, IsNone, All, false, not, position};
+ghost use Rattle.pci_command.specs.declared.command.Kind.{Kind};
+ghost use Rattle.pci_command.specs.declared.command.Kind.TheVariants.{Pmw};
 ghost use Rattle.order_table.specs.Order.{may_pass};
 
 use pci_command::Kind;
@@ -28,3 +30,10 @@ pub fn first_blocker(item: Kind, older: &[Kind]) -> Option<usize>
 {
     older.iter().position(|kind| !may_pass(item, *kind))
 }
+
+/// What a transaction may not pass is a posted write: whoever looks at the older posted writes has
+/// looked at all that may be in the way. A function with an empty body states a law; who needs it
+/// calls it.
+pub fn posted_writes_alone_are_in_the_way()
+    ensures { (row column : Kind) → may_pass row column ≡ false → column ≡ Pmw }
+{}
