@@ -12,3 +12,4 @@ pub mod Wrong
 pub mod Relay
 pub mod Passing
 pub mod Crossing
+pub mod Premises
