@@ -13,3 +13,4 @@ pub mod Relay
 pub mod Passing
 pub mod Crossing
 pub mod Audited
+pub mod Premises

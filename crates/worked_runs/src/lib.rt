@@ -26,6 +26,14 @@ ghost use Rattle.worked_runs.specs.Passing.{passing_board, passing_events, behin
 ghost use Rattle.worked_runs.specs.Crossing.{crossing_board, crossing_events, crossing_posted_board, crossing_posted_events};
 ghost use Rattle.worked_runs.specs.Stealing.{stealing_board, stealing_events, held_back_events};
 
+mod premises;
+
+pub use premises::{
+    bridges_carry, later_writes_need_not_be_known, only_runs_are_fresh, operations_need_no_phases,
+    other_events_make_no_run, runs_need_not_be_complete, sides_need_the_depths,
+    writes_are_told_one_way, wrong_parts_make_no_run,
+};
+
 /// A write, and a read of what it wrote, by one master: what its audit says.
 pub fn one_word()
     ensures run { Run one_word_board (history_of one_word_events) }
