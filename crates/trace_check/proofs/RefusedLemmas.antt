@@ -1,5 +1,5 @@
 -- The first event that is not allowed after those before it.
-use Rattle.std.proofs.Common.{◌≡◌, ℕ, suc, ◌+◌, ◌<◌, List, [], ◌∷◌, ◌++◌, append_assoc, reverse, length, take, drop, get_or, Result, Err, Some, subst, sym, ap, ◌∙◌, arith}
+use Rattle.std.proofs.Common.{◌≡◌, ℕ, suc, ◌+◌, ◌<◌, List, [], ◌∷◌, ◌++◌, append_assoc, reverse, length, take, drop, get_or, Err, Some, subst, sym, ap, ◌∙◌, arith}
 use Rattle.std.proofs.lemmas.List.{take-append-drop, length-take-le, reverse-append}
 use Rattle.std.proofs.Math.Seq.{drop-cons}
 use Rattle.board_model.specs.declared.board.Board.{Board}

@@ -1,5 +1,5 @@
 -- A run goes on by its next events.
-use Rattle.std.proofs.Common.{◌≡◌, ◌↔◌, ◌+◌, ◌<◌, ◌≤◌, List, [], ◌∷◌, ◌++◌, append_assoc, append-nil, length, Option, Some, None, refl, sym, subst, ap, ◌∙◌, arith}
+use Rattle.std.proofs.Common.{◌≡◌, ◌↔◌, ◌+◌, ◌<◌, ◌≤◌, List, [], ◌∷◌, ◌++◌, append_assoc, append-nil, Option, Some, None, refl, sym, subst, ap, ◌∙◌, arith}
 use Rattle.std.specs.Prelude.{IfSome}
 use Rattle.std.proofs.lemmas.List.{reverse-append, length-reverse}
 use Rattle.board_model.specs.declared.board.Board.{Board}
@@ -11,7 +11,6 @@ use Rattle.history_model.specs.Next.{next_of}
 use Rattle.law_fresh.specs.Laws.{LawsOfRun}
 use Rattle.kept_next.specs.declared.course.Course.{Course}
 use Rattle.kept_next.specs.Course.{IsCourse}
-use Rattle.trace_check.specs.Verdicts.{CompleteRun}
 use Rattle.trace_finish.specs.Finishing.{GoesOn, GoesOnBy, Finishes}
 
 -- a run that went on by its next events so far

@@ -1,4 +1,4 @@
-use Rattle.std.proofs.Common.{◌≡◌, ◌≤◌, List, length, subst, arith}
+use Rattle.std.proofs.Common.{◌≤◌, List, subst, arith}
 use Rattle.std.proofs.lemmas.List.{length-reverse}
 use Rattle.board_model.specs.declared.board.Board.{Board}
 use Rattle.board_model.specs.Ways.{bound_of}

@@ -1,8 +1,5 @@
-use Rattle.std.proofs.Common.{◌≡◌, ◌∷◌, [], List, Option, Some, None, refl, sym, arith, ◌∙◌}
 use Rattle.board_model.specs.declared.board.Board.{Board}
-use Rattle.history_model.specs.declared.event.Event.{Event}
 use Rattle.law_fresh.specs.Laws.{LawsOfRun}
-use Rattle.kept_next.specs.Course.{IsCourse}
 use Rattle.trace_finish.proofs.GoingLemmas.{goes_on_by}
 use Rattle.trace_finish.proofs.finishing.go_on.Goals as goal
 

@@ -3,7 +3,7 @@ use Rattle.board_model.specs.declared.board.Board.{Board}
 use Rattle.history_model.specs.declared.event.Event.{Event}
 use Rattle.history_model.specs.Runs.{history_of}
 use Rattle.kept_next.specs.Course.{IsCourse}
-use Rattle.trace_finish.specs.Finishing.{WentOnBy}
+use Rattle.trace_finish.specs.Finishing.{WentOnBy, Finishes}
 use Rattle.trace_finish.proofs.GoingLemmas.{WentOn, history_push, went_on_more, left_fell, finishes}
 use Rattle.trace_finish.proofs.finishing.to_the_end.Goals as goal
 
@@ -27,3 +27,11 @@ loop-event-smaller c =
     let pushed : c.push.new.self.items ≡ whole ++ e ∷ [] = c.in_ok-push.ensures.items in
     let by : WentOnBy board (history_of whole) c.go_on.new.course e = c.in-Some.ensures (history_of whole) c.loop-event.invariant.1 in
     left_fell board whole c.push.new.self.items e pushed by.lowers
+
+-- without a next event it is complete
+pub returns : goal.returns
+returns c =
+    let board : Board = c.args.tree.now in
+    let whole : List Event = c.loop-event.whole.items in
+    let done = c.in_default.ensures (history_of whole) c.loop-event.invariant.1 in
+    subst (Finishes board c.args.events) (sym c.from_vec.ensures) (finishes board c.args.events whole c.loop-event.invariant.0 done.0 done.1)
