@@ -1,4 +1,4 @@
-ghost use Rattle.std.specs.Prelude.{◌≡◌, ◌/◌, ◌%◌, ◌∷◌, slice_get, take, drop, Some};
+ghost use Rattle.std.specs.Prelude.{◌≡◌, ◌/◌, ◌%◌, [], ◌∷◌, slice_get, take, drop, Some};
 ghost use Rattle.list_facts.specs.Lists.{changed_at};
 ghost use Rattle.board_model.specs.Ways.{address_in};
 ghost use Rattle.device_header.specs.Registers.{opening_of, write_mask_of, merge_of};
