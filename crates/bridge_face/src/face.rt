@@ -1,7 +1,6 @@
 ghost use Rattle.std.specs.Prelude.{◌≡◌, ◌+◌, ◌<◌, ◌≤◌, ◌^◌, ◌&&◌, length, not, true, false, None, Some, nat_lt};
 ghost use Rattle.bridge_face.specs.State.{FaceState};
 ghost use Rattle.bridge_face.specs.Offers.{answered_with};
-ghost use Rattle.history_model.specs.Answers.{request_kind, completion_kind};
 
 use crate::{Offer, Reply};
 use arrayvec::ArrayVec;
@@ -10,6 +9,7 @@ use delayed_completions::DoneTable;
 use delayed_requests::{AskTable, SlotTable};
 use history_model::{Cause, Mark};
 use lane_items::Item;
+use machine_steps::{completion_kind, request_kind};
 use order_table::may_pass;
 use pci_command::{Kind, OpId, Outcome, Request, same_op};
 use posted_queue::PostedTable;
@@ -454,20 +454,6 @@ impl Face {
             None => false,
         }
     }
-}
-
-/// The kind of a delayed request that reads or writes.
-fn request_kind(reads: bool) -> Kind
-    ensures { result ≡ request_kind reads }
-{
-    if reads { Kind::Drr } else { Kind::Dwr }
-}
-
-/// The kind of a completion of a read or of a write.
-fn completion_kind(reads: bool) -> Kind
-    ensures { result ≡ completion_kind reads }
-{
-    if reads { Kind::Drc } else { Kind::Dwc }
 }
 
 /// What goes back for an item that ended.
