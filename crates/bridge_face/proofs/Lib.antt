@@ -1,4 +1,3 @@
-pub mod SameLemmas
 pub mod OwnLemmas
 pub mod DelayLemmas
 pub mod HeldLemmas

@@ -12,7 +12,7 @@ use Rattle.delayed_requests.specs.declared.ask_table.Ask.{Ask}
 use Rattle.delayed_requests.specs.Asks.{request_at, HasOlderEqual}
 use Rattle.bridge_face.specs.declared.offer.Offer.{Offer}
 use Rattle.bridge_face.specs.Offers.{has_equal, is_offered, ask_offer, offer_where, ask_offers, came_before, is_ask_for}
-use Rattle.bridge_face.proofs.SameLemmas.{request_decides}
+use Rattle.machine_steps.proofs.SameLemmas.{request_decides}
 
 pub take_one_more : {X : Type 0} (xs : List X) (place : ℕ) (x : X) → slice_get xs place ≡ Some x → take (suc place) xs ≡ take place xs ++ x ∷ []
 take_one_more [] place x at = cc

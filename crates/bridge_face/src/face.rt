@@ -1,18 +1,17 @@
 ghost use Rattle.std.specs.Prelude.{◌≡◌, ◌+◌, ◌<◌, ◌≤◌, ◌^◌, ◌&&◌, length, not, true, false, None, Some, nat_lt};
 ghost use Rattle.bridge_face.specs.State.{FaceState};
-ghost use Rattle.board_model.specs.Requests.{is_posted};
-ghost use Rattle.pci_command.specs.Same.{same_op};
 ghost use Rattle.bridge_face.specs.Offers.{answered_with};
-ghost use Rattle.history_model.specs.Answers.{request_kind, completion_kind};
 
 use crate::{Offer, Reply};
 use arrayvec::ArrayVec;
+use board_model::is_posted;
 use delayed_completions::DoneTable;
 use delayed_requests::{AskTable, SlotTable};
 use history_model::{Cause, Mark};
 use lane_items::Item;
+use machine_steps::{completion_kind, request_kind};
 use order_table::may_pass;
-use pci_command::{Command, Kind, OpId, Outcome, Request};
+use pci_command::{Kind, OpId, Outcome, Request, same_op};
 use posted_queue::PostedTable;
 use std::marker::Model;
 
@@ -439,7 +438,7 @@ impl Face {
     {
         for place in 0..self.asks.len() {
             let (other, _, _) = self.asks.get(place);
-            if is_same(op, other) {
+            if same_op(op, other) {
                 return Some(place);
             }
         }
@@ -457,27 +456,6 @@ impl Face {
     }
 }
 
-/// Whether two names are of one operation.
-fn is_same(a: OpId, b: OpId) -> bool
-    ensures { result ≡ same_op a b }
-{
-    a == b
-}
-
-/// The kind of a delayed request that reads or writes.
-fn request_kind(reads: bool) -> Kind
-    ensures { result ≡ request_kind reads }
-{
-    if reads { Kind::Drr } else { Kind::Dwr }
-}
-
-/// The kind of a completion of a read or of a write.
-fn completion_kind(reads: bool) -> Kind
-    ensures { result ≡ completion_kind reads }
-{
-    if reads { Kind::Drc } else { Kind::Dwc }
-}
-
 /// What goes back for an item that ended.
 fn answer(offer: &Offer, outcome: Outcome, stamp: u32) -> Item
     ensures { result ≡ answered_with offer.now outcome stamp }
@@ -492,11 +470,4 @@ fn answer(offer: &Offer, outcome: Outcome, stamp: u32) -> Item
     } else {
         Item::Room { stamp }
     }
-}
-
-/// Whether a request is a write in memory, which is posted.
-fn is_posted(request: &Request) -> bool
-    ensures { result ≡ is_posted request.now }
-{
-    request.command == Command::MemWrite
 }

@@ -10,13 +10,13 @@ ghost use Rattle.history_model.specs.World.{same_lane};
 ghost use Rattle.board_model.specs.Ways.{lane_back};
 ghost use Rattle.bus_core.specs.Places.{OffersAt, RespondsAt, AccessesAt, NotesPart, WantsAt, EndsTurnAt, TellsMaster, EndsAt};
 
-use crate::steps::master_outcome;
 use arrayvec::ArrayVec;
 use board_model::{Board, Lane};
 use bridge_face::{Offer, Reply};
 use bus_port::Port;
 use history_model::Step;
 use lane_items::Item;
+use machine_steps::master_outcome;
 use master_agents::{MasterState, Through};
 use pci_command::{OpId, Outcome, Request};
 use target_agents::{Access, TargetState};

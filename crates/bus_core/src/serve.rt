@@ -11,11 +11,11 @@ ghost use Rattle.bus_core.specs.Parts.{TellsLane};
 ghost use Rattle.bus_core.specs.Serves.{Serves, SendsStamped, SendsApart, IsAt, ServesMaster};
 
 use crate::places::{end_at, tell_master, want_at};
-use crate::steps::lane_outcome;
 use crate::{Acted, Bus, Presented, Sent};
 use board_model::{Board, Lane};
 use bridge_face::Offer;
 use history_model::{Answer, By, Event, Step};
+use machine_steps::lane_outcome;
 use pci_command::OpId;
 
 impl Bus {

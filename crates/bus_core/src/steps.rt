@@ -2,20 +2,17 @@ ghost use Rattle.std.specs.Prelude.{◌≡◌, ◌+◌, ◌<◌, drop, length, N
 ghost use Rattle.board_model.specs.declared.bridge.Place.TheVariants.{Nobody};
 ghost use Rattle.history_model.specs.declared.event.Step.TheVariants.{MasterAbort};
 ghost use Rattle.history_model.specs.declared.item.Answer.TheVariants.{Gives};
-ghost use Rattle.history_model.specs.Program.{master_outcome};
-ghost use Rattle.history_model.specs.World.{lane_outcome, unclaimed, mode_of};
 ghost use Rattle.bridge_face.specs.Replies.{as_answer};
 ghost use Rattle.target_agents.specs.State.{step_of};
 ghost use Rattle.bus_core.specs.Parts.{IsRest};
 ghost use Rattle.bus_core.specs.Places.{sent_over};
 
 use crate::{Given, Sent};
-use board_model::{Board, Lane, Place, bridge_to};
+use board_model::{Lane, Place};
 use bridge_face::Reply;
 use history_model::{Answer, Step};
 use lane_items::Item;
-use lane_replay::reads;
-use pci_command::{OpId, Outcome, Phases, Request};
+use pci_command::{OpId, Phases, Request};
 use target_agents::Access;
 
 /// Nobody claims it.
@@ -23,10 +20,7 @@ pub(crate) fn nobody() -> Given
     ensures { result ≡ record { answer = Gives MasterAbort Nobody; over = None } }
 {
     Given {
-        answer: Answer::Gives {
-            step: Step::MasterAbort,
-            place: Place::Nobody,
-        },
+        answer: machine_steps::nobody(),
         over: None,
     }
 }
@@ -109,55 +103,5 @@ pub(crate) fn step_of(access: Access) -> Step
         Access::Value(value) => Step::Read(value),
         Access::Part(phases) => Step::Part(phases),
         Access::Landed => Step::Land,
-    }
-}
-
-/// How a step ends the operation of a master that presented it, if it does.
-pub(crate) fn master_outcome(step: Step) -> Option<Outcome>
-    ensures { result ≡ master_outcome step }
-{
-    match step {
-        Step::Land | Step::Accept => Some(Outcome::Written),
-        Step::Read(value) => Some(Outcome::Value(value)),
-        Step::Take(outcome) => Some(outcome),
-        Step::MasterAbort => Some(Outcome::Nobody),
-        Step::TargetAbort => Some(Outcome::Aborted),
-        Step::Part(_) | Step::Latch | Step::Stall => None,
-    }
-}
-
-/// How a step ends the item of a lane that presented it, if it does.
-pub(crate) fn lane_outcome(board: &Board, lane: Lane, op: OpId, step: Step) -> Option<Outcome>
-    ensures { result ≡ lane_outcome board.now lane op step }
-{
-    match step {
-        Step::Land | Step::Accept => Some(Outcome::Written),
-        Step::Read(value) => Some(Outcome::Value(value)),
-        Step::Take(outcome) => Some(outcome),
-        Step::MasterAbort => Some(unclaimed(mode_of(board, lane.bus), reads(board, op))),
-        Step::TargetAbort => Some(Outcome::Aborted),
-        Step::Part(_) | Step::Latch | Step::Stall => None,
-    }
-}
-
-/// How a bridge ends a delayed request that nobody claimed, by its master abort mode.
-fn unclaimed(mode: bool, reads: bool) -> Outcome
-    ensures { result ≡ unclaimed mode reads }
-{
-    if mode {
-        Outcome::Aborted
-    } else if reads {
-        Outcome::Value(0xffff_ffff)
-    } else {
-        Outcome::Written
-    }
-}
-
-fn mode_of(board: &Board, bus: u8) -> bool
-    ensures { result ≡ mode_of board.now bus }
-{
-    match bridge_to(board, bus) {
-        Some(bridge) => bridge.mode,
-        None => false,
     }
 }

@@ -18,7 +18,9 @@ use Rattle.history_model.specs.declared.event.Step.TheVariants.{Part}
 use Rattle.history_model.specs.declared.event.Event.{Event}
 use Rattle.history_model.specs.declared.event.Event.TheVariants.{Act}
 use Rattle.history_model.specs.Words.{through, parted_by}
-use Rattle.master_agents.specs.Through.{list_in, count_at, changed_at, changed_with, added, none_of_any, nothing_yet, ThroughStands}
+use Rattle.list_facts.specs.Lists.{changed_at, changed_with}
+use Rattle.machine_steps.specs.Counts.{or_zero, none_of_any}
+use Rattle.master_agents.specs.Through.{list_in, count_at, count_in, added, nothing_yet, ThroughStands, AreBytes}
 
 -- a change at a place, and elsewhere
 set_same : {X : Type 0} (xs : List X) (i : ℕ) (x : X) → i < length xs → slice_get (set xs i x) i ≡ Some x
@@ -33,10 +35,10 @@ set_other (y ∷ ys) zero (suc j) x apart = refl
 set_other (y ∷ ys) (suc i) zero x apart = refl
 set_other (y ∷ ys) (suc i) (suc j) x apart = set_other ys i j x (λ e. apart (ap suc e))
 
-changed_same : {X : Type 0} (f : X → X) (xs : List X) (place : ℕ) (x : X) → slice_get xs place ≡ Some x → slice_get (changed_at f xs place) place ≡ Some (f x)
+changed_same : {X : Type 0} (f : X → X) (xs : List X) (place : ℕ) (x : X) → slice_get xs place ≡ Some x → slice_get (changed_at f xs (Some place)) place ≡ Some (f x)
 changed_same f xs place x at = rw at (set_same xs place (f x) (slice_get_within xs place x at))
 
-changed_other : {X : Type 0} (f : X → X) (xs : List X) (place other : ℕ) → other ≢ place → slice_get (changed_at f xs place) other ≡ slice_get xs other
+changed_other : {X : Type 0} (f : X → X) (xs : List X) (place other : ℕ) → other ≢ place → slice_get (changed_at f xs (Some place)) other ≡ slice_get xs other
 changed_other {X = X} f xs place other apart =
     let P : Option X → Type 0 = λ x. slice_get (changed_with f xs place x) other ≡ slice_get xs other in
     elim (slice_get xs place) as P [ None ↦ refl | Some x ↦ set_other xs place other (f x) apart ]
@@ -47,7 +49,7 @@ slot_in gone master index = slice_get (list_in (slice_get gone master)) index
 added_same : (gone : List (List ℕ)) (p : OpId) (n x : ℕ) → slot_in gone p.master p.index ≡ Some x → slot_in (added p n gone) p.master p.index ≡ Some (x + n)
 added_same gone p n x there =
     let f : ℕ → ℕ = λ c. c + n in
-    let g : List ℕ → List ℕ = λ row. changed_at f row p.index in
+    let g : List ℕ → List ℕ = λ row. changed_at f row (Some p.index) in
     let P : Option (List ℕ) → Type 0 = λ r. slice_get gone p.master ≡ r → slice_get (list_in r) p.index ≡ Some x → slot_in (added p n gone) p.master p.index ≡ Some (x + n) in
     (elim (slice_get gone p.master) as P [
       | None ↦ λ _ never. cc
@@ -57,7 +59,7 @@ added_same gone p n x there =
 added_other : (gone : List (List ℕ)) (p : OpId) (n master index : ℕ) → (p.master == master && p.index == index) ≡ false → slot_in (added p n gone) master index ≡ slot_in gone master index
 added_other gone p n master index other =
     let f : ℕ → ℕ = λ c. c + n in
-    let g : List ℕ → List ℕ = λ row. changed_at f row p.index in
+    let g : List ℕ → List ℕ = λ row. changed_at f row (Some p.index) in
     let P : Bool → Type 0 = λ b. (p.master == master) ≡ b → (b && p.index == index) ≡ false → slot_in (added p n gone) master index ≡ slot_in gone master index in
     (elim (p.master == master) as P [
       | true ↦ λ same differ.
@@ -137,3 +139,20 @@ through_stays board p gone e none stands =
     record {
       each = λ o op is. (let nothing = none o in let same : through p o ≡ parted_by o e + through p o = omega (arith, nothing) in stands.each o op is ∙ ap (λ (n : ℕ). Some n) same);
     }
+
+-- each count fits a byte before the first event
+none_in_row : (index : ℕ) (master : Option MasterAgent) → or_zero (slice_get (list_in (option_map (λ (m : MasterAgent). none_of_any m.ops) master)) index) < 256
+none_in_row index None = omega arith
+none_in_row index (Some m) =
+    let P : Option ℕ → Type 0 = λ c. or_zero c < 256 in
+    let Q : Option Op → Type 0 = λ op. or_zero (option_map (λ (one : Op). 0) op) < 256 in
+    subst P (sym (slice_get-map (λ (one : Op). 0) m.ops index)) (elim (slice_get m.ops index) as Q [ None ↦ omega arith | Some op ↦ omega arith ])
+
+pub none_bytes : (board : Board) (gone : List (List ℕ)) → gone ≡ nothing_yet board → AreBytes gone
+none_bytes board gone none = record { each = each } where
+  each : (o : OpId) → count_in gone o < 256
+  each o =
+      let P : Option (List ℕ) → Type 0 = λ row. or_zero (slice_get (list_in row) o.index) < 256 in
+      let row = slice_get-map (λ (m : MasterAgent). none_of_any m.ops) board.masters o.master in
+      let here : count_in (nothing_yet board) o < 256 = subst P (sym row) (none_in_row o.index (slice_get board.masters o.master)) in
+      subst (λ (g : List (List ℕ)). count_in g o < 256) (sym none) here

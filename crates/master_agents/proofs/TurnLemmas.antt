@@ -48,12 +48,6 @@ turn_masters : (board : Board) (p : List Event) (master : ℕ) → IsMasters mas
 turn_masters board [] master = present_masters board master _ refl
 turn_masters board (e ∷ p) master = after_masters board master (turn_of board p master) (ended e) (turn_masters board p master)
 
--- what follows an operation in its own program
-pub own_follows : (board : Board) (o : OpId) (outcome : Outcome) → turn_after board o.master None (Some (record { op = o; outcome = outcome })) ≡ follows board (record { op = o; outcome = outcome })
-own_follows board o outcome =
-    let same : (o.master == o.master) ≡ true = grind (arith, nat_tests) in
-    ap (λ (b : Bool). if b then follows board (record { op = o; outcome = outcome }) else None) same
-
 -- the operation that was the turn ended
 pub ends_turn : (board : Board) (p : List Event) (m : MasterView) (outcome : Outcome) (on : ℕ) (o : OpId) (step : Step) (place : Place) → MasterStands board p m → m.turn ≡ Some o → master_outcome step ≡ Some outcome
     → turn_behind board outcome m.turn ≡ turn_of board (Act on Master o step place ∷ p) m.master

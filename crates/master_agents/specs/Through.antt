@@ -1,7 +1,7 @@
 -- How many data phases of each write went through: PCI Local Bus Specification 2.2, section 3.3.3.2.1 (from memory;
 -- a target that disconnects).
-use Rattle.std.specs.Prelude.{◌≡◌, ℕ, ◌+◌, List, [], ◌∷◌, Option, Some, None, map, slice_get}
-use Rattle.std.proofs.Math.ListN.{set}
+use Rattle.std.specs.Prelude.{◌≡◌, ℕ, ◌+◌, ◌<◌, List, [], ◌∷◌, Option, Some, None, map, slice_get}
+use Rattle.list_facts.specs.Lists.{changed_at}
 use Rattle.pci_command.specs.declared.op_id.OpId.{OpId}
 use Rattle.board_model.specs.declared.agents.Master.{Master}
 use Rattle.board_model.specs.declared.bridge.Place.{Place}
@@ -13,10 +13,7 @@ use Rattle.history_model.specs.declared.event.Step.TheVariants.{Part}
 use Rattle.history_model.specs.declared.event.Event.{Event}
 use Rattle.history_model.specs.declared.event.Event.TheVariants.{Act}
 use Rattle.history_model.specs.Words.{through}
-
-abbrev pub or_zero : Option ℕ → ℕ
-or_zero None = 0
-or_zero (Some n) = n
+use Rattle.machine_steps.specs.Counts.{or_zero, none_of_any}
 
 abbrev pub list_in : {X : Type 0} → Option (List X) → List X
 list_in None = []
@@ -29,24 +26,17 @@ count_at gone o = slice_get (list_in (slice_get gone o.master)) o.index
 abbrev pub count_in : List (List ℕ) → OpId → ℕ
 count_in gone o = or_zero (count_at gone o)
 
-abbrev pub changed_with : {X : Type 0} → (X → X) → List X → ℕ → Option X → List X
-changed_with f xs place None = xs
-changed_with f xs place (Some x) = set xs place (f x)
-
--- a list with what is at a place changed
-abbrev pub changed_at : {X : Type 0} → (X → X) → List X → ℕ → List X
-changed_at f xs place = changed_with f xs place (slice_get xs place)
-
 -- so many more for the operation
 abbrev pub added : OpId → ℕ → List (List ℕ) → List (List ℕ)
-added o more gone = changed_at (λ row. changed_at (λ n. n + more) row o.index) gone o.master
-
-abbrev pub none_of_any : List Op → List ℕ
-none_of_any ops = map (λ (op : Op). 0) ops
+added o more gone = changed_at (λ row. changed_at (λ n. n + more) row (Some o.index)) gone (Some o.master)
 
 -- nothing went through
 abbrev pub nothing_yet : Board → List (List ℕ)
 nothing_yet board = map (λ (master : Master). none_of_any master.ops) board.masters
+
+-- each count fits a byte, as the data phases of a write do
+pub record AreBytes (gone : List (List ℕ)) : Type 0 where
+  pub each : (o : OpId) → count_in gone o < 256
 
 -- the counts stand for a history, of the board or of one bus
 pub record ThroughStands (board : Board) (p : List Event) (gone : List (List ℕ)) : Type 0 where

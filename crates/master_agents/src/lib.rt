@@ -7,4 +7,4 @@ mod master;
 mod through;
 
 pub use master::{MasterState, others_leave_turns};
-pub use through::{PhaseCounts, Through, other_events_leave_counts};
+pub use through::{Through, other_events_leave_counts};

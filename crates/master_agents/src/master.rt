@@ -2,12 +2,11 @@ ghost use Rattle.std.specs.Prelude.{◌≡◌, ℕ, List, [], ◌∷◌, IsTrue}
 ghost use Rattle.board_model.specs.declared.board.Board.{Board as BoardTree};
 ghost use Rattle.board_model.specs.WellFormed.{is_well_formed};
 ghost use Rattle.history_model.specs.declared.event.Event.{Event as EventOfRun};
-ghost use Rattle.history_model.specs.Program.{turn_of, follows, ended};
+ghost use Rattle.history_model.specs.Program.{turn_of, ended};
 ghost use Rattle.master_agents.specs.Turns.{MasterView, MasterStands, IsOfOther, turn_behind};
 
-use board_model::{Board, Place};
-use history_core::{present, turn_after};
-use history_model::{By, Event, Step};
+use board_model::Board;
+use machine_steps::{first_turn, follows};
 use pci_command::{OpId, Outcome};
 use std::marker::Model;
 
@@ -74,19 +73,7 @@ impl MasterState {
     }
 }
 
-fn first_turn(board: &Board, master: u16) -> Option<OpId>
-    ensures { result ≡ turn_of board.now [] master }
-{
-    present(
-        board,
-        OpId {
-            master,
-            index: 0,
-            attempt: 0,
-        },
-    )
-}
-
+/// What follows the operation that was the turn and ended so.
 fn behind(board: &Board, turn: Option<OpId>, outcome: Outcome) -> Option<OpId>
     requires { IsTrue (is_well_formed board.now) }
     ensures { result ≡ turn_behind board.now outcome turn }
@@ -95,21 +82,6 @@ fn behind(board: &Board, turn: Option<OpId>, outcome: Outcome) -> Option<OpId>
         Some(op) => follows(board, op, outcome),
         None => None,
     }
-}
-
-/// What follows an operation that ended so: as where its master took a completion of this outcome.
-fn follows(board: &Board, op: OpId, outcome: Outcome) -> Option<OpId>
-    requires { IsTrue (is_well_formed board.now) }
-    ensures { result ≡ follows board.now (record { op = op; outcome = outcome }) }
-{
-    let end = Event::Act {
-        bus: 0,
-        by: By::Master,
-        op,
-        step: Step::Take(outcome),
-        place: Place::Nobody,
-    };
-    turn_after(board, op.master, None, &end)
 }
 
 /// An event that ends no operation of a master leaves its turn as it was.

@@ -1,64 +1,15 @@
-ghost use Rattle.std.specs.Prelude.{◌≡◌, ◌+◌, ◌<◌, ℕ, List as Items, [], ◌∷◌, Some, IfOk, slice_get};
+ghost use Rattle.std.specs.Prelude.{◌≡◌, ◌+◌, ◌<◌, ℕ, List as Items, [], ◌∷◌, IfOk};
 ghost use Rattle.pci_command.specs.declared.op_id.OpId.{OpId as OpName};
 ghost use Rattle.board_model.specs.declared.board.Board.{Board as BoardTree};
 ghost use Rattle.history_model.specs.declared.event.Event.{Event};
 ghost use Rattle.history_model.specs.Words.{parted_by};
-ghost use Rattle.master_agents.specs.Through.{or_zero, changed_at, count_in, added, ThroughStands};
+ghost use Rattle.master_agents.specs.Through.{count_in, added, ThroughStands};
 
-use board_model::{Board, Op};
+use board_model::Board;
+use machine_steps::PhaseCounts;
 use pci_command::{NoMemory, OpId};
 use std::alloc::Global;
 use std::marker::Model;
-
-/// One count for each operation of a program.
-#[derive(Debug, Drop)]
-pub struct PhaseCounts {
-    counts: Vec<u8>,
-}
-
-impl Model for PhaseCounts {
-    ghost use Rattle.std.specs.Prelude.{List, ℕ};
-
-    ghost Value = { List ℕ };
-
-    ghost view = { λ k. k.counts.items };
-}
-
-impl PhaseCounts {
-    ghost use Rattle.master_agents.specs.Through.{none_of_any};
-
-    fn new(alloc: Global, ops: &[Op]) -> Result<PhaseCounts, NoMemory>
-        ensures { IfOk result (λ counts. counts ≡ none_of_any ops.now) }
-    {
-        let counts = ops.iter().map(|_| 0).collect(alloc)?;
-        Ok(PhaseCounts { counts })
-    }
-
-    fn of(&self, index: u16) -> u8
-        ensures { result ≡ or_zero (slice_get self.now index) }
-    {
-        match self.counts.as_slice().get(index as usize) {
-            Some(count) => *count,
-            None => 0,
-        }
-    }
-
-    fn add(&mut self, index: u16, more: u8)
-        requires { or_zero (slice_get self.old index) + more < 256 }
-        ensures { self.new ≡ changed_at (λ n. n + more) self.old index }
-    {
-        add_to(self.counts.as_mut_slice(), index as usize, more);
-    }
-}
-
-fn add_to(counts: &mut [u8], place: usize, more: u8)
-    requires { or_zero (slice_get counts.old place) + more < 256 }
-    ensures { counts.new ≡ changed_at (λ n. n + more) counts.old place }
-{
-    if place < counts.len() {
-        counts[place] += more;
-    }
-}
 
 /// How many data phases of each operation went through in parts (PCI Local Bus 2.2, section
 /// 3.3.3.2.1, from memory; a target that disconnects): a byte for each operation of each master.
@@ -69,10 +20,13 @@ pub struct Through {
 
 impl Model for Through {
     ghost use Rattle.std.specs.Prelude.{List, ℕ};
+    ghost use Rattle.master_agents.specs.Through.{AreBytes};
 
     ghost Value = { List (List ℕ) };
 
     ghost view = { λ k. k.gone.items };
+
+    ghost invariant = { λ k. AreBytes k.gone.items };
 }
 
 impl Through {
@@ -101,7 +55,7 @@ impl Through {
         ensures { result ≡ count_in self.now op }
     {
         match self.gone.as_slice().get(op.master as usize) {
-            Some(counts) => counts.of(op.index),
+            Some(counts) => counts.of(op.index) as u8,
             None => 0,
         }
     }

@@ -20,7 +20,8 @@ use Rattle.history_model.specs.Words.{through, without, value_of}
 use Rattle.history_model.specs.Answers.{stalls_used, target_step, target_answer}
 use Rattle.target_agents.specs.declared.access.Access.{Access}
 use Rattle.target_agents.specs.declared.access.Access.TheVariants.{Stall, Abort, Value, Part, Landed}
-use Rattle.target_agents.specs.Words.{WordsOfSpace, place_in, value_in, value_at, or_zero}
+use Rattle.machine_steps.specs.Counts.{or_zero}
+use Rattle.target_agents.specs.Words.{WordsOfSpace, place_in, value_in, value_at}
 use Rattle.target_agents.specs.State.{TargetView, words_in, accessed_in, access_by, step_of}
 use Rattle.target_agents.specs.Stands.{TableStands, TargetStands, IsAccess}
 use Rattle.target_agents.proofs.PlaceLemmas.{found_place}

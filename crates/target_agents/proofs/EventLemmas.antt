@@ -22,8 +22,8 @@ use Rattle.history_model.specs.declared.event.Event.{Event}
 use Rattle.history_model.specs.declared.event.Event.TheVariants.{Act, Arrive}
 use Rattle.history_model.specs.Words.{Landing, through, without, brings, landings_at, landings_in, landings_of, brought, merged, value_of}
 use Rattle.history_model.specs.Answers.{stalls_used, stalls_by, stalls_in}
-use Rattle.history_core.specs.Values.{value_merged}
-use Rattle.history_core.proofs.ValueLemmas.{merged_landings, nothing_brought, value_after_event}
+use Rattle.machine_steps.specs.Values.{value_merged}
+use Rattle.machine_steps.proofs.ValueLemmas.{merged_landings, nothing_brought, value_after_event}
 use Rattle.target_agents.specs.declared.access.Access.{Access}
 use Rattle.target_agents.specs.declared.access.Access.TheVariants.{Stall, Abort, Value, Part, Landed}
 use Rattle.target_agents.specs.Words.{WordsOfSpace, place_in}

@@ -10,7 +10,8 @@ use Rattle.std.proofs.lemmas.Bool.Decides.{nat_tests}
 use Rattle.std.proofs.lemmas.Option.{slice_get_within, get_or_from_slice_get}
 use Rattle.std.proofs.lemmas.List.Sorted.{searched}
 use Rattle.std.proofs.lemmas.List.Kept.{AllPairs-from_increasing}
-use Rattle.target_agents.specs.Words.{place_in, changed_at, changed_with}
+use Rattle.list_facts.specs.Lists.{changed_at, changed_with}
+use Rattle.target_agents.specs.Words.{place_in}
 
 abbrev is : ℕ → ℕ → Bool
 is address kept = kept == address

@@ -4,12 +4,13 @@ use Rattle.std.proofs.Common.{◌≡◌, ◌≢◌, ℕ, Bool, true, false, ◌+
 use Rattle.std.specs.Prelude.{slice_get}
 use Rattle.std.specs.List.Sorted.{IsStrictlyIncreasing}
 use Rattle.std.proofs.lemmas.Bool.Decides.{nat_tests}
+use Rattle.list_facts.specs.Lists.{changed_at}
 use Rattle.pci_command.specs.declared.command.Space.{Space}
 use Rattle.pci_command.specs.declared.phases.Phase.{Phase}
 use Rattle.device_header.specs.Registers.{merge_of}
 use Rattle.history_model.specs.Words.{mask_in}
-use Rattle.history_core.specs.Values.{value_merged}
-use Rattle.target_agents.specs.Words.{place_in, changed_at, merged_at, landed_at}
+use Rattle.machine_steps.specs.Values.{value_merged}
+use Rattle.target_agents.specs.Words.{place_in, merged_at, landed_at}
 use Rattle.target_agents.proofs.PlaceLemmas.{found_place, place_at, changed_same, changed_other}
 
 -- one data phase, by whether it is for the word

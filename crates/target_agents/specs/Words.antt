@@ -1,11 +1,12 @@
 -- The words of one space of a target: each has a place, by rising address, and there is what it holds.
 use Rattle.std.specs.Prelude.{ℕ, ◌+◌, List, [], ◌∷◌, Option, Some, None, ◌==◌, slice_get}
 use Rattle.std.specs.List.{position_from}
-use Rattle.std.proofs.Math.ListN.{set}
+use Rattle.list_facts.specs.Lists.{changed_at}
 use Rattle.pci_command.specs.declared.command.Space.{Space}
 use Rattle.pci_command.specs.declared.phases.Phase.{Phase}
 use Rattle.device_header.specs.Registers.{merge_of}
 use Rattle.history_model.specs.Words.{mask_in}
+use Rattle.machine_steps.specs.Counts.{or_zero}
 
 pub record WordsOfSpace : Type 0 where
   pub addresses : List ℕ
@@ -15,10 +16,6 @@ pub record WordsOfSpace : Type 0 where
 abbrev pub place_in : List ℕ → ℕ → Option ℕ
 place_in addresses address = position_from (λ kept. kept == address) 0 addresses
 
-abbrev pub or_zero : Option ℕ → ℕ
-or_zero None = 0
-or_zero (Some value) = value
-
 abbrev pub value_in : List ℕ → Option ℕ → ℕ
 value_in values None = 0
 value_in values (Some place) = or_zero (slice_get values place)
@@ -26,15 +23,6 @@ value_in values (Some place) = or_zero (slice_get values place)
 -- what the word at the address holds
 abbrev pub value_at : WordsOfSpace → ℕ → ℕ
 value_at words address = value_in words.values (place_in words.addresses address)
-
-abbrev pub changed_with : {X : Type 0} → (X → X) → List X → ℕ → Option X → List X
-changed_with f xs place None = xs
-changed_with f xs place (Some x) = set xs place (f x)
-
--- a list with what is at a place changed, where there is a place
-abbrev pub changed_at : {X : Type 0} → (X → X) → List X → Option ℕ → List X
-changed_at f xs None = xs
-changed_at f xs (Some place) = changed_with f xs place (slice_get xs place)
 
 -- the values after a data phase landed at an address of the space
 abbrev pub merged_at : Space → List ℕ → ℕ → Phase → List ℕ → List ℕ

@@ -6,6 +6,7 @@ ghost use Rattle.target_agents.specs.Reads.{answers_at, KnowsRead, KnowsProgram,
 
 use board_claim::is_in_ranges;
 use board_model::{Board, Op, Target, request_on};
+use machine_steps::dword_address;
 use pci_command::{NoMemory, Space};
 use std::alloc::Global;
 
@@ -53,7 +54,7 @@ fn push_read(
     let request = request_on(op, target.bus);
     let is_read_of_space = request.command.is_read() && request.command.space() == space;
     if is_read_of_space && answers_at(target, space, request.address) {
-        addresses.push(dword_address(space, request.address))?;
+        addresses.push(dword_address(space, u128::from(request.address)) as u64)?;
     }
     Ok(())
 }
@@ -67,15 +68,5 @@ fn answers_at(target: &Target, space: Space, address: u64) -> bool
             is_in_ranges(target.ranges.as_slice(), space, u128::from(address))
         }
         Space::Cfg => address % 4 == 0 && u64::from(target.device) == address / 0x800 % 32,
-    }
-}
-
-/// Where in its space the dword is.
-fn dword_address(space: Space, address: u64) -> u64
-    ensures { result ≡ address_in space address }
-{
-    match space {
-        Space::Mem | Space::Io => address,
-        Space::Cfg => address % 0x100,
     }
 }

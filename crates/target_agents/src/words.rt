@@ -1,13 +1,11 @@
 ghost use Rattle.std.specs.Prelude.{◌≡◌, ◌≤◌, ◌+◌, ◌^◌, ℕ, Some, slice_get, map, IfOk};
 ghost use Rattle.std.specs.List.{Contains};
 ghost use Rattle.std.specs.List.Sorted.{IsStrictlyIncreasing};
-ghost use Rattle.device_header.specs.Registers.{merge_of};
 ghost use Rattle.history_model.specs.Words.{opens_as};
-ghost use Rattle.target_agents.specs.Words.{place_in, value_in, value_at, changed_at, merged_at, landed_at};
+ghost use Rattle.target_agents.specs.Words.{place_in, value_at, merged_at, landed_at};
 
 use board_model::Board;
-use device_header::merge;
-use history_core::{mask_of, opens_as};
+use machine_steps::{mask_of, merge_at, opens_as, value_at};
 use pci_command::{NoMemory, Phase, Space};
 use std::alloc::Global;
 use std::marker::Model;
@@ -62,7 +60,7 @@ impl WordTable {
         ensures { result ≡ value_at self.now address }
     {
         match self.find(address) {
-            Some(place) => value_in(self.values.as_slice(), place),
+            Some(place) => value_at(self.values.as_slice(), place),
             None => 0,
         }
     }
@@ -73,7 +71,7 @@ impl WordTable {
     {
         let mask = mask_of(space, address);
         if let Some(place) = self.find(address) {
-            merge_in(self.values.as_mut_slice(), place, phase, mask);
+            merge_at(self.values.as_mut_slice(), place, phase, mask);
         }
     }
 
@@ -125,22 +123,5 @@ fn found_at(addresses: &[u64], address: u64) -> Option<usize>
     match addresses.binary_search(&address) {
         Ok(place) => Some(place),
         Err(_) => None,
-    }
-}
-
-fn value_in(values: &[u32], place: usize) -> u32
-    ensures { result ≡ value_in values.now (Some place) }
-{
-    match values.get(place) {
-        Some(value) => *value,
-        None => 0,
-    }
-}
-
-fn merge_in(values: &mut [u32], place: usize, phase: &Phase, mask: u32)
-    ensures { values.new ≡ changed_at (λ value. merge_of value phase.now mask) values.old (Some place) }
-{
-    if place < values.len() {
-        values[place] = merge(values[place], phase, mask);
     }
 }

@@ -6,21 +6,21 @@ use Rattle.bridge_face.specs.Offers.{is_ask_for}
 use Rattle.bridge_face.proofs.PlaceLemmas.{found_here, none_here, less_none, take_all}
 use Rattle.bridge_face.proofs.face.Face.place_of.Goals as goal
 
-pub returns-then-is_same : goal.returns-then-is_same
-returns-then-is_same c =
+pub returns-then-same_op : goal.returns-then-same_op
+returns-then-same_op c =
     let face = c.args.self.now in
     let place : ℕ = c.loop-place.place in
     let F : FaceState → Type 0 = λ f. Some c.get.result ≡ option_map (λ ask. (ask.op, ask.slot, ask.arrival)) (slice_get f.asks.asks place) in
     let L : FaceState → Type 0 = λ f. c.len-place-end.result ≡ length f.asks.asks in
     let len = subst L c.self.view_is c.len-place-end.ensures.value in
-    (omega (arith, len), found_here c.args.op face.asks.asks place c.get.result c.loop-place.invariant (subst F c.self.view_is c.get.ensures.value) (sym c.is_same.ensures ∙ c.if-is_same.true))
+    (omega (arith, len), found_here c.args.op face.asks.asks place c.get.result c.loop-place.invariant (subst F c.self.view_is c.get.ensures.value) (sym c.same_op.ensures ∙ c.if-same_op.true))
 
 pub loop-place-preserved : goal.loop-place-preserved
 loop-place-preserved c =
     let face = c.args.self.now in
     let place : ℕ = c.loop-place.place in
     let F : FaceState → Type 0 = λ f. Some c.get.result ≡ option_map (λ ask. (ask.op, ask.slot, ask.arrival)) (slice_get f.asks.asks place) in
-    let none = none_here c.args.op face.asks.asks place c.get.result c.loop-place.invariant (subst F c.self.view_is c.get.ensures.value) (sym c.is_same.ensures ∙ c.if-is_same.false) in
+    let none = none_here c.args.op face.asks.asks place c.get.result c.loop-place.invariant (subst F c.self.view_is c.get.ensures.value) (sym c.same_op.ensures ∙ c.if-same_op.false) in
     subst (λ n. list_any (is_ask_for c.args.op) (take n face.asks.asks) ≡ false) (sym (add-one place)) none
 
 pub returns : goal.returns

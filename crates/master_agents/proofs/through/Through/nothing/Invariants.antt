@@ -1,7 +1,7 @@
 use Rattle.std.proofs.Common.{◌≡◌, take}
 use Rattle.std.specs.Prelude.{map}
 use Rattle.board_model.specs.declared.agents.Master.{Master}
-use Rattle.master_agents.specs.Through.{none_of_any}
+use Rattle.machine_steps.specs.Counts.{none_of_any}
 use Rattle.master_agents.proofs.through.Through.nothing.Given as goal
 
 -- the counts of the masters so far

@@ -82,7 +82,8 @@ request_same a b same =
     let joined : rebuilt a.command a.address a.phases ≡ rebuilt b.command b.address b.phases = cc in
     joined
 
-request_decides : (a b : Request) → Decides (same_request a b) (a ≡ b)
+-- two requests test the same exactly where they are one
+pub request_decides : (a b : Request) → Decides (same_request a b) (a ≡ b)
 request_decides a b =
     let P : Request → Type 0 = λ r. same_request a r ≡ true in
     (request_same a b, λ same. subst P same (same_request-equiv.refl a))

@@ -5,7 +5,7 @@ ghost use Rattle.list_facts.specs.Lists.{before};
 ghost use Rattle.history_model.specs.Lanes.{is_of, is_done_for};
 
 use history_model::Carried;
-use pci_command::OpId;
+use pci_command::{OpId, same_op};
 
 /// The oldest posted write or delayed request of the operation among what stands on a lane.
 pub fn standing_request(standing: &[Carried], op: OpId) -> Option<Carried>
@@ -64,13 +64,16 @@ fn front(standing: &[Carried], place: usize) -> &[Carried]
     front
 }
 
-pub(crate) fn place_of_completion(standing: &[Carried], number: u8) -> Option<usize>
+/// The place of the completion for the slot among what stands on a lane.
+pub fn place_of_completion(standing: &[Carried], number: u8) -> Option<usize>
     ensures { result ≡ position (is_done_for number) standing.now }
 {
     standing.iter().position(|item| is_done_for(*item, number))
 }
 
-pub(crate) fn place_of_request(standing: &[Carried], op: OpId) -> Option<usize>
+/// The place of the oldest posted write or delayed request of the operation among what stands on a
+/// lane.
+pub fn place_of_request(standing: &[Carried], op: OpId) -> Option<usize>
     ensures { result ≡ position (is_of op) standing.now }
 {
     standing.iter().position(|item| is_of(*item, op))
@@ -91,9 +94,7 @@ fn is_of(item: Carried, of: OpId) -> bool
     ensures { result ≡ is_of of item }
 {
     match item {
-        Carried::Post { op } | Carried::Ask { op, .. } => {
-            of.master == op.master && of.index == op.index && of.attempt == op.attempt
-        }
+        Carried::Post { op } | Carried::Ask { op, .. } => same_op(of, op),
         Carried::Done { .. } | Carried::Room | Carried::Gone { .. } => false,
     }
 }

@@ -3,6 +3,7 @@ ghost use Rattle.std.specs.List.{find};
 ghost use Rattle.std.specs.Option.{option_copied};
 ghost use Rattle.board_model.specs.Requests.{reads, reads_in, both_same, same_requests, request_of};
 ghost use Rattle.pci_command.specs.Same.{same_request};
+ghost use Rattle.history_model.specs.Knowledge.{is_write};
 ghost use Rattle.history_model.specs.World.{same_lane, same_direction, same_initiator, is_own};
 
 use board_model::{Board, Lane, request_of};
@@ -24,6 +25,16 @@ pub fn reads(board: &Board, op: OpId) -> bool
     match request_of(board, op, 0) {
         Some(request) => request.command.is_read(),
         None => false,
+    }
+}
+
+/// Whether the operation is there and writes.
+pub fn is_write(board: &Board, op: OpId) -> bool
+    ensures { result ≡ is_write board.now op }
+{
+    match request_of(board, op, 0) {
+        None => false,
+        Some(request) => !request.command.is_read(),
     }
 }
 

@@ -19,7 +19,7 @@ use Rattle.history_model.specs.declared.rule.Rule.TheVariants.{Tagged}
 use Rattle.history_model.specs.World.{world_by}
 use Rattle.history_model.specs.Answers.{wants_by, answer_by_rule}
 use Rattle.history_model.specs.Runs.{Allowed, AllowedBy, next_mark_in}
-use Rattle.history_core.specs.Verdicts.{cause_in, Holds, HoldsBy, HoldsOfAct, HoldsOfArrival}
+use Rattle.machine_steps.specs.Verdicts.{cause_in, Holds, HoldsBy, HoldsOfAct, HoldsOfArrival}
 
 -- what is not presented has that cause alone
 unwanted : (answer : Answer) (step : Step) (place : Place) (w : Option Why) → HoldsOfAct false answer step place w → w ≡ Some NotPresented

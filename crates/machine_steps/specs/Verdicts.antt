@@ -12,7 +12,7 @@ use Rattle.history_model.specs.declared.why.Why.TheVariants.{NotPresented, Answe
 use Rattle.history_model.specs.declared.rule.Rule.{Rule}
 use Rattle.history_model.specs.declared.rule.Rule.TheVariants.{Tagged}
 use Rattle.history_model.specs.Runs.{AllowedBy}
-use Rattle.history_core.specs.Whys.{IsNotPresentedBy, IsAnsweredOtherwiseBy, IsRetriedBy, HasNothingInFlightBy, IsMarkedOtherwiseBy, GivesOther, IsRetry, IsOtherMark}
+use Rattle.machine_steps.specs.Whys.{IsNotPresentedBy, IsAnsweredOtherwiseBy, IsRetriedBy, HasNothingInFlightBy, IsMarkedOtherwiseBy, GivesOther, IsRetry, IsOtherMark}
 
 -- the cause that a result names, none where it is Ok
 abbrev pub cause_in : {T : Type 0} → Result T Why → Option Why

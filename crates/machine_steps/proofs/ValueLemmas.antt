@@ -14,7 +14,7 @@ use Rattle.history_model.specs.declared.event.Event.{Event}
 use Rattle.history_model.specs.declared.event.Step.{Step}
 use Rattle.history_model.specs.Words.{Landing, without, brings, landings_at, landings_in, landings_of, merged, mask_in, landed, brought, opens_as, value_of}
 use Rattle.history_model.specs.Runs.{history_of}
-use Rattle.history_core.specs.Values.{value_merged}
+use Rattle.machine_steps.specs.Values.{value_merged}
 
 pub merged-append : (word : Dword) (value : ℕ) (xs ys : List Landing) → merged word value (xs ++ ys) ≡ merged word (merged word value xs) ys
 merged-append word value [] ys = refl
