@@ -29,8 +29,10 @@ ghost use Rattle.worked_runs.specs.Stealing.{stealing_board, stealing_events, he
 mod premises;
 
 pub use premises::{
-    bridges_carry, later_writes_need_not_be_known, only_runs_are_fresh, operations_need_no_phases,
-    other_events_make_no_run, runs_need_not_be_complete, sides_need_the_depths,
+    answers_need_what_was_sent, bridges_carry, flags_that_open_set_do_not_deliver,
+    later_writes_need_not_be_known, masters_that_meet_have_other_runs, only_runs_are_fresh,
+    only_runs_deliver, operations_need_no_phases, other_events_make_no_run,
+    runs_need_not_be_complete, sides_need_the_depths, writes_are_settled_as_they_land,
     writes_are_told_one_way, wrong_parts_make_no_run,
 };
 
