@@ -121,27 +121,3 @@ fn post_left(board: &Board, events: &[Event], lane: Lane, op: OpId) -> u32
         Some(found) => posted_left(board, end_of(board, lane), found, through(events, op)),
     }
 }
-
-/// What a posted write, of which so many data phases went through, has left from the bus on: three
-/// events for each lane of its way, and one for each piece that is left of it.
-pub fn posted_left(board: &Board, on: u8, op: &Op, gone: u128) -> u32
-    requires { IsDecodable board.now }
-    ensures value { result ≡ 3 * length (way board.now op.now on) + pieces_of board.now op.now on (length (phases_of op.now) - gone) }
-    ensures fits { result ≤ 66300 }
-{
-    let route = route_of(board, op, on);
-    let request = request_on(op, route.bus);
-    let phases = phases_left(request.phases.len() as u8, gone);
-    3 * u32::from(route.lanes) + u32::from(pieces_by(board, &request, phases, route.owner))
-}
-
-/// How many data phases are left when so many went through.
-fn phases_left(phases: u8, gone: u128) -> u8
-    ensures { result ≡ phases - gone }
-{
-    if gone < u128::from(phases) {
-        phases - gone as u8
-    } else {
-        0
-    }
-}

@@ -46,22 +46,6 @@ fn program_left(board: &Board, events: &[Event], index: u16, master: &Master) ->
     }
 }
 
-/// What the operations behind this one of a program cost, from the bus on.
-pub fn behind_left(board: &Board, bus: u8, ops: &[Op], index: u16) -> u64
-    requires decodable { IsDecodable board.now }
-    requires short { total (cost_of board.now bus) ops.now ≤ 500000 }
-    ensures value { result ≡ total (cost_of board.now bus) (drop (index + 1) ops.now) }
-    ensures fits { result ≤ 500000 }
-{
-    let next = index as usize + 1;
-    if next < ops.len() {
-        let (_, behind) = ops.split_at(next);
-        cost_of_program(board, bus, behind)
-    } else {
-        0
-    }
-}
-
 fn turn_left(board: &Board, events: &[Event], on: u8, op: OpId) -> u64
     requires { IsRunning board.now (history_of events.now) }
     ensures value { result ≡ turn_left board.now (history_of events.now) on op (op_of board.now op) }
@@ -85,15 +69,4 @@ fn op_left(board: &Board, events: &[Event], on: u8, op: OpId, found: &Op) -> u64
         u64::from(delayed_left(board, events, on, op, found))
             + tries_left(board, on, op.attempt, found)
     }
-}
-
-/// What the tries of an operation behind this one cost, from the bus on.
-pub fn tries_left(board: &Board, on: u8, attempt: u32, op: &Op) -> u64
-    requires { IsDecodable board.now }
-    ensures value { result ≡ (tries_of op.now - (attempt + 1)) * cost_of_try board.now on op.now }
-    ensures fits { result ≤ 2 ^ 32 * 66300 }
-{
-    let tries = u64::from(tries_of(op)).saturating_sub(u64::from(attempt) + 1);
-    let cost = u64::from(cost_of_try(board, on, op));
-    tries * cost
 }

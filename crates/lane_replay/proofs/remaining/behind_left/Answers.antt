@@ -1,7 +1,7 @@
 use Rattle.std.proofs.Common.{◌+◌, arith}
 use Rattle.board_model.specs.Ways.{cost_of}
-use Rattle.progress_core.proofs.SumLemmas.{total_drop}
-use Rattle.progress_core.proofs.programs.behind_left.Goals as goal
+use Rattle.lane_replay.proofs.SumLemmas.{total_drop}
+use Rattle.lane_replay.proofs.remaining.behind_left.Goals as goal
 
 pub cost_of_program-requires-clause-fits : goal.cost_of_program-requires-clause-fits
 cost_of_program-requires-clause-fits c =

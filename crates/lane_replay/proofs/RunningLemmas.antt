@@ -8,7 +8,7 @@ use Rattle.bus_tree.proofs.DecodableLemmas.{IsDecodable-valid}
 use Rattle.history_model.specs.declared.event.Event.{Event}
 use Rattle.history_model.specs.Runs.{Run}
 use Rattle.law_slots.proofs.Laws.{Within-eight, WellFormed-depths}
-use Rattle.progress_core.specs.Running.{IsRunning}
+use Rattle.lane_replay.specs.Running.{IsRunning}
 use Rattle.board_model.proofs.Laws.{WellFormed-parts}
 
 not_above : (most n : ℕ) → nat_lt most n ≡ false → n ≤ most
