@@ -1,9 +1,10 @@
 -- How many data phases of each operation went through.
-use Rattle.std.proofs.Common.{◌≡◌, ◌≢◌, ℕ, zero, suc, Bool, true, false, ◌+◌, ◌<◌, ◌==◌, ◌&&◌, length, List, [], ◌∷◌, Option, None, Some, refl, sym, ap, subst, ◌∙◌, arith, if◌then◌else◌}
-use Rattle.std.specs.Prelude.{slice_get, map}
+use Rattle.std.proofs.Common.{◌≡◌, ◌≢◌, ℕ, zero, suc, Bool, true, false, ◌+◌, ◌<◌, ◌==◌, ◌&&◌, ◌++◌, length, take, drop, List, [], ◌∷◌, Option, None, Some, refl, sym, ap, subst, ◌∙◌, arith, if◌then◌else◌}
+use Rattle.std.specs.Prelude.{slice_get}
 use Rattle.std.specs.Option.{option_map}
 use Rattle.std.proofs.Math.ListN.{set}
 use Rattle.std.proofs.lemmas.Bool.Decides.{nat_tests}
+use Rattle.std.proofs.lemmas.List.{append-nil, take_all, drop_all}
 use Rattle.std.proofs.lemmas.Option.{slice_get_within, slice_get-map}
 use Rattle.pci_command.specs.Same.{same_op}
 use Rattle.pci_command.specs.declared.op_id.OpId.{OpId}
@@ -20,7 +21,7 @@ use Rattle.history_model.specs.declared.event.Event.TheVariants.{Act}
 use Rattle.history_model.specs.Words.{through, parted_by}
 use Rattle.list_facts.specs.Lists.{changed_at, changed_with}
 use Rattle.machine_steps.specs.Counts.{or_zero, none_of_any}
-use Rattle.master_agents.specs.Through.{list_in, count_at, count_in, added, nothing_yet, ThroughStands, AreBytes}
+use Rattle.master_agents.specs.Through.{list_in, count_in, added, nothing_yet, ThroughStands, AreBytes}
 
 -- a change at a place, and elsewhere
 set_same : {X : Type 0} (xs : List X) (i : ℕ) (x : X) → i < length xs → slice_get (set xs i x) i ≡ Some x
@@ -156,3 +157,52 @@ none_bytes board gone none = record { each = each } where
       let row = slice_get-map (λ (m : MasterAgent). none_of_any m.ops) board.masters o.master in
       let here : count_in (nothing_yet board) o < 256 = subst P (sym row) (none_in_row o.index (slice_get board.masters o.master)) in
       subst (λ (g : List (List ℕ)). count_in g o < 256) (sym none) here
+
+-- where no count is kept none is added
+added_none : (gone : List (List ℕ)) (p : OpId) (n : ℕ) → slot_in gone p.master p.index ≡ None → slot_in (added p n gone) p.master p.index ≡ None
+added_none gone p n there =
+    let f : ℕ → ℕ = λ c. c + n in
+    let g : List ℕ → List ℕ = λ row. changed_at f row (Some p.index) in
+    let P : Option (List ℕ) → Type 0 = λ r. slice_get gone p.master ≡ r → slice_get (list_in r) p.index ≡ None → slot_in (added p n gone) p.master p.index ≡ None in
+    (elim (slice_get gone p.master) as P [
+      | None ↦ λ at _.
+          let Q : Option (List ℕ) → Type 0 = λ r. slice_get (list_in (slice_get (changed_with g gone p.master r) p.master)) p.index ≡ None in
+          subst Q (sym at) (ap (λ (r : Option (List ℕ)). slice_get (list_in r) p.index) at)
+      | Some row ↦ λ at found.
+          let R : Option ℕ → Type 0 = λ c. slice_get (changed_with f row p.index c) p.index ≡ None in
+          ap (λ (r : Option (List ℕ)). slice_get (list_in r) p.index) (changed_same g gone p.master row at) ∙ subst R (sym found) found
+    ]) refl there
+
+-- nor is one above a byte where the sum fits it
+added_fits : (gone : List (List ℕ)) (p : OpId) (n : ℕ) → count_in gone p + n < 256 → or_zero (slot_in (added p n gone) p.master p.index) < 256
+added_fits gone p n fits =
+    let P : Option ℕ → Type 0 = λ c. slot_in gone p.master p.index ≡ c → or_zero c + n < 256 → or_zero (slot_in (added p n gone) p.master p.index) < 256 in
+    (elim (slot_in gone p.master p.index) as P [
+      | None ↦ λ at _. let same : or_zero (slot_in (added p n gone) p.master p.index) ≡ 0 = ap or_zero (added_none gone p n at) in omega (arith, same)
+      | Some x ↦ λ at sum. let same : or_zero (slot_in (added p n gone) p.master p.index) ≡ x + n = ap or_zero (added_same gone p n x at) in omega (arith, same, sum)
+    ]) refl fits
+
+-- one more part of which the sum fits a byte
+pub bytes_added : (gone new : List (List ℕ)) (p : OpId) (n : ℕ) → AreBytes gone → count_in gone p + n < 256 → new ≡ added p n gone → AreBytes new
+bytes_added gone new p n bytes fits is = record { each = each } where
+  each : (o : OpId) → count_in new o < 256
+  each o =
+      let was : or_zero (slot_in gone o.master o.index) < 256 = bytes.each o in
+      let P : Bool → Type 0 = λ b. (p.master == o.master && p.index == o.index) ≡ b → or_zero (slot_in (added p n gone) o.master o.index) < 256 in
+      let here = (elim (p.master == o.master && p.index == o.index) as P [
+        | false ↦ λ other. let same : or_zero (slot_in (added p n gone) o.master o.index) ≡ or_zero (slot_in gone o.master o.index) = ap or_zero (added_other gone p n o.master o.index other) in omega (arith, same, was)
+        | true ↦ λ same.
+            let parts = both_true (p.master == o.master) (p.index == o.index) same in
+            let masters : p.master ≡ o.master = grind (arith, nat_tests, parts.0) in
+            let indexes : p.index ≡ o.index = grind (arith, nat_tests, parts.1) in
+            let there = added_fits gone p n fits in
+            subst (λ (m : ℕ). or_zero (slot_in (added p n gone) m o.index) < 256) masters (subst (λ (i : ℕ). or_zero (slot_in (added p n gone) p.master i) < 256) indexes there)
+      ]) refl in
+      subst (λ (g : List (List ℕ)). count_in g o < 256) (sym is) here
+
+-- what is written over a whole list takes its place
+pub written : {X : Type 0} (len : ℕ) (new old : List X) → length new ≡ length old → length old ≡ len → take len (new ++ drop (length new) old) ≡ new
+written len new old same whole =
+    let none : drop (length new) old ≡ [] = drop_all (length new) old (omega (arith, same)) in
+    let ends : new ++ drop (length new) old ≡ new = ap (λ l. new ++ l) none ∙ append-nil new in
+    ap (take len) ends ∙ take_all len new (omega (arith, same, whole))
