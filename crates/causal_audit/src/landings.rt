@@ -10,9 +10,10 @@ ghost use Rattle.causal_audit.specs.Places.{dword, has_some, reaches_dword, op_s
 
 use crate::places::Places;
 use board_model::{Board, Place, request_of};
-use history_core::{brought_by, dword_address, is_same_op, left_of, through};
 use history_model::{Event, Step};
-use pci_command::{OpId, Phase, Request, Space};
+use machine_steps::{brought_by, dword_address, left_of};
+use pci_command::{OpId, Phase, Request, Space, same_op};
+use plain_replay::through;
 
 /// A dword of a target.
 #[derive(Clone, Copy, Debug, PartialEq, Eq)]
@@ -43,7 +44,7 @@ fn is_land_of(event: &Event, of: OpId) -> bool
             op,
             step: Step::Land,
             ..
-        } => is_same_op(op, of),
+        } => same_op(op, of),
         Event::Act { .. } | Event::Arrive { .. } => false,
     }
 }
@@ -171,5 +172,5 @@ fn shown_by(before: &[Event], event: &Event, brings: bool, places: &Places) -> O
 fn is_shown(before: &[Event], op: OpId, places: &Places) -> bool
     ensures { result ≡ op_shows places.now.write places.now.since (history_of before.now) op }
 {
-    (is_same_op(op, places.write) || places.knows(op)) && has_landed(before, op)
+    (same_op(op, places.write) || places.knows(op)) && has_landed(before, op)
 }

@@ -8,9 +8,8 @@ ghost use Rattle.causal_audit.specs.Places.{ArePlaces, knows_by, is_open, brings
 
 use crate::readings::{ended_op, ends_with_value, last_shown};
 use board_model::Board;
-use history_core::is_same_op;
 use history_model::Event;
-use pci_command::OpId;
+use pci_command::{OpId, same_op};
 
 /// Who knows of a write: a place for each master, with the first of its operations that ended and
 /// is the write, or was told of it. A valid board has at most 256 masters.
@@ -81,7 +80,7 @@ impl Places {
     fn brings_it(&self, board: &Board, past: &[Event], event: &Event, op: OpId) -> bool
         ensures { result ≡ brings_it board.now self.now.write self.now.since (history_of past.now) (ended event.now) op }
     {
-        is_same_op(op, self.write)
+        same_op(op, self.write)
             || (ends_with_value(event) && last_shown(board, past, op, self).is_some())
     }
 

@@ -10,9 +10,9 @@ ghost use Rattle.causal_audit.specs.Places.{dword, last_shown, shown_after, ende
 use crate::landings::{Word, first_shown};
 use crate::places::Places;
 use board_model::{Board, Place, request_of};
-use history_core::{dword_address, is_same_op};
 use history_model::{By, Event, Step};
-use pci_command::{OpId, Outcome, Request};
+use machine_steps::dword_address;
+use pci_command::{OpId, Outcome, Request, same_op};
 
 /// What the operation last read at a target in these events, the first event first: of the writes
 /// that it saw there, the first that is the write or was told of it.
@@ -44,7 +44,7 @@ fn shown_after(
             step: Step::Read(_),
             place: Place::Target(target),
             ..
-        } if is_same_op(of, op) => match request_of(board, of, bus) {
+        } if same_op(of, op) => match request_of(board, of, bus) {
             None => shown,
             Some(request) => first_shown(board, done, word_read(&request, target), places),
         },
@@ -84,7 +84,7 @@ fn ends_with_value_of(event: &Event, op: OpId) -> bool
     ensures { result ≡ (is_op op (ended_op (ended event.now)) && ended_with_value (ended event.now)) }
 {
     match ended_op(event) {
-        Some(ended) => is_same_op(ended, op) && ends_with_value(event),
+        Some(ended) => same_op(ended, op) && ends_with_value(event),
         None => false,
     }
 }

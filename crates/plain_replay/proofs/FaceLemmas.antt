@@ -1,5 +1,5 @@
 -- What is on a lane, by the lanes of its bridge.
-use Rattle.std.proofs.Common.{◌≡◌, ℕ, Bool, false, not, List, Option, Some, ap, ◌∙◌}
+use Rattle.std.proofs.Common.{◌≡◌, ℕ, Bool, false, List, Option, Some, ap, ◌∙◌}
 use Rattle.pci_command.specs.declared.request.Request.{Request}
 use Rattle.pci_command.specs.declared.op_id.OpId.{OpId}
 use Rattle.board_model.specs.declared.bridge.Bridge.{Bridge}
@@ -22,10 +22,6 @@ use Rattle.lane_replay.specs.Faces.{face_answer}
 pub lane_is : (world : World) (lane : BridgeLane) (x : Both) (here : LaneState) → x ≡ both world (record { bus = lane.bus; up = false }) →
     here ≡ (turned lane.up x).here → here ≡ world lane
 lane_is world lane x here is at = at ∙ (lane_there world lane x is).0
-
-pub back_is : (world : World) (lane : BridgeLane) (x : Both) (back : LaneState) → x ≡ both world (record { bus = lane.bus; up = false }) →
-    back ≡ (turned (not lane.up) x).here → back ≡ world (lane_back lane)
-back_is world lane x back is at = at ∙ (lane_there world lane x is).1
 
 -- a lane presents by what stands on it
 pub presents_there : (board : Board) (on : ℕ) (o : OpId) (world : World) (lane : BridgeLane) (here : LaneState) (standing : List Carried) (r : Bool) →

@@ -7,11 +7,13 @@ ghost use Rattle.history_model.specs.Answers.{wants, answer};
 ghost use Rattle.history_model.specs.Runs.{Run, history_of};
 ghost use Rattle.history_model.specs.Next.{first_bus, first_in, first_below, up_from, given_on, first_lane, act_given, act_of, act_of_item, act_of_lane, act_of_turn, act_of_masters, act_on, first_act};
 
-use crate::lanes::{down_to, ends_on, up_from};
+use crate::answers::answer;
+use crate::lanes::{down_to, lanes_after_events, up_from};
+use crate::presenting::wants;
+use crate::turns::turn_of;
 use board_model::{Board, Lane};
-use history_core::{answer, turn_of, wants};
-use history_model::{Answer, By, Carried, Event};
-use lane_replay::{BridgeLanes, Presented};
+use history_model::{By, Carried, Event};
+use machine_steps::{Presented, act_given, ends_on};
 use pci_command::OpId;
 
 /// The first act, by increasing bus and there by line.
@@ -174,22 +176,5 @@ fn act_of(board: &Board, before: &[Event], presented: Presented) -> Option<Event
         act_given(presented, answer(board, before, presented))
     } else {
         None
-    }
-}
-
-/// The act of what an initiator presents with this answer: none where that is a Retry.
-pub fn act_given(presented: Presented, answer: Answer) -> Option<Event>
-    ensures { result ≡ act_given presented.bus presented.by presented.op answer }
-{
-    let Presented { bus, by, op } = presented;
-    match answer {
-        Answer::Gives { step, place } => Some(Event::Act {
-            bus,
-            by,
-            op,
-            step,
-            place,
-        }),
-        Answer::Retry { .. } => None,
     }
 }

@@ -1,19 +1,15 @@
-ghost use Rattle.std.specs.Prelude.{◌≡◌, ◌+◌, ◌*◌, ◌/◌, ◌%◌, ◌^◌, ◌≤◌, ◌<◌, IsTrue, length, slice_get, slice_index, if◌then◌else◌, nat_lt};
+ghost use Rattle.std.specs.Prelude.{◌≡◌, ◌+◌, ◌*◌, ◌^◌, ◌≤◌, ◌<◌, IsTrue, length, slice_get, if◌then◌else◌, nat_lt};
 ghost use Rattle.std.specs.Option.{option_copied};
-ghost use Rattle.std.specs.List.{find, list_all};
-ghost use Rattle.list_facts.specs.Lists.{before};
-ghost use Rattle.pci_command.specs.declared.request.Request.{Request};
+ghost use Rattle.std.specs.List.{find};
 ghost use Rattle.pci_command.specs.Command.{is_read};
 ghost use Rattle.board_model.specs.WellFormed.{is_well_formed};
-ghost use Rattle.board_model.specs.Requests.{request_of, is_posted};
+ghost use Rattle.board_model.specs.Requests.{request_of};
 ghost use Rattle.board_model.specs.Claims.{claim};
-ghost use Rattle.board_model.specs.Ways.{aborts_at, lane_back};
-ghost use Rattle.history_model.specs.Lanes.{is_done_for};
-ghost use Rattle.history_model.specs.World.{is_own, world_of};
+ghost use Rattle.board_model.specs.Ways.{aborts_at};
+ghost use Rattle.history_model.specs.World.{world_of};
 ghost use Rattle.history_model.specs.Words.{without};
-ghost use Rattle.history_model.specs.Answers.{answer, answer_in, answer_to, answer_by, target_answer, target_step, header_answer, lane_answer, posted_answer, delayed_answer, completion_answer, completion_passes, bridge_to};
+ghost use Rattle.history_model.specs.Answers.{answer, answer_in, answer_to, answer_by, target_answer, target_step, header_answer, lane_answer, bridge_to};
 ghost use Rattle.history_model.specs.Runs.{Run, history_of};
-ghost use Rattle.lane_replay.specs.Faces.{face_answer};
 
 use crate::lanes::lanes_after_events;
 use crate::words::{stalls_used, through, value_of};

@@ -1,12 +1,11 @@
-ghost use Rattle.std.specs.Prelude.{◌≡◌, ◌+◌, ◌==◌, IsTrue, Option};
-ghost use Rattle.std.specs.List.{list_any};
+ghost use Rattle.std.specs.Prelude.{◌≡◌, IsTrue};
 ghost use Rattle.board_model.specs.WellFormed.{is_well_formed};
-ghost use Rattle.history_model.specs.World.{same_lane, world_of};
-ghost use Rattle.history_model.specs.Runs.{Run, history_of, names, mark_of, mark_of_first, next_mark, next_mark_in};
+ghost use Rattle.history_model.specs.Runs.{Run, history_of, next_mark};
 
-use board_model::{Board, Lane, Planned};
-use history_model::{Carried, Event, Mark};
-use lane_replay::{BridgeLanes, LaneTables};
+use crate::lanes::lanes_after_events;
+use board_model::{Board, Lane};
+use history_model::{Event, Mark};
+use lane_replay::mark_of_first;
 
 /// The mark of the next arrival on the lane after these events, the first event first; none where
 /// nothing is in flight.

@@ -1,18 +1,16 @@
 ghost use Rattle.std.specs.Prelude.{◌≡◌, ◌+◌, ◌*◌, ◌-◌, ◌≤◌, length, true, false};
 ghost use Rattle.list_facts.specs.Lists.{total};
-ghost use Rattle.board_model.specs.Requests.{op_of, phases_of};
-ghost use Rattle.board_model.specs.Ways.{way, pieces_of};
-ghost use Rattle.bus_tree.specs.Decodable.{IsDecodable};
+ghost use Rattle.board_model.specs.Requests.{op_of};
 ghost use Rattle.history_model.specs.World.{world_of};
 ghost use Rattle.history_model.specs.Runs.{history_of};
 ghost use Rattle.history_model.specs.Left.{post_left, flying_left, standing_left, lane_left, bridge_left};
 ghost use Rattle.lane_replay.specs.Running.{IsRunning};
 
-use board_model::{Board, Lane, Op, end_of, op_of, request_on};
-use bus_tree::{pieces_by, route_of};
-use history_core::through;
+use crate::lanes::lanes_after_events;
+use crate::words::through;
+use board_model::{Board, Lane, end_of, op_of};
 use history_model::{Carried, Event};
-use lane_replay::{BridgeLanes, LaneTables};
+use lane_replay::{LaneTables, posted_left};
 use pci_command::OpId;
 
 /// What posted writes and credits on the lanes of all bridges have left.

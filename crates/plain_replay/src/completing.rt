@@ -6,10 +6,11 @@ ghost use Rattle.history_model.specs.World.{world_of};
 ghost use Rattle.history_model.specs.Program.{turn_of};
 ghost use Rattle.history_model.specs.Runs.{Run, IsIdle, Complete, history_of};
 
+use crate::lanes::lanes_after_events;
 use crate::turns::turn_of;
 use board_model::Board;
 use history_model::Event;
-use lane_replay::{BridgeLanes, LaneTables};
+use lane_replay::LaneTables;
 
 /// Whether a run is complete: the program of every master ended, and nothing is in flight or stands
 /// on any lane. The events are given the first event first.

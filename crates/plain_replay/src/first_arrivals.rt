@@ -3,10 +3,11 @@ ghost use Rattle.board_model.specs.WellFormed.{is_well_formed};
 ghost use Rattle.history_model.specs.Runs.{Run, history_of, next_mark};
 ghost use Rattle.history_model.specs.Next.{first_bus, up_from, given_on, first_lane, arrival_of, arrival_at, first_arrival};
 
-use crate::lanes::{down_to, ends_on, up_from};
+use crate::arrivals::next_mark;
+use crate::lanes::{down_to, up_from};
 use board_model::{Board, Lane};
-use history_core::next_mark;
-use history_model::{Event, Mark};
+use history_model::Event;
+use machine_steps::{arrival_of, ends_on};
 
 /// The first arrival, by increasing bus and there by line.
 #[tactic(auto, using(law_progress::proofs::NextFirstLemmas::first_more))]
@@ -60,15 +61,5 @@ fn arrival_from(board: &Board, before: &[Event], bus: u8, lane: Lane) -> Option<
         arrival_of(lane, next_mark(board, before, lane))
     } else {
         None
-    }
-}
-
-/// The arrival on the lane with the mark of the next one: none where there is no next one.
-pub fn arrival_of(lane: Lane, next: Option<Mark>) -> Option<Event>
-    ensures { result ≡ arrival_of lane next }
-{
-    match next {
-        Some(mark) => Some(Event::Arrive { lane, mark }),
-        None => None,
     }
 }

@@ -1,24 +1,14 @@
-//! The next event of a run in a fixed order: it replays the events before, and takes no memory. No
-//! command calls it; `kept_next` finds the same event by the state that is kept.
-#![tactic(auto)]
-
-mod acts;
-mod arrivals;
-mod lanes;
-
 ghost use Rattle.std.specs.Prelude.{◌≡◌, ◌↔◌, IfSome, IsTrue, None};
 ghost use Rattle.board_model.specs.WellFormed.{is_well_formed};
 ghost use Rattle.history_model.specs.Runs.{Run, Allowed, Complete, history_of};
 ghost use Rattle.history_model.specs.Next.{next_of};
 
-pub use crate::acts::act_given;
 use crate::acts::first_act;
-pub use crate::arrivals::arrival_of;
-use crate::arrivals::first_arrival;
-pub use crate::lanes::ends_on;
+use crate::first_arrivals::first_arrival;
 use board_model::{Board, board_fits};
 use bus_tree::Tree;
 use history_model::Event;
+use law_progress::next_goes_on;
 
 /// The next event of a run in a fixed order: the first arrival that is allowed, by increasing bus
 /// and there by line; then the first act, by increasing bus, line and, of a lane, in the order in
@@ -31,6 +21,7 @@ pub fn next_event(tree: &Tree, events: &[Event]) -> Option<Event>
     ensures allowed { IfSome result (Allowed tree.now (history_of events.now)) }
     ensures complete { result ≡ None ↔ Complete tree.now (history_of events.now) }
 {
+    next_goes_on();
     let board = tree.board();
     board_fits(board);
     next_on(board, events)

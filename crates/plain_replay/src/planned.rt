@@ -7,11 +7,11 @@ ghost use Rattle.history_model.specs.Runs.{history_of};
 ghost use Rattle.history_model.specs.Left.{stalls_left, discard_left, drop_left};
 ghost use Rattle.lane_replay.specs.Running.{IsRunning};
 
+use crate::lanes::lanes_after_events;
+use crate::words::stalls_used;
 use board_model::{Board, Planned, Target};
 use bus_tree::longest_way;
-use history_core::stalls_used;
 use history_model::Event;
-use lane_replay::BridgeLanes;
 
 /// The stall tokens that are not used yet.
 pub(crate) fn stalls_left(board: &Board, events: &[Event]) -> u64

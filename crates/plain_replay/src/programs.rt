@@ -8,12 +8,12 @@ ghost use Rattle.history_model.specs.Runs.{history_of};
 ghost use Rattle.history_model.specs.Left.{op_left, turn_left, program_left, programs_left};
 ghost use Rattle.lane_replay.specs.Running.{IsRunning};
 
-use crate::carried::posted_left;
+use crate::turns::turn_of;
 use crate::waiting::delayed_left;
-use board_model::{Board, Master, Op, op_of, request_on, tries_of};
-use bus_tree::{cost_of_program, cost_of_try, is_posted};
-use history_core::{through, turn_of};
+use crate::words::through;
+use board_model::{Board, Master, Op, is_posted, op_of, request_on};
 use history_model::Event;
+use lane_replay::{behind_left, posted_left, tries_left};
 use pci_command::OpId;
 
 /// What the programs have left: the operation that is each master's turn, and those behind it.

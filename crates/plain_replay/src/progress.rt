@@ -1,24 +1,11 @@
-//! How many events a run of a board can still have: a count that each event lowers, so that every
-//! run ends. It takes no memory: it replays the events for each master and each bridge. The parts of
-//! the count that need no replay serve `kept_left` too, which counts by the state that is kept.
-#![tactic(auto)]
-
-mod carried;
-mod planned;
-mod programs;
-mod waiting;
-
 ghost use Rattle.std.specs.Prelude.{◌≡◌};
 ghost use Rattle.history_model.specs.Runs.{Run, history_of};
 ghost use Rattle.history_model.specs.Left.{left_of};
 ghost use Rattle.lane_replay.specs.Running.{IsRunning};
 
 use crate::carried::bridges_left;
-pub use crate::carried::posted_left;
 use crate::planned::{discards_left, drops_left, stalls_left};
 use crate::programs::programs_left;
-pub use crate::programs::{behind_left, tries_left};
-pub use crate::waiting::{Reach, found_left, has_slot};
 use board_model::Board;
 use bus_tree::Tree;
 use history_model::Event;
