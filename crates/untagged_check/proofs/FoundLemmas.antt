@@ -146,7 +146,7 @@ module _ (board : Board) (later : List Event) (e : Event) (h : List Event) (run 
       let r : OpId = ending.op in
       let order : Orderly board H = (untagged_in_order board H run).0 in
       let order_then : Orderly board (e ∷ h) = (untagged_in_order board (e ∷ h) (run_along board later (e ∷ h) run)).0 in
-      let within : r.master < length board.masters = master_within board r (Rattle.audit_model.proofs.OwnLemmas.turn_is_there board h r (order_then.0.turn ending ends)) in
+      let within : r.master < length board.masters = master_within board r (Rattle.law_fresh.proofs.Laws.turn_is_there board h r (order_then.0.turn ending ends)) in
       let inside : r.master < length k.known = let masters = knows.masters in omega (arith, masters, within) in
       let numbers : List ℕ = known_at k.known r.master in
       let some : slice_get k.known r.master ≡ Some numbers = slice_get-get_or k.known r.master [] inside in

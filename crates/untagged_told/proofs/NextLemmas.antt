@@ -29,7 +29,7 @@ use Rattle.law_untagged.specs.Origins.{ending_reading}
 use Rattle.law_untagged.specs.Orderly.{Orderly}
 use Rattle.law_untagged.proofs.UntaggedOrderLemmas.{master_turn, untagged_in_order}
 use Rattle.audit_model.specs.Clocks.{own}
-use Rattle.audit_model.proofs.OwnLemmas.{turn_is_there}
+use Rattle.law_fresh.proofs.Laws.{turn_is_there}
 use Rattle.board_model.specs.declared.word.Word.{Word}
 use Rattle.audit_clocks.specs.Rows.{number}
 use Rattle.audit_clocks.specs.Tables.{value_of, list_in, numbers_of, writes_in}

@@ -1,4 +1,0 @@
-pub mod PickedLemmas
-pub mod LoopLemmas
-pub mod FitsLemmas
-pub mod ClaimedLemmas
