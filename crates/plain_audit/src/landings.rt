@@ -9,21 +9,11 @@ ghost use Rattle.history_model.specs.Words.{through, brought, brings, landings_o
 ghost use Rattle.plain_audit.specs.Places.{dword, has_some, reaches_dword, op_shows, first_shown, or_op, event_shows};
 
 use crate::places::Places;
-use board_model::{Board, Place, request_of};
+use board_model::{Board, Place, Word, request_of};
 use history_model::{Event, Step};
 use machine_steps::{brought_by, dword_address, left_of};
-use pci_command::{OpId, Phase, Request, Space, same_op};
+use pci_command::{OpId, Phase, Request, same_op};
 use plain_replay::through;
-
-/// A dword of a target.
-#[derive(Clone, Copy, Debug, PartialEq, Eq)]
-pub struct Word {
-    /// The number of the target on the board, from 0 on.
-    pub target: u16,
-    pub space: Space,
-    /// Where it is in the space; in configuration space within the header of the target.
-    pub address: u128,
-}
 
 /// Whether all that was left of the write landed in one of these events, the first event first.
 pub fn has_landed(before: &[Event], op: OpId) -> bool

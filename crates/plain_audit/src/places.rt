@@ -6,9 +6,10 @@ ghost use Rattle.history_model.specs.Knowledge.{stands_after};
 ghost use Rattle.law_fresh.specs.Aware.{aware_of};
 ghost use Rattle.plain_audit.specs.Places.{ArePlaces, knows_by, is_open, brings_it, learned};
 
-use crate::readings::{ended_op, ends_with_value, last_shown};
+use crate::readings::{ends_with_value, last_shown};
 use board_model::Board;
 use history_model::Event;
+use machine_steps::{ended_op, stands_after};
 use pci_command::{OpId, same_op};
 
 /// Who knows of a write: a place for each master, with the first of its operations that ended and
@@ -103,12 +104,4 @@ impl Places {
             None => None,
         }
     }
-}
-
-/// Whether the second stands behind the first in the order of their program: a later operation, or
-/// a later try of one poll.
-fn stands_after(first: OpId, op: OpId) -> bool
-    ensures { result ≡ stands_after first op }
-{
-    first.index < op.index || (first.index == op.index && first.attempt < op.attempt)
 }
