@@ -24,7 +24,7 @@ use Rattle.history_model.specs.Answers.{stalls_used}
 use Rattle.history_model.specs.Runs.{Complete, IsIdle}
 use Rattle.history_model.specs.Left as m
 use Rattle.law_slots.specs.Depths.{Within}
-use Rattle.progress_core.proofs.RunningLemmas.{IsRunning-valid}
+use Rattle.lane_replay.proofs.RunningLemmas.{IsRunning-valid}
 use Rattle.kept_state.specs.State.{KeptState, or_zero, turn_in, tokens_in, gone_in}
 use Rattle.kept_state.specs.Stands.{StandsFor}
 use Rattle.kept_state.proofs.LookLemmas as look

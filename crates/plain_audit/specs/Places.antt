@@ -6,6 +6,7 @@ use Rattle.pci_command.specs.declared.phases.Phase.{Phase}
 use Rattle.pci_command.specs.declared.op_id.OpId.{OpId}
 use Rattle.pci_command.specs.Same.{same_op}
 use Rattle.board_model.specs.declared.board.Board.{Board}
+use Rattle.board_model.specs.declared.word.Word.{Word}
 use Rattle.board_model.specs.Ways.{Dword}
 use Rattle.history_model.specs.declared.event.Event.{Event}
 use Rattle.history_model.specs.declared.event.Event.TheVariants.{Act, Arrive}
@@ -14,7 +15,7 @@ use Rattle.history_model.specs.Words.{Landing, landed}
 use Rattle.history_model.specs.Knowledge.{has_landed, value_in, Reading, reading_in}
 use Rattle.law_fresh.specs.Aware.{Aware, is_behind}
 use Rattle.audit_model.specs.Chains.{op_in}
-use Rattle.plain_audit.specs.declared.landings.Word.{Word}
+use Rattle.machine_steps.specs.Endings.{ended_op}
 
 -- What was seen in a dword.
 
@@ -75,11 +76,6 @@ last_shown board w since [] o = None
 last_shown board w since (e ∷ h) o = shown_after board w since (last_shown board w since h o) (reading_in board h o e)
 
 -- What an ending tells.
-
--- the operation that an event ends
-abbrev pub ended_op : Option Ending → Option OpId
-ended_op None = None
-ended_op (Some ending) = Some ending.op
 
 -- it ends it with a value
 abbrev pub ended_with_value : Option Ending → Bool

@@ -7,9 +7,8 @@ ghost use Rattle.plain_audit.specs.Places.{ArePlaces};
 use crate::places::Places;
 use crate::readings::{count_to_end, last_shown};
 use board_model::Board;
-use history_core::is_same_op;
 use history_model::Event;
-use pci_command::{NoMemory, OpId};
+use pci_command::{NoMemory, OpId, same_op};
 use std::alloc::Global;
 
 /// The chain over the first operation of its master that knows of the write to the operation; empty
@@ -51,7 +50,7 @@ fn chain_to(
     if steps == 0 {
         return Ok(Vec::new(alloc));
     }
-    if is_same_op(op, places.write) {
+    if same_op(op, places.write) {
         return one(alloc, op);
     }
     match first_seen(board, events, op, places) {
@@ -84,7 +83,7 @@ fn one(alloc: Global, op: OpId) -> Result<Vec<OpId>, NoMemory>
 fn join(chain: &mut Vec<OpId>, last: OpId, op: OpId) -> Result<(), NoMemory>
     ensures { IfOk result (λ _. chain.new.items ≡ joined chain.old.items last op) }
 {
-    if !is_same_op(last, op) {
+    if !same_op(last, op) {
         chain.push(op)?;
     }
     Ok(())

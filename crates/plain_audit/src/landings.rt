@@ -9,20 +9,11 @@ ghost use Rattle.history_model.specs.Words.{through, brought, brings, landings_o
 ghost use Rattle.plain_audit.specs.Places.{dword, has_some, reaches_dword, op_shows, first_shown, or_op, event_shows};
 
 use crate::places::Places;
-use board_model::{Board, Place, request_of};
-use history_core::{brought_by, dword_address, is_same_op, left_of, through};
+use board_model::{Board, Place, Word, request_of};
 use history_model::{Event, Step};
-use pci_command::{OpId, Phase, Request, Space};
-
-/// A dword of a target.
-#[derive(Clone, Copy, Debug, PartialEq, Eq)]
-pub struct Word {
-    /// The number of the target on the board, from 0 on.
-    pub target: u16,
-    pub space: Space,
-    /// Where it is in the space; in configuration space within the header of the target.
-    pub address: u128,
-}
+use machine_steps::{brought_by, dword_address, left_of};
+use pci_command::{OpId, Phase, Request, same_op};
+use plain_replay::through;
 
 /// Whether all that was left of the write landed in one of these events, the first event first.
 pub fn has_landed(before: &[Event], op: OpId) -> bool
@@ -43,7 +34,7 @@ fn is_land_of(event: &Event, of: OpId) -> bool
             op,
             step: Step::Land,
             ..
-        } => is_same_op(op, of),
+        } => same_op(op, of),
         Event::Act { .. } | Event::Arrive { .. } => false,
     }
 }
@@ -171,5 +162,5 @@ fn shown_by(before: &[Event], event: &Event, brings: bool, places: &Places) -> O
 fn is_shown(before: &[Event], op: OpId, places: &Places) -> bool
     ensures { result ≡ op_shows places.now.write places.now.since (history_of before.now) op }
 {
-    (is_same_op(op, places.write) || places.knows(op)) && has_landed(before, op)
+    (same_op(op, places.write) || places.knows(op)) && has_landed(before, op)
 }

@@ -24,11 +24,11 @@ use board_model::{Board, request_of};
 use bus_tree::Tree;
 use chains::chain_from;
 use history_model::Event;
-pub use landings::{Word, first_shown, has_landed};
+pub use landings::{first_shown, has_landed};
 use law_fresh::{runs_are_fresh, told_is_known};
+use machine_steps::is_write;
 use pci_command::{List, NoMemory, OpId};
 pub use places::Places;
-pub use readings::{ended_op, word_read};
 use readings::{count_to_end, last_shown};
 use std::alloc::Global;
 
@@ -68,15 +68,6 @@ fn is_there(board: &Board, op: OpId) -> bool
     ensures { result ≡ is_some (op_of board.now op) }
 {
     request_of(board, op, 0).is_some()
-}
-
-fn is_write(board: &Board, op: OpId) -> bool
-    ensures { result ≡ is_write board.now op }
-{
-    match request_of(board, op, 0) {
-        None => false,
-        Some(request) => !request.command.is_read(),
-    }
 }
 
 /// True: every run is fresh.

@@ -6,11 +6,11 @@ ghost use Rattle.history_model.specs.Knowledge.{stands_after};
 ghost use Rattle.law_fresh.specs.Aware.{aware_of};
 ghost use Rattle.plain_audit.specs.Places.{ArePlaces, knows_by, is_open, brings_it, learned};
 
-use crate::readings::{ended_op, ends_with_value, last_shown};
+use crate::readings::{ends_with_value, last_shown};
 use board_model::Board;
-use history_core::is_same_op;
 use history_model::Event;
-use pci_command::OpId;
+use machine_steps::{ended_op, stands_after};
+use pci_command::{OpId, same_op};
 
 /// Who knows of a write: a place for each master, with the first of its operations that ended and
 /// is the write, or was told of it. A valid board has at most 256 masters.
@@ -81,7 +81,7 @@ impl Places {
     fn brings_it(&self, board: &Board, past: &[Event], event: &Event, op: OpId) -> bool
         ensures { result ≡ brings_it board.now self.now.write self.now.since (history_of past.now) (ended event.now) op }
     {
-        is_same_op(op, self.write)
+        same_op(op, self.write)
             || (ends_with_value(event) && last_shown(board, past, op, self).is_some())
     }
 
@@ -104,12 +104,4 @@ impl Places {
             None => None,
         }
     }
-}
-
-/// Whether the second stands behind the first in the order of their program: a later operation, or
-/// a later try of one poll.
-fn stands_after(first: OpId, op: OpId) -> bool
-    ensures { result ≡ stands_after first op }
-{
-    first.index < op.index || (first.index == op.index && first.attempt < op.attempt)
 }

@@ -5,14 +5,15 @@ ghost use Rattle.board_model.specs.Ways.{address_in};
 ghost use Rattle.history_model.specs.Runs.{history_of};
 ghost use Rattle.history_model.specs.Program.{ended, ending_of, master_outcome};
 ghost use Rattle.history_model.specs.Knowledge.{reading_in, reading_of, up_to_end};
-ghost use Rattle.plain_audit.specs.Places.{dword, last_shown, shown_after, ended_op, ended_with_value, is_op};
+ghost use Rattle.machine_steps.specs.Endings.{ended_op};
+ghost use Rattle.plain_audit.specs.Places.{dword, last_shown, shown_after, ended_with_value, is_op};
 
-use crate::landings::{Word, first_shown};
+use crate::landings::first_shown;
 use crate::places::Places;
 use board_model::{Board, Place, request_of};
-use history_core::{dword_address, is_same_op};
 use history_model::{By, Event, Step};
-use pci_command::{OpId, Outcome, Request};
+use machine_steps::{ended_op, word_read};
+use pci_command::{OpId, Outcome, same_op};
 
 /// What the operation last read at a target in these events, the first event first: of the writes
 /// that it saw there, the first that is the write or was told of it.
@@ -44,23 +45,11 @@ fn shown_after(
             step: Step::Read(_),
             place: Place::Target(target),
             ..
-        } if is_same_op(of, op) => match request_of(board, of, bus) {
+        } if same_op(of, op) => match request_of(board, of, bus) {
             None => shown,
             Some(request) => first_shown(board, done, word_read(&request, target), places),
         },
         Event::Act { .. } | Event::Arrive { .. } => shown,
-    }
-}
-
-/// The dword of the target that a read of this request reads.
-pub fn word_read(request: &Request, target: u16) -> Word
-    ensures { dword result ≡ record { target = target; space = space_of request.now.command; address = address_in (space_of request.now.command) request.now.address } }
-{
-    let space = request.command.space();
-    Word {
-        target,
-        space,
-        address: dword_address(space, u128::from(request.address)),
     }
 }
 
@@ -84,37 +73,8 @@ fn ends_with_value_of(event: &Event, op: OpId) -> bool
     ensures { result ≡ (is_op op (ended_op (ended event.now)) && ended_with_value (ended event.now)) }
 {
     match ended_op(event) {
-        Some(ended) => is_same_op(ended, op) && ends_with_value(event),
+        Some(ended) => same_op(ended, op) && ends_with_value(event),
         None => false,
-    }
-}
-
-/// The operation that the event ends at its master, if it ends one.
-pub fn ended_op(event: &Event) -> Option<OpId>
-    ensures { result ≡ ended_op (ended event.now) }
-{
-    match *event {
-        Event::Act {
-            by: By::Master,
-            op,
-            step,
-            ..
-        } => op_ended_by(op, step),
-        Event::Act { .. } | Event::Arrive { .. } => None,
-    }
-}
-
-fn op_ended_by(op: OpId, step: Step) -> Option<OpId>
-    ensures { result ≡ ended_op (ending_of op (master_outcome step)) }
-{
-    match step {
-        Step::Part(_) | Step::Latch | Step::Stall => None,
-        Step::Land
-        | Step::Read(_)
-        | Step::Accept
-        | Step::Take(_)
-        | Step::MasterAbort
-        | Step::TargetAbort => Some(op),
     }
 }
 

@@ -4,9 +4,9 @@ ghost use Rattle.history_model.specs.Runs.{Run, history_of};
 
 use plain_board::well_formed;
 use board_model::{Board, Bridge, Lane, Master, Name, Op, Place, Planned, Range, Target, Window};
-use history_core::{allowed, complete};
 use history_model::{By, Event, Mark, Step, Why};
 use pci_command::{Command, List, OpId, Outcome, Phase, Phases, Space};
+use plain_replay::{allowed, complete};
 use std::alloc::Global;
 use std::process::Abort;
 use std::test::Fail;
