@@ -4,7 +4,8 @@ use Rattle.board_model.specs.declared.board.Board.{Board}
 use Rattle.history_model.specs.declared.event.Event.{Event}
 use Rattle.history_model.specs.Runs.{history_of}
 use Rattle.next_event.specs.Next.{next_of}
-use Rattle.trace_check.specs.Verdicts.{CompleteRun, FirstRefused}
+use Rattle.kept_state.specs.Refused.{FirstRefused}
+use Rattle.trace_check.specs.Verdicts.{CompleteRun}
 use Rattle.trace_finish.specs.declared.unfinished.Unfinished.{Unfinished}
 use Rattle.trace_finish.specs.declared.unfinished.Unfinished.TheVariants.{NotRun, NoMemory}
 
