@@ -1,5 +1,6 @@
 ghost use Rattle.std.specs.Prelude.{IsTrue};
 ghost use Rattle.board_model.specs.WellFormed.{is_well_formed};
+ghost use Rattle.kept_state.specs.Stands.{StandsFew};
 
 use board_model::{Board, Lane, end_of};
 use history_core::is_on;
@@ -19,7 +20,8 @@ pub(crate) fn tell_cause(
     event: &Event,
     why: Why,
 ) -> Result<(), NoMemory>
-    requires { IsTrue (is_well_formed board.now) }
+    requires formed { IsTrue (is_well_formed board.now) }
+    requires stands { StandsFew board.now kept.now }
 {
     match *event {
         Event::Arrive { lane, .. } => tell_mark(teller, lane, kept.next_mark(board, lane)),
@@ -60,7 +62,8 @@ fn tell_presented(
     kept: &Kept,
     presented: Presented,
 ) -> Result<(), NoMemory>
-    requires { IsTrue (is_well_formed board.now) }
+    requires formed { IsTrue (is_well_formed board.now) }
+    requires stands { StandsFew board.now kept.now }
 {
     match presented.by {
         By::Lane(lane) => tell_lane(teller, board, presented, lane),
@@ -95,7 +98,8 @@ fn tell_master(
     kept: &Kept,
     presented: Presented,
 ) -> Result<(), NoMemory>
-    requires { IsTrue (is_well_formed board.now) }
+    requires formed { IsTrue (is_well_formed board.now) }
+    requires stands { StandsFew board.now kept.now }
 {
     let number = presented.op.master;
     let Some(master) = board.masters.as_slice().get(number as usize) else {
