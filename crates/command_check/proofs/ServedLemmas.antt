@@ -3,7 +3,7 @@ use Rattle.std.proofs.Common.{◌≡◌, ℕ, List, ◌⊎◌, inr, refl, subst}
 use Rattle.board_model.specs.declared.board.Board.{Board}
 use Rattle.history_model.specs.declared.event.Event.{Event}
 use Rattle.history_model.specs.Runs.{Run, Complete, history_of}
-use Rattle.trace_check.proofs.RefusedLemmas.{no_refused}
+use Rattle.kept_state.proofs.RefusedLemmas.{no_refused}
 use Rattle.program_status.specs.declared.status.Status.{Status}
 use Rattle.program_status.specs.declared.status.Status.TheVariants.{NoMemory, NotRun, Incomplete}
 use Rattle.program_input.specs.Traces.{IsCompleteTrace}

@@ -5,7 +5,8 @@ use Rattle.board_model.specs.declared.board.Board.{Board}
 use Rattle.board_model.specs.Ways.{bound_of}
 use Rattle.board_model.specs.Valid.{IsValid}
 use Rattle.history_model.specs.declared.event.Event.{Event}
-use Rattle.trace_check.specs.Verdicts.{CompleteRun, FirstRefused, IncompleteRun}
+use Rattle.kept_state.specs.Refused.{FirstRefused}
+use Rattle.trace_check.specs.Verdicts.{CompleteRun, IncompleteRun}
 use Rattle.program_status.specs.declared.status.Status.{Status}
 use Rattle.program_status.specs.declared.status.Status.TheVariants.{NoMemory, NotRun, Incomplete}
 use Rattle.program_input.specs.Traces.{ReadsTrace, RefusesTrace, IsNoRun}

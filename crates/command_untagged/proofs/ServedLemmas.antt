@@ -4,7 +4,7 @@ use Rattle.board_model.specs.declared.board.Board.{Board}
 use Rattle.history_model.specs.declared.event.Event.{Event}
 use Rattle.history_model.specs.declared.rule.Rule.TheVariants.{Untagged}
 use Rattle.history_model.specs.Runs.{RunBy, history_of}
-use Rattle.trace_check.proofs.RefusedLemmas.{no_refused_by}
+use Rattle.kept_state.proofs.RefusedLemmas.{no_refused_by}
 use Rattle.program_status.specs.declared.status.Status.{Status}
 use Rattle.program_status.specs.declared.status.Status.TheVariants.{NoMemory, NotRun}
 use Rattle.program_status.specs.Subjects.{subject_of}

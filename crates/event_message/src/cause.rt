@@ -1,34 +1,34 @@
 ghost use Rattle.std.specs.Prelude.{IsTrue};
 ghost use Rattle.board_model.specs.WellFormed.{is_well_formed};
-ghost use Rattle.history_model.specs.Runs.{Run, history_of};
+ghost use Rattle.kept_state.specs.Stands.{StandsFew};
 
 use board_model::{Board, Lane, end_of};
 use history_model::{Answer, By, Cause, Event, Mark, Why};
+use kept_state::Kept;
 use machine_steps::{Presented, is_on};
 use pci_command::{NoMemory, OpId};
-use plain_replay::{answer, next_mark, turn_of};
 use refused_text::{find_line, line_at};
 use shown_lines::Teller;
 use trace_text::{has_line, print_operation, print_trace};
 
-/// What is so after the events before it, in place of the event.
+/// What is so after the events before it, for which what is kept stands, in place of the event.
 pub(crate) fn tell_cause(
     teller: &mut Teller,
     board: &Board,
-    before: &[Event],
+    kept: &Kept,
     event: &Event,
     why: Why,
 ) -> Result<(), NoMemory>
     requires formed { IsTrue (is_well_formed board.now) }
-    requires run { Run board.now (history_of before.now) }
+    requires stands { StandsFew board.now kept.now }
 {
     match *event {
-        Event::Arrive { lane, .. } => tell_mark(teller, lane, next_mark(board, before, lane)),
+        Event::Arrive { lane, .. } => tell_mark(teller, lane, kept.next_mark(board, lane)),
         Event::Act { bus, by, op, .. } => {
             let presented = Presented { bus, by, op };
             match why {
-                Why::NotPresented => tell_presented(teller, board, before, presented),
-                _ => tell_answer(teller, board, presented, answer(board, before, presented)),
+                Why::NotPresented => tell_presented(teller, board, kept, presented),
+                _ => tell_answer(teller, board, presented, kept.answer(board, presented)),
             }
         }
     }
@@ -58,15 +58,15 @@ fn marked_words(mark: Mark) -> &'static str {
 fn tell_presented(
     teller: &mut Teller,
     board: &Board,
-    before: &[Event],
+    kept: &Kept,
     presented: Presented,
 ) -> Result<(), NoMemory>
     requires formed { IsTrue (is_well_formed board.now) }
-    requires run { Run board.now (history_of before.now) }
+    requires stands { StandsFew board.now kept.now }
 {
     match presented.by {
         By::Lane(lane) => tell_lane(teller, board, presented, lane),
-        By::Master => tell_master(teller, board, before, presented),
+        By::Master => tell_master(teller, board, kept, presented),
     }
 }
 
@@ -94,11 +94,11 @@ fn tell_lane(
 fn tell_master(
     teller: &mut Teller,
     board: &Board,
-    before: &[Event],
+    kept: &Kept,
     presented: Presented,
 ) -> Result<(), NoMemory>
     requires formed { IsTrue (is_well_formed board.now) }
-    requires run { Run board.now (history_of before.now) }
+    requires stands { StandsFew board.now kept.now }
 {
     let number = presented.op.master;
     let Some(master) = board.masters.as_slice().get(number as usize) else {
@@ -107,7 +107,7 @@ fn tell_master(
     let name = master.name.as_str();
     let op = op_word(teller, board, presented.op)?;
     if is_on(board, presented.bus, number) {
-        let turn = turn_of(board, before, number);
+        let turn = kept.turn(number);
         return tell_turn(teller, board, name, op.as_str(), turn);
     }
     let bus = master.bus;

@@ -2,47 +2,48 @@ ghost use Rattle.std.specs.Prelude.{◌<◌, ◌^◌, length};
 
 use crate::cause::tell_cause;
 use crate::place_of_piece;
-use bus_tree::Tree;
 use fault_pages::Fault;
-use history_model::{Event, Why};
+use history_model::{Event, Rule, Why};
+use kept_state::{Kept, take_all_by_rule};
 use pci_command::NoMemory;
-use program_input::read_tree_trace;
+use program_input::{TreeTrace, read_tree_trace};
 use program_status::Status;
 use refused_text::{TOO_LONG, find_line, line_at};
 use shown_lines::Teller;
-use trace_check::first_refused;
 
-/// The first event of a trace that is not allowed, by its line, and what tells why.
-pub fn tell_event(teller: &mut Teller, input: &[u8]) -> Result<(), NoMemory> {
+/// The first event of a trace that is not allowed by the rule of the bridge, by its line, and what
+/// tells why.
+pub fn tell_event(teller: &mut Teller, input: &[u8], rule: Rule) -> Result<(), NoMemory> {
     if input.len() >= TOO_LONG {
         return Ok(());
     }
     match read_tree_trace(teller.alloc(), input) {
-        Ok(read) => tell_first(teller, input, &read.tree, read.events.as_slice()),
+        Ok(read) => tell_first(teller, input, &read, rule),
         Err(Status::NoMemory) => Err(NoMemory),
         Err(_) => Ok(()),
     }
 }
 
-#[tactic(auto, using(crate::proofs::CauseLemmas::run_before, crate::proofs::CauseLemmas::counts_from_one, crate::proofs::CauseLemmas::is_within))]
+/// What is kept of the events before the refused one tells what is so in its place.
 fn tell_first(
     teller: &mut Teller,
     input: &[u8],
-    tree: &Tree,
-    events: &[Event],
+    read: &TreeTrace,
+    rule: Rule,
 ) -> Result<(), NoMemory>
-    requires { length events.now < 2 ^ 32 }
+    requires { length read.now.events < 2 ^ 32 }
 {
-    let board = tree.board();
-    let Some((number, why)) = first_refused(teller.alloc(), tree, events)? else {
+    let tree = &read.tree;
+    let events = read.events.as_slice();
+    let mut kept = Kept::by_rule(teller.alloc(), tree, rule)?;
+    let Some((number, why)) = take_all_by_rule(&mut kept, tree, events) else {
         return Ok(());
     };
-    let (before, from) = events.split_at(number as usize - 1);
-    let Some(event) = from.first() else {
+    let Some(event) = events.get((number as usize).saturating_sub(1)) else {
         return Ok(());
     };
     show_event(teller, input, number, why)?;
-    tell_cause(teller, board, before, event, why)
+    tell_cause(teller, tree.board(), &kept, event, why)
 }
 
 /// The line of the event of this number.

@@ -13,3 +13,4 @@ pub mod RouteLemmas
 pub mod CoverLemmas
 pub mod SmallLemmas
 pub mod FirstLemmas
+pub mod RefusedLemmas

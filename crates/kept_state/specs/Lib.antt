@@ -4,3 +4,4 @@ pub mod Rooms
 pub mod Words
 pub mod Answer
 pub mod First
+pub mod Refused

@@ -6,8 +6,10 @@ mod gone;
 mod kept;
 mod lanes;
 mod table;
+mod taking;
 mod tokens;
 mod turns;
 mod words;
 
 pub use kept::Kept;
+pub use taking::{first_refused, take_all, take_all_by_rule};

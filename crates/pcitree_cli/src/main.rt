@@ -7,9 +7,10 @@ mod asked;
 mod report;
 
 use asked::{Asked, asked_for, tell};
+use history_model::Rule;
 use io_ports::{HeldSource, ReadPort, WritePort};
 use pcitree::{NoGate, Status, file_word, input_limit, pcitree};
-use report::report;
+use report::{report, rule_of};
 use std::env;
 use std::fs::File;
 use std::io::ErrorKind;
@@ -52,7 +53,7 @@ fn serve<R: Threads + Sync>(rt: &HostRuntime, threads: &R, words: &[String]) -> 
 
 fn misfit(rt: &HostRuntime, word: u32) -> Status {
     let status = status_only(rt, Status::Usage { word });
-    report(rt, "", b"", status, None);
+    report(rt, "", b"", status, None, Rule::Tagged);
     status
 }
 
@@ -71,7 +72,7 @@ fn run<R: Threads + Sync>(rt: &HostRuntime, threads: &R, words: &[String]) -> St
     let status = pcitree(threads, rt.alloc(), words, &mut source, &mut sink, &NoGate);
     if status != Status::Done {
         let _ = eprintln!(rt; "{status}");
-        report(rt, name, source.bytes(), status, reason);
+        report(rt, name, source.bytes(), status, reason, rule_of(words));
     }
     status
 }

@@ -2,9 +2,9 @@ ghost use Rattle.std.specs.Prelude.{◌<◌, ◌^◌, length, IfOk, IfErr};
 ghost use Rattle.program_input.specs.Traces.{ReadsRun, RefusesRun};
 
 use crate::trace::{TreeTrace, read_tree_trace};
+use kept_state::first_refused;
 use program_status::Status;
 use std::alloc::Global;
-use trace_check::first_refused;
 
 /// The valid board and the run of it, complete or not, whose text these bytes are, which are fewer
 /// than 2^31.

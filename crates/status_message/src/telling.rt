@@ -7,19 +7,21 @@ use crate::board::tell_board;
 use crate::machine::tell_machine_line;
 use crate::trace::tell_trace_line;
 use event_message::tell_event;
+use history_model::Rule;
 use pci_command::NoMemory;
 use program_status::Status;
 use shown_lines::{Message, Teller};
 use std::alloc::Global;
 
 /// What a status says of an input, behind its first line: the lines at fault and why. The name is
-/// that of the input, as it is to be shown. Nothing is said of a status that does not tell of the
-/// input.
+/// that of the input, as it is to be shown; events were judged by the rule of the bridge. Nothing is
+/// said of a status that does not tell of the input.
 pub fn message(
     alloc: Global,
     name: &str,
     input: &[u8],
     status: &Status,
+    rule: Rule,
 ) -> Result<Message, NoMemory>
     ensures printing { IfOk result (λ message. IsTrue (list_all is_shown message)) }
     ensures quiet { IsQuiet status.now → IfOk result (λ message. message ≡ []) }
@@ -29,7 +31,7 @@ pub fn message(
         | Status::BadTrace { .. }
         | Status::BadMachine { .. }
         | Status::NotRun { .. }
-        | Status::Incomplete { .. } => told(alloc, name, input, status),
+        | Status::Incomplete { .. } => told(alloc, name, input, status, rule),
         _ => Ok(Message::new(alloc)),
     }
 }
@@ -43,7 +45,13 @@ pub fn about(alloc: Global, name: &str, text: &str) -> Result<Message, NoMemory>
     Ok(teller.into_message())
 }
 
-fn told(alloc: Global, name: &str, input: &[u8], status: &Status) -> Result<Message, NoMemory>
+fn told(
+    alloc: Global,
+    name: &str,
+    input: &[u8],
+    status: &Status,
+    rule: Rule,
+) -> Result<Message, NoMemory>
     ensures { IfOk result (λ message. IsTrue (list_all is_shown message)) }
 {
     let mut teller = Teller::new(alloc, name);
@@ -53,7 +61,7 @@ fn told(alloc: Global, name: &str, input: &[u8], status: &Status) -> Result<Mess
         Status::BadMachine { line, fault } => {
             tell_machine_line(&mut teller, input, line, fault)?;
         }
-        Status::NotRun { .. } => tell_event(&mut teller, input)?,
+        Status::NotRun { .. } => tell_event(&mut teller, input, rule)?,
         Status::Incomplete { .. } => {
             teller.say("the events are a run that has not ended: `finish` goes on with it")?;
         }

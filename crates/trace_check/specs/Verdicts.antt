@@ -1,36 +1,15 @@
 -- What a list of events of a board is, the first event first.
-use Rattle.std.specs.Prelude.{◌≡◌, ℕ, ◌+◌, ◌<◌, ◌≤◌, List, ◌∷◌, ◌++◌, length, Some}
+use Rattle.std.specs.Prelude.{◌≡◌, ℕ, ◌<◌, ◌≤◌, List, ◌++◌, length}
 use Rattle.board_model.specs.declared.board.Board.{Board}
 use Rattle.board_model.specs.Ways.{bound_of}
 use Rattle.history_model.specs.declared.event.Event.{Event}
-use Rattle.history_model.specs.declared.why.Why.{Why}
-use Rattle.history_model.specs.declared.rule.Rule.{Rule}
-use Rattle.history_model.specs.declared.rule.Rule.TheVariants.{Tagged}
-use Rattle.history_model.specs.Runs.{RunBy, Run, Complete, history_of}
+use Rattle.history_model.specs.Runs.{Run, Complete, history_of}
 use Rattle.history_model.specs.Local.{Matched}
 use Rattle.history_model.specs.Knowledge.{Fresh}
 use Rattle.history_model.specs.Left.{left_of}
-use Rattle.machine_steps.specs.Verdicts.{HoldsBy}
+use Rattle.kept_state.specs.Refused.{FirstRefused}
 use Rattle.trace_check.specs.declared.verdict.Verdict.{Verdict as Judgement}
 use Rattle.trace_check.specs.declared.verdict.Verdict.TheVariants.{Complete as IsComplete, Incomplete, NotRun}
-
--- under a rule: the event of this number, from 1, is the first that is not allowed after those before it, and this is why
-pub record FirstRefusedBy (rule : Rule) (board : Board) (events : List Event) (number : ℕ) (why : Why) : Type 0 where
-  pub before : List Event
-  pub event : Event
-  pub after : List Event
-  pub split : events ≡ before ++ event ∷ after
-  pub number_is : number ≡ length before + 1
-  pub run : RunBy rule board (history_of before)
-  pub cause : HoldsBy rule board (history_of before) event (Some why)
-
--- the same on bridges that keep the local master
-abbrev pub FirstRefused : Board → List Event → ℕ → Why → Type 0
-FirstRefused board events number why = FirstRefusedBy Tagged board events number why
-
--- the same of a number and a cause
-abbrev pub RefusesFirst : Board → List Event → ℕ × Why → Type 0
-RefusesFirst board events refused = FirstRefused board events refused.0 refused.1
 
 -- a run to the end of all programs, in which each completion is taken by the operation that it was made for, and each
 -- read that was told of a write reads its words after it has landed; it has at most as many events as the board's bound

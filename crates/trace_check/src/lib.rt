@@ -4,5 +4,5 @@
 mod judging;
 mod verdict;
 
-pub use judging::{check, first_refused, take_all};
+pub use judging::check;
 pub use verdict::Verdict;

@@ -8,7 +8,8 @@ use Rattle.law_fresh.specs.Laws.{LawsOfRun}
 use Rattle.history_model.specs.Next.{next_of}
 use Rattle.kept_next.specs.declared.course.Course.{Course}
 use Rattle.kept_next.specs.Course.{IsCourse}
-use Rattle.trace_check.specs.Verdicts.{CompleteRun, FirstRefused}
+use Rattle.kept_state.specs.Refused.{FirstRefused}
+use Rattle.trace_check.specs.Verdicts.{CompleteRun}
 use Rattle.trace_finish.specs.declared.unfinished.Unfinished.{Unfinished}
 use Rattle.trace_finish.specs.declared.unfinished.Unfinished.TheVariants.{NotRun, NoMemory}
 

@@ -8,11 +8,10 @@ use crate::Unfinished;
 use bus_tree::Tree;
 use history_model::Event;
 use kept_next::Course;
-use kept_state::Kept;
+use kept_state::{Kept, take_all};
 use law_fresh::laws_of_runs;
 use pci_command::{List, NoMemory};
 use std::alloc::Global;
-use trace_check::take_all;
 
 /// The events of a run, and behind them those with which it goes on to the end of all programs, each
 /// the next event of those before it. There are fewer than 2^32 events, and the time grows with

@@ -6,8 +6,8 @@ use Rattle.history_model.specs.declared.rule.Rule.TheVariants.{Untagged}
 use Rattle.history_model.specs.Runs.{RunBy, history_of}
 use Rattle.kept_state.specs.State.{KeptState}
 use Rattle.kept_state.specs.Stands.{StandsForBy}
+use Rattle.kept_state.specs.Refused.{FirstRefusedBy}
 use Rattle.law_untagged.specs.Origins.{ending_reading}
-use Rattle.trace_check.specs.Verdicts.{FirstRefusedBy}
 use Rattle.untagged_run.specs.declared.got.Got.{Got}
 use Rattle.untagged_run.specs.declared.got.Followed.{Followed}
 use Rattle.untagged_run.specs.declared.got.Followed.TheVariants.{NotRun, Run}

@@ -10,7 +10,7 @@ use Rattle.history_model.specs.declared.rule.Rule.TheVariants.{Tagged}
 use Rattle.history_model.specs.Runs.{RunBy, Run, history_of}
 use Rattle.machine_steps.proofs.VerdictLemmas.{allowed_exactly_by}
 use Rattle.machine_steps.specs.Verdicts.{HoldsBy}
-use Rattle.trace_check.specs.Verdicts.{FirstRefusedBy, FirstRefused}
+use Rattle.kept_state.specs.Refused.{FirstRefusedBy, FirstRefused}
 
 pub refused_by : (rule : Rule) (board : Board) (events : List Event) (i : ℕ) (d : Event) (why : Why) → i < length events → RunBy rule board (history_of (take i events))
     → HoldsBy rule board (history_of (take i events)) (get_or events i d) (Some why) → FirstRefusedBy rule board events (i + 1) why
