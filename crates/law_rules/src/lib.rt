@@ -24,7 +24,7 @@ ghost use Rattle.law_slots.specs.Phases.{DelayedAreSingle};
 ghost use Rattle.law_rules.specs.AskedWay.{AskedWay};
 
 /// Nothing is on the lanes of no bridge.
-pub fn quiet_bridges()
+pub fn quiet_bridges_by_rule()
     ensures { (rule : Rule) (board : Board) (h : List Event) (lane : BridgeLane) → bridge_to board lane.bus ≡ None → RunBy rule board h → world_by rule board h lane ≡ empty_lane }
 {}
 

@@ -13,6 +13,3 @@ pub use program::pcitree;
 pub use program_status::{BoardFault, Status};
 pub use surely::pcitree_surely;
 pub use words::{file_word, input_limit};
-
-#[cfg(test)]
-mod fault_tests;

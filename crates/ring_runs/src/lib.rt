@@ -13,9 +13,6 @@ use std::thread::Threads;
 use threaded_workers::run_rings;
 pub use threaded_workers::{Gate, NoGate};
 
-#[cfg(test)]
-mod tests;
-
 /// A complete run of the board, the first event first: in each phase each bus does turns in a thread
 /// of its own, and what it sends may come to other buses in the same phase. The gate is told of the
 /// turns. Which complete run it is depends on how the threads run.

@@ -1,9 +1,9 @@
 //! Each call of a port fails in turn, a sink fills up, and texts are cut. What is wanted stands in
 //! the tables, and was worked out by hand.
-use crate::{BoardFault, NoGate, Status, pcitree, pcitree_surely};
 use board_statements::LineFault;
 use io_ports::{MemorySink, MemorySource, SureSink, SureSource};
 use pci_command::List;
+use pcitree::{BoardFault, NoGate, Status, pcitree, pcitree_surely};
 use std::alloc::Global;
 use std::test::Fail;
 use trace_reader::TraceLineFault;

@@ -1,7 +1,9 @@
-use crate::threaded_run;
+//! As many threads run as there are buses, and what is read depends on which bus was held: the texts
+//! were worked out by hand.
 use bus_tree::{Tree, validate};
 use history_model::Event;
 use pci_command::List;
+use ring_runs::threaded_run;
 use std::alloc::Global;
 use std::sync::atomic::{AtomicU64, Ordering};
 use std::test::Fail;
