@@ -5,7 +5,7 @@ ghost use Rattle.board_segments.specs.First.{has_target};
 ghost use Rattle.board_segments.specs.Parts.{MastersAtFirst, TargetsAtFirst};
 
 use board_model::Board;
-use history_core::is_on;
+use machine_steps::is_on;
 use master_agents::MasterState;
 use pci_command::NoMemory;
 use std::alloc::Global;

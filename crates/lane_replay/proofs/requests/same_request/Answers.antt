@@ -1,5 +1,0 @@
-use Rattle.lane_replay.proofs.SameLemmas.{same_request_tests}
-use Rattle.lane_replay.proofs.requests.same_request.Goals as goal
-
-pub returns : goal.returns
-returns c = same_request_tests c.args.a.now c.args.b.now c.same_request.result c.same_request.ensures

@@ -1,0 +1,5 @@
+pub mod SameLemmas
+pub mod LeaveLemmas
+pub mod LimitLemmas
+pub mod ValueLemmas
+pub mod VerdictLemmas
