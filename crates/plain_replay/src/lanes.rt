@@ -1,4 +1,4 @@
-ghost use Rattle.std.specs.Prelude.{◌≡◌, IsTrue};
+ghost use Rattle.std.specs.Prelude.{◌≡◌, IsTrue, false};
 ghost use Rattle.board_model.specs.WellFormed.{is_well_formed};
 ghost use Rattle.history_model.specs.Next.{down_to, up_from};
 ghost use Rattle.history_model.specs.Runs.{Run, history_of};
