@@ -1,5 +1,5 @@
-//! Why the first event of a trace that is not allowed is not: its line, and what is so in its place after the
-//! events before it.
+//! Why the first event of a trace that is not allowed is not: its line, and what is so in its place
+//! after the events before it.
 #![tactic(auto)]
 
 mod cause;

@@ -14,8 +14,8 @@ use shown_lines::{Message, Teller};
 use std::alloc::Global;
 
 /// What a status says of an input, behind its first line: the lines at fault and why. The name is
-/// that of the input, as it is to be shown; events were judged by the rule of the bridge. Nothing is
-/// said of a status that does not tell of the input.
+/// that of the input, as it is to be shown, and events were judged by the rule of the bridge.
+/// Nothing is said of a status that does not tell of the input.
 pub fn message(
     alloc: Global,
     name: &str,
