@@ -2,20 +2,11 @@ ghost use Rattle.std.specs.Prelude.{◌≡◌};
 ghost use Rattle.audit_clocks.specs.Tables.{list_in};
 
 use crate::landed::{Landed, Track};
-use pci_command::{NoMemory, OpId, Space};
+use board_model::Word;
+use pci_command::{NoMemory, OpId};
 use std::alloc::Global;
 use std::collections::HashMap;
 use std::marker::Model;
-
-/// A dword of a target.
-#[derive(Clone, Copy, Debug, PartialEq, Eq, Hash)]
-pub struct Word {
-    /// The number of the target on the board, from 0 on.
-    pub target: u16,
-    pub space: Space,
-    /// Where it is in the space; in configuration space within the header of the target.
-    pub address: u128,
-}
 
 /// The writes of the data phases that landed in each dword, in their order.
 #[derive(Debug, Drop)]
@@ -26,7 +17,7 @@ pub struct Landings {
 impl Model for Landings {
     ghost use Rattle.std.specs.Prelude.{List};
     ghost use Rattle.pci_command.specs.declared.op_id.OpId.{OpId};
-    ghost use Rattle.audit_clocks.specs.declared.landings.Word.{Word};
+    ghost use Rattle.board_model.specs.declared.word.Word.{Word};
 
     ghost Value = { List (Word × List OpId) };
 
@@ -37,7 +28,7 @@ impl Landings {
     ghost use Rattle.std.specs.Prelude.{OnOk, if◌then◌else◌, [], ◌∷◌};
     ghost use Rattle.audit_clocks.specs.Tables.{writes_in, same_word, Lands};
     ghost use Rattle.audit_clocks.specs.Tracks.{Tracked};
-    ghost use Rattle.audit_clocks.specs.declared.landings.Word.{Word};
+    ghost use Rattle.board_model.specs.declared.word.Word.{Word};
 
     /// Nothing landed.
     pub fn new(alloc: Global) -> Landings

@@ -16,7 +16,7 @@ mod word_table;
 pub use clocks::Clocks;
 pub use known::Known;
 pub use landed::{Landed, Track};
-pub use landings::{Landings, Word};
+pub use landings::Landings;
 pub use numbers::Numbers;
 pub use op_table::OpTable;
 pub use row::Row;

@@ -1,6 +1,6 @@
 ghost use Rattle.std.specs.Prelude.{◌≡◌};
 
-use crate::landings::Word;
+use board_model::Word;
 use pci_command::NoMemory;
 use std::alloc::Global;
 use std::collections::HashMap;
@@ -14,7 +14,7 @@ pub struct WordTable<V> {
 
 impl<V> Model for WordTable<V> {
     ghost use Rattle.std.specs.Prelude.{List};
-    ghost use Rattle.audit_clocks.specs.declared.landings.Word.{Word};
+    ghost use Rattle.board_model.specs.declared.word.Word.{Word};
 
     ghost Value = { List (Word × V) };
 
@@ -24,7 +24,7 @@ impl<V> Model for WordTable<V> {
 impl<V: Drop> WordTable<V> {
     ghost use Rattle.std.specs.Prelude.{OnOk, []};
     ghost use Rattle.std.specs.Option.{option_copied};
-    ghost use Rattle.audit_clocks.specs.declared.landings.Word.{Word};
+    ghost use Rattle.board_model.specs.declared.word.Word.{Word};
     ghost use Rattle.audit_clocks.specs.Tables.{found_in, TakesWord, PutsWord};
 
     /// No dword has one.

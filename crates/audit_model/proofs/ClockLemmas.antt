@@ -27,7 +27,7 @@ use Rattle.std.proofs.lemmas.Bool.{or_left, or_right}
 use Rattle.std.proofs.Math.Bool.{or-false}
 use Rattle.law_fresh.proofs.Laws.{IsBehind, Begun, Begun-turn, Begun-kept, WorldHas, ends_turn, knew, knows_kept, write_since, since_behind, before_in, or_either}
 use Rattle.audit_model.specs.Clocks.{Clocks, own, landing_tells, value_tells, known_after, clocks_of, reaches, taught_by}
-use Rattle.audit_model.proofs.OwnLemmas.{WriteOp, write_op, own_ended}
+use Rattle.law_fresh.proofs.Laws.{WriteOp, write_op, own_ended}
 use Rattle.audit_model.proofs.NamedLemmas.{Names, Entry, items_after, landings_after}
 
 pub bool_same : (a b : Bool) → (a ≡ true → b ≡ true) → (b ≡ true → a ≡ true) → a ≡ b

@@ -17,7 +17,7 @@ use Rattle.history_model.specs.Runs.{Run}
 use Rattle.law_fresh.specs.Aware.{is_behind, knows, brings, first_known, aware_of}
 use Rattle.law_fresh.proofs.Laws.{IsBehind, ends_turn, knows_kept, since_behind}
 use Rattle.audit_model.specs.Clocks.{own, clocks_of, reaches}
-use Rattle.audit_model.proofs.OwnLemmas.{write_op}
+use Rattle.law_fresh.proofs.Laws.{write_op}
 use Rattle.audit_model.proofs.ClockLemmas.{Law-run, Starts, known_reaches}
 
 behind_both : (p t q : OpId) → stands_after p t ≡ true → stands_after t q ≡ true → stands_after p q ≡ true

@@ -3,7 +3,7 @@
 //! came to know of it. The laws are the contracts of functions that do nothing.
 #![tactic(auto)]
 
-ghost use Rattle.std.specs.Prelude.{◌≡◌, ◌≤◌, ℕ, true, List, ◌∷◌, Some, None, is_some};
+ghost use Rattle.std.specs.Prelude.{◌≡◌, ◌≤◌, ℕ, true, List, ◌∷◌, Some, is_some, length};
 ghost use Rattle.board_model.specs.declared.board.Board.{Board};
 ghost use Rattle.board_model.specs.Valid.{IsValid};
 ghost use Rattle.history_model.specs.declared.event.Event.{Event};
@@ -12,24 +12,8 @@ ghost use Rattle.history_model.specs.Knowledge.{has_landed, is_write};
 ghost use Rattle.law_fresh.specs.Aware.{aware_of, knows};
 ghost use Rattle.audit_model.specs.Clocks.{reaches, clocks_of};
 ghost use Rattle.pci_command.specs.declared.op_id.OpId.{OpId};
-ghost use Rattle.history_model.specs.Runs.{history_of};
-ghost use Rattle.worked_runs.specs.Relay.{relay_board, relay_events, first_write, last_read};
-ghost use Rattle.worked_runs.specs.OneBus.{one_word_board, one_word_events};
 ghost use Rattle.audit_model.specs.Chains.{chain_of};
-ghost use Rattle.audit_model.specs.Audit.{findings};
-ghost use Rattle.audit_model.specs.Worked.{relay_chain, relay_findings, one_word_findings};
-
-/// A write told through two flags to a third master: its chain, and the line of the last read.
-pub fn relay()
-    ensures chain { chain_of relay_board (history_of relay_events) first_write last_read ≡ Some relay_chain }
-    ensures not_told { chain_of relay_board (history_of relay_events) last_read first_write ≡ None }
-    ensures findings { findings relay_board (history_of relay_events) ≡ relay_findings }
-{}
-
-/// A master that reads back what it wrote.
-pub fn one_word()
-    ensures { findings one_word_board (history_of one_word_events) ≡ one_word_findings }
-{}
+ghost use Rattle.audit_model.specs.Links.{IsChain};
 
 /// What a master knows of all writes is one number for each author: in every run of a valid board a
 /// master knows of a write exactly where its number for the write's master is above the write's index.
@@ -46,4 +30,16 @@ pub fn landed_starts_stay()
 /// An operation that knows of a write knows of each write before it in its author's program.
 pub fn earlier_is_known()
     ensures { (board : Board) (h : List Event) (w v : OpId) (r : OpId) → IsValid board → Run board h → is_write board w ≡ true → is_write board v ≡ true → w.master ≡ v.master → w.index ≤ v.index → knows (aware_of board v h) r ≡ true → knows (aware_of board w h) r ≡ true }
+{}
+
+/// A valid board has at most 256 masters.
+pub fn few_masters()
+    ensures { (board : Board) → IsValid board → length board.masters ≤ 256 }
+{}
+
+/// In every run of every valid board each operation of a chain of an audit tells the next: a later
+/// operation of its master, or a read that saw it; the chain begins with the write and ends with the
+/// operation that was told.
+pub fn chains_tell()
+    ensures { (board : Board) (h : List Event) (w : OpId) (r : OpId) (chain : List OpId) → IsValid board → Run board h → chain_of board h w r ≡ Some chain → IsChain board h w r chain }
 {}

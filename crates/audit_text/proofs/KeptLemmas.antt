@@ -15,10 +15,10 @@ use Rattle.history_model.specs.Runs.{Run}
 use Rattle.history_facts.proofs.RequestLemmas.{same_op_true}
 use Rattle.law_fresh.specs.Aware.{is_behind, knows, aware_of}
 use Rattle.law_fresh.proofs.Laws.{or_either}
-use Rattle.audit_model.proofs.OwnLemmas.{write_op, same_place}
+use Rattle.law_fresh.proofs.Laws.{write_op, same_place}
 use Rattle.audit_model.proofs.StartLemmas.{start_stays}
 use Rattle.audit_model.proofs.OrderLemmas.{earlier_known, landings_know}
-use Rattle.audit_clocks.specs.declared.landings.Word.{Word}
+use Rattle.board_model.specs.declared.word.Word.{Word}
 use Rattle.audit_clocks.specs.Tables.{writes_in}
 use Rattle.audit_clocks.specs.Tracks.{in_order_at}
 use Rattle.dword_landings.specs.Hits.{op_of_landing, dword}

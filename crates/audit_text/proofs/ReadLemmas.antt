@@ -20,7 +20,7 @@ use Rattle.history_model.specs.Knowledge.{Reading as WordReading, value_in, outc
 use Rattle.history_facts.proofs.RequestLemmas.{same_op_true}
 use Rattle.law_fresh.proofs.Laws.{Front, before_in}
 use Rattle.audit_model.specs.Clocks.{Clocks, clocks_of, taught_by, word_tells}
-use Rattle.audit_clocks.specs.declared.landings.Word.{Word}
+use Rattle.board_model.specs.declared.word.Word.{Word}
 use Rattle.audit_clocks.specs.Rows.{number}
 use Rattle.audit_clocks.specs.Tables.{value_of, numbers_of, writes_in}
 use Rattle.audit_clocks.specs.Clocks.{ClockState}

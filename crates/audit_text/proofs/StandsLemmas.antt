@@ -20,7 +20,7 @@ use Rattle.history_model.specs.Program.{Ending, ended, turn_of}
 use Rattle.history_model.specs.Knowledge.{value_in, is_write}
 use Rattle.history_model.specs.Runs.{Run}
 use Rattle.history_facts.proofs.WantsLemmas.{wants-turn}
-use Rattle.audit_model.proofs.OwnLemmas.{turn_is_there}
+use Rattle.law_fresh.proofs.Laws.{turn_is_there}
 use Rattle.law_reads.proofs.Laws.{master_there}
 use Rattle.law_fresh.specs.Aware.{brings, first_known, aware_of}
 use Rattle.law_fresh.proofs.Laws.{ends_turn}

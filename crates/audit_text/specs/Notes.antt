@@ -10,7 +10,7 @@ use Rattle.history_model.specs.declared.event.Event.{Event}
 use Rattle.history_model.specs.declared.event.Event.TheVariants.{Act, Arrive}
 use Rattle.history_model.specs.Program.{Ending, ended}
 use Rattle.history_model.specs.Knowledge.{Reading as WordReading, reading_by, value_in}
-use Rattle.audit_clocks.specs.declared.landings.Word.{Word}
+use Rattle.board_model.specs.declared.word.Word.{Word}
 use Rattle.audit_clocks.specs.Tables.{value_of, writes_in, Puts}
 use Rattle.audit_clocks.specs.Clocks.{ClockState, Presented, Ended}
 use Rattle.dword_landings.specs.Told.{Tells, ToldsFor}

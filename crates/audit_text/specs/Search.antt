@@ -2,7 +2,7 @@
 use Rattle.std.specs.Prelude.{◌≡◌, ◌<◌, ◌≤◌, ℕ, Bool, true, false, List, length, Option, Some, None, ◌||◌, max, min, slice_get}
 use Rattle.pci_command.specs.declared.op_id.OpId.{OpId}
 use Rattle.pci_command.specs.Same.{same_op}
-use Rattle.audit_clocks.specs.declared.landings.Word.{Word}
+use Rattle.board_model.specs.declared.word.Word.{Word}
 use Rattle.audit_clocks.specs.Tables.{writes_in}
 use Rattle.audit_clocks.specs.Tracks.{in_order_at, place}
 use Rattle.audit_text.specs.declared.readings.Reading.{Reading}

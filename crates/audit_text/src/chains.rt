@@ -5,8 +5,7 @@ ghost use Rattle.audit_text.specs.Search.{TellsAlways};
 
 use crate::ledger::Ledger;
 use crate::search::first_shown;
-use history_core::is_same_op;
-use pci_command::{NoMemory, OpId};
+use pci_command::{NoMemory, OpId, same_op};
 use std::alloc::Global;
 
 fn shown_to(ledger: &Ledger, write: OpId, op: OpId) -> Option<OpId>
@@ -34,7 +33,7 @@ fn chain_to(
     if masters == 0 {
         return Ok(());
     }
-    if is_same_op(op, write) {
+    if same_op(op, write) {
         return push(chain, write);
     }
     match shown_to(ledger, write, op) {
@@ -69,7 +68,7 @@ fn push_two(chain: &mut Vec<OpId>, first: OpId, second: OpId) -> Result<(), NoMe
 fn push_joined(chain: &mut Vec<OpId>, last: OpId, op: OpId) -> Result<(), NoMemory>
     ensures { OnOk result (chain.new.items ≡ joined chain.old.items last op) }
 {
-    if is_same_op(last, op) {
+    if same_op(last, op) {
         Ok(())
     } else {
         push(chain, op)

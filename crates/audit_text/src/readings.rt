@@ -5,8 +5,7 @@ ghost use Rattle.board_model.specs.Ways.{address_in};
 ghost use Rattle.history_model.specs.Knowledge.{reading_of};
 ghost use Rattle.audit_text.specs.Notes.{word_of, read_in, read_of};
 
-use audit_clocks::Word;
-use board_model::{Board, Place, request_of};
+use board_model::{Board, Place, Word, request_of};
 use history_model::{Event, Step};
 use pci_command::{OpId, Space};
 

@@ -7,8 +7,8 @@ ghost use Rattle.audit_text.specs.Search.{writes_at, is_known, tells_of, is_whol
 
 use crate::ledger::Ledger;
 use crate::readings::Reading;
-use history_core::is_same_op;
-use pci_command::OpId;
+use machine_steps::stands_after;
+use pci_command::{OpId, same_op};
 
 /// The last write that landed in the dword of the reading before it, and of which the read's master
 /// knew before. A binary search for each author whose writes landed there.
@@ -58,12 +58,6 @@ pub(crate) fn knows(ledger: &Ledger, write: OpId, op: OpId) -> bool
     }
 }
 
-fn stands_after(first: OpId, op: OpId) -> bool
-    ensures { result ≡ stands_after first op }
-{
-    first.index < op.index || (first.index == op.index && first.attempt < op.attempt)
-}
-
 /// The first write that landed in the dword of the reading before it, landed whole before it, and is
 /// the write or knows of it. A binary search for each author whose writes landed there, and a step
 /// for each write of the author of which a part landed.
@@ -105,7 +99,7 @@ fn tells_at(ledger: &Ledger, writes: &[OpId], place: usize, write: OpId) -> bool
     ensures { result ≡ tells_of ledger.now write (slice_get writes.now place) }
 {
     match writes.get(place) {
-        Some(op) => is_same_op(*op, write) || knows(ledger, write, *op),
+        Some(op) => same_op(*op, write) || knows(ledger, write, *op),
         None => true,
     }
 }

@@ -17,7 +17,7 @@ use Rattle.history_model.specs.declared.event.Event.{Event}
 use Rattle.history_model.specs.declared.event.Event.TheVariants.{Act, Arrive}
 use Rattle.history_model.specs.Words.{Landing, through, without, brings, brought}
 use Rattle.history_model.specs.Knowledge.{is_landing_of}
-use Rattle.audit_clocks.specs.declared.landings.Word.{Word}
+use Rattle.board_model.specs.declared.word.Word.{Word}
 use Rattle.audit_clocks.specs.Tables.{same_word}
 use Rattle.dword_landings.specs.Hits.{dword, op_of_landing, few_of, count_of, hits, found_hits, place_hits, event_hits, lands}
 use Rattle.dword_landings.proofs.Laws.{event_hit}

@@ -16,7 +16,7 @@ use Rattle.history_model.specs.declared.event.Event.{Event}
 use Rattle.history_model.specs.declared.event.Event.TheVariants.{Act, Arrive}
 use Rattle.history_model.specs.Words.{through, without, brings}
 use Rattle.history_model.specs.Knowledge.{is_land_of}
-use Rattle.audit_clocks.specs.declared.landings.Word.{Word}
+use Rattle.board_model.specs.declared.word.Word.{Word}
 use Rattle.audit_clocks.specs.Tables.{value_of, list_in, same_word}
 use Rattle.dword_landings.specs.Hits.{dword, few_of, count_of, lands, Parted}
 use Rattle.drawn_told.specs.declared.touches.Touch.{Touch}

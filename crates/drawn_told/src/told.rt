@@ -12,9 +12,9 @@ ghost use Rattle.drawn_told.specs.Kept.{TellsEnds, TellsTouches, TellsTold, Mark
 
 use crate::ends::Ends;
 use crate::touches::Landed;
-use audit_clocks::{OpTable, Word};
+use audit_clocks::OpTable;
 use audit_text::{Found, findings_of};
-use board_model::Board;
+use board_model::{Board, Word};
 use bus_tree::Tree;
 use history_model::Event;
 use pci_command::{List, NoMemory, OpId};

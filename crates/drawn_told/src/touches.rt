@@ -3,11 +3,11 @@ ghost use Rattle.pci_command.specs.Same.{same_op, same_space};
 ghost use Rattle.audit_clocks.specs.Tables.{same_word};
 ghost use Rattle.drawn_told.specs.Kept.{touches_in, touches_from, request_touches, place_touches, event_touches, last_before, Adds, Touches};
 
-use audit_clocks::{OpTable, Word};
-use board_model::{Board, Place, request_of};
+use audit_clocks::OpTable;
+use board_model::{Board, Place, Word, request_of};
 use dword_landings::{gone_of, lands, record_parted};
-use history_core::{brought_by, dword_address, left_of};
 use history_model::{Event, Step};
+use machine_steps::{brought_by, dword_address, left_of};
 use pci_command::{NoMemory, OpId, Request, Space};
 use std::alloc::Global;
 use std::marker::Model;

@@ -18,7 +18,7 @@ use Rattle.history_model.specs.declared.event.Event.{Event}
 use Rattle.history_model.specs.declared.event.Event.TheVariants.{Act, Arrive}
 use Rattle.history_model.specs.Words.{Landing, through, without, brings, landings_at, landings_in, landings_of, brought}
 use Rattle.history_facts.proofs.RequestLemmas.{same_op_true}
-use Rattle.audit_clocks.specs.declared.landings.Word.{Word}
+use Rattle.board_model.specs.declared.word.Word.{Word}
 use Rattle.audit_clocks.specs.Tables.{same_word, value_of, writes_in, Lands, Puts}
 use Rattle.dword_landings.specs.Hits.{hits, request_hits, found_hits, lands, place_hits, event_hits, few_of, count_of, Parted}
 use Rattle.dword_landings.specs.Hits.{op_of_landing, dword}

@@ -10,7 +10,7 @@ use Rattle.history_model.specs.declared.event.Event.{Event}
 use Rattle.history_model.specs.Words.{Landing, through, landed, brought}
 use Rattle.history_model.specs.Knowledge.{is_land_of, has_landed}
 use Rattle.history_model.specs.Runs.{history_of}
-use Rattle.audit_clocks.specs.declared.landings.Word.{Word}
+use Rattle.board_model.specs.declared.word.Word.{Word}
 use Rattle.audit_clocks.specs.Rows.{number, own}
 use Rattle.audit_clocks.specs.Tables.{value_of, numbers_of, writes_in, Lands}
 use Rattle.dword_landings.specs.declared.told.Told.{Told}

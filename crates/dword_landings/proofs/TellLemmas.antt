@@ -5,7 +5,7 @@ use Rattle.std.proofs.lemmas.List.{length-replicate, get_or-replicate, take-appe
 use Rattle.list_facts.specs.Lists.{greatest}
 use Rattle.list_facts.proofs.EachLemmas.{Each-append}
 use Rattle.pci_command.specs.declared.op_id.OpId.{OpId}
-use Rattle.audit_clocks.specs.declared.landings.Word.{Word}
+use Rattle.board_model.specs.declared.word.Word.{Word}
 use Rattle.audit_clocks.specs.Rows.{number, Raises}
 use Rattle.audit_clocks.specs.Tables.{value_of, writes_in, same_word, found_in, TakesWord, PutsWord}
 use Rattle.audit_clocks.proofs.TableLemmas.{same_word_true}

@@ -4,7 +4,7 @@ use Rattle.pci_command.specs.declared.op_id.OpId.{OpId}
 use Rattle.board_model.specs.declared.board.Board.{Board}
 use Rattle.history_model.specs.declared.event.Event.{Event}
 use Rattle.history_model.specs.Words.{landed, through}
-use Rattle.audit_clocks.specs.declared.landings.Word.{Word}
+use Rattle.board_model.specs.declared.word.Word.{Word}
 use Rattle.audit_clocks.specs.Tables.{value_of, writes_in}
 use Rattle.dword_landings.specs.declared.told.Told.{Told}
 use Rattle.dword_landings.specs.Hits.{count_of, op_of_landing, dword, whole_at}

@@ -3,7 +3,7 @@ use Rattle.std.specs.Prelude.{◌≡◌, ◌<◌, ◌≤◌, ℕ, Bool, true, ma
 use Rattle.std.specs.List.{AllByRecursion}
 use Rattle.list_facts.specs.Lists.{greatest}
 use Rattle.pci_command.specs.declared.op_id.OpId.{OpId}
-use Rattle.audit_clocks.specs.declared.landings.Word.{Word}
+use Rattle.board_model.specs.declared.word.Word.{Word}
 use Rattle.audit_clocks.specs.Rows.{number, own}
 use Rattle.audit_clocks.specs.Tables.{value_of, numbers_of, writes_in, found_in}
 use Rattle.dword_landings.specs.declared.told.Told.{Told}

@@ -6,10 +6,10 @@ ghost use Rattle.pci_command.specs.declared.op_id.OpId.{OpId};
 ghost use Rattle.audit_clocks.specs.Tables.{value_of, Lands, Puts};
 ghost use Rattle.dword_landings.specs.Hits.{few_of, hits, request_hits, place_hits, event_hits, lands, whole_at, Landed, Parted};
 
-use audit_clocks::{Landings, OpTable, Word};
-use board_model::{Board, Place, request_of};
-use history_core::{brought_by, dword_address, left_of};
+use audit_clocks::{Landings, OpTable};
+use board_model::{Board, Place, Word, request_of};
 use history_model::{Event, Step};
+use machine_steps::{brought_by, dword_address, left_of};
 use pci_command::{NoMemory, OpId, Phase, Request};
 use std::alloc::Global;
 

@@ -2,8 +2,8 @@ ghost use Rattle.std.specs.Prelude.{◌≡◌, OnOk, IfOk};
 
 use crate::landed::{record_landed, record_parted, record_whole};
 use crate::told::{Told, told_in};
-use audit_clocks::{Landings, Numbers, OpTable, Track, Word, WordTable};
-use board_model::Board;
+use audit_clocks::{Landings, Numbers, OpTable, Track, WordTable};
+use board_model::{Board, Word};
 use history_model::Event;
 use pci_command::{NoMemory, OpId};
 use std::alloc::Global;

@@ -4,7 +4,8 @@ ghost use Rattle.audit_clocks.specs.Rows.{number, own, Raises};
 ghost use Rattle.audit_clocks.specs.Tables.{numbers_of, writes_in};
 ghost use Rattle.dword_landings.specs.Told.{told_by, is_waiting, Tells, ToldOf, ToldsFor, ToldFrom};
 
-use audit_clocks::{Landings, Numbers, OpTable, Word, WordTable};
+use audit_clocks::{Landings, Numbers, OpTable, WordTable};
+use board_model::Word;
 use pci_command::{NoMemory, OpId};
 use std::alloc::Global;
 

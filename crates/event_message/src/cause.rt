@@ -3,10 +3,10 @@ ghost use Rattle.board_model.specs.WellFormed.{is_well_formed};
 ghost use Rattle.history_model.specs.Runs.{Run, history_of};
 
 use board_model::{Board, Lane, end_of};
-use history_core::{answer, is_on, next_mark, turn_of};
 use history_model::{Answer, By, Cause, Event, Mark, Why};
-use lane_replay::Presented;
+use machine_steps::{Presented, is_on};
 use pci_command::{NoMemory, OpId};
+use plain_replay::{answer, next_mark, turn_of};
 use refused_text::{find_line, line_at};
 use shown_lines::Teller;
 use trace_text::{has_line, print_operation, print_trace};

@@ -24,8 +24,9 @@ use Rattle.history_model.specs.Answers.{stalls_used}
 use Rattle.history_model.specs.Runs.{Complete, IsIdle}
 use Rattle.history_model.specs.Left as m
 use Rattle.law_slots.specs.Depths.{Within}
-use Rattle.progress_core.proofs.RunningLemmas.{IsRunning-valid}
-use Rattle.kept_state.specs.State.{KeptState, or_zero, turn_in, tokens_in, gone_in}
+use Rattle.lane_replay.proofs.RunningLemmas.{IsRunning-valid}
+use Rattle.kept_state.specs.State.{KeptState, turn_in, tokens_in, gone_in}
+use Rattle.machine_steps.specs.Counts.{or_zero}
 use Rattle.kept_state.specs.Stands.{StandsFor}
 use Rattle.kept_state.proofs.LookLemmas as look
 use Rattle.kept_left.specs.Now.{world_now, posted_now, post_now, flying_now, standing_now, lane_now, bridge_now, op_now, turn_now, program_now, programs_now, stalls_now, left_now, CompleteNow}

@@ -8,9 +8,8 @@ ghost use Rattle.kept_left.specs.Running.{IsRunning};
 use board_model::{Board, Lane, Op, end_of, op_of};
 use history_model::Carried;
 use kept_state::Kept;
-use lane_replay::LaneTables;
+use lane_replay::{LaneTables, posted_left};
 use pci_command::OpId;
-use progress_core::posted_left;
 
 /// What posted writes and credits on the lanes of all bridges have left.
 pub(crate) fn bridges_left(kept: &Kept, board: &Board) -> u64

@@ -8,11 +8,10 @@ ghost use Rattle.kept_left.specs.Running.{IsRunning};
 
 use crate::carried::posted;
 use crate::waiting::delayed_left;
-use board_model::{Board, Master, Op, op_of, request_on};
-use bus_tree::is_posted;
+use board_model::{Board, Master, Op, is_posted, op_of, request_on};
 use kept_state::Kept;
+use lane_replay::{behind_left, tries_left};
 use pci_command::OpId;
-use progress_core::{behind_left, tries_left};
 
 /// What the programs have left: the operation that is each master's turn, and those behind it.
 pub(crate) fn programs_left(kept: &Kept, board: &Board) -> u64

@@ -9,8 +9,8 @@ ghost use Rattle.kept_left.specs.Running.{IsRunning};
 use board_model::{Board, Lane, Op, Place, end_of, request_on};
 use bus_tree::{claim_on, route_of};
 use kept_state::Kept;
+use lane_replay::{Reach, found_left, has_slot};
 use pci_command::OpId;
-use progress_core::{Reach, found_left, has_slot};
 
 /// What a try of a delayed request has left, by the place of the item of its furthest slot.
 pub(crate) fn delayed_left(kept: &Kept, board: &Board, on: u8, op: OpId, found: &Op) -> u32

@@ -6,8 +6,8 @@ use Rattle.board_model.specs.declared.board.Board.{Board}
 use Rattle.board_model.specs.Valid.{IsValid}
 use Rattle.history_model.specs.declared.event.Event.{Event}
 use Rattle.std.specs.Prelude.{OnOk}
-use Rattle.history_core.specs.Verdicts.{Holds, cause_in}
-use Rattle.history_core.proofs.VerdictLemmas.{allowed_exactly}
+use Rattle.machine_steps.specs.Verdicts.{Holds, cause_in}
+use Rattle.machine_steps.proofs.VerdictLemmas.{allowed_exactly}
 use Rattle.history_model.specs.declared.why.Why.{Why}
 use Rattle.history_model.specs.Runs.{Run, Allowed}
 use Rattle.history_model.specs.Local.{bus_of}

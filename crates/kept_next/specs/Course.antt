@@ -2,6 +2,7 @@
 -- changed: the lines of each bus, and which buses are quiet.
 use Rattle.std.specs.Prelude.{◌≡◌, ℕ, Bool, true, List, Some, None, length, slice_get}
 use Rattle.board_model.specs.declared.board.Board.{Board}
+use Rattle.board_model.specs.Fits.{BusesFit}
 use Rattle.history_model.specs.declared.event.Event.{Event}
 use Rattle.kept_state.specs.State.{KeptState}
 use Rattle.kept_state.specs.Stands.{StandsFor}
@@ -16,6 +17,8 @@ KnowsQuiet board k quiet = (bus : ℕ) → slice_get quiet bus ≡ Some true →
 -- what is kept stands for a run of the board, and what is known of its buses is so
 pub record IsCourse (board : Board) (h : List Event) (c : Course) : Type 0 where
   pub stands : StandsFor board h c.kept
+  -- its bus numbers are as wide as their fields
+  pub fits : BusesFit board
   pub lines : AreLines board c.lines.items
   pub all_buses : length c.quiet.items ≡ 256
   pub quiet : KnowsQuiet board c.kept c.quiet.items

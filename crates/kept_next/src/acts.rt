@@ -7,8 +7,7 @@ ghost use Rattle.kept_next.specs.Now.{arrival_now, act_now, item_now, lane_now, 
 use board_model::{Board, Lane};
 use history_model::{By, Carried, Event};
 use kept_state::Kept;
-use lane_replay::Presented;
-use next_event::{act_given, arrival_of};
+use machine_steps::{Presented, act_given, arrival_of};
 use pci_command::OpId;
 
 /// The first arrival on these lanes.

@@ -5,7 +5,7 @@ ghost use Rattle.board_model.specs.WellFormed.{is_well_formed};
 ghost use Rattle.board_model.specs.declared.board.Board.{Board};
 ghost use Rattle.history_model.specs.declared.event.Event.{Event};
 ghost use Rattle.history_model.specs.Runs.{Allowed, Complete};
-ghost use Rattle.history_core.specs.Verdicts.{Holds, cause_in};
+ghost use Rattle.machine_steps.specs.Verdicts.{Holds, cause_in};
 ghost use Rattle.history_model.specs.Local.{bus_of};
 ghost use Rattle.history_model.specs.Next.{first_bus, first_in, next_of};
 ghost use Rattle.kept_state.specs.Stands.{StandsFor};
@@ -15,10 +15,12 @@ ghost use Rattle.kept_next.specs.Course.{KnowsQuiet, IsCourse, HasCourse};
 
 use crate::acts::{act_of_lanes, act_of_masters, arrival_of_lanes};
 use crate::lines::Lines;
-use board_model::{Board, board_fits, end_of};
+use board_model::{Board, board_fits};
 use bus_tree::Tree;
 use history_model::{Event, Why};
 use kept_state::Kept;
+use law_progress::next_goes_on;
+use machine_steps::bus_of;
 use pci_command::NoMemory;
 use std::alloc::Global;
 
@@ -35,7 +37,10 @@ impl Course {
     pub fn new(alloc: Global, tree: &Tree, kept: Kept) -> Result<Course, NoMemory>
         ensures { (h : List Event) → StandsFor tree.now h kept → IfOk result (IsCourse tree.now h) }
     {
-        let lines = all_lines(alloc, tree.board())?;
+        let board = tree.board();
+        // its bus numbers are as wide as their fields
+        board_fits(board);
+        let lines = all_lines(alloc, board)?;
         let quiet = vec![in alloc; false; 256]?;
         Ok(Course { kept, lines, quiet })
     }
@@ -56,8 +61,9 @@ impl Course {
         }
     }
 
-    /// The next event of the run, in the fixed order of `next_event`. There is none where the run is
-    /// complete.
+    /// The next event of the run, in the fixed order: the first arrival that is allowed, by increasing bus
+    /// and there by line; then the first act, by increasing bus, line and, of a lane, in the order in
+    /// which its items stand. There is none where the run is complete.
     pub fn next(&mut self, tree: &Tree) -> Option<Event>
         requires { HasCourse tree.now self.old }
         ensures next { (h : List Event) → IsCourse tree.now h self.old → result ≡ next_of tree.now h }
@@ -65,9 +71,8 @@ impl Course {
         ensures allowed { (h : List Event) → IsCourse tree.now h self.old → IfSome result (Allowed tree.now h) }
         ensures complete { (h : List Event) → IsCourse tree.now h self.old → result ≡ None ↔ Complete tree.now h }
     {
+        next_goes_on();
         let board = tree.board();
-        // its bus numbers are as wide as their fields
-        board_fits(board);
         next_now(&self.kept, board, self.lines.as_slice(), &mut self.quiet)
     }
 
@@ -98,16 +103,6 @@ fn all_lines(alloc: Global, board: &Board) -> Result<Vec<Lines>, NoMemory>
         lines.push(of_bus)?;
     }
     Ok(lines)
-}
-
-/// The bus on which an event happens: an arrival happens where its lane ends.
-fn bus_of(board: &Board, event: &Event) -> u8
-    ensures { result ≡ bus_of board.now event.now }
-{
-    match *event {
-        Event::Act { bus, .. } => bus,
-        Event::Arrive { lane, .. } => end_of(board, lane),
-    }
 }
 
 /// The bus is not known to be quiet any more.

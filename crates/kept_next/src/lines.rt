@@ -3,8 +3,7 @@ ghost use Rattle.board_model.specs.WellFormed.{is_well_formed};
 ghost use Rattle.kept_next.specs.Lines.{listed, lanes_ending, masters_below, lines_of};
 
 use board_model::{Board, Lane};
-use history_core::is_on;
-use next_event::ends_on;
+use machine_steps::{ends_on, is_on};
 use pci_command::NoMemory;
 use std::alloc::Global;
 use std::marker::Model;

@@ -28,12 +28,13 @@ use Rattle.history_model.specs.World.{World, noted, world_by}
 use Rattle.history_model.specs.Words.{through, without, value_of}
 use Rattle.history_model.specs.Answers as m
 use Rattle.history_model.specs.Answers.{wants_by, wants, stalls_used, bridge_to, lane_answer, header_answer}
-use Rattle.history_core.specs.Faces.{face_answer}
+use Rattle.lane_replay.specs.Faces.{face_answer}
 use Rattle.lane_replay.specs.Bridge.{lanes_of, turned}
-use Rattle.lane_replay.proofs.LaneLemmas.{lane_there}
-use Rattle.lane_replay.proofs.LeaveLemmas.{finds_none}
-use Rattle.kept_state.specs.declared.table.Word.{Word}
-use Rattle.kept_state.specs.State.{KeptState, tokens_in, or_zero, place_of, lanes_at, lanes_in}
+use Rattle.lane_replay.proofs.LaneLemmas.{lane_there, turned_back}
+use Rattle.machine_steps.proofs.LeaveLemmas.{finds_none}
+use Rattle.board_model.specs.declared.word.Word.{Word}
+use Rattle.kept_state.specs.State.{KeptState, tokens_in, place_of, lanes_at, lanes_in}
+use Rattle.machine_steps.specs.Counts.{or_zero}
 use Rattle.kept_state.specs.Words.{place_at, value_in, value_at, dword}
 use Rattle.kept_state.specs.Answer.{target_step, target_answer, face_by, face_in, answer_by, answer_to, answer_now}
 use Rattle.kept_state.specs.Stands.{StandsForBy, StandsFor, CoversBy}
@@ -98,8 +99,8 @@ face_same rule board h k on by o request lane stands =
           let x : Both = lanes_of world lane.bus in
           let there = lane_there world lane x refl in
           ap (face_by board on by o request lane bridge) (lanes_same rule board h k lane.bus bridge stands is)
-          ∙ (ap (λ (l : LaneState). face_answer board on by o request lane bridge l (turned (not lane.up) x).here) there.0
-          ∙ ap (face_answer board on by o request lane bridge (world lane)) there.1)
+          ∙ (ap (λ (l : LaneState). face_answer board on by o request lane bridge l (turned lane.up x).back) there.0
+          ∙ ap (face_answer board on by o request lane bridge (world lane)) (turned_back lane.up x ∙ there.1))
     ]) refl
 
 -- who claims answers

@@ -15,7 +15,8 @@ use Rattle.history_model.specs.Program.{turn_of}
 use Rattle.law_slots.proofs.Laws.{WellFormed-single}
 use Rattle.kept_state.specs.State.{KeptState, turn_in}
 use Rattle.kept_state.specs.Stands.{StandsForBy}
-use Rattle.kept_state.specs.First.{TurnsAtFirst, WordsAtFirst, nothing_on, lanes_at_first, tokens_at_first, counts_at_first, gone_at_first}
+use Rattle.kept_state.specs.First.{TurnsAtFirst, WordsAtFirst, nothing_on, lanes_at_first, tokens_at_first, gone_at_first}
+use Rattle.machine_steps.specs.Counts.{none_of_any}
 use Rattle.kept_state.proofs.PlaceLemmas.{place_has}
 use Rattle.kept_state.proofs.CoverLemmas.{covers_all}
 
@@ -66,9 +67,9 @@ stands_first rule board k rule_is valid turns lanes tokens gone words =
           rw tokens (slice_get-map stalls board.targets place ∙ ap (option_map stalls) at ∙ ap (λ (n : ℕ). Some n) none);
       gone = λ o op is.
           let there = op_there board o op is in
-          let counts : MasterAgent → List ℕ = λ (m : MasterAgent). counts_at_first m.ops in
+          let counts : MasterAgent → List ℕ = λ (m : MasterAgent). none_of_any m.ops in
           let count : Op → ℕ = λ (one : Op). 0 in
-          let row : slice_get k.gone o.master ≡ Some (counts_at_first there.master.ops) = rw gone (slice_get-map counts board.masters o.master ∙ ap (option_map counts) there.is_master) in
+          let row : slice_get k.gone o.master ≡ Some (none_of_any there.master.ops) = rw gone (slice_get-map counts board.masters o.master ∙ ap (option_map counts) there.is_master) in
           rw row (slice_get-map count there.master.ops o.index ∙ ap (option_map count) there.is_op);
       words = words.known.opens;
       apart = words.known.apart;

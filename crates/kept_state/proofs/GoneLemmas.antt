@@ -25,7 +25,8 @@ use Rattle.history_model.specs.Answers.{answer_to}
 use Rattle.history_model.specs.Runs.{RunBy, AllowedBy}
 use Rattle.law_slots.specs.Phases.{DelayedAreSingle}
 use Rattle.law_rules.proofs.Laws.{delayed-not_parted_by}
-use Rattle.kept_state.specs.State.{list_in, or_zero, gone_in, gone_added, gone_next, GoneFits}
+use Rattle.kept_state.specs.State.{list_in, gone_in, gone_added, gone_next, GoneFits}
+use Rattle.machine_steps.specs.Counts.{or_zero}
 use Rattle.list_facts.specs.Lists.{changed_at, changed_with}
 use Rattle.kept_state.specs.Stands.{PartsAreSmallBy}
 use Rattle.kept_state.proofs.PlaceLemmas.{changed_same, changed_other}

@@ -8,7 +8,7 @@ use Rattle.board_model.specs.declared.agents.Master.{Master}
 use Rattle.circular_buffer.proofs.Places.{slice_get-append_left, slice_get-append_right}
 use Rattle.board_model.specs.declared.board.Board.{Board}
 use Rattle.history_model.specs.Words.{opens_as}
-use Rattle.kept_state.specs.declared.table.Word.{Word}
+use Rattle.board_model.specs.declared.word.Word.{Word}
 use Rattle.kept_state.specs.State.{WordPlaces}
 use Rattle.kept_state.specs.Words.{same_word, place_at, dword, WordState, WordsKnown, StillThere, KnowsRead, KnowsProgram}
 use Rattle.kept_state.proofs.WordLemmas.{word_same}

@@ -18,7 +18,7 @@ use Rattle.board_model.specs.Ways.{end_of}
 use Rattle.law_rules.proofs.Laws.{Quiet-run_by}
 use Rattle.lane_replay.specs.Bridge.{lanes_of}
 use Rattle.lane_replay.proofs.LaneLemmas.{lane_there}
-use Rattle.lane_replay.proofs.LeaveLemmas.{finds_none}
+use Rattle.machine_steps.proofs.LeaveLemmas.{finds_none}
 use Rattle.kept_state.specs.State.{KeptState, place_of, lanes_at, lane_from, lane_in, wants_now, mark_in}
 use Rattle.kept_state.specs.Stands.{StandsForBy, StandsFor}
 

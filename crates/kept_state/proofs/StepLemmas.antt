@@ -32,10 +32,10 @@ use Rattle.history_model.specs.Program.{turn_of}
 use Rattle.history_model.specs.Words.{through, without, brings, landings_at, landings_in, landings_of, merged, value_of}
 use Rattle.history_model.specs.Answers.{wants_by, answer_by_rule, is_on, is_turn}
 use Rattle.history_model.specs.Runs.{AllowedBy}
-use Rattle.history_core.specs.Values.{value_merged}
-use Rattle.history_core.specs.Verdicts.{HoldsBy, HoldsOfAct, HoldsOfArrival, cause_in}
-use Rattle.history_core.proofs.ValueLemmas.{merged_landings, value_after_event}
-use Rattle.history_core.proofs.VerdictLemmas.{of_act, of_arrival, allowed_exactly_by}
+use Rattle.machine_steps.specs.Values.{value_merged}
+use Rattle.machine_steps.specs.Verdicts.{HoldsBy, HoldsOfAct, HoldsOfArrival, cause_in}
+use Rattle.machine_steps.proofs.ValueLemmas.{merged_landings, value_after_event}
+use Rattle.machine_steps.proofs.VerdictLemmas.{of_act, of_arrival, allowed_exactly_by}
 use Rattle.std.specs.Prelude.{IsOk}
 use Rattle.board_model.specs.WellFormed.{is_well_formed}
 use Rattle.history_model.specs.declared.rule.Rule.{Rule}
@@ -47,7 +47,7 @@ use Rattle.lane_replay.proofs.LaneLemmas.{lanes_after_event}
 use Rattle.lane_replay.proofs.RoomLemmas.{Counted, counted_after, room_after}
 use Rattle.kept_state.specs.Rooms.{RoomAt, HaveRooms}
 use Rattle.kept_state.specs.State.{place_of}
-use Rattle.kept_state.specs.declared.table.Word.{Word}
+use Rattle.board_model.specs.declared.word.Word.{Word}
 use Rattle.kept_state.specs.State.{KeptState, turns_next, lanes_next, gone_in, wants_now}
 use Rattle.list_facts.specs.Lists.{changed_at, changed_with}
 use Rattle.kept_state.specs.Words.{place_at, dword, landed_by}
@@ -55,7 +55,7 @@ use Rattle.kept_state.specs.Answer.{answer_now, HoldsNow, values_of, values_next
 use Rattle.kept_state.specs.Stands.{StandsForBy}
 use Rattle.law_slots.specs.Phases.{DelayedAreSingle}
 use Rattle.kept_state.proofs.GoneLemmas.{gone_went}
-use Rattle.kept_state.specs.State.{or_zero}
+use Rattle.machine_steps.specs.Counts.{or_zero}
 use Rattle.kept_state.proofs.LookLemmas.{wants_same_by, mark_same_by}
 use Rattle.kept_state.proofs.AnswerLemmas.{answer_same_by}
 use Rattle.kept_state.proofs.GoLemmas.{lanes_went}

@@ -7,10 +7,10 @@ use Rattle.pci_command.specs.declared.command.Space.TheVariants.{Mem, Io, Cfg}
 use Rattle.pci_command.specs.declared.phases.Phase.{Phase}
 use Rattle.pci_command.specs.Same.{same_space}
 use Rattle.device_header.specs.Registers.{merge_of}
-use Rattle.kept_state.specs.declared.table.Word.{Word}
+use Rattle.board_model.specs.declared.word.Word.{Word}
 use Rattle.std.specs.Prelude.{slice_get}
 use Rattle.history_model.specs.Words.{mask_in}
-use Rattle.history_core.specs.Values.{value_merged}
+use Rattle.machine_steps.specs.Values.{value_merged}
 use Rattle.kept_state.specs.State.{WordPlaces}
 use Rattle.list_facts.specs.Lists.{changed_at}
 use Rattle.kept_state.proofs.PlaceLemmas.{changed_same, changed_other}

@@ -4,10 +4,10 @@ use Rattle.pci_command.specs.declared.op_id.OpId.{OpId}
 use Rattle.board_model.specs.declared.agents.Master.{Master as MasterAgent}
 use Rattle.board_model.specs.declared.agents.Target.{Target as TargetAgent}
 use Rattle.board_model.specs.declared.bridge.Bridge.{Bridge}
-use Rattle.board_model.specs.declared.op.Op.{Op}
 use Rattle.board_model.specs.declared.board.Board.{Board}
 use Rattle.history_model.specs.Lanes.{Both, empty_lane}
 use Rattle.history_model.specs.Program.{turn_of}
+use Rattle.machine_steps.specs.Counts.{none_of_any}
 use Rattle.kept_state.specs.State.{turn_in}
 use Rattle.kept_state.specs.Words.{WordState, WordsKnown, KnowsReads}
 
@@ -28,13 +28,9 @@ lanes_at_first board = map nothing_on board.bridges
 abbrev pub tokens_at_first : Board → List ℕ
 tokens_at_first board = map (λ (target : TargetAgent). target.stalls) board.targets
 
--- no data phase of a program's operations went through
-abbrev pub counts_at_first : List Op → List ℕ
-counts_at_first ops = map (λ (op : Op). 0) ops
-
--- nor of any program's
+-- no data phase of any program's operations went through
 abbrev pub gone_at_first : Board → List (List ℕ)
-gone_at_first board = map (λ (master : MasterAgent). counts_at_first master.ops) board.masters
+gone_at_first board = map (λ (master : MasterAgent). none_of_any master.ops) board.masters
 
 -- each word that a program reads is kept, as it opens
 pub record WordsAtFirst (board : Board) (k : WordState) : Type 0 where

@@ -20,7 +20,7 @@ use Rattle.history_model.specs.Words.{through, without, value_of}
 use Rattle.history_model.specs.Answers.{wants_by, stalls_used}
 use Rattle.history_model.specs.Runs.{RunBy}
 use Rattle.lane_replay.specs.Bridge.{lanes_of}
-use Rattle.kept_state.specs.declared.table.Word.{Word}
+use Rattle.board_model.specs.declared.word.Word.{Word}
 use Rattle.kept_state.specs.State.{KeptState, WordPlaces, turn_in, place_of, list_in}
 use Rattle.kept_state.specs.Words.{place_at, dword}
 

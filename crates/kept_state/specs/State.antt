@@ -1,7 +1,7 @@
 -- What is kept of a history, and what each event makes of it.
 use Rattle.std.specs.Prelude.{ℕ, Bool, ◌+◌, ◌-◌, ◌<◌, ◌^◌, List, [], Option, Some, None, ◌&&◌, ◌==◌, if◌then◌else◌, slice_get}
 use Rattle.std.specs.List.{position}
-use Rattle.kept_state.specs.declared.table.Word.{Word}
+use Rattle.board_model.specs.declared.word.Word.{Word}
 use Rattle.pci_command.specs.declared.op_id.OpId.{OpId}
 use Rattle.board_model.specs.declared.bridge.Bridge.{Bridge}
 use Rattle.board_model.specs.declared.bridge.Lane.{Lane as BridgeLane}
@@ -16,6 +16,7 @@ use Rattle.history_model.specs.Answers.{is_on, is_turn, presents_by}
 use Rattle.history_model.specs.Runs.{mark_of_first}
 use Rattle.lane_replay.specs.Bridge.{turned, lanes_after}
 use Rattle.list_facts.specs.Lists.{changed_at}
+use Rattle.machine_steps.specs.Counts.{or_zero}
 use Rattle.board_model.specs.declared.bridge.Place.{Place}
 use Rattle.board_model.specs.declared.bridge.Place.TheVariants.{Target, Header, Lane, Nobody}
 use Rattle.history_model.specs.declared.event.Step.{Step}
@@ -81,11 +82,6 @@ lane_in board lanes lane = lane_from lane.up (lanes_in board lanes lane.bus)
 abbrev pub list_in : {X : Type 0} → Option (List X) → List X
 list_in None = []
 list_in (Some xs) = xs
-
--- the number, where there is one, or else 0
-abbrev pub or_zero : Option ℕ → ℕ
-or_zero None = 0
-or_zero (Some n) = n
 
 -- how many data phases of an operation went through
 abbrev pub gone_in : List (List ℕ) → OpId → ℕ

@@ -16,8 +16,9 @@ use Rattle.board_model.specs.Ways.{Dword, address_in, route_of}
 use Rattle.device_header.specs.Registers.{merge_of}
 use Rattle.history_model.specs.declared.event.Step.{Step}
 use Rattle.history_model.specs.Words.{mask_in, without, brings, opens_as}
-use Rattle.kept_state.specs.declared.table.Word.{Word}
-use Rattle.kept_state.specs.State.{WordPlaces, or_zero}
+use Rattle.board_model.specs.declared.word.Word.{Word}
+use Rattle.kept_state.specs.State.{WordPlaces}
+use Rattle.machine_steps.specs.Counts.{or_zero}
 use Rattle.list_facts.specs.Lists.{changed_at}
 
 -- the dword that is meant

@@ -3,25 +3,24 @@ ghost use Rattle.board_model.specs.WellFormed.{is_well_formed};
 ghost use Rattle.board_model.specs.Claims.{claim};
 ghost use Rattle.history_model.specs.Words.{without};
 ghost use Rattle.history_model.specs.Answers.{bridge_to};
-ghost use Rattle.history_core.specs.Verdicts.{HoldsOfAct, cause_in};
+ghost use Rattle.machine_steps.specs.Verdicts.{HoldsOfAct, cause_in};
 ghost use Rattle.kept_state.specs.State.{KeptState, GoneFits};
 
 use crate::gone::KeptGone;
 use crate::lanes::KeptLanes;
-use crate::table::Word;
 use crate::tokens::KeptTokens;
 use crate::turns::KeptTurns;
 use crate::words::KeptWords;
 use board_claim::{claim_in_space, is_in_ranges};
-use board_model::{Board, Lane, Place, Target, bridge_to, end_of, request_of};
+use board_model::{Board, Lane, Place, Target, Word, bridge_to, end_of, request_of};
 use bus_tree::Tree;
-use history_core::{
-    address_left, answer_allows, arrival_allowed, dword_address, face_answer, header_answer, is_on,
+use history_model::{Answer, By, Event, Mark, Rule, Step, Why};
+use lane_replay::BridgeLanes;
+use law_bound::runs_end;
+use machine_steps::{
+    Presented, address_left, answer_allows, arrival_allowed, dword_address, header_answer, is_on,
     left_of, nobody, write_step,
 };
-use history_model::{Answer, By, Event, Mark, Rule, Step, Why};
-use lane_replay::{BridgeLanes, Presented};
-use law_bound::runs_end;
 use pci_command::{NoMemory, OpId, Request};
 use std::alloc::Global;
 use std::marker::Model;
@@ -54,7 +53,7 @@ impl Kept {
     ghost use Rattle.kept_state.specs.State.{wants_now, lanes_in, turn_in, gone_in, tokens_in, mark_in};
     ghost use Rattle.std.specs.Option.{option_copied};
     ghost use Rattle.kept_state.specs.Rooms.{HaveRooms};
-    ghost use Rattle.history_core.specs.Verdicts.{HoldsBy, Holds};
+    ghost use Rattle.machine_steps.specs.Verdicts.{HoldsBy, Holds};
     ghost use Rattle.kept_state.specs.Answer.{answer_now, answer_by, target_answer, target_step, face_in, HoldsNow, next_state, values_next};
 
     /// What is kept before the first event, on bridges that keep the local master.
@@ -276,15 +275,7 @@ impl Kept {
         ensures { result ≡ face_in board.now self.now presented.bus presented.by presented.op request.now lane (bridge_to board.now lane.bus) (lanes_in board.now self.now.lanes lane.bus) }
     {
         match (bridge_to(board, lane.bus), self.lanes.to(board, lane.bus)) {
-            (Some(bridge), Some(lanes)) => face_answer(
-                board,
-                presented,
-                request,
-                lane,
-                bridge,
-                lanes.lane(lane.up),
-                lanes.lane(!lane.up),
-            ),
+            (Some(bridge), Some(lanes)) => lanes.answer(board, bridge, presented, request, lane),
             _ => nobody(),
         }
     }

@@ -8,9 +8,9 @@ ghost use Rattle.history_model.specs.Answers.{presents_by};
 ghost use Rattle.kept_state.specs.State.{place_of, bus_at, bus_by, other_than};
 
 use board_model::{Board, Lane, Place};
-use history_core::{mark_of_first, may_go};
 use history_model::{By, Event, Mark, Rule};
-use lane_replay::BridgeLanes;
+use lane_replay::{BridgeLanes, mark_of_first};
+use machine_steps::may_go;
 use pci_command::{NoMemory, OpId};
 use std::alloc::Global;
 use std::marker::Model;

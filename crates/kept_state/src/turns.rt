@@ -5,9 +5,9 @@ ghost use Rattle.history_model.specs.Answers.{is_turn};
 ghost use Rattle.history_model.specs.Program.{turn_of};
 
 use board_model::Board;
-use history_core::{is_same_op, present, turn_after};
 use history_model::{By, Event};
-use pci_command::{NoMemory, OpId};
+use machine_steps::{first_turn, turn_after};
+use pci_command::{NoMemory, OpId, same_op};
 use std::alloc::Global;
 use std::marker::Model;
 
@@ -61,7 +61,7 @@ impl KeptTurns {
         ensures { result ≡ is_turn op (turn_in self.now op.master) }
     {
         match self.of(op.master) {
-            Some(turn) => is_same_op(turn, op),
+            Some(turn) => same_op(turn, op),
             None => false,
         }
     }
@@ -80,19 +80,6 @@ impl KeptTurns {
             Event::Act { .. } | Event::Arrive { .. } => {}
         }
     }
-}
-
-fn first_turn(board: &Board, master: u16) -> Option<OpId>
-    ensures { result ≡ turn_of board.now [] master }
-{
-    present(
-        board,
-        OpId {
-            master,
-            index: 0,
-            attempt: 0,
-        },
-    )
 }
 
 fn happen_to(turns: &mut [Option<OpId>], board: &Board, event: &Event, master: u16)

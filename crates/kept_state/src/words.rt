@@ -2,15 +2,16 @@ ghost use Rattle.std.specs.Prelude.{◌≡◌, ◌≤◌, ◌+◌, ◌*◌, ◌^
 ghost use Rattle.history_model.specs.Words.{mask_in};
 ghost use Rattle.device_header.specs.Registers.{merge_of};
 ghost use Rattle.std.specs.Prelude.{slice_get};
-ghost use Rattle.kept_state.specs.State.{or_zero};
+ghost use Rattle.machine_steps.specs.Counts.{or_zero};
 ghost use Rattle.list_facts.specs.Lists.{changed_at};
 
-use crate::table::{Word, WordTable};
-use board_model::{Board, Op, Place, request_on};
+use crate::table::WordTable;
+use board_model::{Board, Op, Place, Word, request_on};
 use bus_tree::route_of;
-use device_header::merge;
-use history_core::{brought_by, dword_address, left_of, mask_of, opens_as};
 use history_model::Step;
+use machine_steps::{
+    brought_by, dword_address, left_of, mask_of, merge_at, opens_as, value_at, word_read,
+};
 use pci_command::{NoMemory, Phase, Request, Space};
 use std::alloc::Global;
 use std::marker::Model;
@@ -80,16 +81,7 @@ impl KeptWords {
         let request = request_on(op, route.bus);
         match route.owner {
             Place::Target(target) if request.command.is_read() => {
-                let space = request.command.space();
-                let address = dword_address(space, u128::from(request.address));
-                self.know(
-                    board,
-                    Word {
-                        target,
-                        space,
-                        address,
-                    },
-                )
+                self.know(board, word_read(&request, target))
             }
             Place::Target(_) => Ok(()),
             Place::Header(_) => Ok(()),
@@ -131,7 +123,7 @@ impl KeptWords {
         ensures { result ≡ value_at self.now.places self.now.values word }
     {
         match self.places.get(word) {
-            Some(place) => value_of(self.values.as_slice(), place),
+            Some(place) => value_at(self.values.as_slice(), place),
             None => 0,
         }
     }
@@ -143,7 +135,7 @@ impl KeptWords {
     {
         let mask = mask_of(word.space, word.address);
         if let Some(place) = self.places.get(word) {
-            merge_in(self.values.as_mut_slice(), place, phase, mask);
+            merge_at(self.values.as_mut_slice(), place, phase, mask);
         }
     }
 
@@ -179,22 +171,5 @@ impl KeptWords {
         let at = dword_address(space, u128::from(request.address) + 4 * gone);
         let phases = brought_by(step, left_of(request.phases.as_slice(), gone));
         self.land_from(target, space, at, phases);
-    }
-}
-
-fn value_of(values: &[u32], place: usize) -> u32
-    ensures { result ≡ or_zero (slice_get values.now place) }
-{
-    match values.get(place) {
-        Some(value) => *value,
-        None => 0,
-    }
-}
-
-fn merge_in(values: &mut [u32], place: usize, phase: &Phase, mask: u32)
-    ensures { values.new ≡ changed_at (λ value. merge_of value phase.now mask) values.old (Some place) }
-{
-    if place < values.len() {
-        values[place] = merge(values[place], phase, mask);
     }
 }

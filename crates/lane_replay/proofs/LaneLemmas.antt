@@ -86,3 +86,8 @@ lane_there world lane x is =
     ((turned up y).here ≡ world (record { bus = lane.bus; up = up })) × ((turned (not up) y).here ≡ world (record { bus = lane.bus; up = not up })) in
     let Q : Both → Type 0 = λ z. ((turned lane.up z).here ≡ world lane) × ((turned (not lane.up) z).here ≡ world (lane_back lane)) in
     subst Q (sym is) (elim lane.up as P [ true ↦ (refl, refl) | false ↦ (refl, refl) ])
+
+-- the lane back is the first of the lanes turned the other way
+pub turned_back : (up : Bool) (x : Both) → (turned up x).back ≡ (turned (not up) x).here
+turned_back true x = refl
+turned_back false x = refl

@@ -1,5 +1,6 @@
-pub mod SameLemmas
-pub mod LeaveLemmas
 pub mod FreeLemmas
 pub mod RoomLemmas
 pub mod LaneLemmas
+pub mod SumLemmas
+pub mod ReachLemmas
+pub mod RunningLemmas

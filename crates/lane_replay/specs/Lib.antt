@@ -1,2 +1,4 @@
 pub mod Bridge
 pub mod Room
+pub mod Faces
+pub mod Running

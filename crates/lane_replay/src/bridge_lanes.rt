@@ -1,14 +1,19 @@
-ghost use Rattle.std.specs.Prelude.{◌≡◌, ◌∷◌, ◌≤◌, ◌^◌, ◌+◌, ◌<◌, length, IsTrue, IfSome, Some, true, false};
+ghost use Rattle.std.specs.Prelude.{◌≡◌, ◌∷◌, ◌≤◌, ◌^◌, ◌+◌, ◌<◌, length, IfSome, Some, true, false, if◌then◌else◌, nat_lt};
 ghost use Rattle.std.specs.List.{find};
 ghost use Rattle.history_model.specs.Lanes.{Both, post_enters, ask_enters, item_ends, slot_taken, reply_to, arrives, takes_effect, effect_of};
-ghost use Rattle.history_model.specs.World.{enters, is_own, slot_found, lane_outcome, unclaimed, mode_of};
+ghost use Rattle.history_model.specs.World.{enters, is_own, slot_found, lane_outcome};
+ghost use Rattle.pci_command.specs.Command.{is_read};
+ghost use Rattle.board_model.specs.Requests.{is_posted};
+ghost use Rattle.history_model.specs.Answers.{posted_answer, delayed_answer, completion_answer};
 ghost use Rattle.lane_replay.specs.Room.{HasRoom};
 
 use crate::lane_tables::LaneTables;
-use crate::requests::{Presented, own_slot, reads};
-use board_model::{Board, Lane, Place, bridge_to};
-use history_model::{By, Carried, Event, Mark, Rule, Slot, Step};
-use pci_command::{OpId, Outcome};
+use board_model::{Board, Bridge, Lane, Place, is_posted};
+use history_model::{Answer, By, Carried, Event, Mark, Rule, Step};
+use machine_steps::{
+    Presented, completion_answer, lane_outcome, latch_answer, own_slot, posted_answer,
+};
+use pci_command::{OpId, Outcome, Request};
 use std::marker::Model;
 
 /// The two lanes of a bridge.
@@ -28,10 +33,9 @@ impl Model for BridgeLanes {
 
 impl BridgeLanes {
     ghost use Rattle.history_model.specs.Lanes.{Both, empty_lane, item_ends, arrives};
-    ghost use Rattle.board_model.specs.WellFormed.{is_well_formed};
-    ghost use Rattle.history_model.specs.World.{both, enters, world_of};
-    ghost use Rattle.history_model.specs.Runs.{Run, history_of};
-    ghost use Rattle.lane_replay.specs.Bridge.{lanes_of, turned, moved_on, place_on, leaves_on, initiator_on, lanes_after};
+    ghost use Rattle.history_model.specs.World.{enters};
+    ghost use Rattle.lane_replay.specs.Faces.{face_answer};
+    ghost use Rattle.lane_replay.specs.Bridge.{turned, moved_on, place_on, leaves_on, initiator_on, lanes_after};
     ghost use Rattle.lane_replay.specs.Room.{HaveRoom};
 
     /// Lanes with nothing on them.
@@ -44,25 +48,61 @@ impl BridgeLanes {
         }
     }
 
-    /// The lanes of the bridge to the bus after these events, the first event first, on bridges that
-    /// keep the local master. There is nothing on those of no bridge.
-    pub fn after(board: &Board, before: &[Event], bus: u8) -> BridgeLanes
-        requires formed { IsTrue (is_well_formed board.now) }
-        requires run { Run board.now (history_of before.now) }
-        ensures { result ≡ both (world_of board.now (history_of before.now)) (record { bus = bus; up = false }) }
-    {
-        let mut lanes = BridgeLanes::new();
-        for event in before {
-            lanes.happen(board, Rule::Tagged, event, bus);
-        }
-        lanes
-    }
-
     /// The lane in this direction.
     pub fn lane(&self, up: bool) -> &LaneTables
         ensures { result.now ≡ (turned up self.now).here }
     {
         if up { &self.up } else { &self.down }
+    }
+
+    /// The lane back from this direction.
+    fn lane_back(&self, up: bool) -> &LaneTables
+        ensures { result.now ≡ (turned up self.now).back }
+    {
+        if up { &self.down } else { &self.up }
+    }
+
+    /// What the face of the bridge where the lane begins answers to the request that is presented
+    /// there.
+    pub fn answer(
+        &self,
+        board: &Board,
+        bridge: &Bridge,
+        presented: Presented,
+        request: &Request,
+        lane: Lane,
+    ) -> Answer
+        ensures { result ≡ face_answer board.now presented.bus presented.by presented.op request.now lane bridge.now
+            (turned lane.up self.now).here (turned lane.up self.now).back }
+    {
+        if is_posted(request) {
+            posted_answer(self.lane(lane.up).owed(), bridge.posted, lane)
+        } else {
+            self.delayed_answer(board, bridge, presented, request, lane)
+        }
+    }
+
+    /// A delayed request: the completion of the own slot, or a new slot while there is one.
+    fn delayed_answer(
+        &self,
+        board: &Board,
+        bridge: &Bridge,
+        presented: Presented,
+        request: &Request,
+        lane: Lane,
+    ) -> Answer
+        ensures { let here = (turned lane.up self.now).here in
+            result ≡ delayed_answer board.now (is_read request.now.command) bridge.now.delayed lane here.held (turned lane.up self.now).back.standing
+            (find (is_own board.now presented.bus presented.by presented.op) here.held) }
+    {
+        let held = self.lane(lane.up).held();
+        let coming = self.lane_back(lane.up).standing();
+        match own_slot(board, presented, held) {
+            Some(slot) => {
+                completion_answer(board, request.command.is_read(), lane, coming, slot.number)
+            }
+            None => latch_answer(held.len(), bridge.delayed, lane),
+        }
     }
 
     /// One more event happens by the rule of the bridge, to the lanes of the bridge to this bus.
@@ -260,41 +300,5 @@ fn take_effect(mark: Mark, item: Carried, here: &mut LaneTables, back: &mut Lane
         ),
         (Mark::Drop, Carried::Ask { slot, .. }) => back.send(Carried::Gone { slot }),
         _ => here.stand(item),
-    }
-}
-
-/// How a step ends the item of a lane that presented it, if it does.
-fn lane_outcome(board: &Board, lane: Lane, op: OpId, step: Step) -> Option<Outcome>
-    ensures { result ≡ lane_outcome board.now lane op step }
-{
-    match step {
-        Step::Land | Step::Accept => Some(Outcome::Written),
-        Step::Read(value) => Some(Outcome::Value(value)),
-        Step::Take(outcome) => Some(outcome),
-        Step::MasterAbort => Some(unclaimed(mode_of(board, lane.bus), reads(board, op))),
-        Step::TargetAbort => Some(Outcome::Aborted),
-        Step::Part(_) | Step::Latch | Step::Stall => None,
-    }
-}
-
-/// How a bridge ends a delayed request that nobody claimed, by its master abort mode.
-fn unclaimed(mode: bool, reads: bool) -> Outcome
-    ensures { result ≡ unclaimed mode reads }
-{
-    if mode {
-        Outcome::Aborted
-    } else if reads {
-        Outcome::Value(0xffff_ffff)
-    } else {
-        Outcome::Written
-    }
-}
-
-fn mode_of(board: &Board, bus: u8) -> bool
-    ensures { result ≡ mode_of board.now bus }
-{
-    match bridge_to(board, bus) {
-        Some(bridge) => bridge.mode,
-        None => false,
     }
 }

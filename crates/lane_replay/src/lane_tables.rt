@@ -3,9 +3,9 @@ ghost use Rattle.std.specs.List.{find, list_any, position};
 ghost use Rattle.list_facts.specs.Lists.{less};
 ghost use Rattle.history_model.specs.Lanes.{is_of, is_done_for, has_number, asks_in, dones_in, lowest_free, lowest_free_from};
 
-use crate::standing::{place_of_completion, place_of_request};
 use arrayvec::ArrayVec;
 use history_model::{By, Carried, Slot};
+use machine_steps::{place_of_completion, place_of_request};
 use pci_command::OpId;
 use std::marker::Model;
 
@@ -124,7 +124,7 @@ impl LaneTables {
     }
 
     /// The slot of this number is free.
-    #[tactic(auto, using(crate::proofs::LeaveLemmas::removes_first, crate::proofs::LeaveLemmas::leaves_none, crate::proofs::LeaveLemmas::finds_none, crate::proofs::LeaveLemmas::finds_first, crate::proofs::LeaveLemmas::no_more))]
+    #[tactic(auto, using(machine_steps::proofs::LeaveLemmas::removes_first, machine_steps::proofs::LeaveLemmas::leaves_none, machine_steps::proofs::LeaveLemmas::finds_none, machine_steps::proofs::LeaveLemmas::finds_first, machine_steps::proofs::LeaveLemmas::no_more))]
     pub(crate) fn free(&mut self, number: u8)
         ensures left { self.new ≡ record self.old { held = less (has_number number) self.old.held } }
         ensures no_more { length self.new.held ≤ length self.old.held }
@@ -143,7 +143,7 @@ impl LaneTables {
     }
 
     /// The completion of this slot leaves.
-    #[tactic(auto, using(crate::proofs::LeaveLemmas::removes_first, crate::proofs::LeaveLemmas::leaves_none, crate::proofs::LeaveLemmas::finds_none, crate::proofs::LeaveLemmas::finds_first, crate::proofs::LeaveLemmas::no_more))]
+    #[tactic(auto, using(machine_steps::proofs::LeaveLemmas::removes_first, machine_steps::proofs::LeaveLemmas::leaves_none, machine_steps::proofs::LeaveLemmas::finds_none, machine_steps::proofs::LeaveLemmas::finds_first, machine_steps::proofs::LeaveLemmas::no_more))]
     pub(crate) fn leave_done(&mut self, number: u8)
         ensures left { self.new ≡ record self.old { standing = less (is_done_for number) self.old.standing } }
         ensures no_more { length self.new.standing ≤ length self.old.standing }
@@ -154,7 +154,7 @@ impl LaneTables {
     }
 
     /// The oldest standing posted write or delayed request of the operation leaves.
-    #[tactic(auto, using(crate::proofs::LeaveLemmas::removes_first, crate::proofs::LeaveLemmas::leaves_none, crate::proofs::LeaveLemmas::finds_none, crate::proofs::LeaveLemmas::finds_first, crate::proofs::LeaveLemmas::no_more))]
+    #[tactic(auto, using(machine_steps::proofs::LeaveLemmas::removes_first, machine_steps::proofs::LeaveLemmas::leaves_none, machine_steps::proofs::LeaveLemmas::finds_none, machine_steps::proofs::LeaveLemmas::finds_first, machine_steps::proofs::LeaveLemmas::no_more))]
     pub(crate) fn leave(&mut self, op: OpId) -> Option<Carried>
         ensures item { result ≡ find (is_of op) self.old.standing }
         ensures left { self.new ≡ record self.old { standing = less (is_of op) self.old.standing } }

@@ -31,7 +31,7 @@ use Rattle.history_facts.proofs.RequestLemmas.{same_op_self}
 use Rattle.law_changes.proofs.Laws.{entry_of}
 use Rattle.law_reads.proofs.Laws.{master_there, no_reading}
 use Rattle.law_fresh.proofs.Laws.{Fresh-run, Front, front_run, front_front, front_end, read_by}
-use Rattle.audit_model.proofs.OwnLemmas.{WriteOp, write_tries, same_place}
+use Rattle.law_fresh.proofs.Laws.{WriteOp, write_tries, same_place}
 use Rattle.law_delivered.specs.Clear.{phases_at, is_value, brings_value, rings, rings_in, rings_whole, holds, opens_otherwise, is_clear}
 use Rattle.law_delivered.specs.Delivered.{Awaits, is_met, raises, Delivers}
 use Rattle.law_delivered.proofs.FlagLemmas.{Written, written, op_whole, written_whole, written_rings, one_rings}

@@ -42,7 +42,7 @@ use Rattle.law_order.proofs.Laws.{OneClaimant-formed, rest_claimed}
 use Rattle.law_reach.proofs.Laws.{own_by, stands_of, asked_at, passed_at}
 use Rattle.law_reads.proofs.Laws.{master_there}
 use Rattle.law_fresh.proofs.Laws.{whole, each_contains, target_on}
-use Rattle.audit_model.proofs.OwnLemmas.{write_op}
+use Rattle.law_fresh.proofs.Laws.{write_op}
 use Rattle.law_delivered.proofs.EndLemmas.{ending, ends_on, ends_at, one_end, target_bus, master_bus_there}
 use Rattle.law_delivered.proofs.WholeLemmas.{taken_at, Comes, Always, whole_lands}
 

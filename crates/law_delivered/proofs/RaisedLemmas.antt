@@ -37,7 +37,7 @@ use Rattle.history_facts.proofs.RequestLemmas.{same_op_true, same_op_self}
 use Rattle.law_slots.proofs.Laws.{RightKind-run}
 use Rattle.law_order.proofs.Laws.{write_lands, standing_owned, posts-less_first}
 use Rattle.law_fresh.proofs.Laws.{ends_turn, or_either, ends_as_ended}
-use Rattle.audit_model.proofs.OwnLemmas.{write_op, own_ended}
+use Rattle.law_fresh.proofs.Laws.{write_op, own_ended}
 
 -- A write of one data phase does not land in parts.
 

@@ -30,3 +30,5 @@ pub use Rattle.law_fresh.proofs.TargetLemmas.{target_on, answers_claim}
 pub use Rattle.law_fresh.proofs.DelayedLemmas.{whole}
 -- one of two is true; what is found by its place; one of many
 pub use Rattle.law_fresh.proofs.ListLemmas.{or_either, At, found_at, each_contains}
+-- an author's earlier writes ended before its later operations began
+pub use Rattle.law_fresh.proofs.OwnLemmas.{WriteOp, write_tries, write_op, same_place, turn_is_there, TurnsEnd, turns_ended, own_ended}

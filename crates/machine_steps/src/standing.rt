@@ -80,7 +80,7 @@ pub fn place_of_request(standing: &[Carried], op: OpId) -> Option<usize>
 }
 
 /// Whether it is the completion for the slot.
-fn is_done_for(item: Carried, number: u8) -> bool
+pub fn is_done_for(item: Carried, number: u8) -> bool
     ensures { result ≡ is_done_for number item }
 {
     match item {

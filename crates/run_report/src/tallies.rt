@@ -4,8 +4,9 @@ ghost use Rattle.history_model.specs.Runs.{history_of};
 ghost use Rattle.run_report.specs.Counts.{kind_of, kind_of_step};
 ghost use Rattle.run_report.specs.Tallies.{counted, Fits, IsTallied};
 
-use board_model::{Board, end_of};
+use board_model::Board;
 use history_model::{Event, Step};
+use machine_steps::bus_of;
 
 /// What a line of a report counts: a kind of events.
 #[derive(Clone, Copy, Debug, PartialEq, Eq)]
@@ -86,16 +87,6 @@ fn note(tally: &mut Tally, kind: Kind)
         Kind::MasterAbort => tally.nobody += 1,
         Kind::TargetAbort => tally.tabort += 1,
         Kind::Arrive => tally.arrive += 1,
-    }
-}
-
-/// The bus on which an event happens: an arrival happens where its lane ends.
-fn bus_of(board: &Board, event: &Event) -> u8
-    ensures { result ≡ bus_of board.now event.now }
-{
-    match *event {
-        Event::Act { bus, .. } => bus,
-        Event::Arrive { lane, .. } => end_of(board, lane),
     }
 }
 

@@ -2,7 +2,7 @@
 #![tactic(auto)]
 
 #[cfg(test)]
-mod history_core_tests;
+mod judged_tests;
 #[cfg(test)]
 mod trace_merge_tests;
 #[cfg(test)]

@@ -7,11 +7,10 @@ use crate::scene::Scene;
 use crate::signal::{LaneCount, Signal};
 use board_model::{Board, Lane};
 use bus_tree::Tree;
-use history_core::is_same_op;
 use history_model::{By, Carried, Event};
 use kept_state::Kept;
 use lane_replay::LaneTables;
-use pci_command::NoMemory;
+use pci_command::{NoMemory, same_op};
 use std::alloc::Global;
 
 /// A run as it goes on: what it leaves, which masters presented their turn before, and what happens now.
@@ -116,7 +115,7 @@ impl Watch {
         } = event
         {
             let still = match self.kept.turn(op.master) {
-                Some(turn) => is_same_op(turn, *op),
+                Some(turn) => same_op(turn, *op),
                 None => false,
             };
             let place = usize::from(op.master);

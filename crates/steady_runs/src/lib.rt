@@ -6,8 +6,7 @@ ghost use Rattle.trace_check.specs.Verdicts.{CompleteRun};
 
 use bus_tree::Tree;
 use history_model::Event;
-use law_fresh::runs_are_fresh;
-use law_slots::{matched, well_formed_boards};
+use law_fresh::laws_of_runs;
 use pci_command::{List, NoMemory};
 use segment_workers::run_steady;
 use std::alloc::Global;
@@ -17,9 +16,7 @@ use std::alloc::Global;
 pub fn steady_run(alloc: Global, tree: &Tree) -> Result<List<Event>, NoMemory>
     ensures { IfOk result (CompleteRun tree.now) }
 {
-    matched();
-    well_formed_boards();
-    runs_are_fresh();
+    laws_of_runs();
     // The board of a tree is valid, so that the laws speak of it.
     let _valid = tree.board();
     run_steady(alloc, tree)

@@ -8,8 +8,8 @@ use Rattle.history_model.specs.declared.why.Why.{Why}
 use Rattle.history_model.specs.declared.rule.Rule.{Rule}
 use Rattle.history_model.specs.declared.rule.Rule.TheVariants.{Tagged}
 use Rattle.history_model.specs.Runs.{RunBy, Run, history_of}
-use Rattle.history_core.proofs.VerdictLemmas.{allowed_exactly_by}
-use Rattle.history_core.specs.Verdicts.{HoldsBy}
+use Rattle.machine_steps.proofs.VerdictLemmas.{allowed_exactly_by}
+use Rattle.machine_steps.specs.Verdicts.{HoldsBy}
 use Rattle.trace_check.specs.Verdicts.{FirstRefusedBy, FirstRefused}
 
 pub refused_by : (rule : Rule) (board : Board) (events : List Event) (i : ℕ) (d : Event) (why : Why) → i < length events → RunBy rule board (history_of (take i events))

@@ -10,7 +10,7 @@ use Rattle.history_model.specs.Runs.{RunBy, Run, Complete, history_of}
 use Rattle.history_model.specs.Local.{Matched}
 use Rattle.history_model.specs.Knowledge.{Fresh}
 use Rattle.history_model.specs.Left.{left_of}
-use Rattle.history_core.specs.Verdicts.{HoldsBy}
+use Rattle.machine_steps.specs.Verdicts.{HoldsBy}
 use Rattle.trace_check.specs.declared.verdict.Verdict.{Verdict as Judgement}
 use Rattle.trace_check.specs.declared.verdict.Verdict.TheVariants.{Complete as IsComplete, Incomplete, NotRun}
 

@@ -9,10 +9,7 @@ use bus_tree::Tree;
 use history_model::{Event, Why};
 use kept_left::{is_complete, left};
 use kept_state::Kept;
-use law_bound::{left_falls, runs_end};
-use law_fresh::runs_are_fresh;
-use law_progress::runs_go_on;
-use law_slots::{matched, well_formed_boards};
+use law_fresh::laws_of_runs;
 use pci_command::NoMemory;
 use std::alloc::Global;
 
@@ -74,12 +71,7 @@ fn verdict_of_run(kept: &Kept, tree: &Tree) -> Verdict
     requires { Stands tree.now kept.now }
     ensures { (events : List Event) → StandsFor tree.now (history_of events) kept.now → Judges tree.now events result }
 {
-    matched();
-    well_formed_boards();
-    left_falls();
-    runs_end();
-    runs_go_on();
-    runs_are_fresh();
+    laws_of_runs();
     // The board of a tree is valid, so that all of this holds of its runs.
     let _valid = tree.board();
     if is_complete(kept, tree) {

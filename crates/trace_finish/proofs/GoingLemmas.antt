@@ -1,12 +1,18 @@
 -- A run goes on by its next events.
-use Rattle.std.proofs.Common.{◌≡◌, ◌+◌, ◌<◌, ◌≤◌, List, [], ◌∷◌, ◌++◌, append_assoc, append-nil, Some, sym, subst, ap, ◌∙◌, arith}
-use Rattle.std.proofs.lemmas.List.{reverse-append}
+use Rattle.std.proofs.Common.{◌≡◌, ◌↔◌, ◌+◌, ◌<◌, ◌≤◌, List, [], ◌∷◌, ◌++◌, append_assoc, append-nil, length, Option, Some, None, refl, sym, subst, ap, ◌∙◌, arith}
+use Rattle.std.specs.Prelude.{IfSome}
+use Rattle.std.proofs.lemmas.List.{reverse-append, length-reverse}
 use Rattle.board_model.specs.declared.board.Board.{Board}
+use Rattle.board_model.specs.Ways.{bound_of}
 use Rattle.history_model.specs.declared.event.Event.{Event}
-use Rattle.history_model.specs.Runs.{Run, Allowed, history_of}
+use Rattle.history_model.specs.Runs.{Run, Allowed, Complete, history_of}
 use Rattle.history_model.specs.Left.{left_of}
 use Rattle.history_model.specs.Next.{next_of}
-use Rattle.trace_finish.specs.Finishing.{GoesOn}
+use Rattle.law_fresh.specs.Laws.{LawsOfRun}
+use Rattle.kept_next.specs.declared.course.Course.{Course}
+use Rattle.kept_next.specs.Course.{IsCourse}
+use Rattle.trace_check.specs.Verdicts.{CompleteRun}
+use Rattle.trace_finish.specs.Finishing.{GoesOn, GoesOnBy, Finishes}
 
 -- a run that went on by its next events so far
 pub record WentOn (board : Board) (events whole : List Event) : Type 0 where
@@ -51,3 +57,31 @@ left_fell board whole longer e is falls =
     let same : history_of longer ≡ e ∷ history_of whole = ap history_of is ∙ history_push whole e in
     let fewer : left_of board (e ∷ history_of whole) < left_of board (history_of whole) = omega (arith, falls) in
     subst (λ (h : List Event). left_of board h < left_of board (history_of whole)) (sym same) fewer
+
+-- what the next event does, by the laws of runs
+pub goes_on_by : (board : Board) (h : List Event) (found : Option Event) (course : Course) → Run board h → LawsOfRun board h → found ≡ next_of board h
+    → IfSome found (λ e. IsCourse board (e ∷ h) course) → IfSome found (Allowed board h) → (found ≡ None ↔ Complete board h) → GoesOnBy board h course found
+goes_on_by board h None course run laws next goes allowed complete = (complete.0 refl, laws)
+goes_on_by board h (Some e) course run laws next goes allowed complete =
+    record {
+      next = sym next;
+      allowed = allowed;
+      course_is = goes;
+      lowers = omega (arith, laws.falls (e ∷ []) (allowed, run));
+    }
+
+-- a run that went on so far, and is complete, is finished
+pub finishes : (board : Board) (events whole : List Event) → WentOn board events whole → Complete board (history_of whole) → LawsOfRun board (history_of whole) → Finishes board events whole
+finishes board events whole went complete laws =
+    record {
+      more = went.more;
+      whole_is = went.whole_is;
+      goes_on = went.goes_on;
+      runs = record {
+        run = went.run;
+        complete = complete;
+        matched = laws.matched;
+        fresh = laws.fresh;
+        bound = subst (λ n. n ≤ bound_of board) (length-reverse whole) laws.bounded;
+      };
+    }

@@ -1,16 +1,15 @@
-ghost use Rattle.std.specs.Prelude.{◌<◌, ◌^◌, length, IfOk, IfErr};
+ghost use Rattle.std.specs.Prelude.{◌<◌, ◌^◌, List as Items, length, IfOk, IfErr};
+ghost use Rattle.history_model.specs.declared.event.Event.{Event};
 ghost use Rattle.history_model.specs.Runs.{history_of};
-ghost use Rattle.kept_next.specs.Course.{IsCourse};
-ghost use Rattle.trace_finish.specs.Finishing.{Finishes, IsUnfinished};
+ghost use Rattle.kept_next.specs.Course.{IsCourse, HasCourse};
+ghost use Rattle.trace_finish.specs.Finishing.{GoesOnBy, Finishes, IsUnfinished};
 
 use crate::Unfinished;
 use bus_tree::Tree;
 use history_model::Event;
 use kept_next::Course;
 use kept_state::Kept;
-use law_bound::{left_falls, runs_end};
-use law_fresh::runs_are_fresh;
-use law_slots::{matched, well_formed_boards};
+use law_fresh::laws_of_runs;
 use pci_command::{List, NoMemory};
 use std::alloc::Global;
 use trace_check::take_all;
@@ -42,16 +41,21 @@ fn to_the_end(
     requires { IsCourse tree.now (history_of events) course.old }
     ensures { IfOk result (Finishes tree.now events) }
 {
-    matched();
-    well_formed_boards();
-    left_falls();
-    runs_end();
-    runs_are_fresh();
-    // The board of a tree is valid, so that each event lowers what is left.
-    let _valid = tree.board();
     let mut whole = events.into_vec();
-    while let Some(event) = course.go_on(tree) {
+    while let Some(event) = go_on(course, tree) {
         whole.push(event)?;
     }
     Ok(List::from_vec(whole))
+}
+
+/// A run goes on by its next event, which lowers what is left. There is none where it is complete,
+/// and then all laws hold of it.
+fn go_on(course: &mut Course, tree: &Tree) -> Option<Event>
+    requires { HasCourse tree.now course.old }
+    ensures { (h : Items Event) → IsCourse tree.now h course.old → GoesOnBy tree.now h course.new result }
+{
+    laws_of_runs();
+    // The board of a tree is valid, so that the laws speak of it.
+    let _valid = tree.board();
+    course.go_on(tree)
 }

@@ -11,7 +11,7 @@ use Rattle.history_model.specs.declared.rule.Rule.TheVariants.{Untagged}
 use Rattle.history_model.specs.Program.{Ending, ended}
 use Rattle.history_model.specs.Knowledge.{Reading, is_land_of, has_landed, words_named, is_write}
 use Rattle.history_model.specs.Runs.{RunBy, history_of}
-use Rattle.audit_clocks.specs.declared.landings.Word.{Word}
+use Rattle.board_model.specs.declared.word.Word.{Word}
 use Rattle.audit_clocks.specs.Rows.{number}
 use Rattle.audit_model.specs.Clocks.{reaches}
 use Rattle.dword_landings.specs.Hits.{dword, or_place, whole_at}
@@ -31,7 +31,8 @@ use Rattle.untagged_run.specs.declared.got.Got.{Got}
 use Rattle.untagged_run.specs.Flat.{flat}
 use Rattle.untagged_run.specs.Table.{IsGot, SameGot}
 use Rattle.untagged_run.specs.Course.{AreGots}
-use Rattle.untagged_told.specs.Knowers.{KnowerState, known_at, ended_op, Knows}
+use Rattle.machine_steps.specs.Endings.{ended_op}
+use Rattle.untagged_told.specs.Knowers.{KnowerState, known_at, Knows}
 use Rattle.untagged_told.proofs.NextLemmas.{master_within}
 use Rattle.write_index.specs.Entries.{Listing}
 use Rattle.write_index.specs.Pending.{is_before, landed_before, reaches_in, names, is_pending, first_pending}
@@ -145,7 +146,7 @@ module _ (board : Board) (later : List Event) (e : Event) (h : List Event) (run 
       let r : OpId = ending.op in
       let order : Orderly board H = (untagged_in_order board H run).0 in
       let order_then : Orderly board (e ∷ h) = (untagged_in_order board (e ∷ h) (run_along board later (e ∷ h) run)).0 in
-      let within : r.master < length board.masters = master_within board r (Rattle.audit_model.proofs.OwnLemmas.turn_is_there board h r (order_then.0.turn ending ends)) in
+      let within : r.master < length board.masters = master_within board r (Rattle.law_fresh.proofs.Laws.turn_is_there board h r (order_then.0.turn ending ends)) in
       let inside : r.master < length k.known = let masters = knows.masters in omega (arith, masters, within) in
       let numbers : List ℕ = known_at k.known r.master in
       let some : slice_get k.known r.master ≡ Some numbers = slice_get-get_or k.known r.master [] inside in

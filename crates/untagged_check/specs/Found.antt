@@ -5,7 +5,7 @@ use Rattle.pci_command.specs.declared.op_id.OpId.{OpId}
 use Rattle.board_model.specs.declared.board.Board.{Board}
 use Rattle.history_model.specs.declared.event.Event.{Event}
 use Rattle.history_model.specs.Knowledge.{is_write}
-use Rattle.audit_clocks.specs.declared.landings.Word.{Word}
+use Rattle.board_model.specs.declared.word.Word.{Word}
 use Rattle.audit_clocks.specs.Tables.{value_of}
 use Rattle.dword_landings.specs.Hits.{whole_at}
 use Rattle.law_untagged.specs.Stale.{StaleRead, ops_by}

@@ -6,7 +6,8 @@ ghost use Rattle.history_model.specs.Runs.{RunBy, history_of};
 ghost use Rattle.history_model.specs.Program.{ended};
 ghost use Rattle.law_untagged.specs.Stale.{stale_of};
 ghost use Rattle.untagged_run.specs.Course.{AreGots};
-ghost use Rattle.untagged_told.specs.Knowers.{ended_op, Knows};
+ghost use Rattle.machine_steps.specs.Endings.{ended_op};
+ghost use Rattle.untagged_told.specs.Knowers.{Knows};
 ghost use Rattle.untagged_check.specs.Judged.{reads_of, listed};
 ghost use Rattle.untagged_check.specs.Found.{IndexesRun, first_unlanded, found_at, found_by, found_ending, found_with};
 
@@ -15,10 +16,11 @@ use audit_clocks::Numbers;
 use bus_tree::Tree;
 use dword_landings::whole_landings;
 use history_model::Event;
+use machine_steps::ended_op;
 use pci_command::{NoMemory, OpId};
 use std::alloc::Global;
 use untagged_run::{Got, got_at};
-use untagged_told::{Knowers, ended_op};
+use untagged_told::Knowers;
 use write_index::WriteIndex;
 
 /// The reads of a run that break freshness, in the order in which their masters ended them.

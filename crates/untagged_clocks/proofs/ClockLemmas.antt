@@ -26,7 +26,7 @@ use Rattle.law_untagged.proofs.ToldLemmas.{write_from}
 use Rattle.law_untagged.proofs.UntaggedOrderLemmas.{master_turn, untagged_in_order}
 use Rattle.audit_model.specs.Clocks.{own, reaches}
 use Rattle.audit_model.proofs.ClockLemmas.{bool_same, or_comm, lt_none, lt_max, lt_greatest, any_same, own_parts, own_same}
-use Rattle.audit_model.proofs.OwnLemmas.{WriteOp, TurnsEnd, turns_ended}
+use Rattle.law_fresh.proofs.Laws.{WriteOp, TurnsEnd, turns_ended}
 use Rattle.untagged_clocks.specs.Clocks.{Clocks, number_in, landing_tells, reads_at, told_by, got_tells, known_after, first_start, clocks_of}
 use Rattle.untagged_clocks.proofs.NamedLemmas.{Started, landings_started}
 use Rattle.untagged_clocks.proofs.ReadLemmas.{IsRead, ending_read}

@@ -19,7 +19,7 @@ use Rattle.law_untagged.proofs.HeardLemmas.{ending_front, got_reads}
 use Rattle.law_untagged.proofs.ToldLemmas.{got_along}
 use Rattle.law_untagged.proofs.UntaggedOrderLemmas.{untagged_in_order}
 use Rattle.audit_model.specs.Clocks.{reaches}
-use Rattle.audit_model.proofs.OwnLemmas.{write_op, turn_is_there}
+use Rattle.law_fresh.proofs.Laws.{write_op, turn_is_there}
 use Rattle.untagged_clocks.specs.Clocks.{clocks_of}
 use Rattle.untagged_clocks.proofs.ClockLemmas.{Law, Law-run, turn_knows, knows_same, heard_same}
 

@@ -22,17 +22,14 @@ use Rattle.history_model.specs.declared.item.Carried.TheVariants.{Post, Ask, Don
 use Rattle.history_model.specs.declared.item.Slot.{Slot}
 use Rattle.history_model.specs.Lanes.{Both, is_of}
 use Rattle.history_model.specs.World.{anyone, is_own, lane_outcome}
+use Rattle.machine_steps.specs.Words.{word_at}
 use Rattle.kept_state.specs.State.{lane_in}
-use Rattle.audit_clocks.specs.declared.landings.Word.{Word}
+use Rattle.board_model.specs.declared.word.Word.{Word}
 use Rattle.law_untagged.specs.Origins.{ends_item}
 use Rattle.untagged_run.specs.declared.got.Got.{Got}
 use Rattle.untagged_run.specs.declared.origins.Key.{Key}
 use Rattle.untagged_run.specs.declared.made.Made.{Made}
 use Rattle.untagged_run.specs.Table.{Table, origin_at, key_of}
-
--- the dword of the target that a read of the request reads
-abbrev pub word_at : ℕ → Request → Word
-word_at target request = record { target = target; space = space_of request.command; address = address_in (space_of request.command) request.address }
 
 -- a read at a target, by the event of that number
 abbrev pub read_at : Board → ℕ → ℕ → OpId → Place → Option Got

@@ -1,7 +1,7 @@
 ghost use Rattle.std.specs.Prelude.{◌≡◌, slice_get};
 ghost use Rattle.untagged_run.specs.Flat.{flat};
 
-use audit_clocks::Word;
+use board_model::Word;
 use history_model::Why;
 
 /// A read at a target: the number of its event, from 1 on, and the dword that it read.

@@ -7,8 +7,6 @@ mod course;
 mod got;
 mod made;
 mod origins;
-mod words;
 
 pub use course::follow;
 pub use got::{Followed, Got, got_at};
-pub use words::word_read;

@@ -29,8 +29,8 @@ use Rattle.law_untagged.specs.Origins.{ending_reading}
 use Rattle.law_untagged.specs.Orderly.{Orderly}
 use Rattle.law_untagged.proofs.UntaggedOrderLemmas.{master_turn, untagged_in_order}
 use Rattle.audit_model.specs.Clocks.{own}
-use Rattle.audit_model.proofs.OwnLemmas.{turn_is_there}
-use Rattle.audit_clocks.specs.declared.landings.Word.{Word}
+use Rattle.law_fresh.proofs.Laws.{turn_is_there}
+use Rattle.board_model.specs.declared.word.Word.{Word}
 use Rattle.audit_clocks.specs.Rows.{number}
 use Rattle.audit_clocks.specs.Tables.{value_of, list_in, numbers_of, writes_in}
 use Rattle.dword_landings.specs.Hits.{dword, op_of_landing}
@@ -39,11 +39,12 @@ use Rattle.dword_landings.specs.Told.{told_by as tells_by, Tells, ToldsFor}
 use Rattle.dword_landings.proofs.Laws.{whole_has, tolds_over, word_told as landings_tell}
 use Rattle.untagged_run.specs.declared.got.Got.{Got}
 use Rattle.untagged_run.specs.Flat.{flat}
-use Rattle.untagged_run.specs.Gots.{word_at}
+use Rattle.machine_steps.specs.Words.{word_at}
 use Rattle.untagged_run.specs.Table.{IsGot, SameGot}
 use Rattle.untagged_clocks.specs.Clocks.{Clocks, number_in, landing_tells, word_tells, reads_at, told_by, got_tells, known_after, first_start, clocks_of}
 use Rattle.untagged_clocks.proofs.NamedLemmas.{start_stays, landed_started}
-use Rattle.untagged_told.specs.Knowers.{KnowerState, word_by, word_in, ToldAt, StartsBy, PresentsBy, Presents, told_at, known_at, Learns, LearnsBy, ended_op, AreTold, Happens, Knows}
+use Rattle.machine_steps.specs.Endings.{ended_op}
+use Rattle.untagged_told.specs.Knowers.{KnowerState, word_by, word_in, ToldAt, StartsBy, PresentsBy, Presents, told_at, known_at, Learns, LearnsBy, AreTold, Happens, Knows}
 
 no_number : (author : ℕ) → number [] author ≡ 0
 no_number zero = refl

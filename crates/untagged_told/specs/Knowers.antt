@@ -13,14 +13,15 @@ use Rattle.history_model.specs.declared.event.Step.TheVariants.{Land, Part, Read
 use Rattle.history_model.specs.declared.event.Event.{Event}
 use Rattle.history_model.specs.declared.event.Event.TheVariants.{Act, Arrive}
 use Rattle.history_model.specs.Program.{Ending, ended}
-use Rattle.audit_clocks.specs.declared.landings.Word.{Word}
+use Rattle.board_model.specs.declared.word.Word.{Word}
 use Rattle.audit_clocks.specs.Rows.{number, own, Raises}
 use Rattle.audit_clocks.specs.Tables.{value_of, list_in, numbers_of, writes_in, Puts}
 use Rattle.dword_landings.specs.Notes.{LandingNotes, AreLandings, SameLandings, Happened}
 use Rattle.dword_landings.specs.Told.{Tells, ToldsFor}
 use Rattle.untagged_run.specs.declared.got.Got.{Got}
 use Rattle.untagged_run.specs.Flat.{flat}
-use Rattle.untagged_run.specs.Gots.{word_at}
+use Rattle.machine_steps.specs.Endings.{ended_op}
+use Rattle.machine_steps.specs.Words.{word_at}
 use Rattle.untagged_clocks.specs.Clocks.{number_in, clocks_of}
 
 pub record KnowerState : Type 0 where
@@ -31,11 +32,6 @@ pub record KnowerState : Type 0 where
   -- by each event that read a dword of a target
   pub told : List (Option (List ℕ))
   pub landings : LandingNotes
-
--- the operation that an event ends
-abbrev pub ended_op : Option Ending → Option OpId
-ended_op None = None
-ended_op (Some ending) = Some ending.op
 
 -- What an event reads.
 

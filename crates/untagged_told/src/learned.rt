@@ -3,11 +3,12 @@ ghost use Rattle.std.specs.Option.{option_copied};
 ghost use Rattle.audit_clocks.specs.Rows.{number, own, Raises};
 ghost use Rattle.audit_clocks.specs.Tables.{list_in};
 ghost use Rattle.history_model.specs.Program.{ended};
-ghost use Rattle.untagged_told.specs.Knowers.{ended_op, told_at, Learns, LearnsBy};
+ghost use Rattle.machine_steps.specs.Endings.{ended_op};
+ghost use Rattle.untagged_told.specs.Knowers.{told_at, Learns, LearnsBy};
 
-use crate::ends::ended_op;
 use audit_clocks::Numbers;
 use history_model::Event;
+use machine_steps::ended_op;
 use pci_command::OpId;
 use std::alloc::Global;
 use untagged_run::Got;

@@ -3,11 +3,9 @@
 //! Specification 2.2, appendix E (from memory).
 #![tactic(auto)]
 
-mod ends;
 mod knowers;
 mod learned;
 mod started;
 mod words;
 
-pub use ends::ended_op;
 pub use knowers::Knowers;

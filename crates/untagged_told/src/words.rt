@@ -1,14 +1,13 @@
 ghost use Rattle.std.specs.Prelude.{◌≡◌};
 ghost use Rattle.std.specs.Option.{option_map};
 ghost use Rattle.board_model.specs.Requests.{request_of};
-ghost use Rattle.untagged_run.specs.Gots.{word_at};
+ghost use Rattle.machine_steps.specs.Words.{word_at};
 ghost use Rattle.untagged_told.specs.Knowers.{word_in};
 
-use audit_clocks::Word;
-use board_model::{Board, Place, request_of};
+use board_model::{Board, Place, Word, request_of};
 use history_model::{Event, Step};
+use machine_steps::word_read;
 use pci_command::OpId;
-use untagged_run::word_read;
 
 /// The dword that the event reads at a target, if it reads one.
 pub(crate) fn word_in(board: &Board, event: &Event) -> Option<Word>

@@ -1,1 +1,2 @@
 pub mod RelayLemmas
+pub mod FlagLemmas

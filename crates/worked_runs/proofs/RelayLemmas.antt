@@ -1,14 +1,12 @@
 -- Along the relay nothing is told to the first master, which reads nothing.
-use Rattle.std.proofs.Common.{◌≡◌, ℕ, zero, suc, ◌≤◌, Bool, true, false, ◌&&◌, ◌||◌, ◌==◌, cond, eqb, nat_lt, List, [], ◌∷◌, Option, Some, None, is_some, refl, ap, ◌∙◌, arith}
+use Rattle.std.proofs.Common.{◌≡◌, ℕ, zero, suc, ◌≤◌, Bool, true, false, cond, eqb, List, [], ◌∷◌, Some, None, refl, ap, arith}
 use Rattle.std.specs.List.{AllByRecursion}
 use Rattle.std.proofs.lemmas.Bool.Decides.{nat_tests}
 use Rattle.pci_command.specs.declared.op_id.OpId.{OpId}
-use Rattle.pci_command.specs.declared.op_id.Outcome.{Outcome}
 use Rattle.pci_command.specs.declared.op_id.Outcome.TheVariants.{Written}
 use Rattle.pci_command.specs.Same.{same_op}
-use Rattle.board_model.specs.Requests.{op_of}
 use Rattle.history_model.specs.declared.event.Event.{Event}
-use Rattle.history_model.specs.Knowledge.{ends_with, value_of_ending, up_to_end, last_reading, got, saw_in, saw, has_ended, stands_after, later, tells, Chain, one, more}
+use Rattle.history_model.specs.Knowledge.{ends_with, value_of_ending, up_to_end, last_reading, got, saw_in, saw, later, tells, Chain, one, more}
 use Rattle.history_model.specs.Runs.{history_of}
 use Rattle.worked_runs.specs.Relay.{relay_board, relay_events}
 

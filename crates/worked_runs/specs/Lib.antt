@@ -12,3 +12,5 @@ pub mod Wrong
 pub mod Relay
 pub mod Passing
 pub mod Crossing
+pub mod Audited
+pub mod Premises

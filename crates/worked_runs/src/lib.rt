@@ -1,13 +1,16 @@
 //! Worked traces, computed to be runs by the definitions alone, and beside them events that are none.
 #![tactic(auto)]
 
-ghost use Rattle.std.specs.Prelude.{◌≡◌, ℕ, false, IsTrue, [], ◌∷◌, ◌++◌, map, take, reverse};
+ghost use Rattle.std.specs.Prelude.{◌≡◌, ℕ, false, IsTrue, Some, None, [], ◌∷◌, ◌++◌, map, take, reverse};
 ghost use Rattle.board_model.specs.Ways.{bound_of};
 ghost use Rattle.history_model.specs.declared.event.Step.TheVariants.{Land, Read, Accept, Latch};
 ghost use Rattle.history_model.specs.Runs.{Run, Complete, history_of};
 ghost use Rattle.history_model.specs.Local.{Matched};
 ghost use Rattle.history_model.specs.Knowledge.{Told, saw};
 ghost use Rattle.history_model.specs.Left.{left_of};
+ghost use Rattle.audit_model.specs.Chains.{chain_of};
+ghost use Rattle.audit_model.specs.Audit.{findings};
+ghost use Rattle.worked_runs.specs.Audited.{relay_chain, relay_findings, one_word_findings};
 ghost use Rattle.worked_runs.specs.Relay.{relay_board, relay_events, first_write, first_flag, second_write, last_read};
 ghost use Rattle.worked_runs.specs.Wrong.{wrong_value, early_completion, second_accept, all_at_once, plain_arrival, marked_arrival};
 ghost use Rattle.worked_runs.specs.OneBus.{one_word_board, one_word_events, answers_board, answers_events};
@@ -23,10 +26,21 @@ ghost use Rattle.worked_runs.specs.Passing.{passing_board, passing_events, behin
 ghost use Rattle.worked_runs.specs.Crossing.{crossing_board, crossing_events, crossing_posted_board, crossing_posted_events};
 ghost use Rattle.worked_runs.specs.Stealing.{stealing_board, stealing_events, held_back_events};
 
-/// A write, and a read of what it wrote.
+mod premises;
+
+pub use premises::{
+    answers_need_what_was_sent, bridges_carry, flags_that_open_set_do_not_deliver,
+    later_writes_need_not_be_known, masters_that_meet_have_other_runs, only_runs_are_fresh,
+    only_runs_deliver, operations_need_no_phases, other_events_make_no_run,
+    runs_need_not_be_complete, sides_need_the_depths, writes_are_settled_as_they_land,
+    writes_are_told_one_way, wrong_parts_make_no_run,
+};
+
+/// A write, and a read of what it wrote, by one master: what its audit says.
 pub fn one_word()
     ensures run { Run one_word_board (history_of one_word_events) }
     ensures complete { Complete one_word_board (history_of one_word_events) }
+    ensures findings { findings one_word_board (history_of one_word_events) ≡ one_word_findings }
 {}
 
 /// A stall, a target abort, and a write of two bytes of a dword.
@@ -188,12 +202,15 @@ pub fn wrong_arrivals()
     ensures nothing { ¬ Run one_word_board (history_of (plain_arrival ∷ [])) }
 {}
 
-/// A write reaches a third master by two flags.
+/// A write reaches a third master by two flags: its chain, and the line of the last read.
 pub fn relay()
     ensures run { Run relay_board (history_of relay_events) }
     ensures complete { Complete relay_board (history_of relay_events) }
     ensures told { Told relay_board (history_of relay_events) first_write last_read }
     ensures seen { IsTrue (saw relay_board (history_of relay_events) last_read first_write) }
+    ensures chain { chain_of relay_board (history_of relay_events) first_write last_read ≡ Some relay_chain }
+    ensures not_told { chain_of relay_board (history_of relay_events) last_read first_write ≡ None }
+    ensures findings { findings relay_board (history_of relay_events) ≡ relay_findings }
 {}
 
 /// But the first master is told of nothing: not of the write by which the second one told the third.

@@ -6,7 +6,7 @@ use Rattle.pci_command.specs.declared.command.Space.TheVariants.{Mem, Io, Cfg}
 use Rattle.pci_command.specs.Same.{same_space}
 use Rattle.audit_clocks.specs.Tables.{list_in, same_word, found_in, TakesWord, PutsWord}
 use Rattle.audit_clocks.proofs.TableLemmas.{same_word_true}
-use Rattle.audit_clocks.specs.declared.landings.Word.{Word}
+use Rattle.board_model.specs.declared.word.Word.{Word}
 use Rattle.dword_landings.specs.Hits.{dword}
 use Rattle.write_index.specs.declared.entry.Write.{Write}
 use Rattle.write_index.specs.Entries.{Listing, pushed}

@@ -11,7 +11,7 @@ use Rattle.board_model.specs.declared.board.Board.{Board}
 use Rattle.board_model.specs.Ways.{Dword}
 use Rattle.history_model.specs.Knowledge.{is_write, words_named}
 use Rattle.audit_clocks.specs.Tables.{value_of}
-use Rattle.audit_clocks.specs.declared.landings.Word.{Word}
+use Rattle.board_model.specs.declared.word.Word.{Word}
 use Rattle.dword_landings.specs.Hits.{dword}
 use Rattle.law_untagged.specs.Stale.{same_dword, ops_from, ops_by}
 use Rattle.write_index.specs.declared.entry.Entry.{Entry}

@@ -7,7 +7,7 @@ use Rattle.list_facts.proofs.FindLemmas.{find-append_found, find-append_none}
 use Rattle.pci_command.specs.declared.op_id.OpId.{OpId}
 use Rattle.board_model.specs.Ways.{Dword}
 use Rattle.audit_clocks.specs.Rows.{number}
-use Rattle.audit_clocks.specs.declared.landings.Word.{Word}
+use Rattle.board_model.specs.declared.word.Word.{Word}
 use Rattle.dword_landings.specs.Hits.{dword}
 use Rattle.law_untagged.specs.Stale.{same_dword}
 use Rattle.write_index.specs.declared.entry.Entry.{Entry}

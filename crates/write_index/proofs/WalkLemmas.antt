@@ -13,7 +13,7 @@ use Rattle.board_model.specs.Ways.{Dword, dwords_from}
 use Rattle.board_model.specs.WellFormed.{is_well_formed_master}
 use Rattle.board_model.specs.Valid.{IsValid}
 use Rattle.board_model.proofs.Laws.{Master-parts, WellFormed-parts}
-use Rattle.audit_clocks.specs.declared.landings.Word.{Word}
+use Rattle.board_model.specs.declared.word.Word.{Word}
 use Rattle.law_untagged.specs.Stale.{ops_from, ops_by}
 use Rattle.write_index.specs.declared.entry.Write.{Write}
 use Rattle.write_index.specs.Entries.{Listing}

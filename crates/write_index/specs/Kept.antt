@@ -5,7 +5,7 @@ use Rattle.board_model.specs.declared.board.Board.{Board}
 use Rattle.board_model.specs.Ways.{Dword}
 use Rattle.history_model.specs.Knowledge.{is_write, words_named}
 use Rattle.audit_clocks.specs.Tables.{list_in, value_of, found_in}
-use Rattle.audit_clocks.specs.declared.landings.Word.{Word}
+use Rattle.board_model.specs.declared.word.Word.{Word}
 use Rattle.dword_landings.specs.Hits.{dword}
 use Rattle.law_untagged.specs.Stale.{same_dword}
 use Rattle.write_index.specs.declared.entry.Write.{Write}

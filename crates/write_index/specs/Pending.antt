@@ -6,7 +6,7 @@ use Rattle.board_model.specs.declared.board.Board.{Board}
 use Rattle.history_model.specs.Knowledge.{is_write, words_named}
 use Rattle.audit_clocks.specs.Rows.{number}
 use Rattle.audit_clocks.specs.Tables.{value_of}
-use Rattle.audit_clocks.specs.declared.landings.Word.{Word}
+use Rattle.board_model.specs.declared.word.Word.{Word}
 use Rattle.dword_landings.specs.Hits.{dword}
 use Rattle.law_untagged.specs.Stale.{ops_by, same_dword}
 

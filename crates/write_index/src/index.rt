@@ -4,7 +4,8 @@ ghost use Rattle.audit_clocks.specs.Tables.{list_in};
 use crate::authors::Authors;
 use crate::boards::list_writes;
 use crate::entry::Write;
-use audit_clocks::{Numbers, OpTable, Word, WordTable};
+use audit_clocks::{Numbers, OpTable, WordTable};
+use board_model::Word;
 use bus_tree::Tree;
 use pci_command::{NoMemory, OpId};
 use std::alloc::Global;
@@ -18,7 +19,7 @@ pub struct WriteIndex {
 
 impl Model for WriteIndex {
     ghost use Rattle.std.specs.Prelude.{List};
-    ghost use Rattle.audit_clocks.specs.declared.landings.Word.{Word};
+    ghost use Rattle.board_model.specs.declared.word.Word.{Word};
     ghost use Rattle.write_index.specs.Entries.{Listing};
 
     ghost Value = { List (Word × List Listing) };

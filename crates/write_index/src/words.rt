@@ -6,11 +6,10 @@ ghost use Rattle.write_index.specs.Kept.{dwords_written, Writes};
 
 use crate::entry::Write;
 use crate::index::WriteIndex;
-use audit_clocks::Word;
 use board_claim::is_in_ranges;
-use board_model::{Board, Op, Place, Target, op_of, request_of, request_on};
+use board_model::{Board, Op, Place, Target, Word, op_of, request_on};
 use bus_tree::route_of;
-use history_core::dword_address;
+use machine_steps::{dword_address, is_write};
 use pci_command::{NoMemory, OpId, Phase, Request};
 use std::alloc::Global;
 
@@ -28,15 +27,6 @@ pub(crate) fn put_write(
         put_named(writes, alloc, board, write)
     } else {
         Ok(())
-    }
-}
-
-fn is_write(board: &Board, op: OpId) -> bool
-    ensures { result ≡ is_write board.now op }
-{
-    match request_of(board, op, 0) {
-        None => false,
-        Some(request) => !request.command.is_read(),
     }
 }
 

@@ -3,7 +3,7 @@ use Rattle.list_facts.specs.Lists.{total}
 use Rattle.board_claim.proofs.FewLemmas.{few_masters_before, master_more}
 use Rattle.board_model.specs.declared.agents.Master.{Master}
 use Rattle.board_model.specs.Ways.{cost_of}
-use Rattle.progress_core.proofs.SumLemmas.{total_item}
+use Rattle.lane_replay.proofs.SumLemmas.{total_item}
 use Rattle.kept_left.proofs.ProgramLemmas.{programs_more}
 use Rattle.kept_left.proofs.programs.programs_left.Goals as goal
 

@@ -5,8 +5,8 @@ use Rattle.board_model.specs.Claims.{claim}
 use Rattle.board_model.specs.Ways.{end_of}
 use Rattle.history_model.specs.Left.{Reach, lane_or}
 use Rattle.kept_left.specs.Now.{world_now}
-use Rattle.progress_core.specs.declared.waiting.Reach.{Reach as Found}
-use Rattle.progress_core.proofs.ReachLemmas.{none, through, reach_on, reach_nowhere, reach_at, reach_through, short_none, short_through}
+use Rattle.lane_replay.specs.declared.remaining.Reach.{Reach as Found}
+use Rattle.lane_replay.proofs.ReachLemmas.{none, through, reach_on, reach_nowhere, reach_at, reach_through, short_none, short_through}
 use Rattle.kept_left.proofs.waiting.+reach_of.Goals as goal
 
 pub returns-then-most-eq0 : goal.returns-then-most-eq0

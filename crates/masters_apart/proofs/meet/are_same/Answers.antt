@@ -1,4 +1,4 @@
-use Rattle.lane_replay.proofs.SameLemmas.{same_request_tests}
+use Rattle.machine_steps.proofs.SameLemmas.{same_request_tests}
 use Rattle.masters_apart.proofs.meet.are_same.Goals as goal
 
 pub returns : goal.returns

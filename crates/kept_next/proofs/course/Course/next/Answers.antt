@@ -4,10 +4,7 @@ use Rattle.std.specs.Option.{option_or}
 use Rattle.board_model.specs.declared.board.Board.{Board}
 use Rattle.history_model.specs.declared.event.Event.{Event}
 use Rattle.history_model.specs.Runs.{Allowed, Complete}
-use Rattle.board_model.specs.Fits.{BusesFit}
 use Rattle.history_model.specs.Next.{first_bus, next_of}
-use Rattle.law_progress.proofs.NextSoundLemmas.{next_allowed}
-use Rattle.law_progress.proofs.NextStopLemmas.{next_complete}
 use Rattle.kept_state.specs.State.{KeptState}
 use Rattle.kept_next.specs.Lines.{BusLines, AreLines}
 use Rattle.kept_next.specs.Now.{arrival_on, act_on_now}
@@ -29,10 +26,9 @@ returns-clause-next c = λ h is.
 
 pub returns-clause-allowed : goal.returns-clause-allowed
 returns-clause-allowed c = λ h is.
-    subst (λ (some : Option Event). IfSome some (Allowed c.args.tree.now h)) (sym (returns-clause-next c h is)) (next_allowed c.args.tree.now h)
+    subst (λ (some : Option Event). IfSome some (Allowed c.args.tree.now h)) (sym (returns-clause-next c h is)) (c.next_goes_on.ensures.allowed c.args.tree.now h)
 
 pub returns-clause-complete : goal.returns-clause-complete
 returns-clause-complete c = λ h is.
-    let fits : BusesFit c.args.tree.now = subst BusesFit c.board-board.ensures.value c.board_fits.ensures in
     subst (λ (some : Option Event). (some ≡ None) ↔ Complete c.args.tree.now h) (sym (returns-clause-next c h is))
-    (next_complete c.args.tree.now h c.board-board.ensures.valid fits is.stands.run)
+    (c.next_goes_on.ensures.complete c.args.tree.now h c.board-board.ensures.valid is.fits is.stands.run)

@@ -27,6 +27,7 @@ returns-in-Ok-clause-goes_on c = λ h is.
     (λ bus stood. let before = stood_before flags c.bus_of.result bus stood in (subst (λ (n : ℕ). n ≢ bus) bus_is before.0, before.1)) in
     record {
       stands = stands;
+      fits = is.fits;
       lines = is.lines;
       all_buses = ap length marked ∙ (length-set flags c.bus_of.result false ∙ is.all_buses);
       quiet = subst (KnowsQuiet board c.step.new.self) (sym marked) known;

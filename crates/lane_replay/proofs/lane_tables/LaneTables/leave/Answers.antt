@@ -1,7 +1,7 @@
 use Rattle.std.proofs.Common.{◌≡◌, Some, sym, ◌∙◌, ap}
 use Rattle.std.specs.List.{position}
 use Rattle.history_model.specs.Lanes.{LaneState, is_of}
-use Rattle.lane_replay.proofs.LeaveLemmas.{finds_first}
+use Rattle.machine_steps.proofs.LeaveLemmas.{finds_first}
 use Rattle.lane_replay.proofs.lane_tables.LaneTables.leave.Goals as goal
 
 pub returns-clause-item : goal.returns-clause-item

@@ -1,5 +1,0 @@
-pub mod LimitLemmas
-pub mod ValueLemmas
-pub mod VerdictLemmas
-pub mod FaceLemmas
-pub mod IdleLemmas

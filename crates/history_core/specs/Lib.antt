@@ -1,4 +1,0 @@
-pub mod Values
-pub mod Whys
-pub mod Verdicts
-pub mod Faces

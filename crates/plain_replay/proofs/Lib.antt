@@ -1,0 +1,3 @@
+mod FaceLemmas
+mod IdleLemmas
+mod ProgramLemmas

@@ -1,4 +1,0 @@
-pub mod SumLemmas
-pub mod ProgramLemmas
-pub mod RunningLemmas
-pub mod ReachLemmas

@@ -1,7 +1,0 @@
-use Rattle.history_model.specs.Runs.{history_of}
-use Rattle.progress_core.proofs.RunningLemmas.{IsRunning-valid}
-use Rattle.progress_core.proofs.left.Goals as goal
-
-pub left_on-requires : goal.left_on-requires
-left_on-requires c =
-    rw c.board.ensures.value (IsRunning-valid c.args.tree.now (history_of c.args.events.now) c.board.ensures.valid c.requires)

@@ -1,0 +1,9 @@
+use Rattle.std.proofs.Common.{refl}
+use Rattle.worked_runs.proofs.FlagLemmas.{nothing_delivered}
+use Rattle.worked_runs.proofs.premises.only_runs_deliver.Goals as goal
+
+pub returns-clause-awaits : goal.returns-clause-awaits
+returns-clause-awaits c = (9, refl)
+
+pub returns-clause-not_delivered : goal.returns-clause-not_delivered
+returns-clause-not_delivered c = nothing_delivered 2
