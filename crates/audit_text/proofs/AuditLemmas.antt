@@ -5,12 +5,12 @@ use Rattle.board_model.specs.declared.board.Board.{Board}
 use Rattle.history_model.specs.declared.event.Event.{Event}
 use Rattle.history_model.specs.Runs.{Run, history_of}
 use Rattle.history_model.specs.Program.{ended}
-use Rattle.law_slots.proofs.Laws.{Run-before}
-use Rattle.audit_model.specs.Audit.{Finding, findings}
-use Rattle.audit_model.specs.Audit as audit
+use Rattle.law_lanes.proofs.Laws.{Run-before}
+use Rattle.law_audit.specs.Audit.{Finding, findings}
+use Rattle.law_audit.specs.Audit as audit
 use Rattle.board_model.specs.Valid.{IsValid}
-use Rattle.dword_landings.specs.Told.{ToldsFor}
-use Rattle.dword_landings.proofs.Laws.{tolds_first}
+use Rattle.audit_landings.specs.Told.{ToldsFor}
+use Rattle.audit_landings.proofs.Laws.{tolds_first}
 use Rattle.audit_text.specs.Notes.{Notes, no_notes, end_in, Happens}
 use Rattle.audit_text.specs.Search.{Searchable}
 use Rattle.audit_text.specs.Stands.{StandsFor}

@@ -2,7 +2,7 @@
 use Rattle.std.proofs.Common.{◌≡◌, ℕ, zero, suc, ◌-◌, ◌<◌, Bool, true, false, cond, List, [], ◌∷◌, ◌++◌, Some, None, refl, ◌∙◌, append_assoc, arith}
 use Rattle.pci_command.specs.declared.op_id.OpId.{OpId}
 use Rattle.pci_command.specs.Same.{same_op}
-use Rattle.audit_model.specs.Chains.{joined, to_reader}
+use Rattle.law_audit.specs.Chains.{joined, to_reader}
 use Rattle.audit_text.specs.Notes.{Notes}
 use Rattle.audit_text.specs.Found.{since_of, shown_to, chain_to}
 

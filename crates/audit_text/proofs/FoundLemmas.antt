@@ -21,13 +21,13 @@ use Rattle.history_model.specs.Knowledge.{Reading as WordReading, got, has_lande
 use Rattle.history_model.specs.Runs.{Run}
 use Rattle.law_fresh.specs.Aware.{is_behind, knows, shows, aware_of}
 use Rattle.law_fresh.proofs.Laws.{Front, front_run}
-use Rattle.audit_model.specs.Chains.{op_in, joined, to_seen, to_reader}
-use Rattle.audit_model.specs.Chains as chains
-use Rattle.audit_model.specs.Audit.{Finding, is_known_by}
-use Rattle.audit_model.specs.Audit as audit
+use Rattle.law_audit.specs.Chains.{op_in, joined, to_seen, to_reader}
+use Rattle.law_audit.specs.Chains as chains
+use Rattle.law_audit.specs.Audit.{Finding, is_known_by}
+use Rattle.law_audit.specs.Audit as audit
 use Rattle.audit_text.specs.declared.readings.Reading.{Reading}
-use Rattle.dword_landings.specs.Hits.{op_of_landing, or_place, whole_at}
-use Rattle.dword_landings.proofs.Laws.{whole_has}
+use Rattle.audit_landings.specs.Hits.{op_of_landing, or_place, whole_at}
+use Rattle.audit_landings.proofs.Laws.{whole_has}
 use Rattle.audit_text.specs.Notes.{Notes, word_of, ended_of, end_in}
 use Rattle.audit_text.specs.Found.{since_of, knows_by, got_in, landed_before, is_before, last_known, shows_it, first_shown, shown_by, shown_to, chain_to, chain_from, finding_of, findings_by, findings_as, findings_in}
 use Rattle.audit_text.specs.Stands.{StandsFor, reading_as}

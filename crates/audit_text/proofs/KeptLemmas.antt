@@ -12,19 +12,19 @@ use Rattle.history_model.specs.declared.event.Event.{Event}
 use Rattle.history_model.specs.Words.{Landing, landed}
 use Rattle.history_model.specs.Knowledge.{is_write, has_landed}
 use Rattle.history_model.specs.Runs.{Run}
-use Rattle.history_facts.proofs.RequestLemmas.{same_op_true}
+use Rattle.history_model.proofs.facts.RequestLemmas.{same_op_true}
 use Rattle.law_fresh.specs.Aware.{is_behind, knows, aware_of}
 use Rattle.law_fresh.proofs.Laws.{or_either}
 use Rattle.law_fresh.proofs.Laws.{write_op, same_place}
-use Rattle.audit_model.proofs.StartLemmas.{start_stays}
-use Rattle.audit_model.proofs.OrderLemmas.{earlier_known, landings_know}
+use Rattle.law_audit.proofs.StartLemmas.{start_stays}
+use Rattle.law_audit.proofs.OrderLemmas.{earlier_known, landings_know}
 use Rattle.board_model.specs.declared.word.Word.{Word}
 use Rattle.audit_clocks.specs.Tables.{writes_in}
 use Rattle.audit_clocks.specs.Tracks.{in_order_at}
-use Rattle.dword_landings.specs.Hits.{op_of_landing, dword}
-use Rattle.dword_landings.specs.Told.{ToldsFor}
-use Rattle.dword_landings.specs.Notes.{LandingNotes, AreLandings}
-use Rattle.dword_landings.proofs.Laws.{whole_has, same_stand, tolds_over}
+use Rattle.audit_landings.specs.Hits.{op_of_landing, dword}
+use Rattle.audit_landings.specs.Told.{ToldsFor}
+use Rattle.audit_landings.specs.Notes.{LandingNotes, AreLandings}
+use Rattle.audit_landings.proofs.Laws.{whole_has, same_stand, tolds_over}
 use Rattle.audit_text.specs.Notes.{Notes, Happens}
 use Rattle.audit_text.specs.Found.{knows_by}
 use Rattle.audit_text.specs.Search.{is_known, tells_of, KnowsAlways, Searchable}

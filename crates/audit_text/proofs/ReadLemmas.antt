@@ -17,17 +17,17 @@ use Rattle.history_model.specs.declared.event.Event.TheVariants.{Act, Arrive}
 use Rattle.history_model.specs.Program.{Ending, ended}
 use Rattle.history_model.specs.Words.{landed}
 use Rattle.history_model.specs.Knowledge.{Reading as WordReading, value_in, outcome_in, value_of_ending, ends_with, up_to_end, reading_of, reading_by, reading_in, reading_or, last_reading, got}
-use Rattle.history_facts.proofs.RequestLemmas.{same_op_true}
+use Rattle.history_model.proofs.facts.RequestLemmas.{same_op_true}
 use Rattle.law_fresh.proofs.Laws.{Front, before_in}
-use Rattle.audit_model.specs.Clocks.{Clocks, clocks_of, taught_by, word_tells}
+use Rattle.law_audit.specs.Clocks.{Clocks, clocks_of, taught_by, word_tells}
 use Rattle.board_model.specs.declared.word.Word.{Word}
 use Rattle.audit_clocks.specs.Rows.{number}
 use Rattle.audit_clocks.specs.Tables.{value_of, numbers_of, writes_in}
 use Rattle.audit_clocks.specs.Clocks.{ClockState}
 use Rattle.audit_text.specs.declared.readings.Reading.{Reading}
-use Rattle.dword_landings.specs.Hits.{op_of_landing, dword}
-use Rattle.dword_landings.specs.Told.{told_by}
-use Rattle.dword_landings.proofs.Laws.{word_told}
+use Rattle.audit_landings.specs.Hits.{op_of_landing, dword}
+use Rattle.audit_landings.specs.Told.{told_by}
+use Rattle.audit_landings.proofs.Laws.{word_told}
 use Rattle.audit_text.specs.Notes.{Notes, flat, read_of, word_read, read_in, ReadSo, Reads, Gets, EndsSo, Ends, ended_of}
 use Rattle.audit_text.specs.Stands.{StandsFor, reading_as}
 
@@ -85,7 +85,7 @@ module _ (board : Board) (h : List Event) (notes : Notes) (stands : StandsFor bo
             }
         | Some reading ↦ λ some r.
             let so : ReadSo masters (length h) notes.landings (read_of p reading) notes.clocks new notes.readings readings = r in
-            let mine : reading_in board h p e ≡ Some reading = rw (Rattle.history_facts.proofs.RequestLemmas.same_op_self p) some in
+            let mine : reading_in board h p e ≡ Some reading = rw (Rattle.history_model.proofs.facts.RequestLemmas.same_op_self p) some in
             let before : reading.before ≡ h = before_in board h p e reading mine in
             record {
               known = so.known;

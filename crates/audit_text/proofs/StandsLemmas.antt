@@ -19,18 +19,18 @@ use Rattle.history_model.specs.declared.event.Event.TheVariants.{Act, Arrive}
 use Rattle.history_model.specs.Program.{Ending, ended, turn_of}
 use Rattle.history_model.specs.Knowledge.{value_in, is_write}
 use Rattle.history_model.specs.Runs.{Run}
-use Rattle.history_facts.proofs.WantsLemmas.{wants-turn}
+use Rattle.history_model.proofs.facts.WantsLemmas.{wants-turn}
 use Rattle.law_fresh.proofs.Laws.{turn_is_there}
-use Rattle.law_reads.proofs.Laws.{master_there}
+use Rattle.law_fresh.proofs.reads.Laws.{master_there}
 use Rattle.law_fresh.specs.Aware.{brings, first_known, aware_of}
 use Rattle.law_fresh.proofs.Laws.{ends_turn}
-use Rattle.audit_model.specs.Clocks.{Clocks, clocks_of, known_after, value_tells}
-use Rattle.audit_model.proofs.ClockLemmas.{known_reaches}
+use Rattle.law_audit.specs.Clocks.{Clocks, clocks_of, known_after, value_tells}
+use Rattle.law_audit.proofs.ClockLemmas.{known_reaches}
 use Rattle.audit_clocks.specs.Rows.{number, own, row, reached}
 use Rattle.audit_clocks.specs.Tables.{value_of, numbers_of, list_in}
 use Rattle.audit_clocks.specs.Clocks.{ClockState, Presented, Ended, known_at, since_at, told_at}
 use Rattle.audit_text.specs.declared.readings.Reading.{Reading}
-use Rattle.dword_landings.proofs.Laws.{landings_first, same_stand}
+use Rattle.audit_landings.proofs.Laws.{landings_first, same_stand}
 use Rattle.audit_text.specs.Notes.{Notes, no_notes, Presents, EndsSo, Ends, ended_of, Happens}
 use Rattle.audit_text.specs.Stands.{StandsFor}
 use Rattle.audit_text.proofs.ReadLemmas.{AfterRead, event_read, event_got}

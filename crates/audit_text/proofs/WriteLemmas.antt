@@ -21,11 +21,11 @@ use Rattle.history_model.specs.declared.event.Event.TheVariants.{Act, Arrive}
 use Rattle.history_model.specs.Words.{Landing, through, brings, landings_of, landings_by, brought, landed}
 use Rattle.history_model.specs.Knowledge.{is_write}
 use Rattle.history_model.specs.Runs.{Run}
-use Rattle.history_facts.proofs.AnswerLemmas.{answered_at}
-use Rattle.law_reach.proofs.Laws.{lane_there}
-use Rattle.law_reads.proofs.Laws.{read_answered, not_posted, read_or_not}
+use Rattle.history_model.proofs.facts.AnswerLemmas.{answered_at}
+use Rattle.law_bound.proofs.reach.Laws.{lane_there}
+use Rattle.law_fresh.proofs.reads.Laws.{read_answered, not_posted, read_or_not}
 use Rattle.law_fresh.proofs.Laws.{IsOf, brought_of, IsThere, landings_there}
-use Rattle.dword_landings.proofs.Laws.{none_landed}
+use Rattle.audit_landings.proofs.Laws.{none_landed}
 
 module _ (board : Board) (valid : IsValid board) where
   -- a read neither lands nor is a part

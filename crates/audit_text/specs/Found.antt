@@ -3,8 +3,8 @@ use Rattle.std.specs.Prelude.{ℕ, zero, suc, Bool, false, List, [], ◌∷◌, 
 use Rattle.pci_command.specs.declared.op_id.OpId.{OpId}
 use Rattle.pci_command.specs.Same.{same_op}
 use Rattle.law_fresh.specs.Aware.{is_behind}
-use Rattle.audit_model.specs.Chains.{joined, to_reader}
-use Rattle.audit_model.specs.Audit.{Finding}
+use Rattle.law_audit.specs.Chains.{joined, to_reader}
+use Rattle.law_audit.specs.Audit.{Finding}
 use Rattle.audit_clocks.specs.Tables.{value_of, writes_in}
 use Rattle.audit_clocks.specs.Clocks.{since_at}
 use Rattle.audit_text.specs.declared.readings.Reading.{Reading}

@@ -8,7 +8,7 @@ use Rattle.board_printer.specs.Lines.{Line, spaced, line_text, text_of}
 use Rattle.board_printer.specs.Numbers.{word_text, address_text}
 use Rattle.board_printer.specs.Spaces.{space_word}
 use Rattle.trace_text.specs.Words.{op_word, target_name}
-use Rattle.audit_model.specs.Audit.{Finding}
+use Rattle.law_audit.specs.Audit.{Finding}
 
 -- `read TARGET SPACE ADDRESS`
 abbrev pub word_words : Board → ℕ → Space → ℕ → Line

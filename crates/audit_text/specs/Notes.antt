@@ -13,8 +13,8 @@ use Rattle.history_model.specs.Knowledge.{Reading as WordReading, reading_by, va
 use Rattle.board_model.specs.declared.word.Word.{Word}
 use Rattle.audit_clocks.specs.Tables.{value_of, writes_in, Puts}
 use Rattle.audit_clocks.specs.Clocks.{ClockState, Presented, Ended}
-use Rattle.dword_landings.specs.Told.{Tells, ToldsFor}
-use Rattle.dword_landings.specs.Notes.{LandingNotes, no_landings, Happened, SameLandings}
+use Rattle.audit_landings.specs.Told.{Tells, ToldsFor}
+use Rattle.audit_landings.specs.Notes.{LandingNotes, no_landings, Happened, SameLandings}
 use Rattle.audit_text.specs.declared.readings.Reading.{Reading}
 use Rattle.audit_text.specs.declared.readings.Read.{Read as ReadAt}
 use Rattle.audit_text.specs.declared.ends.Ended.{Ended as EndedOp}

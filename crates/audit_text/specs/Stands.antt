@@ -7,12 +7,12 @@ use Rattle.history_model.specs.declared.event.Event.{Event}
 use Rattle.history_model.specs.Words.{landed}
 use Rattle.history_model.specs.Knowledge.{Reading as WordReading, last_reading, got, is_write}
 use Rattle.law_fresh.specs.Aware.{aware_of}
-use Rattle.audit_model.specs.Clocks.{clocks_of}
+use Rattle.law_audit.specs.Clocks.{clocks_of}
 use Rattle.audit_clocks.specs.Rows.{number, row}
 use Rattle.audit_clocks.specs.Tables.{value_of, numbers_of}
 use Rattle.audit_clocks.specs.Clocks.{known_at, since_at}
 use Rattle.audit_text.specs.declared.readings.Reading.{Reading}
-use Rattle.dword_landings.specs.Notes.{AreLandings}
+use Rattle.audit_landings.specs.Notes.{AreLandings}
 use Rattle.audit_text.specs.Notes.{Notes, flat}
 
 -- a reading, by how much there was before it

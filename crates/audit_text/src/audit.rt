@@ -2,14 +2,14 @@ ghost use Rattle.std.specs.Prelude.{◌≡◌, ◌++◌, [], ◌∷◌, codes, I
 ghost use Rattle.std.specs.Fmt.{decimal};
 ghost use Rattle.board_printer.specs.Lines.{line_text};
 ghost use Rattle.history_model.specs.Runs.{Run, history_of};
-ghost use Rattle.audit_model.specs.Audit.{findings};
+ghost use Rattle.law_audit.specs.Audit.{findings};
 ghost use Rattle.audit_text.specs.Lines.{audit_of, findings_text};
 
 use crate::findings::findings_of;
 use crate::found::Found;
 use crate::lines::print_line;
 use board_model::Board;
-use bus_tree::Tree;
+use board_tree::Tree;
 use history_model::Event;
 use pci_command::{List, NoMemory};
 use std::alloc::{AllocError, Global};

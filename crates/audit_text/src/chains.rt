@@ -1,5 +1,5 @@
 ghost use Rattle.std.specs.Prelude.{◌≡◌, [], ◌∷◌, ◌++◌, IfOk, OnOk};
-ghost use Rattle.audit_model.specs.Chains.{joined};
+ghost use Rattle.law_audit.specs.Chains.{joined};
 ghost use Rattle.audit_text.specs.Found.{since_of, shown_to, chain_to, chain_from};
 ghost use Rattle.audit_text.specs.Search.{TellsAlways};
 

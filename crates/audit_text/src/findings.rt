@@ -1,7 +1,7 @@
 ghost use Rattle.std.specs.Prelude.{◌≡◌, ◌≤◌, ◌++◌, ◌∷◌, length, Some, IfOk, OnOk};
 ghost use Rattle.board_model.specs.Valid.{IsValid};
 ghost use Rattle.history_model.specs.Runs.{Run, history_of};
-ghost use Rattle.audit_model.specs.Audit.{findings};
+ghost use Rattle.law_audit.specs.Audit.{findings};
 ghost use Rattle.audit_text.specs.Notes.{no_notes, end_in};
 ghost use Rattle.audit_text.specs.Search.{Searchable, TellsAlways};
 ghost use Rattle.audit_text.specs.Found.{listed, finding_of, findings_in, findings_as, findings_by};
@@ -13,7 +13,7 @@ use crate::ledger::Ledger;
 use crate::readings::Reading;
 use crate::search::last_known;
 use board_model::Board;
-use bus_tree::Tree;
+use board_tree::Tree;
 use history_model::Event;
 use pci_command::{List, NoMemory, OpId};
 use std::alloc::Global;

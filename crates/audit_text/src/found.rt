@@ -21,7 +21,7 @@ pub struct Found {
 }
 
 impl Model for Found {
-    ghost use Rattle.audit_model.specs.Audit.{Finding};
+    ghost use Rattle.law_audit.specs.Audit.{Finding};
 
     ghost Value = { Finding };
 

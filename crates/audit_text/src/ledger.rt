@@ -1,13 +1,13 @@
 ghost use Rattle.std.specs.Prelude.{◌≡◌, OnOk, IfOk, length, take};
-ghost use Rattle.dword_landings.specs.Notes.{SameLandings};
-ghost use Rattle.dword_landings.specs.Told.{ToldsFor};
+ghost use Rattle.audit_landings.specs.Notes.{SameLandings};
+ghost use Rattle.audit_landings.specs.Told.{ToldsFor};
 ghost use Rattle.audit_text.specs.Notes.{Reads, Presents, Ends, Gets};
 
 use crate::ends::{Ended, end_in};
 use crate::readings::{Read, Reading, read_in, word_of};
 use audit_clocks::{Clocks, OpTable, Track};
+use audit_landings::DwordLandings;
 use board_model::Board;
-use dword_landings::DwordLandings;
 use history_model::{By, Event};
 use pci_command::{NoMemory, OpId};
 use std::alloc::Global;

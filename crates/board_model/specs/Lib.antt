@@ -5,3 +5,4 @@ pub mod Ways
 pub mod WellFormed
 pub mod Valid
 pub mod Fits
+pub mod form_laws

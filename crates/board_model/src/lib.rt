@@ -6,7 +6,9 @@ mod agents;
 mod board;
 mod bridge;
 mod buses;
+pub mod claims;
 mod fits;
+pub mod form_laws;
 mod name;
 mod op;
 mod registers;
@@ -18,7 +20,11 @@ pub use agents::{Master, Opening, Range, Target};
 pub use board::{Board, Planned};
 pub use bridge::{Bridge, Lane, Place, Window};
 pub use buses::{bridge_to, end_of, has_bridge_to, is_bus, primary_of};
+pub use claims::{claim, claim_in_space, is_in_ranges};
 pub use fits::board_fits;
+pub use form_laws::{
+    claims_never_turn_back, one_claimant, parts_are_named, ways_end, well_formed_is_named,
+};
 pub use name::Name;
 pub use op::Op;
 pub use registers::{registers_fit, registers_of};

@@ -12,7 +12,7 @@ use Rattle.board_model.specs.declared.bridge.Window.{Window}
 use Rattle.board_model.specs.declared.agents.Range.{Range}
 use Rattle.board_model.specs.declared.board.Planned.{Planned}
 use Rattle.board_model.specs.WellFormed.{is_within, is_well_formed_phase, is_well_formed_plan, read_space, write_space}
-use Rattle.board_draft.specs.Formed.{ends_within, is_byte, is_target_space, is_address, is_size, is_formed_read, is_formed_write, is_formed}
+use Rattle.board_parser.specs.draft.Formed.{ends_within, is_byte, is_target_space, is_address, is_size, is_formed_read, is_formed_write, is_formed}
 use Rattle.board_statements.specs.declared.statement.Statement.{Statement}
 use Rattle.board_statements.specs.declared.statement.Statement.TheVariants.{NewBridge}
 use Rattle.board_statements.specs.Words.{Reader, ◌>>=◌, ◌>>◌, give, one_word, choice, decimal, decimal_of, fixed, hex, hex_of, name, long, long_of, data_word, data_word_of, header_bytes, header_of}

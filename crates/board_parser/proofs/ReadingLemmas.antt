@@ -8,12 +8,12 @@ use Rattle.board_text.specs.declared.reader.BadLine.{BadLine}
 use Rattle.board_text.specs.Tokens.{words_of}
 use Rattle.board_statements.specs.declared.fault.LineFault.{LineFault}
 use Rattle.board_statements.specs.Statements.{statement_of, first_line_of}
-use Rattle.board_draft.specs.declared.draft.Draft.{Draft}
-use Rattle.board_draft.specs.Drafts.{board_of, first_draft}
-use Rattle.board_draft.specs.Add.{add}
-use Rattle.board_draft.proofs.StepLemmas.{step-ok}
-use Rattle.board_draft.proofs.SoundLemmas.{well_formed_by}
-use Rattle.board_draft.proofs.DraftLemmas.{IsDraftSound, closed_sound, first_sound, add_sound}
+use Rattle.board_parser.specs.declared.draft.draft.Draft.{Draft}
+use Rattle.board_parser.specs.draft.Drafts.{board_of, first_draft}
+use Rattle.board_parser.specs.draft.Add.{add}
+use Rattle.board_parser.proofs.draft.StepLemmas.{step-ok}
+use Rattle.board_parser.proofs.draft.SoundLemmas.{well_formed_by}
+use Rattle.board_parser.proofs.draft.DraftLemmas.{IsDraftSound, closed_sound, first_sound, add_sound}
 use Rattle.board_parser.specs.OneLine.{begin, some_of, read_words, read_unless, read_line}
 use Rattle.board_parser.specs.Boards.{then_lines, read_lines, ended, board_read}
 use Rattle.board_parser.proofs.StatementLemmas.{statement-formed}

@@ -6,7 +6,7 @@ use Rattle.pci_command.specs.declared.command.Command.TheVariants.{IoRead, MemRe
 use Rattle.pci_command.specs.declared.command.Space.TheVariants.{Mem, Io}
 use Rattle.pci_command.specs.Command.{space_of}
 use Rattle.board_model.specs.WellFormed.{read_space, write_space}
-use Rattle.board_draft.specs.Formed.{is_target_space, is_formed}
+use Rattle.board_parser.specs.draft.Formed.{is_target_space, is_formed}
 use Rattle.board_statements.specs.declared.fault.LineFault.{LineFault}
 use Rattle.board_statements.specs.declared.fault.LineFault.TheVariants.{WrongWord}
 use Rattle.board_statements.specs.declared.keyword.Form.{Form}

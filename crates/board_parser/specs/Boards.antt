@@ -4,8 +4,8 @@ use Rattle.board_model.specs.declared.board.Board.{Board}
 use Rattle.board_text.specs.Lines.{lines_of}
 use Rattle.board_statements.specs.declared.fault.LineFault.{LineFault}
 use Rattle.board_statements.specs.declared.fault.LineFault.TheVariants.{NoFirstLine}
-use Rattle.board_draft.specs.declared.draft.Draft.{Draft}
-use Rattle.board_draft.specs.Drafts.{board_of}
+use Rattle.board_parser.specs.declared.draft.draft.Draft.{Draft}
+use Rattle.board_parser.specs.draft.Drafts.{board_of}
 use Rattle.board_parser.specs.declared.fault.ParseFault.{ParseFault}
 use Rattle.board_parser.specs.declared.fault.ParseFault.TheVariants.{Fault, NoMemory}
 use Rattle.board_parser.specs.OneLine.{read_line}

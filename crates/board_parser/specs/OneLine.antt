@@ -7,10 +7,10 @@ use Rattle.board_text.specs.Tokens.{words_of}
 use Rattle.board_statements.specs.declared.fault.LineFault.{LineFault}
 use Rattle.board_statements.specs.declared.fault.LineFault.TheVariants.{BadByte, TooLong, NoFirstLine}
 use Rattle.board_statements.specs.Statements.{statement_of, first_line_of}
-use Rattle.board_draft.specs.declared.draft.Draft.{Draft}
-use Rattle.board_draft.specs.Steps.{◌>>=◌}
-use Rattle.board_draft.specs.Drafts.{first_draft}
-use Rattle.board_draft.specs.Add.{add}
+use Rattle.board_parser.specs.declared.draft.draft.Draft.{Draft}
+use Rattle.board_parser.specs.draft.Steps.{◌>>=◌}
+use Rattle.board_parser.specs.draft.Drafts.{first_draft}
+use Rattle.board_parser.specs.draft.Add.{add}
 
 -- the first line that has words is `pciboard 1` or `pciboard 2`; before it there is no draft
 abbrev pub begin : Option Bool → Result (Option Draft) LineFault

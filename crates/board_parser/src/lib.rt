@@ -1,11 +1,13 @@
 //! A board text is read as a board, or its first fault is told with its line.
 #![tactic(auto)]
 
+pub mod draft;
 mod fault;
 mod laws;
 mod line;
 mod text;
 
+pub use draft::{AddFault, Draft, Owner, Sheet};
 pub use fault::ParseFault;
 pub use laws::read_is_well_formed;
 pub use text::{parse, parse_sheet};

@@ -1,10 +1,10 @@
 ghost use Rattle.std.specs.Prelude.{◌≡◌, nat_lt, length};
 ghost use Rattle.board_text.specs.Tokens.{words_of};
 ghost use Rattle.board_statements.specs.Statements.{statement_of, first_line_of};
-ghost use Rattle.board_draft.specs.Steps.{Answers};
+ghost use Rattle.board_parser.specs.draft.Steps.{Answers};
 ghost use Rattle.board_parser.specs.OneLine.{read_line, read_words, read_statement, text_fault};
 
-use board_draft::{AddFault, Sheet};
+use crate::draft::{AddFault, Sheet};
 use board_statements::{LineFault, first_line, has_words, statement_of};
 use board_text::{BadLine, check_line};
 use std::alloc::Global;

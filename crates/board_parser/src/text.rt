@@ -2,8 +2,8 @@ ghost use Rattle.std.specs.Prelude.{◌≡◌, ◌+◌, ◌<◌, ◌^◌, length
 ghost use Rattle.board_parser.specs.Boards.{board_read, sheet_read, Tells, TellsSheet, IsWithin};
 
 use crate::ParseFault;
+use crate::draft::{AddFault, Sheet};
 use crate::line::read_line;
-use board_draft::{AddFault, Sheet};
 use board_model::Board;
 use board_statements::LineFault;
 use board_text::next_line;

@@ -5,3 +5,4 @@ pub mod Bridges
 pub mod Targets
 pub mod Masters
 pub mod Boards
+pub mod headers

@@ -3,6 +3,7 @@
 
 mod board;
 mod bridges;
+mod headers;
 mod masters;
 mod numbers;
 mod short;
@@ -10,5 +11,6 @@ mod spaces;
 mod targets;
 
 pub use board::{print_board, print_board_lines};
+pub use headers::print_headers;
 pub use numbers::{Address, DataWord, HexHalf, HexWord};
-pub use spaces::{command_word, space_word};
+pub use spaces::space_word;

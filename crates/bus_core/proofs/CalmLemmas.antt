@@ -17,13 +17,13 @@ use Rattle.history_model.specs.declared.item.Answer.TheVariants.{Gives, Retry}
 use Rattle.history_model.specs.World.{World}
 use Rattle.history_model.specs.Words.{phases_parted, parted_by, through}
 use Rattle.history_model.specs.Answers.{answer_in}
-use Rattle.master_agents.specs.Through.{ThroughStands}
-use Rattle.master_agents.proofs.ThroughLemmas.{through_stays}
-use Rattle.target_agents.specs.State.{TargetView}
-use Rattle.target_agents.specs.Stands.{TargetStands}
-use Rattle.target_agents.proofs.EventLemmas.{stands_elsewhere}
-use Rattle.bus_port.specs.Port.{PortStands}
-use Rattle.bus_port.specs.Calls.{after_answer}
+use Rattle.bus_agents.specs.Through.{ThroughStands}
+use Rattle.bus_agents.proofs.ThroughLemmas.{through_stays}
+use Rattle.bus_targets.specs.State.{TargetView}
+use Rattle.bus_targets.specs.Stands.{TargetStands}
+use Rattle.bus_targets.proofs.EventLemmas.{stands_elsewhere}
+use Rattle.bus_core.specs.port.Port.{PortStands}
+use Rattle.bus_core.specs.port.Calls.{after_answer}
 use Rattle.bus_core.specs.Bus.{BusView, PartsAreOfWrites, BusStands}
 use Rattle.bus_core.specs.Calls.{past_after, Answered}
 

@@ -17,16 +17,16 @@ use Rattle.history_model.specs.declared.item.Carried.TheVariants.{Post, Ask, Don
 use Rattle.history_model.specs.Lanes.{LaneState, arrives}
 use Rattle.history_model.specs.World.{World, moved}
 use Rattle.history_model.specs.Local.{is_lawful_on}
-use Rattle.history_facts.proofs.RequestLemmas.{request_is_of}
-use Rattle.law_slots.specs.Kinds.{NamesOp, RightKind}
+use Rattle.history_model.proofs.facts.RequestLemmas.{request_is_of}
+use Rattle.law_lanes.specs.Kinds.{NamesOp, RightKind}
 use Rattle.lane_items.specs.declared.item.Item.{Item}
-use Rattle.bridge_face.specs.Arrivals.{carried, HasRequest}
-use Rattle.bridge_face.specs.OnLanes.{IsItsRequest}
-use Rattle.bus_port.specs.Port.{PortView, PortStands}
-use Rattle.bus_port.specs.Calls.{Arrives}
-use Rattle.bus_port.proofs.MoveLemmas.{moved_apart, other_bridge_leaves}
-use Rattle.master_agents.proofs.ThroughLemmas.{through_stays}
-use Rattle.target_agents.proofs.EventLemmas.{stands_elsewhere}
+use Rattle.bus_face.specs.Arrivals.{carried, HasRequest}
+use Rattle.bus_face.specs.OnLanes.{IsItsRequest}
+use Rattle.bus_core.specs.port.Port.{PortView, PortStands}
+use Rattle.bus_core.specs.port.Calls.{Arrives}
+use Rattle.bus_core.proofs.port.MoveLemmas.{moved_apart, other_bridge_leaves}
+use Rattle.bus_agents.proofs.ThroughLemmas.{through_stays}
+use Rattle.bus_targets.proofs.EventLemmas.{stands_elsewhere}
 use Rattle.bus_core.specs.Bus.{BusView, Shape, shape_of, IsOf, AreLines, BusStands}
 use Rattle.bus_core.specs.Places.{ComesAt, TestsAt, ask_request}
 use Rattle.bus_core.specs.Serves.{is_there_as, names_its_kind, BusRefuses, ArrivesAt, BusArrives}

@@ -12,7 +12,7 @@ use Rattle.board_model.specs.declared.board.Board.{Board}
 use Rattle.board_model.specs.Requests.{address_on, phases_of, request_of}
 use Rattle.board_model.specs.WellFormed.{is_well_formed, is_well_formed_op, is_well_formed_write, is_within, write_space}
 use Rattle.board_model.proofs.Laws.{Write-parts, op_formed}
-use Rattle.history_facts.proofs.RequestLemmas.{request_is_of}
+use Rattle.history_model.proofs.facts.RequestLemmas.{request_is_of}
 
 -- a burst in memory stays in its block, and a write in I/O space has one data phase
 write_fits : (address gone : ℕ) (phases : List Phase) (space : Option Space) → is_well_formed_write address phases space ≡ true → address < 2 ^ 64 → gone < length phases → address + 4 * gone < 2 ^ 64

@@ -20,18 +20,18 @@ use Rattle.history_model.specs.declared.item.Answer.TheVariants.{Gives}
 use Rattle.history_model.specs.Lanes.{LaneState}
 use Rattle.history_model.specs.World.{World, same_lane, same_initiator, enters}
 use Rattle.history_model.specs.Answers.{bridge_to, lane_answer, answer_by, answer_to, answer_in}
-use Rattle.history_facts.proofs.BridgeLemmas.{lane_back_back, same_lane_true, same_lane_self}
-use Rattle.law_slots.proofs.Laws.{claim_starts, WellFormed-numbers}
+use Rattle.history_model.proofs.facts.BridgeLemmas.{lane_back_back, same_lane_true, same_lane_self}
+use Rattle.law_lanes.proofs.Laws.{claim_starts, WellFormed-numbers}
 use Rattle.law_local.proofs.Laws.{end_back}
 use Rattle.lane_items.specs.declared.item.Item.{Item}
-use Rattle.bridge_face.specs.declared.reply.Reply.{Reply}
-use Rattle.bridge_face.specs.declared.reply.Reply.TheVariants.{Accepted, Latched, Taken, Retry as Retried}
-use Rattle.bridge_face.specs.Arrivals.{carried}
-use Rattle.bridge_face.specs.Replies.{as_answer}
-use Rattle.bridge_face.specs.OnLanes.{sent_by}
-use Rattle.bus_port.specs.Port.{PortView, PortStands}
-use Rattle.bus_port.specs.Calls.{after_answer, Replies}
-use Rattle.bus_port.proofs.MoveLemmas.{moved_apart, other_bridge_leaves}
+use Rattle.bus_face.specs.declared.reply.Reply.{Reply}
+use Rattle.bus_face.specs.declared.reply.Reply.TheVariants.{Accepted, Latched, Taken, Retry as Retried}
+use Rattle.bus_face.specs.Arrivals.{carried}
+use Rattle.bus_face.specs.Replies.{as_answer}
+use Rattle.bus_face.specs.OnLanes.{sent_by}
+use Rattle.bus_core.specs.port.Port.{PortView, PortStands}
+use Rattle.bus_core.specs.port.Calls.{after_answer, Replies}
+use Rattle.bus_core.proofs.port.MoveLemmas.{moved_apart, other_bridge_leaves}
 use Rattle.bus_core.specs.Bus.{BusView, Shape, shape_of, arrivals_at, IsOf, AreLines, BusStands}
 use Rattle.bus_core.specs.Calls.{items_at, IsLine, Answered, ClaimedBack}
 use Rattle.bus_core.specs.Parts.{IsClaimed, PlaceAnswers, PlaceTurns}

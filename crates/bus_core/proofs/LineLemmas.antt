@@ -10,12 +10,12 @@ use Rattle.history_model.specs.declared.event.By.{By}
 use Rattle.history_model.specs.declared.event.By.TheVariants.{Master, Lane as ByLane}
 use Rattle.history_model.specs.World.{same_lane, same_initiator}
 use Rattle.history_model.specs.Answers.{wants_in}
-use Rattle.history_facts.proofs.BridgeLemmas.{same_lane_true, same_lane_self, same_lane_symm}
-use Rattle.bridge_face.specs.declared.offer.Offer.{Offer}
-use Rattle.bridge_face.specs.Offers.{offers_of, is_offer_of}
-use Rattle.bridge_face.proofs.EndLemmas.{offers_on_lanes}
-use Rattle.bus_port.specs.Port.{PortView}
-use Rattle.bus_port.proofs.ReplyLemmas.{port_offers}
+use Rattle.history_model.proofs.facts.BridgeLemmas.{same_lane_true, same_lane_self, same_lane_symm}
+use Rattle.bus_face.specs.declared.offer.Offer.{Offer}
+use Rattle.bus_face.specs.Offers.{offers_of, is_offer_of}
+use Rattle.bus_face.proofs.EndLemmas.{offers_on_lanes}
+use Rattle.bus_core.specs.port.Port.{PortView}
+use Rattle.bus_core.proofs.port.ReplyLemmas.{port_offers}
 use Rattle.bus_core.specs.Bus.{BusView, Shape, IsOf, AreLines, StandsAtFirst}
 use Rattle.bus_core.specs.Serves.{BusOffers}
 use Rattle.bus_core.proofs.ListLemmas.{found_at, none_at, map_get}

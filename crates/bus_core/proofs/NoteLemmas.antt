@@ -4,14 +4,14 @@ use Rattle.pci_command.specs.declared.op_id.OpId.{OpId}
 use Rattle.history_model.specs.declared.event.Event.TheVariants.{Act}
 use Rattle.pci_command.specs.declared.op_id.Outcome.{Outcome}
 use Rattle.history_model.specs.Words.{phases_parted}
-use Rattle.bridge_face.specs.declared.offer.Offer.{Offer}
-use Rattle.bridge_face.specs.Offers.{answered_with}
+use Rattle.bus_face.specs.declared.offer.Offer.{Offer}
+use Rattle.bus_face.specs.Offers.{answered_with}
 use Rattle.bus_core.specs.Calls.{stamp_of}
-use Rattle.master_agents.specs.Through.{AddsPart}
-use Rattle.master_agents.proofs.ThroughLemmas.{through_stays}
-use Rattle.target_agents.specs.declared.access.Access.{Access}
-use Rattle.target_agents.specs.declared.access.Access.TheVariants.{Stall, Abort, Value, Part, Landed}
-use Rattle.target_agents.specs.State.{step_of}
+use Rattle.bus_agents.specs.Through.{AddsPart}
+use Rattle.bus_agents.proofs.ThroughLemmas.{through_stays}
+use Rattle.bus_targets.specs.declared.access.Access.{Access}
+use Rattle.bus_targets.specs.declared.access.Access.TheVariants.{Stall, Abort, Value, Part, Landed}
+use Rattle.bus_targets.specs.State.{step_of}
 use Rattle.bus_core.specs.Places.{NotesPart}
 use Rattle.bus_core.proofs.CalmLemmas.{none_parted}
 

@@ -22,19 +22,19 @@ use Rattle.history_model.specs.Lanes.{LaneState, item_ends}
 use Rattle.history_model.specs.World.{World, moved, leaves, lane_outcome, at_initiator}
 use Rattle.history_model.specs.declared.item.Carried.{Carried}
 use Rattle.history_model.specs.Answers.{wants_in}
-use Rattle.history_facts.proofs.RequestLemmas.{same_op_self}
+use Rattle.history_model.proofs.facts.RequestLemmas.{same_op_self}
 use Rattle.lane_items.specs.declared.item.Item.{Item}
-use Rattle.bridge_face.specs.declared.offer.Offer.{Offer}
-use Rattle.bridge_face.specs.Arrivals.{carried}
-use Rattle.bridge_face.specs.Offers.{offers_of, is_offer_of}
-use Rattle.bridge_face.proofs.EndLemmas.{offers_on_lanes}
-use Rattle.bus_port.specs.Port.{PortView, PortStands}
-use Rattle.bus_port.specs.Calls.{after_answer}
-use Rattle.bus_port.proofs.MoveLemmas.{moved_apart, other_bridge_leaves}
-use Rattle.bus_port.proofs.ReplyLemmas.{port_offers}
-use Rattle.master_agents.specs.Turns.{MasterView}
-use Rattle.master_agents.specs.Through.{ThroughStands}
-use Rattle.target_agents.specs.State.{TargetView}
+use Rattle.bus_face.specs.declared.offer.Offer.{Offer}
+use Rattle.bus_face.specs.Arrivals.{carried}
+use Rattle.bus_face.specs.Offers.{offers_of, is_offer_of}
+use Rattle.bus_face.proofs.EndLemmas.{offers_on_lanes}
+use Rattle.bus_core.specs.port.Port.{PortView, PortStands}
+use Rattle.bus_core.specs.port.Calls.{after_answer}
+use Rattle.bus_core.proofs.port.MoveLemmas.{moved_apart, other_bridge_leaves}
+use Rattle.bus_core.proofs.port.ReplyLemmas.{port_offers}
+use Rattle.bus_agents.specs.Turns.{MasterView}
+use Rattle.bus_agents.specs.Through.{ThroughStands}
+use Rattle.bus_targets.specs.State.{TargetView}
 use Rattle.bus_core.specs.declared.given.Sent.{Sent}
 use Rattle.bus_core.specs.Bus.{BusView, Shape, shape_of, IsOf, AreLines, PartsAreOfWrites, BusStands}
 use Rattle.bus_core.specs.Calls.{items_at, Flights, IsLine, BusAnswers, TurnsBack}

@@ -19,9 +19,9 @@ use Rattle.history_model.specs.declared.item.Answer.TheVariants.{Gives}
 use Rattle.history_model.specs.World.{World}
 use Rattle.history_model.specs.Words.{through, without}
 use Rattle.history_model.specs.Answers.{header_answer, bridge_to, answer_by, answer_to, answer_in}
-use Rattle.history_facts.proofs.RequestLemmas.{request_is_of}
+use Rattle.history_model.proofs.facts.RequestLemmas.{request_is_of}
 use Rattle.machine_steps.specs.Counts.{or_zero}
-use Rattle.master_agents.specs.Through.{count_in}
+use Rattle.bus_agents.specs.Through.{count_in}
 use Rattle.bus_core.specs.declared.given.Sent.{Sent}
 use Rattle.bus_core.specs.Bus.{BusView, BusStands}
 use Rattle.bus_core.specs.Calls.{Answered, BusAnswers, TurnsBack}

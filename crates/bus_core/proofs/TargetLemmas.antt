@@ -27,13 +27,13 @@ use Rattle.history_model.specs.declared.item.Answer.TheVariants.{Gives}
 use Rattle.history_model.specs.World.{World}
 use Rattle.history_model.specs.Words.{phases_parted, through, without}
 use Rattle.history_model.specs.Answers.{target_answer, answer_by, answer_to, answer_in}
-use Rattle.history_facts.proofs.RequestLemmas.{request_is_of, same_op_true}
+use Rattle.history_model.proofs.facts.RequestLemmas.{request_is_of, same_op_true}
 use Rattle.law_local.proofs.PlaceLemmas.{target_on_bus}
-use Rattle.target_agents.specs.declared.access.Access.{Access}
-use Rattle.target_agents.specs.declared.access.Access.TheVariants.{Stall, Abort, Value, Part, Landed}
-use Rattle.target_agents.specs.State.{TargetView, access_by, step_of}
-use Rattle.target_agents.specs.Stands.{TargetStands, IsAccess}
-use Rattle.target_agents.proofs.EventLemmas.{stands_elsewhere}
+use Rattle.bus_targets.specs.declared.access.Access.{Access}
+use Rattle.bus_targets.specs.declared.access.Access.TheVariants.{Stall, Abort, Value, Part, Landed}
+use Rattle.bus_targets.specs.State.{TargetView, access_by, step_of}
+use Rattle.bus_targets.specs.Stands.{TargetStands, IsAccess}
+use Rattle.bus_targets.proofs.EventLemmas.{stands_elsewhere}
 use Rattle.bus_core.specs.Bus.{BusView, Shape, shape_of, IsOf, AreLines, PartsAreOfWrites, BusStands}
 use Rattle.bus_core.specs.Calls.{Answered}
 use Rattle.bus_core.specs.Parts.{IsClaimed, PlaceAnswers}

@@ -20,10 +20,10 @@ use Rattle.history_model.specs.declared.item.Cause.{Cause}
 use Rattle.history_model.specs.World.{World}
 use Rattle.history_model.specs.Program.{Ending, master_outcome, ending_of, ended, present, next_op, next_try, meets, follows_in, follows, turn_after, turn_of}
 use Rattle.history_model.specs.Answers.{is_turn, wants_in}
-use Rattle.history_facts.proofs.RequestLemmas.{same_op_self}
-use Rattle.bridge_face.specs.Arrivals.{carried}
-use Rattle.master_agents.specs.Turns.{MasterView, MasterStands, IsOfOther}
-use Rattle.master_agents.proofs.TurnLemmas.{turn_stays}
+use Rattle.history_model.proofs.facts.RequestLemmas.{same_op_self}
+use Rattle.bus_face.specs.Arrivals.{carried}
+use Rattle.bus_agents.specs.Turns.{MasterView, MasterStands, IsOfOther}
+use Rattle.bus_agents.proofs.TurnLemmas.{turn_stays}
 use Rattle.bus_core.specs.declared.given.Sent.{Sent}
 use Rattle.bus_core.specs.Bus.{BusView, Shape, shape_of, IsOf, AreLines, BusStands}
 use Rattle.bus_core.specs.Calls.{items_at, IsLine, BusAnswers, TurnsBack}

@@ -19,13 +19,13 @@ use Rattle.history_model.specs.World.{World}
 use Rattle.history_model.specs.Local.{coming}
 use Rattle.history_model.specs.Words.{through}
 use Rattle.history_model.specs.Answers.{is_on, bridge_to}
-use Rattle.bridge_face.specs.Stands.{IsTag}
-use Rattle.bus_port.specs.Port.{PortView, PortStands}
-use Rattle.bus_port.specs.Calls.{PortStandsAtFirst}
-use Rattle.master_agents.specs.Turns.{MasterView, MasterStands}
-use Rattle.master_agents.specs.Through.{ThroughStands}
-use Rattle.target_agents.specs.State.{TargetView}
-use Rattle.target_agents.specs.Stands.{TargetStands}
+use Rattle.bus_face.specs.Stands.{IsTag}
+use Rattle.bus_core.specs.port.Port.{PortView, PortStands}
+use Rattle.bus_core.specs.port.Calls.{PortStandsAtFirst}
+use Rattle.bus_agents.specs.Turns.{MasterView, MasterStands}
+use Rattle.bus_agents.specs.Through.{ThroughStands}
+use Rattle.bus_targets.specs.State.{TargetView}
+use Rattle.bus_targets.specs.Stands.{TargetStands}
 
 pub record BusView : Type 0 where
   pub bus : ℕ

@@ -18,12 +18,12 @@ use Rattle.history_model.specs.declared.item.Answer.TheVariants.{Gives, Retry}
 use Rattle.history_model.specs.World.{World}
 use Rattle.history_model.specs.Words.{through, without}
 use Rattle.history_model.specs.Answers.{answer_in}
-use Rattle.law_slots.specs.Latched.{IsAt}
+use Rattle.law_lanes.specs.Latched.{IsAt}
 use Rattle.lane_items.specs.declared.item.Item.{Item}
 use Rattle.lane_items.specs.declared.item.Item.TheVariants.{Post, Ask, Done, Room, Gone}
-use Rattle.bridge_face.specs.Arrivals.{carried}
-use Rattle.bridge_face.specs.Stands.{IsTag}
-use Rattle.bus_port.specs.Calls.{after_answer}
+use Rattle.bus_face.specs.Arrivals.{carried}
+use Rattle.bus_face.specs.Stands.{IsTag}
+use Rattle.bus_core.specs.port.Calls.{after_answer}
 use Rattle.bus_core.specs.declared.given.Sent.{Sent}
 use Rattle.bus_core.specs.Bus.{BusView, Shape, shape_of, BusStandsAt, BusStands}
 

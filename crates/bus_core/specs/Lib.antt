@@ -3,3 +3,4 @@ pub mod Places
 pub mod Calls
 pub mod Parts
 pub mod Serves
+pub mod port

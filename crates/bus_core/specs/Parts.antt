@@ -14,8 +14,8 @@ use Rattle.history_model.specs.declared.event.Event.{Event}
 use Rattle.history_model.specs.declared.item.Answer.{Answer}
 use Rattle.history_model.specs.World.{World, at_initiator}
 use Rattle.history_model.specs.Words.{through, without}
-use Rattle.bridge_face.specs.declared.offer.Offer.{Offer}
-use Rattle.bus_port.specs.Port.{PortView, PortStands}
+use Rattle.bus_face.specs.declared.offer.Offer.{Offer}
+use Rattle.bus_core.specs.port.Port.{PortView, PortStands}
 use Rattle.bus_core.specs.declared.given.Sent.{Sent}
 use Rattle.bus_core.specs.Bus.{BusView, shape_of, IsOf, BusStands}
 use Rattle.bus_core.specs.Calls.{items_at, Flights, IsLine, Answered, ClaimedBack}

@@ -17,19 +17,19 @@ use Rattle.history_model.specs.declared.item.Carried.TheVariants.{Post, Ask, Don
 use Rattle.history_model.specs.declared.event.Event.TheVariants.{Act}
 use Rattle.lane_items.specs.declared.item.Item.{Item}
 use Rattle.lane_items.specs.declared.item.Item.TheVariants.{Post as PostItem, Ask as AskItem}
-use Rattle.bridge_face.specs.declared.reply.Reply.{Reply}
-use Rattle.bridge_face.specs.declared.reply.Reply.TheVariants.{Accepted, Latched, Taken, Retry}
-use Rattle.bridge_face.specs.declared.offer.Offer.{Offer}
-use Rattle.bridge_face.specs.Arrivals.{is_taken}
-use Rattle.bridge_face.specs.Offers.{offers_of}
-use Rattle.bus_port.specs.Port.{PortView}
-use Rattle.bus_port.specs.Calls.{PortTests, PortArrives, PortReplies, PortEnds}
-use Rattle.master_agents.specs.Turns.{MasterView, MasterStands, EndsTurn}
-use Rattle.target_agents.specs.declared.access.Access.{Access}
-use Rattle.target_agents.specs.declared.access.Access.TheVariants.{Part}
-use Rattle.master_agents.specs.Through.{ThroughStands}
-use Rattle.target_agents.specs.State.{TargetView, access_by, step_of}
-use Rattle.target_agents.specs.Stands.{AnswersAsTarget}
+use Rattle.bus_face.specs.declared.reply.Reply.{Reply}
+use Rattle.bus_face.specs.declared.reply.Reply.TheVariants.{Accepted, Latched, Taken, Retry}
+use Rattle.bus_face.specs.declared.offer.Offer.{Offer}
+use Rattle.bus_face.specs.Arrivals.{is_taken}
+use Rattle.bus_face.specs.Offers.{offers_of}
+use Rattle.bus_core.specs.port.Port.{PortView}
+use Rattle.bus_core.specs.port.Calls.{PortTests, PortArrives, PortReplies, PortEnds}
+use Rattle.bus_agents.specs.Turns.{MasterView, MasterStands, EndsTurn}
+use Rattle.bus_targets.specs.declared.access.Access.{Access}
+use Rattle.bus_targets.specs.declared.access.Access.TheVariants.{Part}
+use Rattle.bus_agents.specs.Through.{ThroughStands}
+use Rattle.bus_targets.specs.State.{TargetView, access_by, step_of}
+use Rattle.bus_targets.specs.Stands.{AnswersAsTarget}
 use Rattle.bus_core.specs.declared.given.Sent.{Sent}
 
 -- what is at the place changed, and nothing else

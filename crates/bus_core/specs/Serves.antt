@@ -26,14 +26,14 @@ use Rattle.history_model.specs.Answers.{wants_in, answer_in}
 use Rattle.history_model.specs.Runs.{next_mark_in}
 use Rattle.history_model.specs.Local.{is_lawful_on}
 use Rattle.lane_items.specs.declared.item.Item.{Item}
-use Rattle.bridge_face.specs.declared.offer.Offer.{Offer}
-use Rattle.bridge_face.specs.Arrivals.{carried}
-use Rattle.bridge_face.specs.Offers.{is_offer_of}
+use Rattle.bus_face.specs.declared.offer.Offer.{Offer}
+use Rattle.bus_face.specs.Arrivals.{carried}
+use Rattle.bus_face.specs.Offers.{is_offer_of}
 use Rattle.bus_core.specs.declared.given.Sent.{Sent}
 use Rattle.bus_core.specs.declared.given.Acted.{Acted}
 use Rattle.bus_core.specs.declared.given.Presented.{Presented}
 use Rattle.bus_core.specs.declared.given.Presented.TheVariants.{Nothing, Retried, TurnsBack as Back, Did}
-use Rattle.master_agents.specs.Turns.{MasterView}
+use Rattle.bus_agents.specs.Turns.{MasterView}
 use Rattle.bus_core.specs.Bus.{BusView, shape_of, BusStands}
 use Rattle.bus_core.specs.Places.{OneChanged, TestsAt}
 use Rattle.bus_core.specs.Calls.{past_after, stamp_of, items_at, IsStamped, Flights, ClaimedBack}

@@ -1,12 +1,12 @@
 ghost use Rattle.std.specs.Prelude.{◌≡◌, ◌+◌, ◌<◌, ◌^◌, ◌&&◌, length, slice_get, true, IfSome, IfNone};
-ghost use Rattle.bridge_face.specs.Arrivals.{carried, is_taken, HasRequest};
+ghost use Rattle.bus_face.specs.Arrivals.{carried, is_taken, HasRequest};
 ghost use Rattle.bus_core.specs.Bus.{shape_of, arrivals_at};
 ghost use Rattle.bus_core.specs.Places.{ComesAt, TestsAt, ask_request};
 ghost use Rattle.bus_core.specs.Serves.{is_there_as, names_its_kind, HasStamp, IsTested, OneMoreAt, BusRefuses, BusArrives};
 
 use crate::Bus;
+use crate::port::{Arrival, Port};
 use board_model::{Board, request_of};
-use bus_port::{Arrival, Port};
 use lane_items::Item;
 use pci_command::{Command, Request};
 

@@ -9,18 +9,17 @@ use crate::Given;
 use crate::places::{
     access_at, note_part, offers_at, port_back, respond_at, target_place, want_at,
 };
+use crate::port::Port;
 use crate::steps::{as_answer, nobody, rest_of, sent_over, step_of};
 use arrayvec::ArrayVec;
-use board_claim::claim;
-use board_model::{Board, Lane, Place, request_of};
-use bridge_face::Offer;
-use bus_port::Port;
+use board_model::{Board, Lane, Place, claim, request_of};
+use bus_agents::{MasterState, Through};
+use bus_face::Offer;
+use bus_targets::TargetState;
 use history_model::Answer;
 use machine_steps::header_answer;
-use master_agents::{MasterState, Through};
 use pci_command::{OpId, Request};
 use std::marker::Model;
-use target_agents::TargetState;
 
 /// One bus with all that is on it.
 #[derive(Debug, Drop)]
@@ -43,11 +42,11 @@ impl Model for Bus {
 impl Bus {
     ghost use Rattle.bus_core.specs.Bus.{shape_of, arrivals_at, StandsAtFirst};
     ghost use Rattle.bus_core.specs.Calls.{IsStamped, IsElsewhere, BusAnswers, TurnsBack};
-    ghost use Rattle.bridge_face.specs.Offers.{offers_of};
+    ghost use Rattle.bus_face.specs.Offers.{offers_of};
     ghost use Rattle.bus_core.specs.Places.{WantsAt};
     ghost use Rattle.bus_core.specs.Serves.{BusOffers};
     ghost use Rattle.bus_core.specs.Parts.{PlaceAnswers, PlaceTurns, RequestAnswers, RequestTurns};
-    ghost use Rattle.master_agents.specs.Through.{count_in};
+    ghost use Rattle.bus_agents.specs.Through.{count_in};
 
     /// A bus with these ports, masters and targets on it, before its first event: the bridge to the
     /// bus itself has the first port. It takes no memory.

@@ -12,11 +12,13 @@ mod arrive;
 mod bus;
 mod given;
 mod places;
+pub mod port;
 mod serve;
 mod steps;
 
 pub use bus::Bus;
 pub use given::{Acted, Given, Presented, Sent};
+pub use port::{Arrival, Port, other_bridges_leave_ports};
 
 /// The places of bridges and masters on a bus are lines that tell all its initiators apart, where
 /// there are at most nine bridges and eight masters on it.

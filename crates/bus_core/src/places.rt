@@ -1,25 +1,25 @@
 ghost use Rattle.std.specs.Prelude.{◌≡◌, ◌+◌, ◌<◌, ◌==◌, length, position, slice_get, IfSome, IsTrue};
 ghost use Rattle.std.specs.List.{Contains};
 ghost use Rattle.board_model.specs.WellFormed.{is_well_formed};
-ghost use Rattle.bridge_face.specs.Offers.{offers_of};
+ghost use Rattle.bus_face.specs.Offers.{offers_of};
 ghost use Rattle.bus_core.specs.Calls.{stamp_of as stamp_in};
 ghost use Rattle.history_model.specs.Words.{phases_parted};
-ghost use Rattle.master_agents.specs.Through.{count_in};
-ghost use Rattle.target_agents.specs.State.{step_of};
+ghost use Rattle.bus_agents.specs.Through.{count_in};
+ghost use Rattle.bus_targets.specs.State.{step_of};
 ghost use Rattle.history_model.specs.World.{same_lane};
 ghost use Rattle.board_model.specs.Ways.{lane_back};
 ghost use Rattle.bus_core.specs.Places.{OffersAt, RespondsAt, AccessesAt, NotesPart, WantsAt, EndsTurnAt, TellsMaster, EndsAt};
 
+use crate::port::Port;
 use arrayvec::ArrayVec;
 use board_model::{Board, Lane};
-use bridge_face::{Offer, Reply};
-use bus_port::Port;
+use bus_agents::{MasterState, Through};
+use bus_face::{Offer, Reply};
+use bus_targets::{Access, TargetState};
 use history_model::Step;
 use lane_items::Item;
 use machine_steps::master_outcome;
-use master_agents::{MasterState, Through};
 use pci_command::{OpId, Outcome, Request};
-use target_agents::{Access, TargetState};
 
 /// The place of the port whose lane back this is.
 pub(crate) fn port_back(ports: &[Port], lane: Lane) -> Option<usize>

@@ -2,10 +2,10 @@ ghost use Rattle.std.specs.Prelude.{◌≡◌, ◌+◌, ◌<◌, length, slice_g
 ghost use Rattle.std.specs.List.{Contains};
 ghost use Rattle.board_model.specs.WellFormed.{is_well_formed};
 ghost use Rattle.history_model.specs.declared.event.By.TheVariants.{Master, Lane as ByLane};
-ghost use Rattle.bridge_face.specs.Offers.{offers_of};
-ghost use Rattle.master_agents.specs.Turns.{MasterView};
+ghost use Rattle.bus_face.specs.Offers.{offers_of};
+ghost use Rattle.bus_agents.specs.Turns.{MasterView};
 ghost use Rattle.bus_core.specs.Bus.{shape_of, arrivals_at};
-ghost use Rattle.bus_port.specs.Port.{PortView};
+ghost use Rattle.bus_core.specs.port.Port.{PortView};
 ghost use Rattle.bus_core.specs.Calls.{IsStamped};
 ghost use Rattle.bus_core.specs.Parts.{TellsLane};
 ghost use Rattle.bus_core.specs.Serves.{Serves, SendsStamped, SendsApart, IsAt, ServesMaster};
@@ -13,7 +13,7 @@ ghost use Rattle.bus_core.specs.Serves.{Serves, SendsStamped, SendsApart, IsAt, 
 use crate::places::{end_at, tell_master, want_at};
 use crate::{Acted, Bus, Presented, Sent};
 use board_model::{Board, Lane};
-use bridge_face::Offer;
+use bus_face::Offer;
 use history_model::{Answer, By, Event, Step};
 use machine_steps::lane_outcome;
 use pci_command::OpId;

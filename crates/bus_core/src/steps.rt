@@ -2,18 +2,18 @@ ghost use Rattle.std.specs.Prelude.{◌≡◌, ◌+◌, ◌<◌, drop, length, N
 ghost use Rattle.board_model.specs.declared.bridge.Place.TheVariants.{Nobody};
 ghost use Rattle.history_model.specs.declared.event.Step.TheVariants.{MasterAbort};
 ghost use Rattle.history_model.specs.declared.item.Answer.TheVariants.{Gives};
-ghost use Rattle.bridge_face.specs.Replies.{as_answer};
-ghost use Rattle.target_agents.specs.State.{step_of};
+ghost use Rattle.bus_face.specs.Replies.{as_answer};
+ghost use Rattle.bus_targets.specs.State.{step_of};
 ghost use Rattle.bus_core.specs.Parts.{IsRest};
 ghost use Rattle.bus_core.specs.Places.{sent_over};
 
 use crate::{Given, Sent};
 use board_model::{Lane, Place};
-use bridge_face::Reply;
+use bus_face::Reply;
+use bus_targets::Access;
 use history_model::{Answer, Step};
 use lane_items::Item;
 use pci_command::{OpId, Phases, Request};
-use target_agents::Access;
 
 /// Nobody claims it.
 pub(crate) fn nobody() -> Given

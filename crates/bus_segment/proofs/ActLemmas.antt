@@ -10,7 +10,7 @@ use Rattle.board_model.specs.declared.bridge.Place.{Place}
 use Rattle.board_model.specs.declared.board.Board.{Board}
 use Rattle.board_model.specs.Valid.{IsValid}
 use Rattle.board_model.specs.Ways.{start_of, end_of, lane_back}
-use Rattle.board_laws.proofs.Laws.{IsTree-valid}
+use Rattle.board_model.proofs.form_laws.Laws.{IsTree-valid}
 use Rattle.history_model.specs.declared.event.By.{By}
 use Rattle.history_model.specs.declared.event.Mark.{Mark}
 use Rattle.history_model.specs.declared.event.Step.{Step}
@@ -22,13 +22,13 @@ use Rattle.history_model.specs.declared.item.Answer.TheVariants.{Gives}
 use Rattle.history_model.specs.Lanes.{arrives}
 use Rattle.history_model.specs.World.{World, same_lane, moved}
 use Rattle.history_model.specs.Local.{local_world, LocalRun}
-use Rattle.history_facts.proofs.BridgeLemmas.{same_lane_true, same_lane_self}
-use Rattle.law_order.specs.Sent.{arrives_by, arrivals}
+use Rattle.history_model.proofs.facts.BridgeLemmas.{same_lane_true, same_lane_self}
+use Rattle.law_lanes.specs.order.Sent.{arrives_by, arrivals}
 use Rattle.law_local.specs.Stamps.{events_of, items_put, put_stamps}
 use Rattle.law_local.proofs.Laws.{lane_apart}
 use Rattle.lane_items.specs.declared.item.Item.{Item}
-use Rattle.bridge_face.specs.Arrivals.{carried}
-use Rattle.bus_port.specs.Port.{PortView}
+use Rattle.bus_face.specs.Arrivals.{carried}
+use Rattle.bus_core.specs.port.Port.{PortView}
 use Rattle.bus_core.specs.declared.given.Sent.{Sent}
 use Rattle.bus_core.specs.Bus.{BusView, Shape, shape_of}
 use Rattle.bus_core.specs.Calls.{stamp_of, items_at, IsStamped}

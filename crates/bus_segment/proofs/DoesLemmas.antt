@@ -17,8 +17,8 @@ use Rattle.history_model.specs.Answers.{wants_in}
 use Rattle.history_model.specs.Local.{LocalRun}
 use Rattle.law_local.specs.Stamps.{events_of}
 use Rattle.lane_items.specs.declared.item.Item.{Item}
-use Rattle.bridge_face.specs.Arrivals.{carried}
-use Rattle.bus_port.specs.Port.{PortView}
+use Rattle.bus_face.specs.Arrivals.{carried}
+use Rattle.bus_core.specs.port.Port.{PortView}
 use Rattle.bus_core.specs.declared.given.Sent.{Sent}
 use Rattle.bus_core.specs.declared.given.Acted.{Acted}
 use Rattle.bus_core.specs.declared.given.Presented.{Presented}

@@ -21,8 +21,8 @@ use Rattle.history_model.specs.World.{World, enters, lane_outcome, leaves, at_pl
 use Rattle.history_model.specs.Answers.{bridge_to, presents, wants_in, answer_in}
 use Rattle.history_model.specs.Runs.{mark_of_first}
 use Rattle.history_model.specs.Local.{local_world, LocalRun}
-use Rattle.history_facts.proofs.AnswerLemmas.{answered_in}
-use Rattle.bus_port.proofs.MoveLemmas.{moved_apart}
+use Rattle.history_model.proofs.facts.AnswerLemmas.{answered_in}
+use Rattle.bus_core.proofs.port.MoveLemmas.{moved_apart}
 
 module _ (board : Board) where
   -- a lane of no bridge is not one of a bridge

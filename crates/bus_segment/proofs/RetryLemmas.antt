@@ -8,12 +8,12 @@ use Rattle.history_model.specs.declared.event.By.{By}
 use Rattle.history_model.specs.declared.event.By.TheVariants.{Master, Lane as ByLane}
 use Rattle.history_model.specs.declared.event.Stamped.{Stamped}
 use Rattle.history_model.specs.Program.{turn_of}
-use Rattle.history_facts.proofs.RequestLemmas.{same_op_true}
+use Rattle.history_model.proofs.facts.RequestLemmas.{same_op_true}
 use Rattle.history_model.specs.Answers.{is_on, is_turn}
 use Rattle.law_local.specs.Quiet.{IsRetry}
 use Rattle.lane_items.specs.declared.item.Item.{Item}
-use Rattle.bus_port.specs.Port.{PortView}
-use Rattle.master_agents.specs.Turns.{MasterView}
+use Rattle.bus_core.specs.port.Port.{PortView}
+use Rattle.bus_agents.specs.Turns.{MasterView}
 use Rattle.bus_core.specs.declared.given.Acted.{Acted}
 use Rattle.bus_core.specs.declared.given.Presented.{Presented}
 use Rattle.bus_core.specs.declared.given.Presented.TheVariants.{Nothing, Retried, TurnsBack as Back, Did}

@@ -15,8 +15,8 @@ use Rattle.history_model.specs.declared.event.Stamped.{Stamped}
 use Rattle.history_model.specs.World.{World}
 use Rattle.law_local.specs.Stamps.{events_of}
 use Rattle.lane_items.specs.declared.item.Item.{Item}
-use Rattle.bridge_face.specs.Arrivals.{carried}
-use Rattle.bus_port.specs.Port.{PortView}
+use Rattle.bus_face.specs.Arrivals.{carried}
+use Rattle.bus_core.specs.port.Port.{PortView}
 use Rattle.bus_core.specs.Bus.{BusView, Shape, shape_of}
 use Rattle.bus_core.specs.Calls.{stamp_of, items_at}
 use Rattle.bus_core.specs.Serves.{is_taken_on, HasStamp, BusArrives}

@@ -4,3 +4,4 @@ pub mod Turn
 pub mod Steps
 pub mod Stands
 pub mod Settle
+pub mod turns

@@ -11,10 +11,10 @@ use Rattle.history_model.specs.declared.item.Carried.{Carried}
 use Rattle.history_model.specs.World.{World}
 use Rattle.history_model.specs.Answers.{bridge_to}
 use Rattle.history_model.specs.Local.{local_world, LocalRun}
-use Rattle.law_order.specs.Sent.{arrivals}
+use Rattle.law_lanes.specs.order.Sent.{arrivals}
 use Rattle.law_local.specs.Stamps.{events_of, put_stamps, AllInTime, NeverFall}
 use Rattle.lane_items.specs.declared.item.Item.{Item}
-use Rattle.bridge_face.specs.Arrivals.{carried}
+use Rattle.bus_face.specs.Arrivals.{carried}
 use Rattle.bus_core.specs.Bus.{BusView, BusStands, shape_of}
 use Rattle.bus_core.specs.Calls.{stamp_of}
 

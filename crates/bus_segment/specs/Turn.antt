@@ -23,9 +23,9 @@ use Rattle.law_local.specs.Stamps.{events_of}
 use Rattle.law_local.specs.Quiet.{IsRetry}
 use Rattle.lane_items.specs.declared.item.Item.{Item}
 use Rattle.lane_items.specs.Lane.{in_hand}
-use Rattle.bridge_face.specs.Arrivals.{carried}
+use Rattle.bus_face.specs.Arrivals.{carried}
 use Rattle.bus_core.specs.Bus.{BusView, shape_of}
-use Rattle.bus_port.specs.declared.port.Arrival.{Arrival}
+use Rattle.bus_core.specs.declared.port.port.Arrival.{Arrival}
 use Rattle.bus_core.specs.declared.given.Sent.{Sent}
 use Rattle.bus_core.specs.declared.given.Acted.{Acted}
 use Rattle.bus_core.specs.declared.given.Presented.{Presented}

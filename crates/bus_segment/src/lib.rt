@@ -5,6 +5,7 @@
 mod ends;
 mod segment;
 mod settle;
+pub mod turns;
 
 ghost use Rattle.std.specs.Prelude.{◌≡◌, ◌==◌, ◌<◌, ◌≤◌, ℕ, false, List, [], ◌∷◌, ◌++◌, Option, Some, None, option_to_list, slice_get, if◌then◌else◌};
 ghost use Rattle.pci_command.specs.declared.op_id.OpId.{OpId};
@@ -33,6 +34,7 @@ ghost use Rattle.bus_segment.specs.Turn.{Does};
 
 use lane_items::LaneEnd;
 pub use segment::Segment;
+pub use turns::Worker;
 
 /// A segment that does nothing stands for its past, and what it does later it does after what it did
 /// before: with these the turns of a segment, and the steps of a turn, make one past.

@@ -11,20 +11,20 @@ use Rattle.board_text.specs.Tokens.{words_of}
 use Rattle.board_statements.specs.declared.fault.LineFault.{LineFault}
 use Rattle.board_statements.specs.declared.statement.Statement.TheVariants.{Does, NewMaster}
 use Rattle.board_statements.specs.Words.{Reader, one_word, hex, decimal, fixed, decimal_of}
-use Rattle.board_draft.specs.declared.draft.Draft.{Draft}
-use Rattle.board_draft.specs.Drafts.{board_of}
-use Rattle.board_draft.specs.Formed.{is_formed_op}
-use Rattle.board_draft.specs.Masters.{add_master, does}
-use Rattle.board_draft.specs.Targets.{is_name_used}
-use Rattle.board_draft.proofs.SoundLemmas.{well_formed_by}
-use Rattle.board_draft.proofs.DraftLemmas.{IsDraftSound, closed_sound, add_sound}
+use Rattle.board_parser.specs.declared.draft.draft.Draft.{Draft}
+use Rattle.board_parser.specs.draft.Drafts.{board_of}
+use Rattle.board_parser.specs.draft.Formed.{is_formed_op}
+use Rattle.board_parser.specs.draft.Masters.{add_master, does}
+use Rattle.board_parser.specs.draft.Targets.{is_name_used}
+use Rattle.board_parser.proofs.draft.SoundLemmas.{well_formed_by}
+use Rattle.board_parser.proofs.draft.DraftLemmas.{IsDraftSound, closed_sound, add_sound}
 use Rattle.board_parser.specs.Boards.{read_lines}
 use Rattle.board_parser.proofs.ReaderLemmas.{Yields, yields-bind, yields-next, yields-give, yields-word, yields-any, yields-whole}
 use Rattle.board_parser.proofs.WordKindLemmas.{decimal-within}
 use Rattle.board_parser.proofs.ReadingLemmas.{SomeSound, lines-sound}
-use Rattle.msi_agents.specs.Message.{message_of}
-use Rattle.device_faults.specs.declared.DeviceFault.{DeviceFault}
-use Rattle.device_faults.specs.declared.DeviceFault.TheVariants.{Misshapen, Misplaced, NameUsed}
+use Rattle.dma_agents.specs.messages.Message.{message_of}
+use Rattle.text_faults.specs.declared.DeviceFault.{DeviceFault}
+use Rattle.text_faults.specs.declared.DeviceFault.TheVariants.{Misshapen, Misplaced, NameUsed}
 use Rattle.dma_agents.specs.declared.fault.MakeFault.{MakeFault}
 use Rattle.dma_agents.specs.declared.fault.MakeFault.TheVariants.{Device as OfLine}
 use Rattle.dma_agents.specs.declared.line.Flag.{Flag}

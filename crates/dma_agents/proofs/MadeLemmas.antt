@@ -11,8 +11,8 @@ use Rattle.board_model.specs.Requests.{tries_of, op_of}
 use Rattle.board_model.specs.Valid.{IsValid}
 use Rattle.board_text.specs.Lines.{lines_of}
 use Rattle.board_statements.specs.declared.fault.LineFault.{LineFault}
-use Rattle.board_draft.specs.declared.draft.Draft.{Draft}
-use Rattle.board_draft.specs.Drafts.{board_of}
+use Rattle.board_parser.specs.declared.draft.draft.Draft.{Draft}
+use Rattle.board_parser.specs.draft.Drafts.{board_of}
 use Rattle.board_parser.specs.Boards.{read_lines}
 use Rattle.history_model.specs.declared.event.Event.{Event}
 use Rattle.history_model.specs.Runs.{Run}
@@ -21,7 +21,7 @@ use Rattle.law_delivered.specs.Delivered.{Awaits, Delivers, Delivered}
 use Rattle.dma_agents.specs.declared.fault.MakeFault.{MakeFault}
 use Rattle.dma_agents.specs.declared.making.Making.{Making}
 use Rattle.dma_agents.specs.declared.fault.MakeFault.TheVariants.{Device as OfLine}
-use Rattle.device_faults.specs.declared.DeviceFault.TheVariants.{Misshapen}
+use Rattle.text_faults.specs.declared.DeviceFault.TheVariants.{Misshapen}
 use Rattle.dma_agents.specs.Made.{flag_is_clear, unclear, line_at, Made, by_flags, by_lines, by_board, until_devices, by_parts, is_line, by_first, made_read}
 
 -- no master from one on has a flag that is not clear

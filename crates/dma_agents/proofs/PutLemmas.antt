@@ -5,7 +5,7 @@ use Rattle.std.proofs.lemmas.Bool.{and_from, le-leb, leb-true}
 use Rattle.std.proofs.lemmas.Bool.Decides.{nat_tests}
 use Rattle.pci_command.specs.declared.phases.Phase.{Phase}
 use Rattle.board_model.specs.WellFormed.{is_within, is_well_formed_phase, is_well_formed_op}
-use Rattle.board_draft.specs.Formed.{is_formed_op}
+use Rattle.board_parser.specs.draft.Formed.{is_formed_op}
 use Rattle.dma_agents.specs.declared.put.Put.{Put}
 use Rattle.dma_agents.specs.Put.{is_put, byte_at, lane_byte, lane_enable, phase_at, phases_from, first_in, dwords_in, write_in, writes_from, blocks_of, cut, Placed, enabled_byte, bytes_in, bytes_from, bytes_of, run_of, bytes_put}
 

@@ -7,12 +7,12 @@ use Rattle.board_model.specs.declared.op.Op.{Op}
 use Rattle.board_model.specs.declared.op.Op.TheVariants.{Read, Write, Poll}
 use Rattle.board_model.specs.Valid.{is_bus}
 use Rattle.board_statements.specs.declared.fault.LineFault.{LineFault}
-use Rattle.board_draft.specs.declared.draft.Draft.{Draft}
-use Rattle.board_draft.specs.Drafts.{board_of}
-use Rattle.board_draft.specs.Targets.{is_name_used, bus_of_target}
-use Rattle.board_draft.specs.Masters.{add_master, does}
-use Rattle.device_faults.specs.declared.DeviceFault.{DeviceFault}
-use Rattle.device_faults.specs.declared.DeviceFault.TheVariants.{Misshapen, Misplaced, NameUsed, NotThere, OverLimit}
+use Rattle.board_parser.specs.declared.draft.draft.Draft.{Draft}
+use Rattle.board_parser.specs.draft.Drafts.{board_of}
+use Rattle.board_parser.specs.draft.Targets.{is_name_used, bus_of_target}
+use Rattle.board_parser.specs.draft.Masters.{add_master, does}
+use Rattle.text_faults.specs.declared.DeviceFault.{DeviceFault}
+use Rattle.text_faults.specs.declared.DeviceFault.TheVariants.{Misshapen, Misplaced, NameUsed, NotThere, OverLimit}
 use Rattle.dma_agents.specs.declared.line.Flag.{Flag}
 use Rattle.dma_agents.specs.declared.line.DeviceLine.{DeviceLine}
 use Rattle.dma_agents.specs.declared.line.DeviceLine.TheVariants.{Device, Handler, Puts, Gets, Sends, Looks}

@@ -5,7 +5,7 @@ use Rattle.board_model.specs.Names.{is_name}
 use Rattle.board_statements.specs.declared.fault.LineFault.{LineFault}
 use Rattle.board_statements.specs.declared.fault.LineFault.TheVariants.{WrongWord, IllFormed}
 use Rattle.board_statements.specs.Words.{◌>>=◌, ◌>>◌, Reader, give, one_word, whole, hex, decimal, fixed}
-use Rattle.msi_agents.specs.Message.{message_of}
+use Rattle.dma_agents.specs.messages.Message.{message_of}
 use Rattle.dma_agents.specs.declared.line.Flag.{Flag}
 use Rattle.dma_agents.specs.declared.line.DeviceLine.{DeviceLine}
 use Rattle.dma_agents.specs.declared.line.DeviceLine.TheVariants.{Device, Handler, Puts, Gets, Sends, Looks}

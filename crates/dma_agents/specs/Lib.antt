@@ -4,3 +4,4 @@ pub mod Adding
 pub mod Made
 pub mod Parts
 pub mod Worked
+pub mod messages

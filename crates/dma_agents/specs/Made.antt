@@ -11,12 +11,12 @@ use Rattle.board_text.specs.Lines.{lines_of, line_fault}
 use Rattle.board_text.specs.Tokens.{words_of}
 use Rattle.board_statements.specs.declared.fault.LineFault.{LineFault}
 use Rattle.board_statements.specs.declared.fault.LineFault.TheVariants.{NoFirstLine}
-use Rattle.board_draft.specs.declared.draft.Draft.{Draft}
-use Rattle.board_draft.specs.Drafts.{board_of}
+use Rattle.board_parser.specs.declared.draft.draft.Draft.{Draft}
+use Rattle.board_parser.specs.draft.Drafts.{board_of}
 use Rattle.board_parser.specs.Boards.{read_lines}
 use Rattle.law_delivered.specs.Clear.{is_clear}
-use Rattle.device_faults.specs.declared.DeviceFault.{DeviceFault}
-use Rattle.device_faults.specs.declared.DeviceFault.TheVariants.{Misshapen, NotClear}
+use Rattle.text_faults.specs.declared.DeviceFault.{DeviceFault}
+use Rattle.text_faults.specs.declared.DeviceFault.TheVariants.{Misshapen, NotClear}
 use Rattle.dma_agents.specs.declared.line.DeviceLine.{DeviceLine}
 use Rattle.dma_agents.specs.declared.line.DeviceLine.TheVariants.{Device, Handler, Puts, Gets, Sends, Looks}
 use Rattle.dma_agents.specs.declared.line.Owner.{Owner}

@@ -3,7 +3,7 @@ use Rattle.std.specs.Prelude.{◌≡◌, ℕ, ◌+◌, ◌≤◌, ◌∷◌, [],
 use Rattle.std.specs.List.{slice_range}
 use Rattle.board_text.specs.Lines.{lines_of}
 use Rattle.board_statements.specs.declared.fault.LineFault.{LineFault}
-use Rattle.board_draft.specs.declared.draft.Draft.{Draft}
+use Rattle.board_parser.specs.declared.draft.draft.Draft.{Draft}
 use Rattle.dma_agents.specs.declared.fault.MakeFault.{MakeFault}
 use Rattle.dma_agents.specs.declared.fault.MakeFault.TheVariants.{Board as OfBoard, Device as OfLine, NoMemory}
 use Rattle.dma_agents.specs.declared.parts.DevicesLine.{DevicesLine}

@@ -1,22 +1,22 @@
 //! What a line of devices adds to the sheet of a board.
 
 ghost use Rattle.std.specs.Prelude.{◌≡◌, Ok, Err, ◌∷◌, [], Some, Result, not, if◌then◌else◌};
-ghost use Rattle.board_draft.specs.declared.draft.Draft.{Draft};
-ghost use Rattle.board_draft.specs.Drafts.{board_of};
-ghost use Rattle.board_draft.specs.Masters.{add_master};
-ghost use Rattle.board_draft.specs.Steps.{Answers};
+ghost use Rattle.board_parser.specs.declared.draft.draft.Draft.{Draft};
+ghost use Rattle.board_parser.specs.draft.Drafts.{board_of};
+ghost use Rattle.board_parser.specs.draft.Masters.{add_master};
+ghost use Rattle.board_parser.specs.draft.Steps.{Answers};
 ghost use Rattle.board_statements.specs.declared.fault.LineFault.{LineFault};
-ghost use Rattle.device_faults.specs.declared.DeviceFault.TheVariants.{Misplaced};
+ghost use Rattle.text_faults.specs.declared.DeviceFault.TheVariants.{Misplaced};
 ghost use Rattle.dma_agents.specs.Put.{cut};
 ghost use Rattle.dma_agents.specs.Adding.{Adds, stands, is_placed, poll_of, read_of, message_to, limited, add_one, add_ops, begins, begins_on, bus_of, bus_there, added, line_added};
 
 use crate::{DeviceLine, Flag, Owner, Put, cut};
-use board_draft::{AddFault, Sheet};
 use board_model::{Name, Op};
+use board_parser::{AddFault, Sheet};
 use board_statements::Statement;
-use device_faults::DeviceFault;
 use pci_command::{Command, NoMemory, Phase, Phases, Space};
 use std::alloc::Global;
+use text_faults::DeviceFault;
 
 /// Why a line adds nothing.
 #[derive(Clone, Copy, Debug, PartialEq, Eq)]

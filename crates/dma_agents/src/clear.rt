@@ -9,8 +9,7 @@ ghost use Rattle.board_model.specs.declared.agents.Master.{Master as MasterAgent
 ghost use Rattle.history_model.specs.Words.{opens_in, opening_word};
 ghost use Rattle.law_delivered.specs.Clear.{is_value, phases_at, brings_value, rings, is_whole, rings_whole, holds, opens_otherwise, is_clear};
 
-use board_claim::is_in_ranges;
-use board_model::{Board, Master, Op, Opening, Target, request_on};
+use board_model::{Board, Master, Op, Opening, Target, is_in_ranges, request_on};
 use pci_command::{Command, Phase, Space};
 
 /// Whether the address is held by one target, which opens otherwise, every write there writes whole

@@ -1,5 +1,5 @@
 use board_statements::LineFault;
-use device_faults::DeviceFault;
+use text_faults::DeviceFault;
 use thiserror::Error;
 
 /// Why a text was not read as devices on a board. Lines are numbered from 1, in the whole text.

@@ -5,10 +5,10 @@ ghost use Rattle.board_text.specs.Tokens.{words_of};
 ghost use Rattle.board_statements.specs.Words.{Gives, one_word};
 ghost use Rattle.dma_agents.specs.DeviceLines.{name_in, flag_form, device_form, handler_form, put_form, get_form, look_form, send_form, form_behind, device_line};
 
+use crate::messages::message;
 use crate::{DeviceLine, Flag, Put};
 use board_model::Name;
 use board_statements::{LineFault, Words, is_word};
-use msi_agents::message;
 
 /// What a line says by its words. Its fault says that it has none of the forms.
 #[tactic(auto, unfolding(crate::specs::DeviceLines::device_line))]

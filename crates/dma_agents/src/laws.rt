@@ -11,7 +11,7 @@ ghost use Rattle.history_model.specs.declared.event.Event.{Event};
 ghost use Rattle.history_model.specs.Runs.{Run, Complete, history_of};
 ghost use Rattle.law_delivered.specs.Delivered.{Delivered};
 ghost use Rattle.dma_agents.specs.Worked.{worked_text, twice_text, worked_made, worked_board, worked_events};
-ghost use Rattle.device_faults.specs.declared.DeviceFault.TheVariants.{NotClear};
+ghost use Rattle.text_faults.specs.declared.DeviceFault.TheVariants.{NotClear};
 ghost use Rattle.dma_agents.specs.Made.{Made, board_in, made_read};
 ghost use Rattle.dma_agents.specs.declared.put.Put.{Put};
 ghost use Rattle.dma_agents.specs.Put.{cut, bytes_of, bytes_put};

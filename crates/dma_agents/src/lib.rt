@@ -11,15 +11,16 @@ mod laws;
 mod line;
 mod making;
 mod marks;
+mod messages;
 mod parts;
 mod put;
 mod text;
 
 pub use delivery::delivered;
 pub use fault::MakeFault;
-pub use laws::{
-    made_boards_are_well_formed, made_boards_deliver, put_is_written_once, worked, worked_devices,
-};
-pub use line::{DeviceLine, Flag, Owner};
-pub use put::{Put, cut};
+pub(crate) use laws::made_boards_deliver;
+pub use laws::{made_boards_are_well_formed, put_is_written_once, worked, worked_devices};
+pub(crate) use line::{DeviceLine, Flag, Owner};
+pub use messages::message;
+pub(crate) use put::{Put, cut};
 pub use text::make;

@@ -10,12 +10,12 @@ use crate::add::{LineError, line_added};
 use crate::forms::device_line;
 use crate::marks::{is_faultless, is_one_word};
 use crate::{DeviceLine, MakeFault, Owner};
-use board_draft::Sheet;
+use board_parser::Sheet;
 use board_statements::has_words;
 use board_text::next_line;
-use device_faults::DeviceFault;
 use pci_command::{List, NoMemory};
 use std::alloc::Global;
+use text_faults::DeviceFault;
 
 /// What was read so far.
 #[derive(Drop)]
@@ -73,7 +73,7 @@ fn behind_end(making: Making, past: Option<u32>) -> Result<Making, MakeFault>
     }
 }
 
-ghost use Rattle.device_faults.specs.declared.DeviceFault.TheVariants.{Misshapen};
+ghost use Rattle.text_faults.specs.declared.DeviceFault.TheVariants.{Misshapen};
 ghost use Rattle.dma_agents.specs.declared.fault.MakeFault.{MakeFault as Fault};
 
 /// The line is none of its place.

@@ -1,7 +1,7 @@
 ghost use Rattle.std.specs.Prelude.{◌≡◌, ◌<◌, ◌≤◌, ◌^◌, [], length, drop, IfOk, IsTrue};
 ghost use Rattle.board_model.specs.declared.agents.Master.{Master as MasterAgent};
 ghost use Rattle.board_model.specs.WellFormed.{is_well_formed};
-ghost use Rattle.board_draft.specs.Drafts.{board_of};
+ghost use Rattle.board_parser.specs.draft.Drafts.{board_of};
 ghost use Rattle.board_parser.specs.Boards.{sheet_read};
 ghost use Rattle.dma_agents.specs.Made.{made_read, by_lines, flag_is_clear, line_at, unclear, Tells};
 ghost use Rattle.dma_agents.specs.Parts.{TellsSheet};
@@ -12,12 +12,11 @@ use crate::laws::made_boards_are_well_formed;
 use crate::making::{Making, lines_read, misshapen};
 use crate::parts::{behind_first_line, find_devices};
 use crate::{MakeFault, Owner};
-use board_draft::Sheet;
 use board_model::{Board, Master, Op};
-use board_parser::{ParseFault, parse_sheet};
-use device_faults::DeviceFault;
+use board_parser::{ParseFault, Sheet, parse_sheet};
 use pci_command::List;
 use std::alloc::Global;
+use text_faults::DeviceFault;
 
 /// The board of a device text: that of its board part, with the masters of its devices and handlers;
 /// or the first fault of the text. A text has fewer than 2^31 bytes.

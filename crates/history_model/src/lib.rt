@@ -3,6 +3,7 @@
 #![tactic(auto)]
 
 mod event;
+pub mod facts;
 mod item;
 mod rule;
 mod why;

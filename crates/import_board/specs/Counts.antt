@@ -3,19 +3,19 @@ use Rattle.std.specs.Prelude.{ℕ, Bool, true, false, ◌+◌, ◌-◌, ◌*◌,
 use Rattle.std.specs.List.{list_any, count_by}
 use Rattle.list_facts.specs.Lists.{total}
 use Rattle.board_model.specs.declared.bridge.Window.{Window}
-use Rattle.lspci_text.specs.declared.function.Function.{Function}
-use Rattle.machine_bridges.specs.declared.fate.BridgeFate.{BridgeFate}
-use Rattle.machine_bridges.specs.declared.fate.BridgeFate.TheVariants.{LeftOut, Taken}
-use Rattle.machine_bridges.specs.declared.fate.WindowFate.{WindowFate}
-use Rattle.machine_bridges.specs.declared.fate.WindowFate.TheVariants.{Absent, Open, Closed}
-use Rattle.machine_targets.specs.declared.fate.RangeFate.{RangeFate}
-use Rattle.machine_targets.specs.declared.fate.RangeFate.TheVariants.{Taken as Placed, LeftOut as NotPlaced}
-use Rattle.machine_targets.specs.declared.fate.Judged.{Judged}
-use Rattle.machine_targets.specs.declared.fate.Device.{Device}
-use Rattle.machine_targets.specs.declared.fate.DeviceFate.{DeviceFate}
-use Rattle.machine_targets.specs.declared.fate.DeviceFate.TheVariants.{NoWay, NoRanges, SixTargets, NoNumber, Target}
-use Rattle.machine_targets.specs.Registers.{found_in}
-use Rattle.machine_targets.specs.Devices.{is_target, is_placed, claims_something}
+use Rattle.import_text.specs.declared.function.Function.{Function}
+use Rattle.import_bridges.specs.declared.fate.BridgeFate.{BridgeFate}
+use Rattle.import_bridges.specs.declared.fate.BridgeFate.TheVariants.{LeftOut, Taken}
+use Rattle.import_bridges.specs.declared.fate.WindowFate.{WindowFate}
+use Rattle.import_bridges.specs.declared.fate.WindowFate.TheVariants.{Absent, Open, Closed}
+use Rattle.import_targets.specs.declared.fate.RangeFate.{RangeFate}
+use Rattle.import_targets.specs.declared.fate.RangeFate.TheVariants.{Taken as Placed, LeftOut as NotPlaced}
+use Rattle.import_targets.specs.declared.fate.Judged.{Judged}
+use Rattle.import_targets.specs.declared.fate.Device.{Device}
+use Rattle.import_targets.specs.declared.fate.DeviceFate.{DeviceFate}
+use Rattle.import_targets.specs.declared.fate.DeviceFate.TheVariants.{NoWay, NoRanges, SixTargets, NoNumber, Target}
+use Rattle.import_targets.specs.Registers.{found_in}
+use Rattle.import_targets.specs.Devices.{is_target, is_placed, claims_something}
 
 -- a count above 2^64 - 1 is told as that
 abbrev pub capped : ℕ → ℕ

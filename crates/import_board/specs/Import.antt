@@ -1,16 +1,16 @@
 -- From what `lspci` wrote to a board text.
 use Rattle.std.specs.Prelude.{◌≡◌, ℕ, List, Option, Result, Ok, Err}
-use Rattle.lspci_text.specs.declared.function.Function.{Function}
-use Rattle.lspci_text.specs.declared.fault.LspciFault.{LspciFault}
-use Rattle.lspci_text.specs.declared.fault.ReadFault.{ReadFault}
-use Rattle.lspci_text.specs.declared.fault.ReadFault.TheVariants.{Fault, NoMemory}
-use Rattle.lspci_text.specs.Functions.{functions_read}
-use Rattle.machine_bridges.specs.declared.machine.Machine.{Machine}
-use Rattle.machine_bridges.specs.declared.machine.Root.{Root}
-use Rattle.machine_bridges.specs.declared.fate.BridgeFate.{BridgeFate}
-use Rattle.machine_bridges.specs.Functions.{root_by, machine_by}
-use Rattle.machine_bridges.specs.Bridges.{bridge_fates, taken_among}
-use Rattle.machine_targets.specs.Devices.{devices_of}
+use Rattle.import_text.specs.declared.function.Function.{Function}
+use Rattle.import_text.specs.declared.fault.LspciFault.{LspciFault}
+use Rattle.import_text.specs.declared.fault.ReadFault.{ReadFault}
+use Rattle.import_text.specs.declared.fault.ReadFault.TheVariants.{Fault, NoMemory}
+use Rattle.import_text.specs.Functions.{functions_read}
+use Rattle.import_bridges.specs.declared.machine.Machine.{Machine}
+use Rattle.import_bridges.specs.declared.machine.Root.{Root}
+use Rattle.import_bridges.specs.declared.fate.BridgeFate.{BridgeFate}
+use Rattle.import_bridges.specs.Functions.{root_by, machine_by}
+use Rattle.import_bridges.specs.Bridges.{bridge_fates, taken_among}
+use Rattle.import_targets.specs.Devices.{devices_of}
 use Rattle.import_board.specs.Text.{import_text}
 
 abbrev pub text_of : Machine → List BridgeFate → List ℕ

@@ -5,30 +5,30 @@ use Rattle.std.specs.Fmt.{decimal, digit_glyph}
 use Rattle.list_facts.specs.Lists.{total}
 use Rattle.pci_command.specs.declared.command.Space.{Space}
 use Rattle.board_model.specs.declared.bridge.Window.{Window}
-use Rattle.bridge_header.specs.HeaderBytes.{register_2}
-use Rattle.bridge_header.specs.Windows.{has_bit}
+use Rattle.board_headers.specs.HeaderBytes.{register_2}
+use Rattle.board_headers.specs.Windows.{has_bit}
 use Rattle.board_printer.specs.Numbers.{word_text, half_text, address_text}
 use Rattle.board_printer.specs.Spaces.{space_word}
-use Rattle.lspci_text.specs.declared.capability.Kind.{Kind}
-use Rattle.lspci_text.specs.declared.capability.Kind.TheVariants.{Express, PciX}
-use Rattle.lspci_text.specs.declared.function.Function.{Function}
-use Rattle.machine_bridges.specs.declared.machine.Machine.{Machine}
-use Rattle.machine_bridges.specs.declared.fate.BridgeFate.{BridgeFate}
-use Rattle.machine_bridges.specs.declared.fate.BridgeFate.TheVariants.{LeftOut, Taken}
-use Rattle.machine_bridges.specs.declared.fate.WindowFate.{WindowFate}
-use Rattle.machine_bridges.specs.declared.fate.WindowFate.TheVariants.{Absent, Open, Closed}
-use Rattle.machine_bridges.specs.declared.fate.TakenBridge.{TakenBridge}
-use Rattle.machine_bridges.specs.Functions.{header_type}
-use Rattle.machine_bridges.specs.Reasons.{no_bridge_words, no_window_words}
-use Rattle.machine_targets.specs.declared.found.Found.{Found}
-use Rattle.machine_targets.specs.declared.fate.RangeFate.{RangeFate}
-use Rattle.machine_targets.specs.declared.fate.RangeFate.TheVariants.{Taken as Placed, LeftOut as NotPlaced}
-use Rattle.machine_targets.specs.declared.fate.Judged.{Judged}
-use Rattle.machine_targets.specs.declared.fate.Device.{Device}
-use Rattle.machine_targets.specs.declared.fate.DeviceFate.{DeviceFate}
-use Rattle.machine_targets.specs.declared.fate.DeviceFate.TheVariants.{NoWay, NoRanges, SixTargets, NoNumber, Target}
-use Rattle.machine_targets.specs.Devices.{judged_of_bridge, is_placed, claims_something, is_target}
-use Rattle.machine_targets.specs.Reasons.{no_range_words}
+use Rattle.import_text.specs.declared.capability.Kind.{Kind}
+use Rattle.import_text.specs.declared.capability.Kind.TheVariants.{Express, PciX}
+use Rattle.import_text.specs.declared.function.Function.{Function}
+use Rattle.import_bridges.specs.declared.machine.Machine.{Machine}
+use Rattle.import_bridges.specs.declared.fate.BridgeFate.{BridgeFate}
+use Rattle.import_bridges.specs.declared.fate.BridgeFate.TheVariants.{LeftOut, Taken}
+use Rattle.import_bridges.specs.declared.fate.WindowFate.{WindowFate}
+use Rattle.import_bridges.specs.declared.fate.WindowFate.TheVariants.{Absent, Open, Closed}
+use Rattle.import_bridges.specs.declared.fate.TakenBridge.{TakenBridge}
+use Rattle.import_bridges.specs.Functions.{header_type}
+use Rattle.import_bridges.specs.Reasons.{no_bridge_words, no_window_words}
+use Rattle.import_targets.specs.declared.found.Found.{Found}
+use Rattle.import_targets.specs.declared.fate.RangeFate.{RangeFate}
+use Rattle.import_targets.specs.declared.fate.RangeFate.TheVariants.{Taken as Placed, LeftOut as NotPlaced}
+use Rattle.import_targets.specs.declared.fate.Judged.{Judged}
+use Rattle.import_targets.specs.declared.fate.Device.{Device}
+use Rattle.import_targets.specs.declared.fate.DeviceFate.{DeviceFate}
+use Rattle.import_targets.specs.declared.fate.DeviceFate.TheVariants.{NoWay, NoRanges, SixTargets, NoNumber, Target}
+use Rattle.import_targets.specs.Devices.{judged_of_bridge, is_placed, claims_something, is_target}
+use Rattle.import_targets.specs.Reasons.{no_range_words}
 use Rattle.import_board.specs.Counts.{capped, is_taken, windows_left, own_ranges, is_lost, ranges_taken, ranges_left, functions_left, is_far_bridge, is_far_device}
 
 abbrev pub newline : List ℕ

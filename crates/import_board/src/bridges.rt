@@ -1,15 +1,13 @@
 ghost use Rattle.std.specs.Prelude.{◌≡◌, ◌++◌, ◌<◌, OnOk, not, string_bytes};
-ghost use Rattle.machine_bridges.specs.declared.fate.WindowFate.TheVariants.{Closed};
+ghost use Rattle.import_bridges.specs.declared.fate.WindowFate.TheVariants.{Closed};
 ghost use Rattle.import_board.specs.Text.{window_words, open_words, closed_note, control_bit, bridge_place, bridge_windows, bridge_line, own_range_lines, primary_note, number_notes, control_notes, master_words, vga_words, isa_words, reset_words, decoding_words, enable_notes, is_master, is_subtractive, abort_words, note_if, bridge_notes, bridge_body, bridge_lines};
 
 use crate::notes::{print_bus, print_device_note, print_judged, print_left_out, print_title};
 use board_model::Window;
 use board_printer::Address;
-use lspci_text::Function;
-use machine_bridges::{
-    BridgeFate, Machine, NoWindow, TakenBridge, WindowFate, byte_at, register_2,
-};
-use machine_targets::judged_of_bridge;
+use import_bridges::{BridgeFate, Machine, NoWindow, TakenBridge, WindowFate, byte_at, register_2};
+use import_targets::judged_of_bridge;
+use import_text::Function;
 use std::alloc::AllocError;
 
 /// Each bridge with what becomes of it.

@@ -1,16 +1,16 @@
 ghost use Rattle.std.specs.Prelude.{◌≡◌, ◌≤◌, ◌+◌, ◌||◌, ◌&&◌, length, not};
 ghost use Rattle.std.specs.List.{list_any, count_by};
 ghost use Rattle.list_facts.specs.Lists.{total};
-ghost use Rattle.machine_targets.specs.Devices.{is_target, is_placed, claims_something};
-ghost use Rattle.machine_targets.specs.Registers.{found_in};
+ghost use Rattle.import_targets.specs.Devices.{is_target, is_placed, claims_something};
+ghost use Rattle.import_targets.specs.Registers.{found_in};
 ghost use Rattle.import_board.specs.Counts.{capped, is_taken, is_closed, one_if, windows_left, own_ranges, ranges_placed, ranges_not_placed, ranges_taken, is_lost, ranges_left, functions_left, is_far, has_far_window, is_far_bridge, is_far_range, has_far_range, is_far_device};
 
 use board_model::Window;
-use lspci_text::Function;
-use machine_bridges::{BridgeFate, Machine, WindowFate};
-use machine_targets::{
+use import_bridges::{BridgeFate, Machine, WindowFate};
+use import_targets::{
     Device, DeviceFate, Judged, RangeFate, claims_something, found_count, is_placed,
 };
+use import_text::Function;
 use pci_command::List;
 
 pub(crate) fn is_taken(fate: &BridgeFate) -> bool

@@ -1,5 +1,5 @@
 ghost use Rattle.std.specs.Prelude.{◌≡◌, ◌++◌, ◌≤◌, OnOk, length, string_bytes};
-ghost use Rattle.machine_targets.specs.Devices.{claims_something};
+ghost use Rattle.import_targets.specs.Devices.{claims_something};
 ghost use Rattle.import_board.specs.Text.{target_name, id_line, target_line, target_lines, why_line, left_target, left_with_target, ranges_lines, why_no_target, head_by, range_of_device, silence_note, registers_lines, kind_line, body_by_kind, body_of_function, lost_line, function_body, function_lines, functions_lines, device_lines, devices_lines};
 
 use crate::counts::{is_lost, is_target};
@@ -7,9 +7,9 @@ use crate::notes::{
     HexByte, print_bus, print_device_note, print_judged, print_left_out, print_range, print_title,
 };
 use board_printer::HexHalf;
-use lspci_text::Function;
-use machine_bridges::{Machine, header_type, register_2};
-use machine_targets::{Device, DeviceFate, Found, Judged, claims_something, is_placed};
+use import_bridges::{Machine, header_type, register_2};
+use import_targets::{Device, DeviceFate, Found, Judged, claims_something, is_placed};
+use import_text::Function;
 use pci_command::List;
 use std::alloc::AllocError;
 

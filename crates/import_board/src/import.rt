@@ -2,9 +2,9 @@ ghost use Rattle.std.specs.Prelude.{◌≡◌, ◌<◌, ◌^◌, IfOk, length};
 ghost use Rattle.import_board.specs.Import.{board_of, imported, TellsBoard};
 
 use crate::text::import_text;
-use lspci_text::{Function, ReadFault, read_functions};
-use machine_bridges::{Root, bridge_fates, machine_of, taken_among};
-use machine_targets::devices_of;
+use import_bridges::{Root, bridge_fates, machine_of, taken_among};
+use import_targets::devices_of;
+use import_text::{Function, ReadFault, read_functions};
 use pci_command::{List, NoMemory};
 use std::alloc::Global;
 

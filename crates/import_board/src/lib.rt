@@ -10,4 +10,3 @@ mod notes;
 mod text;
 
 pub use import::import_board;
-pub use text::import_text;

@@ -1,13 +1,13 @@
 ghost use Rattle.std.specs.Prelude.{◌≡◌, ◌++◌, ◌==◌, [], OnOk, string_bytes, codes};
 ghost use Rattle.std.specs.Fmt.{decimal};
-ghost use Rattle.machine_targets.specs.declared.fate.RangeFate.TheVariants.{LeftOut};
+ghost use Rattle.import_targets.specs.declared.fate.RangeFate.TheVariants.{LeftOut};
 ghost use Rattle.import_board.specs.Text.{left_out_words, bus_on_board, kind_words, title, name_words, size_words, range_words, range_line, judged_by, judged_line, device_note};
 
 use board_model::Window;
 use board_printer::{Address, space_word};
-use lspci_text::{Function, Kind};
-use machine_bridges::Machine;
-use machine_targets::{Found, Judged, NoRange, RangeFate};
+use import_bridges::Machine;
+use import_targets::{Found, Judged, NoRange, RangeFate};
+use import_text::{Function, Kind};
 use pci_command::Space;
 use std::alloc::AllocError;
 use std::fmt;

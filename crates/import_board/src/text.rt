@@ -7,8 +7,8 @@ use crate::counts::{
 };
 use crate::devices::print_devices;
 use board_printer::{HexHalf, HexWord};
-use machine_bridges::{BridgeFate, Machine};
-use machine_targets::Device;
+use import_bridges::{BridgeFate, Machine};
+use import_targets::Device;
 use pci_command::{List, NoMemory};
 use std::alloc::{AllocError, Global};
 

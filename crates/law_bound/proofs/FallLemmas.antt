@@ -6,8 +6,8 @@ use Rattle.board_model.specs.Valid.{IsValid}
 use Rattle.history_model.specs.declared.event.Event.{Event}
 use Rattle.history_model.specs.Runs.{Run}
 use Rattle.history_model.specs.Left.{left_of}
-use Rattle.law_posted.specs.PostedEvents.{IsPostedEvent}
-use Rattle.law_delayed.specs.Delayed.{IsDelayedEvent}
+use Rattle.law_bound.specs.posted.PostedEvents.{IsPostedEvent}
+use Rattle.law_bound.specs.delayed.Delayed.{IsDelayedEvent}
 use Rattle.law_bound.proofs.BeginsLemmas.{left-begins, Begins-formed}
 use Rattle.law_bound.proofs.KindLemmas.{event_kind}
 

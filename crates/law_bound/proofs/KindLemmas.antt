@@ -18,12 +18,12 @@ use Rattle.history_model.specs.declared.item.Carried.TheVariants.{Post, Ask, Don
 use Rattle.history_model.specs.Lanes.{LaneState}
 use Rattle.history_model.specs.World.{world_of}
 use Rattle.history_model.specs.Runs.{mark_of_first, Run}
-use Rattle.law_slots.specs.Kinds.{NamesOp}
-use Rattle.law_order.specs.Order.{is_posted_in, is_posted_op}
+use Rattle.law_lanes.specs.Kinds.{NamesOp}
+use Rattle.law_lanes.specs.order.Order.{is_posted_in, is_posted_op}
 use Rattle.history_model.specs.Steps.{is_stall}
-use Rattle.law_posted.specs.PostedEvents.{first_is_post_or_room, IsPostedEvent}
-use Rattle.law_delayed.specs.Delayed.{is_delayed_first, IsDelayedEvent}
-use Rattle.law_slots.proofs.Laws.{op_there}
+use Rattle.law_bound.specs.posted.PostedEvents.{first_is_post_or_room, IsPostedEvent}
+use Rattle.law_bound.specs.delayed.Delayed.{is_delayed_first, IsDelayedEvent}
+use Rattle.law_lanes.proofs.Laws.{op_there}
 
 -- an operation that is there, and is no write in memory, is of the delayed kind
 named_other : (board : Board) (o : OpId) (found : Option Op) → op_of board o ≡ found → is_some found ≡ true → is_posted_in found ≡ false → NamesOp board false o

@@ -20,16 +20,16 @@ use Rattle.history_model.specs.declared.event.Event.{Event}
 use Rattle.history_model.specs.Words.{Landing, landed, opens_at, opens_as}
 use Rattle.history_model.specs.Knowledge.{ends_as, has_ended, given_value, up_to_end, Reading, got, saw_in, saw, has_landed, is_landing_of, stands_after, later, one, more, is_write, Told}
 use Rattle.history_model.specs.Runs.{Run}
-use Rattle.law_order.specs.Order.{is_posted_in, is_posted_op}
+use Rattle.law_lanes.specs.order.Order.{is_posted_in, is_posted_op}
 use Rattle.std.proofs.lemmas.Bool.{and_parts, or_right, or_left}
 use Rattle.std.proofs.lemmas.List.Folds.{list_any-append}
 use Rattle.list_facts.proofs.AnyLemmas.{any_some, found_any}
 use Rattle.list_facts.proofs.EachLemmas.{Each-find, Each-weaker}
 use Rattle.list_facts.proofs.FindLemmas.{find_passes}
-use Rattle.history_facts.proofs.PostedLemmas.{write_not_read}
-use Rattle.history_facts.proofs.RequestLemmas.{same_op_self}
-use Rattle.law_changes.proofs.Laws.{entry_of}
-use Rattle.law_reads.proofs.Laws.{master_there, no_reading}
+use Rattle.history_model.proofs.facts.PostedLemmas.{write_not_read}
+use Rattle.history_model.proofs.facts.RequestLemmas.{same_op_self}
+use Rattle.law_bound.proofs.changes.Laws.{entry_of}
+use Rattle.law_fresh.proofs.reads.Laws.{master_there, no_reading}
 use Rattle.law_fresh.proofs.Laws.{Fresh-run, Front, front_run, front_front, front_end, read_by}
 use Rattle.law_fresh.proofs.Laws.{WriteOp, write_tries, same_place}
 use Rattle.law_delivered.specs.Clear.{phases_at, is_value, brings_value, rings, rings_in, rings_whole, holds, opens_otherwise, is_clear}

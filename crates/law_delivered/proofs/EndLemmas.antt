@@ -18,13 +18,13 @@ use Rattle.board_model.specs.Requests.{command_of, request_on}
 use Rattle.board_model.specs.Claims.{bridge_holds, claim}
 use Rattle.board_model.specs.Ways.{end_of, Route, route_by, route_of}
 use Rattle.board_model.specs.Valid.{has_bridge_to, is_bus, IsValid}
-use Rattle.board_laws.specs.Trees.{IsTree}
+use Rattle.board_model.specs.form_laws.Trees.{IsTree}
 use Rattle.history_model.specs.Answers.{bridge_to}
 use Rattle.std.proofs.lemmas.Bool.{or_parts, not-false}
 use Rattle.list_facts.proofs.EachLemmas.{Each-find, Each-slice_get}
 use Rattle.list_facts.proofs.FindLemmas.{find_passes, find-none_any}
 use Rattle.list_facts.proofs.TestLemmas.{Each-list_any}
-use Rattle.board_laws.proofs.Laws.{WayEnds-tree, IsTree-valid}
+use Rattle.board_model.proofs.form_laws.Laws.{WayEnds-tree, IsTree-valid}
 use Rattle.law_fresh.proofs.Laws.{parent, goes_down, goes_up, same_on}
 
 -- the bus and the owner where a route ends

@@ -30,9 +30,9 @@ use Rattle.std.proofs.lemmas.Bool.{and_parts, or_left, or_right}
 use Rattle.std.proofs.lemmas.List.Folds.{list_any-append}
 use Rattle.list_facts.proofs.EachLemmas.{Each-append, Each-weaker, Each-slice_get}
 use Rattle.list_facts.proofs.TestLemmas.{Each-list_all}
-use Rattle.history_facts.proofs.RequestLemmas.{request_is_of}
-use Rattle.law_changes.proofs.Laws.{entry_of}
-use Rattle.law_reads.proofs.Laws.{master_there}
+use Rattle.history_model.proofs.facts.RequestLemmas.{request_is_of}
+use Rattle.law_bound.proofs.changes.Laws.{entry_of}
+use Rattle.law_fresh.proofs.reads.Laws.{master_there}
 use Rattle.law_fresh.proofs.Laws.{or_either}
 use Rattle.law_delivered.specs.Clear.{phases_at, written_at, brings_value, rings, rings_in, is_whole, rings_whole}
 use Rattle.law_delivered.proofs.WholeLemmas.{is_taken, taken_at}

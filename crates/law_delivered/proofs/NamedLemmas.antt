@@ -20,7 +20,7 @@ use Rattle.board_model.specs.Requests.{op_of, command_of, request_on, request_of
 use Rattle.board_model.specs.Claims.{claim}
 use Rattle.board_model.specs.Ways.{Dword, Route, route_of, way, end_of, aborts_at, address_in, words_at, words_by, dwords_from, dwords_of}
 use Rattle.board_model.specs.Valid.{is_bus, IsValid}
-use Rattle.board_laws.specs.Trees.{IsTree}
+use Rattle.board_model.specs.form_laws.Trees.{IsTree}
 use Rattle.history_model.specs.declared.event.By.{By}
 use Rattle.history_model.specs.declared.event.By.TheVariants.{Master, Lane as ByLane}
 use Rattle.history_model.specs.declared.event.Event.{Event}
@@ -31,16 +31,16 @@ use Rattle.history_model.specs.Answers.{is_on, is_turn, wants, presents}
 use Rattle.history_model.specs.Program.{turn_of}
 use Rattle.history_model.specs.Knowledge.{has_landed, is_landing_of, is_write, words_on, words_named}
 use Rattle.history_model.specs.Runs.{Run}
-use Rattle.law_order.specs.Order.{is_posted_in, is_posted_op}
+use Rattle.law_lanes.specs.order.Order.{is_posted_in, is_posted_op}
 use Rattle.std.proofs.lemmas.Bool.{and_parts}
-use Rattle.board_laws.proofs.Laws.{IsTree-valid}
-use Rattle.history_facts.proofs.BridgeLemmas.{same_lane_true}
-use Rattle.history_facts.proofs.PathLemmas.{way_cons}
-use Rattle.history_facts.proofs.PostedLemmas.{write_not_read}
-use Rattle.law_slots.proofs.Laws.{delayed-not_parted, WellFormed-single}
-use Rattle.law_order.proofs.Laws.{OneClaimant-formed, rest_claimed}
-use Rattle.law_reach.proofs.Laws.{own_by, stands_of, asked_at, passed_at}
-use Rattle.law_reads.proofs.Laws.{master_there}
+use Rattle.board_model.proofs.form_laws.Laws.{IsTree-valid}
+use Rattle.history_model.proofs.facts.BridgeLemmas.{same_lane_true}
+use Rattle.history_model.proofs.facts.PathLemmas.{way_cons}
+use Rattle.history_model.proofs.facts.PostedLemmas.{write_not_read}
+use Rattle.law_lanes.proofs.Laws.{delayed-not_parted, WellFormed-single}
+use Rattle.law_lanes.proofs.order.Laws.{OneClaimant-formed, rest_claimed}
+use Rattle.law_bound.proofs.reach.Laws.{own_by, stands_of, asked_at, passed_at}
+use Rattle.law_fresh.proofs.reads.Laws.{master_there}
 use Rattle.law_fresh.proofs.Laws.{whole, each_contains, target_on}
 use Rattle.law_fresh.proofs.Laws.{write_op}
 use Rattle.law_delivered.proofs.EndLemmas.{ending, ends_on, ends_at, one_end, target_bus, master_bus_there}

@@ -29,13 +29,13 @@ use Rattle.history_model.specs.Program.{turn_of}
 use Rattle.history_model.specs.Words.{through, brings, landings_at, landings_of, landings_by, brought, landed}
 use Rattle.history_model.specs.Knowledge.{ends_as, has_ended, is_land_step, is_land_of, has_landed, is_landing_of, is_write}
 use Rattle.history_model.specs.Runs.{Run}
-use Rattle.law_order.specs.Masters.{accepts_from_master, MastersWrite}
-use Rattle.law_order.specs.Order.{is_posted_in, is_posted_op}
+use Rattle.law_lanes.specs.order.Masters.{accepts_from_master, MastersWrite}
+use Rattle.law_lanes.specs.order.Order.{is_posted_in, is_posted_op}
 use Rattle.std.proofs.lemmas.Bool.{and_parts, or_left, or_right}
 use Rattle.std.proofs.lemmas.List.Folds.{list_any-append}
-use Rattle.history_facts.proofs.RequestLemmas.{same_op_true, same_op_self}
-use Rattle.law_slots.proofs.Laws.{RightKind-run}
-use Rattle.law_order.proofs.Laws.{write_lands, standing_owned, posts-less_first}
+use Rattle.history_model.proofs.facts.RequestLemmas.{same_op_true, same_op_self}
+use Rattle.law_lanes.proofs.Laws.{RightKind-run}
+use Rattle.law_lanes.proofs.order.Laws.{write_lands, standing_owned, posts-less_first}
 use Rattle.law_fresh.proofs.Laws.{ends_turn, or_either, ends_as_ended}
 use Rattle.law_fresh.proofs.Laws.{write_op, own_ended}
 

@@ -33,9 +33,9 @@ use Rattle.history_model.specs.Words.{through, without, opens_in, value_of}
 use Rattle.history_model.specs.Knowledge.{value_of_ending, ends_as, has_ended, or_else, given_value, up_to_end, Reading, reading_of, reading_by, reading_in, got, words_on, words_named}
 use Rattle.history_model.specs.Runs.{Run}
 use Rattle.std.proofs.lemmas.Bool.{and_parts, not-true}
-use Rattle.history_facts.proofs.RequestLemmas.{same_op_true}
-use Rattle.law_slots.proofs.Laws.{delayed-not_parted, WellFormed-single}
-use Rattle.law_reads.proofs.Laws.{master_there, returned_got, always_got}
+use Rattle.history_model.proofs.facts.RequestLemmas.{same_op_true}
+use Rattle.law_lanes.proofs.Laws.{delayed-not_parted, WellFormed-single}
+use Rattle.law_fresh.proofs.reads.Laws.{master_there, returned_got, always_got}
 use Rattle.law_fresh.proofs.Laws.{whole, At, found_at, target_on, answers_claim, Front, front_run, front_front, front_end, read_by}
 use Rattle.law_delivered.specs.Clear.{is_value, holds, opens_otherwise}
 use Rattle.law_delivered.specs.Delivered.{is_met}

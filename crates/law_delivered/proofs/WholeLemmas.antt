@@ -40,7 +40,7 @@ use Rattle.history_model.specs.Knowledge.{is_land_step, is_land_of, has_landed, 
 use Rattle.history_model.specs.Runs.{Run}
 use Rattle.std.proofs.lemmas.Bool.{or_left, or_right}
 use Rattle.std.proofs.lemmas.List.Folds.{list_any-append}
-use Rattle.history_facts.proofs.RequestLemmas.{same_op_true, same_op_self}
+use Rattle.history_model.proofs.facts.RequestLemmas.{same_op_true, same_op_self}
 use Rattle.law_fresh.proofs.Laws.{or_either}
 
 -- Of data phases from an address on, the one so many dwords further is brought there.

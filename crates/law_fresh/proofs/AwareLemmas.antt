@@ -12,7 +12,7 @@ use Rattle.history_model.specs.Runs.{Run}
 use Rattle.std.proofs.lemmas.Bool.{and_parts}
 use Rattle.law_fresh.specs.Aware.{Aware, is_behind, knows, brings, first_known, taught_after, aware_of}
 use Rattle.law_fresh.proofs.BehindLemmas.{Begun}
-use Rattle.history_facts.proofs.WantsLemmas.{wants-turn}
+use Rattle.history_model.proofs.facts.WantsLemmas.{wants-turn}
 
 -- what an ending brings to a master
 pub record Brought (master : ℕ) (w : OpId) (taught : OpId → Bool) (ending : Ending) (first : OpId) : Type 0 where

@@ -22,7 +22,7 @@ use Rattle.history_model.specs.Program.{Ending, ended, turn_of}
 use Rattle.history_model.specs.Words.{Landing, through, landings_of, landings_by, brought, landed}
 use Rattle.history_model.specs.Knowledge.{value_in, Reading, value_of_ending, outcome_in, ends_as, ends_with, has_ended, up_to_end, reading_in, reading_or, last_reading, got, has_landed, is_landing_of, saw_in, saw, stands_after, later, tells, Chain, one, more, is_write, Told}
 use Rattle.history_model.specs.Runs.{Run}
-use Rattle.law_order.specs.One.{times, ends_at_master}
+use Rattle.law_lanes.specs.order.One.{times, ends_at_master}
 use Rattle.std.proofs.lemmas.Bool.{and_parts, or_left, or_right}
 use Rattle.law_fresh.specs.Aware.{Aware, is_behind, knows, shows, shown, first_known, taught_by, taught_after, aware_of}
 use Rattle.law_fresh.specs.Told.{was_told}
@@ -31,10 +31,10 @@ use Rattle.law_fresh.proofs.BegunLemmas.{IsOf, of_of}
 use Rattle.law_fresh.proofs.AwareLemmas.{first_brought, ends_turn}
 use Rattle.law_fresh.proofs.SinceLemmas.{ends_as_ended}
 use Rattle.law_fresh.proofs.ToldLemmas.{Front, front_run, front_end, before_in, told_knows}
-use Rattle.history_facts.proofs.RequestLemmas.{same_op_true, same_op_self, request_is_of}
-use Rattle.law_order.proofs.Laws.{turn_not_ended}
+use Rattle.history_model.proofs.facts.RequestLemmas.{same_op_true, same_op_self, request_is_of}
+use Rattle.law_lanes.proofs.order.Laws.{turn_not_ended}
 use Rattle.list_facts.proofs.AnyLemmas.{any_some, found_any}
-use Rattle.law_reads.proofs.Laws.{no_reading}
+use Rattle.law_fresh.proofs.reads.Laws.{no_reading}
 
 -- An operation of which a data phase landed is there.
 

@@ -33,8 +33,8 @@ use Rattle.history_model.specs.Runs.{Run}
 use Rattle.std.proofs.lemmas.Bool.{and_parts}
 use Rattle.law_fresh.proofs.BehindLemmas.{Begun, Begun-turn, Begun-kept}
 use Rattle.law_fresh.proofs.MoveLemmas.{WorldHas, Enters, Replies, RepliesBy, act_has, arrival_has}
-use Rattle.history_facts.proofs.WantsLemmas.{wants-turn}
-use Rattle.history_facts.proofs.RequestLemmas.{same_op_true}
+use Rattle.history_model.proofs.facts.WantsLemmas.{wants-turn}
+use Rattle.history_model.proofs.facts.RequestLemmas.{same_op_true}
 
 -- the item names an operation that began
 abbrev pub ItemBegun : Board → List Event → Carried → Type 0

@@ -13,7 +13,7 @@ use Rattle.history_model.specs.declared.event.Event.TheVariants.{Act, Arrive}
 use Rattle.history_model.specs.Program.{ending_of, master_outcome, present, next_op, next_try, meets, follows_op, follows_in, follows, turn_after, turn_of}
 use Rattle.history_model.specs.Knowledge.{stands_after}
 use Rattle.history_model.specs.Runs.{Run}
-use Rattle.history_facts.proofs.WantsLemmas.{wants-turn}
+use Rattle.history_model.proofs.facts.WantsLemmas.{wants-turn}
 
 pub behind_self : (p : OpId) → stands_after p p ≡ false
 behind_self p = grind (arith, nat_tests)

@@ -22,16 +22,16 @@ use Rattle.board_model.specs.Requests.{command_of, request_on}
 use Rattle.board_model.specs.Claims.{bridge_holds, decodes_down, claim}
 use Rattle.board_model.specs.Ways.{primary_in, primary_of, way, end_of, start_of}
 use Rattle.board_model.specs.Valid.{IsValid}
-use Rattle.board_laws.specs.Claimants.{decodes, decodes_up, targets_that, lanes_down_that, lanes_up_that, claimants_by_address, claimants_in, claimants, one_of}
+use Rattle.board_model.specs.form_laws.Claimants.{decodes, decodes_up, targets_that, lanes_down_that, lanes_up_that, claimants_by_address, claimants_in, claimants, one_of}
 use Rattle.history_model.specs.declared.event.Event.{Event}
 use Rattle.history_model.specs.World.{world_of}
 use Rattle.history_model.specs.Answers.{bridge_to}
 use Rattle.history_model.specs.Knowledge.{has_landed}
 use Rattle.law_fresh.specs.Cover.{is_on_lane, covered}
 use Rattle.law_fresh.proofs.ListLemmas.{or_either}
-use Rattle.board_laws.proofs.Laws.{OneClaimant-valid, IsTree-valid}
-use Rattle.history_facts.proofs.PostedLemmas.{write_not_read}
-use Rattle.history_facts.proofs.PathLemmas.{way_goes}
+use Rattle.board_model.proofs.form_laws.Laws.{OneClaimant-valid, IsTree-valid}
+use Rattle.history_model.proofs.facts.PostedLemmas.{write_not_read}
+use Rattle.history_model.proofs.facts.PathLemmas.{way_goes}
 
 -- an element of a list, with what stands before and behind it
 record Among {X : Type 0} (x : X) (xs : List X) : Type 0 where

@@ -20,7 +20,7 @@ use Rattle.board_model.specs.Requests.{op_of, command_of, request_on, request_of
 use Rattle.board_model.specs.Claims.{claim}
 use Rattle.board_model.specs.Ways.{address_in, way, end_of, start_of, aborts_at, is_lane, lane_back}
 use Rattle.board_model.specs.Valid.{IsValid}
-use Rattle.board_laws.specs.Trees.{IsTree}
+use Rattle.board_model.specs.form_laws.Trees.{IsTree}
 use Rattle.history_model.specs.declared.event.By.{By}
 use Rattle.history_model.specs.declared.event.By.TheVariants.{Master, Lane as ByLane}
 use Rattle.history_model.specs.declared.event.Step.{Step}
@@ -37,20 +37,20 @@ use Rattle.history_model.specs.Words.{through, without, value_of}
 use Rattle.history_model.specs.Answers.{stalls_used, target_step, target_answer, answer_by, answer_to}
 use Rattle.history_model.specs.Knowledge.{is_land_of, has_landed}
 use Rattle.history_model.specs.Runs.{Run}
-use Rattle.law_slots.specs.Kinds.{NamesOp, RightKind}
+use Rattle.law_lanes.specs.Kinds.{NamesOp, RightKind}
 use Rattle.law_fresh.specs.Cover.{is_post_of, items, is_on_lane, covered}
 use Rattle.law_fresh.proofs.ListLemmas.{or_either}
 use Rattle.law_fresh.proofs.MoveLemmas.{WorldHas, Enters, Replies, RepliesBy, act_has, arrival_has}
 use Rattle.law_fresh.proofs.InformedLemmas.{step_ends}
 use Rattle.law_fresh.proofs.SourceLemmas.{Covers}
 use Rattle.law_fresh.proofs.KeptLemmas.{EndsCovered, kept_covered}
-use Rattle.board_laws.proofs.Laws.{IsTree-valid}
-use Rattle.history_facts.proofs.AnswerLemmas.{AtLane, answered_at}
-use Rattle.law_slots.proofs.Laws.{RightKind-run, TakesItsOwn-run, delayed-not_parted, WellFormed-numbers, WellFormed-single}
-use Rattle.history_facts.proofs.RequestLemmas.{same_op_true, same_op_self}
-use Rattle.law_reach.proofs.Laws.{lane_there}
-use Rattle.law_order.proofs.Laws.{OnlyTakes}
-use Rattle.law_reads.proofs.Laws.{word_at, word_by, word_of, word_there}
+use Rattle.board_model.proofs.form_laws.Laws.{IsTree-valid}
+use Rattle.history_model.proofs.facts.AnswerLemmas.{AtLane, answered_at}
+use Rattle.law_lanes.proofs.Laws.{RightKind-run, TakesItsOwn-run, delayed-not_parted, WellFormed-numbers, WellFormed-single}
+use Rattle.history_model.proofs.facts.RequestLemmas.{same_op_true, same_op_self}
+use Rattle.law_bound.proofs.reach.Laws.{lane_there}
+use Rattle.law_lanes.proofs.order.Laws.{OnlyTakes}
+use Rattle.law_fresh.proofs.reads.Laws.{word_at, word_by, word_of, word_there}
 
 -- a target takes a write that it does not abort
 target_takes : (board : Board) (h : List Event) (place : ℕ) (request : Request) (target : TargetAgent) → is_read request.command ≡ false → aborts_at target request ≡ false → OnlyTakes (target_step board h place request target)

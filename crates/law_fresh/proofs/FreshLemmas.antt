@@ -30,7 +30,7 @@ use Rattle.history_model.specs.Words.{Landing, landed}
 use Rattle.history_model.specs.Knowledge.{Reading, reading_of, reading_by, reading_in, up_to_end, got, has_landed, is_landing_of, Chain, Told, words_on, words_named, Fresh}
 use Rattle.history_model.specs.Answers.{wants}
 use Rattle.history_model.specs.Runs.{Run}
-use Rattle.law_order.specs.Order.{is_posted_in, is_posted_op}
+use Rattle.law_lanes.specs.order.Order.{is_posted_in, is_posted_op}
 use Rattle.std.proofs.lemmas.Bool.{and_parts}
 use Rattle.std.proofs.Math.Bool.{or-false}
 use Rattle.law_fresh.specs.Aware.{Aware, knows, shows, shown, aware_of}
@@ -43,12 +43,12 @@ use Rattle.law_fresh.proofs.InformedLemmas.{Informed-run}
 use Rattle.law_fresh.proofs.PostedLemmas.{posted_covers}
 use Rattle.law_fresh.proofs.DelayedLemmas.{delayed_covers}
 use Rattle.law_fresh.proofs.ToldLemmas.{Front, front_run, front_front, front_end, knew_before, read_by, told_knows}
-use Rattle.board_laws.proofs.Laws.{IsTree-valid}
-use Rattle.history_facts.proofs.RequestLemmas.{same_op_true, same_op_self}
-use Rattle.law_order.proofs.Laws.{empty_way}
-use Rattle.history_facts.proofs.PostedLemmas.{IsTarget}
+use Rattle.board_model.proofs.form_laws.Laws.{IsTree-valid}
+use Rattle.history_model.proofs.facts.RequestLemmas.{same_op_true, same_op_self}
+use Rattle.law_lanes.proofs.order.Laws.{empty_way}
+use Rattle.history_model.proofs.facts.PostedLemmas.{IsTarget}
 use Rattle.list_facts.proofs.AnyLemmas.{any_some, found_any}
-use Rattle.law_reads.proofs.Laws.{no_reading, master_there, returned_got, always_got, word_of, no_words}
+use Rattle.law_fresh.proofs.reads.Laws.{no_reading, master_there, returned_got, always_got, word_of, no_words}
 
 -- The words of a write are at one target, on the bus where its way ends.
 

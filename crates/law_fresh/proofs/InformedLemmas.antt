@@ -48,10 +48,10 @@ use Rattle.law_fresh.proofs.SourceLemmas.{Covers, agent_of, source}
 use Rattle.law_fresh.proofs.TargetLemmas.{answers_on}
 use Rattle.law_fresh.proofs.TaughtLemmas.{back_ends, taught_source}
 use Rattle.law_fresh.proofs.StillLemmas.{Still, event_still}
-use Rattle.history_facts.proofs.AnswerLemmas.{AtLane, answered_at}
-use Rattle.history_facts.proofs.BridgeLemmas.{lane_back_back}
-use Rattle.law_slots.proofs.Laws.{claim_starts, Quiet-empty, run_no_bridge, WellFormed-numbers}
-use Rattle.history_facts.proofs.RequestLemmas.{same_op_true}
+use Rattle.history_model.proofs.facts.AnswerLemmas.{AtLane, answered_at}
+use Rattle.history_model.proofs.facts.BridgeLemmas.{lane_back_back}
+use Rattle.law_lanes.proofs.Laws.{claim_starts, Quiet-empty, run_no_bridge, WellFormed-numbers}
+use Rattle.history_model.proofs.facts.RequestLemmas.{same_op_true}
 use Rattle.list_facts.proofs.AnyLemmas.{any_some}
 
 -- a step that ends an item of a lane ends the operation of a master

@@ -10,7 +10,7 @@ use Rattle.board_model.specs.declared.bridge.Place.{Place}
 use Rattle.board_model.specs.declared.op.Op.{Op}
 use Rattle.board_model.specs.declared.board.Board.{Board}
 use Rattle.board_model.specs.Ways.{way, end_of}
-use Rattle.board_laws.specs.Trees.{IsTree}
+use Rattle.board_model.specs.form_laws.Trees.{IsTree}
 use Rattle.history_model.specs.declared.event.By.{By}
 use Rattle.history_model.specs.declared.event.By.TheVariants.{Master, Lane as ByLane}
 use Rattle.history_model.specs.declared.event.Step.{Step}
@@ -25,8 +25,8 @@ use Rattle.law_fresh.proofs.ListLemmas.{or_either}
 use Rattle.law_fresh.proofs.BegunLemmas.{presented_at}
 use Rattle.law_fresh.proofs.OnLaneLemmas.{place_on, leaves_on, arrives_on}
 use Rattle.law_fresh.proofs.InformedLemmas.{step_ends}
-use Rattle.history_facts.proofs.RequestLemmas.{same_op_true}
-use Rattle.history_facts.proofs.PathLemmas.{way_cons}
+use Rattle.history_model.proofs.facts.RequestLemmas.{same_op_true}
+use Rattle.history_model.proofs.facts.PathLemmas.{way_cons}
 
 module _ (board : Board) (tree : IsTree board) (w : OpId) (op : Op) where
   -- the write ends for who presents it, and the bus is covered

@@ -20,9 +20,9 @@ use Rattle.history_model.specs.World.{World, both, moved, is_own, slot_found, en
 use Rattle.law_fresh.specs.Cover.{is_post_of, items, is_on_lane, Safe}
 use Rattle.law_fresh.proofs.SafeLemmas.{Safe-sure, Safe-push, Safe-drop, Safe-less}
 use Rattle.board_model.specs.Ways.{lane_back}
-use Rattle.law_slots.proofs.Laws.{IsRoom, IsLastOf, IsAskOf, Fits, effect_fits}
-use Rattle.history_facts.proofs.RequestLemmas.{same_op_true}
-use Rattle.history_facts.proofs.MovedLemmas.{moved_each}
+use Rattle.law_lanes.proofs.Laws.{IsRoom, IsLastOf, IsAskOf, Fits, effect_fits}
+use Rattle.history_model.proofs.facts.RequestLemmas.{same_op_true}
+use Rattle.history_model.proofs.facts.MovedLemmas.{moved_each}
 
 -- a completion is no posted write
 pub done_other : (w : OpId) (number : ℕ) (item : Carried) → is_done_for number item ≡ true → is_post_of w item ≡ false

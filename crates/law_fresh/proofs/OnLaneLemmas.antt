@@ -24,10 +24,10 @@ use Rattle.law_fresh.specs.Cover.{is_post_of, items, is_on_lane}
 use Rattle.law_fresh.proofs.ListLemmas.{or_either}
 use Rattle.law_fresh.proofs.LaneLemmas.{done_other, of_other, room_other, last_other, ask_other}
 use Rattle.board_model.specs.Ways.{lane_back}
-use Rattle.history_facts.proofs.BridgeLemmas.{same_lane_self}
-use Rattle.law_slots.proofs.Laws.{Fits, effect_fits}
-use Rattle.history_facts.proofs.RequestLemmas.{same_op_self}
-use Rattle.history_facts.proofs.MovedLemmas.{moved_each}
+use Rattle.history_model.proofs.facts.BridgeLemmas.{same_lane_self}
+use Rattle.law_lanes.proofs.Laws.{Fits, effect_fits}
+use Rattle.history_model.proofs.facts.RequestLemmas.{same_op_self}
+use Rattle.history_model.proofs.facts.MovedLemmas.{moved_each}
 use Rattle.list_facts.proofs.AnyLemmas.{any-less_kind}
 
 module _ (w : OpId) where

@@ -15,10 +15,10 @@ use Rattle.history_model.specs.declared.event.Event.{Event}
 use Rattle.history_model.specs.Program.{Ending, ended, present, next_op, next_try, meets, follows_in, follows, turn_after, turn_of}
 use Rattle.history_model.specs.Knowledge.{outcome_in, ends_as, has_ended, is_write}
 use Rattle.history_model.specs.Runs.{Run}
-use Rattle.history_facts.proofs.RequestLemmas.{same_op_self}
-use Rattle.law_changes.proofs.Laws.{entry_of}
+use Rattle.history_model.proofs.facts.RequestLemmas.{same_op_self}
+use Rattle.law_bound.proofs.changes.Laws.{entry_of}
 use Rattle.law_fresh.proofs.AwareLemmas.{ends_turn}
-use Rattle.law_reads.proofs.Laws.{master_there}
+use Rattle.law_fresh.proofs.reads.Laws.{master_there}
 use Rattle.std.proofs.lemmas.Bool.{or_left, or_right}
 
 -- a write has one try

@@ -20,7 +20,7 @@ use Rattle.board_model.specs.Requests.{op_of, command_of, request_on, request_of
 use Rattle.board_model.specs.Claims.{claim}
 use Rattle.board_model.specs.Ways.{way, end_of, aborts_at, is_lane, lane_back}
 use Rattle.board_model.specs.Valid.{IsValid}
-use Rattle.board_laws.specs.Trees.{IsTree}
+use Rattle.board_model.specs.form_laws.Trees.{IsTree}
 use Rattle.history_model.specs.declared.event.By.{By}
 use Rattle.history_model.specs.declared.event.By.TheVariants.{Master, Lane as ByLane}
 use Rattle.history_model.specs.declared.event.Step.{Step}
@@ -38,9 +38,9 @@ use Rattle.history_model.specs.Words.{through, without}
 use Rattle.history_model.specs.Answers.{wants, presents, posted_answer, delayed_answer, lane_answer, bridge_to, answer_by, answer_to}
 use Rattle.history_model.specs.Knowledge.{is_land_of, has_landed}
 use Rattle.history_model.specs.Runs.{Run}
-use Rattle.law_order.specs.Order.{posts, is_posted_in, is_posted_op}
-use Rattle.law_order.specs.OnWay.{OnWay}
-use Rattle.law_order.specs.Parts.{HasWord}
+use Rattle.law_lanes.specs.order.Order.{posts, is_posted_in, is_posted_op}
+use Rattle.law_lanes.specs.order.OnWay.{OnWay}
+use Rattle.law_lanes.specs.order.Parts.{HasWord}
 use Rattle.std.proofs.lemmas.Bool.{and_parts, or_left, or_right}
 use Rattle.std.proofs.lemmas.List.Folds.{list_any-append}
 use Rattle.law_fresh.specs.Cover.{is_post_of, is_on_lane, covered}
@@ -49,12 +49,12 @@ use Rattle.law_fresh.proofs.OnLaneLemmas.{leaves_flies, accept_flies}
 use Rattle.law_fresh.proofs.SourceLemmas.{Covers, agent_of}
 use Rattle.law_fresh.proofs.KeptLemmas.{EndsCovered, kept_covered}
 use Rattle.law_fresh.proofs.CrossLemmas.{crosses_covered}
-use Rattle.board_laws.proofs.Laws.{IsTree-valid, Up, Down, steps}
-use Rattle.law_slots.proofs.Laws.{RightKind-run}
-use Rattle.history_facts.proofs.RequestLemmas.{same_op_self}
-use Rattle.law_order.proofs.Laws.{OneClaimant-formed, AbortWhole-formed, rest_claimed, OnWay-stands, posts-less_first, OnlyTakes, takes_only}
-use Rattle.history_facts.proofs.PathLemmas.{way_goes}
-use Rattle.law_reads.proofs.Laws.{word_at, word_by, word_of, word_on, word_here}
+use Rattle.board_model.proofs.form_laws.Laws.{IsTree-valid, Up, Down, steps}
+use Rattle.law_lanes.proofs.Laws.{RightKind-run}
+use Rattle.history_model.proofs.facts.RequestLemmas.{same_op_self}
+use Rattle.law_lanes.proofs.order.Laws.{OneClaimant-formed, AbortWhole-formed, rest_claimed, OnWay-stands, posts-less_first, OnlyTakes, takes_only}
+use Rattle.history_model.proofs.facts.PathLemmas.{way_goes}
+use Rattle.law_fresh.proofs.reads.Laws.{word_at, word_by, word_of, word_on, word_here}
 
 -- a target that takes it has its word
 word_at_has : (board : Board) (on place : ℕ) (request : Request) (found : Option TargetAgent) → claim board on request ≡ Target place → slice_get board.targets place ≡ found → word_at request found ≡ true → HasWord board on request

@@ -15,8 +15,8 @@ use Rattle.history_model.specs.Runs.{Run}
 use Rattle.law_fresh.specs.Aware.{Aware, is_behind, knows, brings, first_known, taught_after, aware_of}
 use Rattle.law_fresh.proofs.BehindLemmas.{behind_next, IsBehind, follows_behind}
 use Rattle.law_fresh.proofs.AwareLemmas.{first_brought, ends_turn, since_kept}
-use Rattle.history_facts.proofs.WantsLemmas.{wants-turn}
-use Rattle.history_facts.proofs.RequestLemmas.{same_op_true, same_op_self}
+use Rattle.history_model.proofs.facts.WantsLemmas.{wants-turn}
+use Rattle.history_model.proofs.facts.RequestLemmas.{same_op_true, same_op_self}
 
 -- what stands before another stands before all that follows it
 behind_more : (p : OpId) (q : OpId) (next : Option OpId) → stands_after p q ≡ true → IsBehind q next → IsBehind p next

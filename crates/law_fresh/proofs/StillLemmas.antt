@@ -28,9 +28,9 @@ use Rattle.history_model.specs.Runs.{Run}
 use Rattle.law_fresh.specs.Cover.{items}
 use Rattle.law_fresh.proofs.TargetLemmas.{answers_claim}
 use Rattle.board_model.specs.Ways.{is_lane}
-use Rattle.history_facts.proofs.RequestLemmas.{same_op_true, same_op_self}
-use Rattle.law_reach.proofs.Laws.{claims_rest}
-use Rattle.law_reads.proofs.Laws.{NotDone, none_about, not_posted, no_reading, read_or_not}
+use Rattle.history_model.proofs.facts.RequestLemmas.{same_op_true, same_op_self}
+use Rattle.law_bound.proofs.reach.Laws.{claims_rest}
+use Rattle.law_fresh.proofs.reads.Laws.{NotDone, none_about, not_posted, no_reading, read_or_not}
 
 -- what is a completion is not of an operation that reads by the event
 abbrev pub Still : Board → List Event → Event → Carried → Type 0

@@ -41,13 +41,13 @@ use Rattle.law_fresh.specs.Aware.{Aware, knows, shows, shown, taught_by, taught_
 use Rattle.law_fresh.specs.Cover.{covered, Informed}
 use Rattle.law_fresh.proofs.SafeLemmas.{Safe-find}
 use Rattle.law_fresh.proofs.TargetLemmas.{answers_on}
-use Rattle.history_facts.proofs.AnswerLemmas.{AtLane, answered_at}
-use Rattle.law_slots.proofs.Laws.{claim_starts, TakesItsOwn-run, WellFormed-numbers, WellFormed-single}
-use Rattle.history_facts.proofs.RequestLemmas.{same_op_true, same_op_self}
-use Rattle.law_reach.proofs.Laws.{lane_there}
+use Rattle.history_model.proofs.facts.AnswerLemmas.{AtLane, answered_at}
+use Rattle.law_lanes.proofs.Laws.{claim_starts, TakesItsOwn-run, WellFormed-numbers, WellFormed-single}
+use Rattle.history_model.proofs.facts.RequestLemmas.{same_op_true, same_op_self}
+use Rattle.law_bound.proofs.reach.Laws.{lane_there}
 use Rattle.history_model.specs.Steps.{is_stall}
 use Rattle.list_facts.proofs.AnyLemmas.{any_some, found_any}
-use Rattle.law_reads.proofs.Laws.{What, read_answered, word_of, word_by, word_there, HasWord, not_posted, Known-run, no_reading, read_or_not}
+use Rattle.law_fresh.proofs.reads.Laws.{What, read_answered, word_of, word_by, word_there, HasWord, not_posted, Known-run, no_reading, read_or_not}
 
 -- what was taught was last read
 taught_by_read : (board : Board) (w : OpId) (aware : Aware) (old : Bool) (here last : Option Reading) → (old ≡ true → is_some last ≡ true) → taught_by board w aware old here ≡ true → is_some (reading_or here last) ≡ true

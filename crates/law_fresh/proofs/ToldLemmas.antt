@@ -30,12 +30,12 @@ use Rattle.law_fresh.proofs.AwareLemmas.{knew}
 use Rattle.law_fresh.proofs.SinceLemmas.{Since, write_since, got_since, since_knows, knows_later}
 use Rattle.law_fresh.proofs.TaughtLemmas.{taught_read}
 use Rattle.board_model.specs.Ways.{is_lane}
-use Rattle.history_facts.proofs.AnswerLemmas.{answered_at}
-use Rattle.law_slots.proofs.Laws.{Run-before}
-use Rattle.history_facts.proofs.RequestLemmas.{same_op_true, same_op_self}
-use Rattle.law_reach.proofs.Laws.{lane_there}
+use Rattle.history_model.proofs.facts.AnswerLemmas.{answered_at}
+use Rattle.law_lanes.proofs.Laws.{Run-before}
+use Rattle.history_model.proofs.facts.RequestLemmas.{same_op_true, same_op_self}
+use Rattle.law_bound.proofs.reach.Laws.{lane_there}
 use Rattle.list_facts.proofs.AnyLemmas.{any_some, found_any}
-use Rattle.law_reads.proofs.Laws.{read_answered, not_posted, no_reading, read_or_not}
+use Rattle.law_fresh.proofs.reads.Laws.{read_answered, not_posted, no_reading, read_or_not}
 
 -- A history is the end of a longer one.
 pub record Front (before h : List Event) : Type 0 where

@@ -7,7 +7,7 @@ use Rattle.history_model.specs.Runs.{Run, Complete}
 use Rattle.history_model.specs.Local.{Matched}
 use Rattle.history_model.specs.Knowledge.{Fresh}
 use Rattle.history_model.specs.Left.{left_of}
-use Rattle.law_progress.specs.Next.{Next}
+use Rattle.law_lanes.specs.progress.Next.{Next}
 
 -- of one run
 pub record LawsOfRun (board : Board) (h : List Event) : Type 0 where

@@ -17,9 +17,11 @@ ghost use Rattle.history_model.specs.Knowledge.{Fresh, Told};
 ghost use Rattle.law_fresh.specs.Told.{was_told};
 ghost use Rattle.law_fresh.specs.Laws.{LawsOfRun};
 
+pub mod reads;
+
 use law_bound::runs_end;
-use law_progress::runs_go_on;
-use law_slots::{matched, well_formed_boards};
+use law_lanes::{matched, runs_go_on, well_formed_boards};
+pub use reads::reads_return;
 
 /// Every run of every valid board is fresh: every read that was told of a write, and reads a word of
 /// it, reads after the write has landed; every read returned what it last read at its target; and
@@ -31,8 +33,10 @@ pub fn runs_are_fresh()
 /// An operation was told of a write exactly where it knows of it: it stands behind one with which its
 /// master came to know of the write, or it is a read that ended with a value and was taught of it.
 pub fn told_is_known()
-    ensures known { (board : Board) (h : List Event) (w : OpId) (r : OpId) → IsValid board → Run board h → Told board h w r → was_told board h w r ≡ true }
-    ensures told { (board : Board) (h : List Event) (w : OpId) (r : OpId) → IsValid board → Run board h → was_told board h w r ≡ true → Told board h w r }
+    ensures known { (board : Board) (h : List Event) (w : OpId) (r : OpId) → IsValid board →
+        Run board h → Told board h w r → was_told board h w r ≡ true }
+    ensures told { (board : Board) (h : List Event) (w : OpId) (r : OpId) → IsValid board →
+        Run board h → was_told board h w r ≡ true → Told board h w r }
 {}
 
 /// What holds of every run of every valid board: it is matched and fresh, it is no longer than the

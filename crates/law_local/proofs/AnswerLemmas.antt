@@ -26,17 +26,17 @@ use Rattle.history_model.specs.Words.{through, without, Landing, landings_of, la
 use Rattle.history_model.specs.Answers.{stalls_used, target_step, target_answer, bridge_to, answer_by, answer_to, answer_in, answer, wants}
 use Rattle.history_model.specs.Runs.{Allowed, Run}
 use Rattle.history_model.specs.Local.{bus_of}
-use Rattle.law_order.specs.Order.{is_posted_op}
+use Rattle.law_lanes.specs.order.Order.{is_posted_op}
 use Rattle.law_local.specs.Known.{events_on, known, AllJoint}
 use Rattle.law_local.proofs.ThroughLemmas.{through_local, through_on}
 use Rattle.law_local.proofs.PlaceLemmas.{target_on_bus, answered_target, event_on_bus, stalls_local}
 use Rattle.law_local.proofs.TransferLemmas.{lane_answer_local}
 use Rattle.board_model.proofs.Laws.{op_there}
 use Rattle.law_local.proofs.ApartLemmas.{IsFit}
-use Rattle.history_facts.proofs.RequestLemmas.{request_is_of}
-use Rattle.law_slots.proofs.Laws.{delayed-not_parted, claim_starts}
-use Rattle.law_order.proofs.Laws.{op_is_posted, Short, Short-run, rest_claimed, claims_from}
-use Rattle.history_facts.proofs.PostedLemmas.{IsTarget, write_not_read, memory_no_header}
+use Rattle.history_model.proofs.facts.RequestLemmas.{request_is_of}
+use Rattle.law_lanes.proofs.Laws.{delayed-not_parted, claim_starts}
+use Rattle.law_lanes.proofs.order.Laws.{op_is_posted, Short, Short-run, rest_claimed, claims_from}
+use Rattle.history_model.proofs.facts.PostedLemmas.{IsTarget, write_not_read, memory_no_header}
 
 -- where a target claims
 is_target : (place : Place) (t : ℕ) → place ≡ Target t → IsTarget place

@@ -11,8 +11,8 @@ use Rattle.board_model.specs.declared.bridge.Bridge.{Bridge}
 use Rattle.board_model.specs.declared.bridge.Lane.{Lane as BridgeLane}
 use Rattle.board_model.specs.declared.bridge.Place.{Place}
 use Rattle.board_model.specs.declared.bridge.Place.TheVariants.{Lane}
-use Rattle.board_laws.specs.Trees.{IsTree}
-use Rattle.board_laws.proofs.Laws.{IsTree-valid}
+use Rattle.board_model.specs.form_laws.Trees.{IsTree}
+use Rattle.board_model.proofs.form_laws.Laws.{IsTree-valid}
 use Rattle.history_model.specs.Answers.{answer_in, bridge_to}
 use Rattle.history_model.specs.Lanes.{empty_lane}
 use Rattle.history_model.specs.Runs.{Run}
@@ -23,12 +23,12 @@ use Rattle.history_model.specs.declared.event.Event.{Event}
 use Rattle.history_model.specs.declared.event.Event.TheVariants.{Act, Arrive}
 use Rattle.history_model.specs.declared.event.Step.{Step}
 use Rattle.history_model.specs.declared.item.Answer.TheVariants.{Gives}
-use Rattle.history_facts.proofs.AnswerLemmas.{answered_in}
-use Rattle.law_slots.proofs.Laws.{claim_starts, Quiet-empty, run_no_bridge, WellFormed-numbers, WellFormed-single}
-use Rattle.law_slots.specs.Depths.{DifferentNumbers}
-use Rattle.law_slots.specs.Phases.{DelayedAreSingle}
-use Rattle.law_order.specs.OnWay.{WritesHaveOneClaimant}
-use Rattle.law_order.proofs.Laws.{OneClaimant-formed}
+use Rattle.history_model.proofs.facts.AnswerLemmas.{answered_in}
+use Rattle.law_lanes.proofs.Laws.{claim_starts, Quiet-empty, run_no_bridge, WellFormed-numbers, WellFormed-single}
+use Rattle.law_lanes.specs.Depths.{DifferentNumbers}
+use Rattle.law_lanes.specs.Phases.{DelayedAreSingle}
+use Rattle.law_lanes.specs.order.OnWay.{WritesHaveOneClaimant}
+use Rattle.law_lanes.proofs.order.Laws.{OneClaimant-formed}
 
 -- what is asked of a board here
 pub record IsFit (board : Board) : Type 0 where

@@ -21,7 +21,7 @@ use Rattle.law_local.proofs.JointLemmas.{start_back}
 use Rattle.law_local.proofs.ApartLemmas.{IsFit}
 use Rattle.law_local.proofs.AnswerLemmas.{answer_local}
 use Rattle.law_local.proofs.TransferLemmas.{wants_local}
-use Rattle.law_progress.proofs.Laws.{Sound-valid, goes_on}
+use Rattle.law_lanes.proofs.progress.Laws.{Sound-valid, goes_on}
 
 -- what is the front of nothing is nothing
 front_empty : (xs ys : List Carried) → xs ++ ys ≡ [] → xs ≡ []

@@ -22,7 +22,7 @@ use Rattle.law_local.proofs.HalfLemmas.{Half, MovesHalf}
 use Rattle.law_local.specs.Known.{Joint}
 use Rattle.law_local.proofs.HalfLemmas.{enters_half, ends_half, arrives_half}
 use Rattle.law_local.proofs.JointLemmas.{end_back, start_back, moved_here, moved_back, moved_other, by_lanes, Joints, Joints-moved}
-use Rattle.history_facts.proofs.BridgeLemmas.{flip, lane_back_back, both_back}
+use Rattle.history_model.proofs.facts.BridgeLemmas.{flip, lane_back_back, both_back}
 
 -- the worlds of the buses, with that of one bus replaced
 abbrev pub replaced : (ℕ → World) → ℕ → World → ℕ → World

@@ -23,7 +23,7 @@ use Rattle.history_model.specs.World.{World, both, moved, is_own, slot_found, en
 use Rattle.history_model.specs.Answers.{wants}
 use Rattle.history_model.specs.Runs.{Allowed}
 use Rattle.history_model.specs.Local.{bus_of}
-use Rattle.law_slots.proofs.Laws.{wants-at}
+use Rattle.law_lanes.proofs.Laws.{wants-at}
 use Rattle.law_local.proofs.JointLemmas.{end_back, start_back, moved_here, moved_back, moved_other, by_lanes}
 use Rattle.law_local.proofs.ApartLemmas.{IsFit, place_apart}
 

@@ -22,12 +22,12 @@ use Rattle.history_model.specs.World.{World, same_lane, both, moved, enters, at_
 use Rattle.history_model.specs.Answers.{presents, wants_in}
 use Rattle.history_model.specs.Runs.{mark_of_first, next_mark_in}
 use Rattle.history_model.specs.Local.{bus_of, local_world, AllowedLocally, LocalRun}
-use Rattle.law_order.specs.Sent.{arrives_by, arrivals}
+use Rattle.law_lanes.specs.order.Sent.{arrives_by, arrivals}
 use Rattle.law_local.proofs.JointLemmas.{start_back, moved_here, moved_back, moved_other, by_lanes}
 use Rattle.law_local.proofs.EventLemmas.{Grows, initiator_grows}
 use Rattle.law_local.proofs.ApartLemmas.{IsFit, IsApart, place_apart}
 use Rattle.law_local.proofs.FlightLemmas.{enters_flight, none_grow, effect_flight, arrives_back}
-use Rattle.history_facts.proofs.BridgeLemmas.{same_lane_true, same_lane_self, same_lane_symm}
+use Rattle.history_model.proofs.facts.BridgeLemmas.{same_lane_true, same_lane_self, same_lane_symm}
 
 -- one after the other
 grows_then : (a b c : LaneState) → Grows a b → Grows b c → Grows a c

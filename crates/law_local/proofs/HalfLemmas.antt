@@ -15,7 +15,7 @@ use Rattle.history_model.specs.declared.item.Carried.TheVariants.{Post, Ask, Gon
 use Rattle.history_model.specs.declared.item.Slot.{Slot}
 use Rattle.history_model.specs.Lanes.{Both, has_number, is_of, is_done_for, lowest_free, post_enters, ask_enters, reply_to, item_ends, slot_taken, Effect, Stands, Credits, Frees, Drops, effect_of, takes_effect, asks_in, dones_in, came_off, arrives_first, arrives}
 use Rattle.history_model.specs.World.{is_own, slot_found, enters}
-use Rattle.history_facts.proofs.BridgeLemmas.{flip}
+use Rattle.history_model.proofs.facts.BridgeLemmas.{flip}
 
 -- a bus knows its half of a bridge: `here` is the lane that begins on the bus, `back` the lane that ends there;
 -- `later` is what will still be sent to it

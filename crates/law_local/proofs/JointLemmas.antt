@@ -10,7 +10,7 @@ use Rattle.history_model.specs.Lanes.{LaneState, Both}
 use Rattle.history_model.specs.World.{World, same_lane, both, moved}
 use Rattle.law_local.proofs.HalfLemmas.{Half, Sends, MovesHalf}
 use Rattle.law_local.specs.Known.{Joint}
-use Rattle.history_facts.proofs.BridgeLemmas.{same_lane_true, same_lane_self, same_lane_back}
+use Rattle.history_model.proofs.facts.BridgeLemmas.{same_lane_true, same_lane_self, same_lane_back}
 
 -- a lane back ends where the lane begins
 pub end_back : (board : Board) (lane : BridgeLane) → end_of board (lane_back lane) ≡ start_of board lane

@@ -14,14 +14,14 @@ use Rattle.history_model.specs.declared.item.Carried.{Carried}
 use Rattle.history_model.specs.Lanes.{LaneState}
 use Rattle.history_model.specs.World.{same_lane}
 use Rattle.history_model.specs.Local.{bus_of, local_world, AllowedLocally, LocalRun}
-use Rattle.law_order.specs.Sent.{arrives_by, arrivals}
+use Rattle.law_lanes.specs.order.Sent.{arrives_by, arrivals}
 use Rattle.law_local.specs.Known.{events_on, coming_to, known}
 use Rattle.law_local.specs.Woven.{IsTimely, Woven, AllWoven}
 use Rattle.law_local.specs.Stamps.{events_of, items_put, put_stamps, IsInTime, AllInTime, stamps_of, LocalParts, NeverFall, stamped_on, IsMerged}
 use Rattle.law_local.proofs.EventLemmas.{IsFront, front_before}
 use Rattle.law_local.proofs.ApartLemmas.{IsFit, IsApart}
 use Rattle.law_local.proofs.GrowLemmas.{event_grows, all_counted}
-use Rattle.history_facts.proofs.BridgeLemmas.{same_lane_true}
+use Rattle.history_model.proofs.facts.BridgeLemmas.{same_lane_true}
 
 -- the events of a bus are the same with and without stamps
 pub stamped_events : (board : Board) (bus : ℕ) (all : List Stamped) → events_on board bus (events_of all) ≡ events_of (stamped_on board bus all)

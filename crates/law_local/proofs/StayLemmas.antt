@@ -26,11 +26,11 @@ use Rattle.history_model.specs.Words.{through, without}
 use Rattle.history_model.specs.Answers.{is_on, is_turn, presents, bridge_to, wants, delayed_answer, posted_answer, lane_answer, target_answer, answer_by, answer_to}
 use Rattle.history_model.specs.Runs.{Run}
 use Rattle.history_model.specs.Local.{bus_of}
-use Rattle.history_facts.proofs.RequestLemmas.{request_is_of}
-use Rattle.history_facts.proofs.PostedLemmas.{IsTarget, write_not_read, memory_no_header}
-use Rattle.law_slots.proofs.Laws.{delayed-not_parted, claim_starts}
-use Rattle.law_order.specs.Order.{is_posted_op}
-use Rattle.law_order.proofs.Laws.{op_is_posted, Short, Short-run, claims_from}
+use Rattle.history_model.proofs.facts.RequestLemmas.{request_is_of}
+use Rattle.history_model.proofs.facts.PostedLemmas.{IsTarget, write_not_read, memory_no_header}
+use Rattle.law_lanes.proofs.Laws.{delayed-not_parted, claim_starts}
+use Rattle.law_lanes.specs.order.Order.{is_posted_op}
+use Rattle.law_lanes.proofs.order.Laws.{op_is_posted, Short, Short-run, claims_from}
 use Rattle.law_local.specs.Known.{events_on}
 use Rattle.law_local.specs.Stays.{Stays}
 use Rattle.law_local.proofs.JointLemmas.{end_back}

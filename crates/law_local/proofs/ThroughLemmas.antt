@@ -14,7 +14,7 @@ use Rattle.board_model.specs.declared.board.Board.{Board}
 use Rattle.board_model.specs.Requests.{op_of, request_on, request_of, is_posted}
 use Rattle.board_model.specs.Claims.{claim}
 use Rattle.board_model.specs.Ways.{end_of, Route, route_by, route_within, route_of, way}
-use Rattle.board_laws.specs.Trees.{IsTree}
+use Rattle.board_model.specs.form_laws.Trees.{IsTree}
 use Rattle.history_model.specs.declared.event.By.{By}
 use Rattle.history_model.specs.declared.event.By.TheVariants.{Master, Lane as ByLane}
 use Rattle.history_model.specs.declared.event.Step.{Step}
@@ -29,15 +29,15 @@ use Rattle.history_model.specs.Words.{phases_parted, parted_by, through}
 use Rattle.history_model.specs.Answers.{presents, wants, answer}
 use Rattle.history_model.specs.Runs.{Allowed, Run}
 use Rattle.history_model.specs.Local.{bus_of}
-use Rattle.law_order.specs.Order.{posts, is_posted_in, is_posted_op}
-use Rattle.law_order.specs.OnWay.{WritesHaveOneClaimant, OnWay}
+use Rattle.law_lanes.specs.order.Order.{posts, is_posted_in, is_posted_op}
+use Rattle.law_lanes.specs.order.OnWay.{WritesHaveOneClaimant, OnWay}
 use Rattle.law_local.specs.Known.{events_on}
-use Rattle.history_facts.proofs.BridgeLemmas.{same_lane_true}
-use Rattle.law_slots.proofs.Laws.{wants-at, RightKind-run}
-use Rattle.history_facts.proofs.RequestLemmas.{same_op_true}
-use Rattle.law_order.proofs.Laws.{posts-less_first, write_lands, OnWay-stands, whole_target}
-use Rattle.history_facts.proofs.PostedLemmas.{IsTarget}
-use Rattle.history_facts.proofs.WantsLemmas.{master_bus}
+use Rattle.history_model.proofs.facts.BridgeLemmas.{same_lane_true}
+use Rattle.law_lanes.proofs.Laws.{wants-at, RightKind-run}
+use Rattle.history_model.proofs.facts.RequestLemmas.{same_op_true}
+use Rattle.law_lanes.proofs.order.Laws.{posts-less_first, write_lands, OnWay-stands, whole_target}
+use Rattle.history_model.proofs.facts.PostedLemmas.{IsTarget}
+use Rattle.history_model.proofs.facts.WantsLemmas.{master_bus}
 
 -- a way that begins where a target claims ends there
 stops_by : (onwards : BridgeLane → Route) (bus : ℕ) (place : Place) → IsTarget place → (route_by onwards bus place).bus ≡ bus

@@ -26,7 +26,7 @@ use Rattle.history_model.specs.Runs.{Allowed, Run}
 use Rattle.history_model.specs.Local.{bus_of}
 use Rattle.law_local.specs.Known.{events_on, known, AllJoint}
 use Rattle.law_local.proofs.JointLemmas.{end_back}
-use Rattle.law_slots.proofs.Laws.{wants-at}
+use Rattle.law_lanes.proofs.Laws.{wants-at}
 
 -- a master is on one bus
 one_bus : (a b : ℕ) (found : Option MasterAgent) → is_on a found ≡ true → is_on b found ≡ true → a ≡ b

@@ -24,7 +24,7 @@ use Rattle.law_local.proofs.EventLemmas.{replaced, act_joint, arrive_joint, IsFr
 use Rattle.law_local.proofs.TransferLemmas.{wants_local}
 use Rattle.law_local.proofs.ApartLemmas.{IsFit, something_apart, place_apart}
 use Rattle.law_local.proofs.AnswerLemmas.{answer_local}
-use Rattle.law_slots.proofs.Laws.{wants-at}
+use Rattle.law_lanes.proofs.Laws.{wants-at}
 
 -- nothing is presented of nothing
 nothing_presented : (board : Board) (bus : ℕ) (o : OpId) (standing : List Carried) → standing ≡ [] → presents board bus o standing ≡ true → ⊥

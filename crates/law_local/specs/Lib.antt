@@ -4,3 +4,5 @@ pub mod Stamps
 pub mod Answered
 pub mod Quiet
 pub mod Stays
+pub mod room
+pub mod phases

@@ -9,7 +9,7 @@ use Rattle.history_model.specs.declared.event.Event.TheVariants.{Act, Arrive}
 use Rattle.history_model.specs.declared.event.Stamped.{Stamped}
 use Rattle.history_model.specs.declared.item.Carried.{Carried}
 use Rattle.history_model.specs.Local.{bus_of, local_world, LocalRun}
-use Rattle.law_order.specs.Sent.{arrivals}
+use Rattle.law_lanes.specs.order.Sent.{arrivals}
 use Rattle.law_local.specs.Known.{coming_to}
 
 -- Events of one bus. All lists of events stand newest first.

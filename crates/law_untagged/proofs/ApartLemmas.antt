@@ -20,7 +20,7 @@ use Rattle.board_model.specs.Requests.{command_of, op_of, request_on, request_of
 use Rattle.board_model.specs.Claims.{claim, claim_in_space}
 use Rattle.board_model.specs.Ways.{end_of, start_of, way}
 use Rattle.board_model.specs.WellFormed.{is_well_formed_op}
-use Rattle.board_laws.specs.Trees.{IsTree}
+use Rattle.board_model.specs.form_laws.Trees.{IsTree}
 use Rattle.history_model.specs.declared.event.By.{By}
 use Rattle.history_model.specs.declared.event.By.TheVariants.{Master, Lane as ByLane}
 use Rattle.history_model.specs.declared.event.Event.{Event}
@@ -33,21 +33,21 @@ use Rattle.history_model.specs.Program.{turn_of}
 use Rattle.history_model.specs.Words.{through, without}
 use Rattle.history_model.specs.Answers.{asked, asks_same, presents, is_on, is_turn, wants}
 use Rattle.history_model.specs.Runs.{Run}
-use Rattle.law_slots.specs.Slots.{AskNamed, IsHeldFor}
-use Rattle.law_slots.specs.Depths.{DifferentNumbers}
-use Rattle.law_slots.specs.Phases.{DelayedAreSingle}
-use Rattle.law_slots.specs.Kinds.{RightKind}
-use Rattle.law_slots.specs.Latched.{IsAt}
-use Rattle.law_slots.specs.Owners.{Waits}
-use Rattle.law_slots.proofs.ClaimLemmas.{claim_starts}
-use Rattle.history_facts.proofs.EqualLemmas.{same_initiator-self}
-use Rattle.law_slots.proofs.KindLemmas.{RightKind-run}
-use Rattle.law_slots.proofs.OwnersLatchLemmas.{wants-waits}
-use Rattle.law_slots.proofs.PartLemmas.{delayed-not_parted}
-use Rattle.history_facts.proofs.RequestLemmas.{request_is_of, same_op_self, same_op_true}
-use Rattle.law_slots.proofs.SlotsRunLemmas.{Slots-run}
-use Rattle.law_reach.specs.Reach.{last_of, presenter, Reaches}
-use Rattle.law_reach.proofs.ReachLemmas.{Known, placed, trace, Reaches-run}
+use Rattle.law_lanes.specs.Slots.{AskNamed, IsHeldFor}
+use Rattle.law_lanes.specs.Depths.{DifferentNumbers}
+use Rattle.law_lanes.specs.Phases.{DelayedAreSingle}
+use Rattle.law_lanes.specs.Kinds.{RightKind}
+use Rattle.law_lanes.specs.Latched.{IsAt}
+use Rattle.law_lanes.specs.Owners.{Waits}
+use Rattle.law_lanes.proofs.ClaimLemmas.{claim_starts}
+use Rattle.history_model.proofs.facts.EqualLemmas.{same_initiator-self}
+use Rattle.law_lanes.proofs.KindLemmas.{RightKind-run}
+use Rattle.law_lanes.proofs.OwnersLatchLemmas.{wants-waits}
+use Rattle.law_lanes.proofs.PartLemmas.{delayed-not_parted}
+use Rattle.history_model.proofs.facts.RequestLemmas.{request_is_of, same_op_self, same_op_true}
+use Rattle.law_lanes.proofs.SlotsRunLemmas.{Slots-run}
+use Rattle.law_bound.specs.reach.Reach.{last_of, presenter, Reaches}
+use Rattle.law_bound.proofs.reach.ReachLemmas.{Known, placed, trace, Reaches-run}
 use Rattle.law_untagged.specs.Apart.{TakesLane, Apart}
 use Rattle.law_untagged.specs.Forgets.{unnamed}
 use Rattle.law_untagged.proofs.ForgetLemmas.{Alike}

@@ -16,8 +16,8 @@ use Rattle.board_model.specs.Ways.{way, start_of}
 use Rattle.board_model.specs.Valid.{some_two}
 use Rattle.history_model.specs.World.{same_lane}
 use Rattle.std.proofs.lemmas.Bool.{and_parts}
-use Rattle.history_facts.proofs.BridgeLemmas.{same_lane_true, same_lane_self}
-use Rattle.history_facts.proofs.EqualLemmas.{same_requests-symm}
+use Rattle.history_model.proofs.facts.BridgeLemmas.{same_lane_true, same_lane_self}
+use Rattle.history_model.proofs.facts.EqualLemmas.{same_requests-symm}
 use Rattle.law_untagged.specs.Apart.{TakesLane, Apart}
 use Rattle.law_untagged.specs.ApartTest.{delayed_way, meets_on, ops_meet, masters_meet, is_apart}
 use Rattle.law_untagged.proofs.HeardLemmas.{any_some, found_any}

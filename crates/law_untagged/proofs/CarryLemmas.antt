@@ -34,13 +34,13 @@ use Rattle.history_model.specs.World.{anyone, World, same_lane, both, moved, is_
 use Rattle.history_model.specs.Program.{Ending, ending_of, ended_by, master_outcome}
 use Rattle.history_model.specs.Local.{is_ask_of}
 use Rattle.history_model.specs.Knowledge.{value_in, value_of_ending, outcome_in, ends_as, ends_with, or_else, given_value, Reading, reading_of, reading_at, reading_by, reading_or}
-use Rattle.law_slots.specs.Slots.{hit, ask_weight, done_weight, slot_weight, places, Slots}
-use Rattle.law_slots.proofs.HeldLemmas.{hit-same}
-use Rattle.history_facts.proofs.BridgeLemmas.{flip, both_back, same_lane_true, same_lane_self, same_lane_back, same_lane_symm, moved_keeps, moved_gives}
-use Rattle.history_facts.proofs.AnswerLemmas.{AtLaneIn, answered_in}
-use Rattle.history_facts.proofs.KeptLemmas.{place_keeps}
-use Rattle.law_slots.proofs.SlotsRunLemmas.{Slots-kept, Slots-run_by}
-use Rattle.history_facts.proofs.RequestLemmas.{same_op_true}
+use Rattle.law_lanes.specs.Slots.{hit, ask_weight, done_weight, slot_weight, places, Slots}
+use Rattle.law_lanes.proofs.HeldLemmas.{hit-same}
+use Rattle.history_model.proofs.facts.BridgeLemmas.{flip, both_back, same_lane_true, same_lane_self, same_lane_back, same_lane_symm, moved_keeps, moved_gives}
+use Rattle.history_model.proofs.facts.AnswerLemmas.{AtLaneIn, answered_in}
+use Rattle.history_model.proofs.facts.KeptLemmas.{place_keeps}
+use Rattle.law_lanes.proofs.SlotsRunLemmas.{Slots-kept, Slots-run_by}
+use Rattle.history_model.proofs.facts.RequestLemmas.{same_op_true}
 use Rattle.law_untagged.specs.Untagged.{untagged_world, UntaggedAllowed, UntaggedRun}
 use Rattle.law_untagged.specs.Origins.{Origins, origin_in, taken_from, taken_in, source_of, asks_for, ends_item, answers, origin_by, origins_of, ending_reading, untagged_got}
 

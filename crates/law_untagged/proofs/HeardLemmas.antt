@@ -25,7 +25,7 @@ use Rattle.history_model.specs.Program.{Ending, ending_of, ended, master_outcome
 use Rattle.history_model.specs.Words.{Landing, landed}
 use Rattle.history_model.specs.Knowledge.{ends_as, has_ended, Reading, reading_of, reading_at, reading_by, reading_or, has_landed, is_landing_of, stands_after}
 use Rattle.std.proofs.lemmas.Bool.{and_parts}
-use Rattle.history_facts.proofs.RequestLemmas.{same_op_true, same_op_self}
+use Rattle.history_model.proofs.facts.RequestLemmas.{same_op_true, same_op_self}
 use Rattle.law_untagged.specs.Untagged.{untagged_world}
 use Rattle.law_untagged.specs.Origins.{Origins, origin_in, taken_from, taken_in, source_of, answers, origin_by, origin_after, origins_of, ending_reading, untagged_got}
 use Rattle.law_untagged.specs.Heard.{Since, is_behind, knows, speaks, heard, first_known, untagged_since}

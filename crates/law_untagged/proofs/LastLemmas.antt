@@ -13,7 +13,7 @@ use Rattle.board_model.specs.declared.board.Board.{Board}
 use Rattle.board_model.specs.Requests.{op_of, reads}
 use Rattle.board_model.specs.WellFormed.{is_well_formed_op}
 use Rattle.board_model.specs.Valid.{IsValid}
-use Rattle.board_laws.proofs.ValidLemmas.{IsTree-valid}
+use Rattle.board_model.proofs.form_laws.ValidLemmas.{IsTree-valid}
 use Rattle.history_model.specs.declared.event.By.{By}
 use Rattle.history_model.specs.declared.event.By.TheVariants.{Master, Lane as ByLane}
 use Rattle.history_model.specs.declared.event.Step.{Step}
@@ -29,11 +29,11 @@ use Rattle.history_model.specs.World.{anyone, World, both, is_own, world_of}
 use Rattle.history_model.specs.Program.{Ending, ending_of, master_outcome}
 use Rattle.history_model.specs.Knowledge.{ends_as, ends_with, value_of_ending, given_value, up_to_end, Reading, reading_at, reading_by, reading_in, reading_or, last_reading, got, has_landed, saw_in, saw, later, tells, Chain, Told, Fresh}
 use Rattle.history_model.specs.Runs.{Run}
-use Rattle.law_slots.specs.Owners.{TakesItsOwn}
-use Rattle.history_facts.proofs.AnswerLemmas.{answered_at, answered_in}
-use Rattle.law_slots.proofs.MatchedLemmas.{TakesItsOwn-run}
-use Rattle.history_facts.proofs.RequestLemmas.{same_op_self, same_op_true}
-use Rattle.law_slots.proofs.WellFormedLemmas.{WellFormed-numbers, WellFormed-single}
+use Rattle.law_lanes.specs.Owners.{TakesItsOwn}
+use Rattle.history_model.proofs.facts.AnswerLemmas.{answered_at, answered_in}
+use Rattle.law_lanes.proofs.MatchedLemmas.{TakesItsOwn-run}
+use Rattle.history_model.proofs.facts.RequestLemmas.{same_op_self, same_op_true}
+use Rattle.law_lanes.proofs.WellFormedLemmas.{WellFormed-numbers, WellFormed-single}
 use Rattle.board_model.proofs.Laws.{op_formed}
 use Rattle.law_fresh.specs.Cover.{items}
 use Rattle.law_fresh.proofs.StillLemmas.{Still, event_still}

@@ -21,8 +21,8 @@ use Rattle.history_model.specs.declared.item.Slot.{Slot}
 use Rattle.history_model.specs.Lanes.{LaneState, Both, lowest_free, is_of, is_done_for, reply_to, item_ends, Effect, Stands, Credits, Frees, Drops, effect_of, takes_effect, came_off, arrives_first, arrives}
 use Rattle.board_model.specs.Ways.{lane_back}
 use Rattle.history_model.specs.World.{anyone, World, both, moved, is_own, slot_found, enters, at_place, lane_outcome, leaves, at_initiator}
-use Rattle.history_facts.proofs.BridgeLemmas.{moved_keeps}
-use Rattle.history_facts.proofs.RequestLemmas.{same_op_true}
+use Rattle.history_model.proofs.facts.BridgeLemmas.{moved_keeps}
+use Rattle.history_model.proofs.facts.RequestLemmas.{same_op_true}
 use Rattle.law_untagged.specs.Untagged.{untagged_after}
 
 module _ (P : Carried → Type 0) where

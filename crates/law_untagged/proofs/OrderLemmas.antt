@@ -15,7 +15,7 @@ use Rattle.history_model.specs.declared.event.Event.{Event}
 use Rattle.history_model.specs.Program.{Ending, ended, present, next_op, next_try, meets, follows_op, follows_in, follows, turn_after, turn_of}
 use Rattle.history_model.specs.Words.{Landing, brought, landed}
 use Rattle.history_model.specs.Knowledge.{outcome_in, ends_as, has_ended, is_land_of, has_landed, stands_after}
-use Rattle.history_facts.proofs.RequestLemmas.{same_op_true}
+use Rattle.history_model.proofs.facts.RequestLemmas.{same_op_true}
 use Rattle.law_untagged.specs.Orderly.{Begun, InOrder, Orderly, Front}
 
 pub or_right : (a b : Bool) → b ≡ true → (a || b) ≡ true

@@ -9,7 +9,7 @@ use Rattle.board_model.specs.declared.op.Op.{Op}
 use Rattle.board_model.specs.declared.board.Board.{Board}
 use Rattle.board_model.specs.Requests.{op_of}
 use Rattle.board_model.specs.WellFormed.{is_well_formed_op}
-use Rattle.board_laws.specs.Trees.{IsTree}
+use Rattle.board_model.specs.form_laws.Trees.{IsTree}
 use Rattle.history_model.specs.declared.event.By.{By}
 use Rattle.history_model.specs.declared.event.By.TheVariants.{Master, Lane as ByLane}
 use Rattle.history_model.specs.declared.event.Mark.{Mark}
@@ -24,9 +24,9 @@ use Rattle.history_model.specs.Lanes.{LaneState}
 use Rattle.history_model.specs.World.{anyone, World, both, enters, at_place, at_initiator, lane_outcome, after, world_of}
 use Rattle.history_model.specs.Answers.{wants, answer}
 use Rattle.history_model.specs.Runs.{mark_of_first, next_mark_in, Allowed, Run}
-use Rattle.law_slots.specs.Depths.{DifferentNumbers}
-use Rattle.law_slots.specs.Phases.{DelayedAreSingle}
-use Rattle.history_facts.proofs.AnswerLemmas.{Gives_at, answered_at}
+use Rattle.law_lanes.specs.Depths.{DifferentNumbers}
+use Rattle.law_lanes.specs.Phases.{DelayedAreSingle}
+use Rattle.history_model.proofs.facts.AnswerLemmas.{Gives_at, answered_at}
 use Rattle.law_untagged.specs.Untagged.{untagged_after, untagged_world, untagged_wants, untagged_answer, UntaggedAllowed, UntaggedRun}
 use Rattle.law_untagged.specs.Apart.{Apart}
 use Rattle.law_untagged.specs.Forgets.{forget}

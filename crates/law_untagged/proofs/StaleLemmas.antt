@@ -22,7 +22,7 @@ use Rattle.history_model.specs.declared.event.Event.{Event}
 use Rattle.history_model.specs.Program.{Ending, ended}
 use Rattle.history_model.specs.Knowledge.{ends_as, Reading, has_landed, words_named, is_write}
 use Rattle.std.proofs.lemmas.Bool.{and_parts}
-use Rattle.history_facts.proofs.RequestLemmas.{same_op_true, same_op_self}
+use Rattle.history_model.proofs.facts.RequestLemmas.{same_op_true, same_op_self}
 use Rattle.law_untagged.specs.Untagged.{UntaggedRun}
 use Rattle.law_untagged.specs.Origins.{ending_reading, untagged_got, UntaggedTold, UntaggedFresh}
 use Rattle.law_untagged.specs.Heard.{untagged_was_told}

@@ -24,7 +24,7 @@ use Rattle.history_model.specs.Program.{Ending, ended, turn_of}
 use Rattle.history_model.specs.Words.{through, without, brings, Landing, landings_at, landings_in, landings_of, landings_by, brought, landed}
 use Rattle.history_model.specs.Knowledge.{ends_as, has_ended, Reading, has_landed, is_landing_of, saw_in, stands_after, later, is_write}
 use Rattle.std.proofs.lemmas.Bool.{and_parts}
-use Rattle.history_facts.proofs.RequestLemmas.{same_op_true, same_op_self, request_is_of}
+use Rattle.history_model.proofs.facts.RequestLemmas.{same_op_true, same_op_self, request_is_of}
 use Rattle.law_untagged.specs.Origins.{ending_reading, untagged_got, untagged_saw, untagged_tells, UntaggedChain, one, more, UntaggedTold}
 use Rattle.law_untagged.specs.Heard.{Since, is_behind, knows, speaks, heard, first_known, untagged_since, untagged_was_told}
 use Rattle.law_untagged.specs.Orderly.{Begun, InOrder, Orderly, Front}

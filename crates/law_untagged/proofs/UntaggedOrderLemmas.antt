@@ -41,7 +41,7 @@ use Rattle.history_model.specs.Words.{through, without, value_of, brings, Landin
 use Rattle.history_model.specs.Answers.{completion_passes, presents_item_by, is_on, is_turn, stalls_used, target_step, target_answer, header_answer, completion_answer, delayed_answer, posted_answer, lane_answer, bridge_to, answer_by, answer_to, answer_in}
 use Rattle.history_model.specs.Knowledge.{is_land_step, is_land_of}
 use Rattle.std.proofs.lemmas.Bool.{and_parts}
-use Rattle.history_facts.proofs.RequestLemmas.{same_op_true, same_op_self, request_is_of}
+use Rattle.history_model.proofs.facts.RequestLemmas.{same_op_true, same_op_self, request_is_of}
 use Rattle.law_untagged.specs.Untagged.{untagged_presents, untagged_world, untagged_wants, UntaggedAllowed, UntaggedRun}
 use Rattle.law_untagged.specs.Orderly.{Begun, InOrder, Orderly}
 use Rattle.law_untagged.proofs.OrderLemmas.{Begun-kept, Begun-turn}

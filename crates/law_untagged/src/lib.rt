@@ -20,18 +20,23 @@ ghost use Rattle.law_untagged.specs.Stale.{StaleRead, Breaks, breaks, stale_of};
 ghost use Rattle.law_untagged.specs.Sound.{SoundRun};
 ghost use Rattle.law_untagged.specs.Worked.{taken_board, taken_events};
 
+pub mod clocks;
+
+pub use clocks::{landed_starts_stay, told_by_clocks};
 use law_bound::runs_end;
 use law_fresh::runs_are_fresh;
-use law_slots::matched;
+use law_lanes::matched;
 
 /// On a board on which masters are apart, bridges that keep no local master have the very same runs.
 pub fn apart_runs_are_alike()
-    ensures { (board : Board) (h : List Event) → IsValid board → Apart board → UntaggedRun board h ↔ Run board h }
+    ensures { (board : Board) (h : List Event) → IsValid board → Apart board →
+        UntaggedRun board h ↔ Run board h }
 {}
 
 /// So each such run is fresh and matched, has at most as many events as the board's bound, and no stale read.
 pub fn apart_runs_are_sound()
-    ensures { (board : Board) (h : List Event) → IsValid board → Apart board → UntaggedRun board h → SoundRun board h }
+    ensures { (board : Board) (h : List Event) → IsValid board → Apart board →
+        UntaggedRun board h → SoundRun board h }
 {
     runs_end();
     runs_are_fresh();
@@ -45,14 +50,17 @@ pub fn apart_is_tested()
 
 /// On bridges that keep no local master, who was told of a write by a chain is who knows of it event by event.
 pub fn told_is_known()
-    ensures { (board : Board) (h : List Event) (w r : OpId) → UntaggedRun board h → UntaggedTold board h w r ↔ (untagged_was_told board h w r ≡ true) }
+    ensures { (board : Board) (h : List Event) (w r : OpId) → UntaggedRun board h →
+        UntaggedTold board h w r ↔ (untagged_was_told board h w r ≡ true) }
 {}
 
 /// The list of stale reads is exact: a read is in it where it breaks freshness, which is where it was told of a write
 /// and got a word of it from a reading before the write had landed; and it is empty exactly of a fresh run.
 pub fn stale_reads_break_freshness()
-    ensures each { (board : Board) (h : List Event) (w r : OpId) → UntaggedRun board h → (breaks board h w r ≡ true) ↔ Breaks board h w r }
-    ensures all { (board : Board) (h : List Event) → UntaggedRun board h → UntaggedFresh board h ↔ (stale_of board h ≡ []) }
+    ensures each { (board : Board) (h : List Event) (w r : OpId) → UntaggedRun board h →
+        (breaks board h w r ≡ true) ↔ Breaks board h w r }
+    ensures all { (board : Board) (h : List Event) → UntaggedRun board h →
+        UntaggedFresh board h ↔ (stale_of board h ≡ []) }
 {}
 
 /// The read that was given what another master's request had read before: it was told of the write.

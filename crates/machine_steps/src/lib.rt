@@ -20,14 +20,11 @@ pub use answers::{
     nobody, posted_answer, write_step,
 };
 pub use counts::PhaseCounts;
-pub use endings::{ended_op, lane_outcome, master_outcome, mode_of, unclaimed};
-pub use order::{completion_kind, completion_passes, kind_of, may_go, request_kind};
-pub use presented::{Presented, is_write, own_slot, reads, same_requests};
-pub use standing::{
-    before_completion, before_request, is_done_for, place_of_completion, place_of_request, standing_completion,
-    standing_request,
-};
-pub use turns::{first_turn, follows, is_on, present, stands_after, turn_after};
+pub use endings::{ended_op, lane_outcome, master_outcome};
+pub use order::{completion_kind, may_go, request_kind};
+pub use presented::{Presented, is_write, own_slot, reads};
+pub use standing::{is_done_for, place_of_completion, place_of_request, standing_request};
+pub use turns::{first_turn, follows, is_on, stands_after, turn_after};
 pub use words::{
     brought_by, dword_address, left_of, mask_of, merge_at, opens_as, value_at, word_read,
 };

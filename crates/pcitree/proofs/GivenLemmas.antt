@@ -3,8 +3,8 @@ use Rattle.std.proofs.Common.{◌≡◌, ℕ, ◌<◌, ◌^◌, Bool, true, fals
 use Rattle.std.specs.List.{list_all}
 use Rattle.std.proofs.lemmas.Bool.{and_parts}
 use Rattle.std.proofs.lemmas.Option.{none-some}
-use Rattle.command_generate.specs.Answers.{names_rounds}
-use Rattle.command_generate.proofs.ServedLemmas.{names_short}
+use Rattle.command_runs.specs.generate.Answers.{names_rounds}
+use Rattle.command_runs.proofs.generate.ServedLemmas.{names_short}
 use Rattle.program_status.specs.declared.status.Status.{Status}
 use Rattle.program_words.specs.declared.Form.{Form}
 use Rattle.program_words.specs.declared.Form.TheVariants as forms

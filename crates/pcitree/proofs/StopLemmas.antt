@@ -8,14 +8,14 @@ use Rattle.program_status.specs.Subjects.{Subject, subject_of, IsUsage, IsRefusa
 use Rattle.program_status.specs.Subjects.Subject.{Success, Memory, Words, Reading, Writing, Length, Input}
 use Rattle.program_input.specs.Refusals.{IsRefusing}
 use Rattle.program_input.proofs.RefusalLemmas.{board_refusing}
-use Rattle.command_check.proofs.ServedLemmas.{check_refusing}
-use Rattle.command_finish.proofs.ServedLemmas.{finish_refusing}
+use Rattle.command_traces.proofs.check.ServedLemmas.{check_refusing}
+use Rattle.command_runs.proofs.finish.ServedLemmas.{finish_refusing}
 use Rattle.program_input.proofs.RunLemmas.{run_refusing}
-use Rattle.command_generate.proofs.ServedLemmas.{generate_refusing}
-use Rattle.command_devices.proofs.ServedLemmas.{devices_refusing}
-use Rattle.command_draw.proofs.ServedLemmas.{draw_refusing}
-use Rattle.command_untagged.proofs.ServedLemmas.{untagged_refusing}
-use Rattle.command_import.proofs.ServedLemmas.{import_refusing}
+use Rattle.command_runs.proofs.generate.ServedLemmas.{generate_refusing}
+use Rattle.command_runs.proofs.devices.ServedLemmas.{devices_refusing}
+use Rattle.command_traces.proofs.draw.ServedLemmas.{draw_refusing}
+use Rattle.command_traces.proofs.untagged.ServedLemmas.{untagged_refusing}
+use Rattle.command_boards.proofs.import.ServedLemmas.{import_refusing}
 use Rattle.program_words.specs.declared.Form.{Form}
 use Rattle.program_words.specs.declared.Form.TheVariants as forms
 use Rattle.pcitree.specs.Words.{command_of, rows_in}

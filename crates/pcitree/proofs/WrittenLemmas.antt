@@ -1,9 +1,9 @@
 -- What `run`, `finish` and `devices` wrote is what `check` wants.
 use Rattle.std.proofs.Common.{◌≡◌, ℕ, true, List, Option, Some, IfSome, subst}
-use Rattle.command_run.specs.Answers.{AnswersRun}
+use Rattle.command_runs.specs.run.Answers.{AnswersRun}
 use Rattle.program_input.specs.Traces.{IsCompleteTrace}
-use Rattle.command_finish.specs.Answers.{AnswersFinish}
-use Rattle.command_devices.specs.Answers.{AnswersDevices}
+use Rattle.command_runs.specs.finish.Answers.{AnswersFinish}
+use Rattle.command_runs.specs.devices.Answers.{AnswersDevices}
 use Rattle.program_words.specs.declared.Form.{Form}
 use Rattle.program_words.specs.declared.Form.TheVariants as forms
 use Rattle.pcitree.specs.Answers.{AnswersTo}

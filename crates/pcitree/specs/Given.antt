@@ -3,7 +3,7 @@ use Rattle.std.specs.Prelude.{◌≡◌, ℕ, Bool, true, false, List, [], ◌�
 use Rattle.program_words.specs.declared.Form.{Form}
 use Rattle.program_words.specs.declared.Form.TheVariants as forms
 use Rattle.pcitree.specs.Words.{is_number}
-use Rattle.command_generate.specs.Answers.{names_rounds}
+use Rattle.command_runs.specs.generate.Answers.{names_rounds}
 use Rattle.program_words.specs.Shapes.{Shape, parts_of}
 
 -- the number among words of this form, if the form has one

@@ -5,22 +5,22 @@ use Rattle.std.specs.Cmp.Lexicographic.{pointwise}
 use Rattle.program_status.specs.declared.status.Status.{Status}
 use Rattle.program_input.specs.Boards.{RefusesBoard, IsBoardText}
 use Rattle.program_input.specs.Traces.{IsCompleteTrace, IsRunTrace, RefusesRun}
-use Rattle.command_run.specs.Answers.{AnswersRun}
-use Rattle.command_headers.specs.Answers.{AnswersHeaders}
-use Rattle.command_check.specs.Answers.{AnswersCheck, RefusesCheck}
-use Rattle.command_finish.specs.Answers.{AnswersFinish, RefusesFinish}
-use Rattle.command_audit.specs.Answers.{AnswersAudit}
-use Rattle.command_report.specs.Answers.{AnswersReport}
-use Rattle.command_waves.specs.Answers.{AnswersWaves}
-use Rattle.command_draw.specs.declared.rows.Rows.{Rows}
-use Rattle.command_draw.specs.Rows.{rows_of, names_event}
-use Rattle.command_draw.specs.Answers.{AnswersDraw, RefusesDraw, IsDrawable}
-use Rattle.command_untagged.specs.Answers.{AnswersUntagged, RefusesUntagged, IsUntaggedTrace}
-use Rattle.command_combine.specs.Answers.{AnswersCombine}
-use Rattle.command_generate.specs.Answers.{names_rounds, AnswersGenerate, RefusesGenerate, NamesRounds}
-use Rattle.command_devices.specs.Answers.{AnswersDevices}
-use Rattle.command_devices.specs.Refusals.{RefusesDevices, IsDeviceText}
-use Rattle.command_import.specs.Answers.{AnswersImport, RefusesImport, IsMachineText}
+use Rattle.command_runs.specs.run.Answers.{AnswersRun}
+use Rattle.command_boards.specs.headers.Answers.{AnswersHeaders}
+use Rattle.command_traces.specs.check.Answers.{AnswersCheck, RefusesCheck}
+use Rattle.command_runs.specs.finish.Answers.{AnswersFinish, RefusesFinish}
+use Rattle.command_traces.specs.audit.Answers.{AnswersAudit}
+use Rattle.command_traces.specs.report.Answers.{AnswersReport}
+use Rattle.command_traces.specs.waves.Answers.{AnswersWaves}
+use Rattle.command_traces.specs.declared.draw.rows.Rows.{Rows}
+use Rattle.command_traces.specs.draw.Rows.{rows_of, names_event}
+use Rattle.command_traces.specs.draw.Answers.{AnswersDraw, RefusesDraw, IsDrawable}
+use Rattle.command_traces.specs.untagged.Answers.{AnswersUntagged, RefusesUntagged, IsUntaggedTrace}
+use Rattle.command_boards.specs.combine.Answers.{AnswersCombine}
+use Rattle.command_runs.specs.generate.Answers.{names_rounds, AnswersGenerate, RefusesGenerate, NamesRounds}
+use Rattle.command_runs.specs.devices.Answers.{AnswersDevices}
+use Rattle.command_runs.specs.devices.Refusals.{RefusesDevices, IsDeviceText}
+use Rattle.command_boards.specs.import.Answers.{AnswersImport, RefusesImport, IsMachineText}
 use Rattle.program_words.specs.declared.Form.{Form}
 use Rattle.program_words.specs.declared.Form.TheVariants as forms
 use Rattle.program_words.specs.declared.TheConstants.{FORMS}

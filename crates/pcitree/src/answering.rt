@@ -3,7 +3,7 @@ ghost use Rattle.pcitree.specs.Answers.{AnswersTo, Refuses};
 ghost use Rattle.pcitree.specs.Given.{IsGiven};
 
 use crate::words::rows_in;
-use command_run::Gate;
+use command_runs::Gate;
 use program_status::Status;
 use program_words::Form;
 use std::alloc::Global;
@@ -24,20 +24,20 @@ pub(crate) fn answer<R: Threads + Sync, G: Gate + Sync>(
     ensures err { IfErr result (Refuses form (map string_bytes words.now) input.now) }
 {
     match form {
-        Form::Run => command_run::answer_run(rt, alloc, input, gate),
-        Form::RunSteady => command_run::answer_run_steady(alloc, input),
-        Form::Headers => command_headers::answer_headers(alloc, input),
-        Form::Check => command_check::answer_check(alloc, input),
-        Form::Finish => command_finish::answer_finish(alloc, input),
-        Form::Audit => command_audit::answer_audit(alloc, input),
-        Form::Report => command_report::answer_report(alloc, input),
-        Form::Waves => command_waves::answer_waves(alloc, input),
-        Form::Draw => command_draw::answer_draw(alloc, input, rows_in(words)),
-        Form::DrawRows => command_draw::answer_draw(alloc, input, rows_in(words)),
-        Form::Untagged => command_untagged::answer_untagged(alloc, input),
-        Form::Combine => command_combine::answer_combine(alloc, input),
-        Form::Generate => command_generate::answer_generate(alloc, input),
-        Form::Devices => command_devices::answer_devices(alloc, input),
-        Form::Import => command_import::answer_import(alloc, input),
+        Form::Run => command_runs::answer_run(rt, alloc, input, gate),
+        Form::RunSteady => command_runs::answer_run_steady(alloc, input),
+        Form::Headers => command_boards::answer_headers(alloc, input),
+        Form::Check => command_traces::answer_check(alloc, input),
+        Form::Finish => command_runs::answer_finish(alloc, input),
+        Form::Audit => command_traces::answer_audit(alloc, input),
+        Form::Report => command_traces::answer_report(alloc, input),
+        Form::Waves => command_traces::answer_waves(alloc, input),
+        Form::Draw => command_traces::answer_draw(alloc, input, rows_in(words)),
+        Form::DrawRows => command_traces::answer_draw(alloc, input, rows_in(words)),
+        Form::Untagged => command_traces::answer_untagged(alloc, input),
+        Form::Combine => command_boards::answer_combine(alloc, input),
+        Form::Generate => command_runs::answer_generate(alloc, input),
+        Form::Devices => command_runs::answer_devices(alloc, input),
+        Form::Import => command_boards::answer_import(alloc, input),
     }
 }

@@ -8,7 +8,7 @@ mod surely;
 mod words;
 mod writing;
 
-pub use command_run::{Gate, NoGate};
+pub use command_runs::{Gate, NoGate};
 pub use program::pcitree;
 pub use program_status::{BoardFault, Status};
 pub use surely::pcitree_surely;

@@ -13,9 +13,9 @@ use crate::answering::answer;
 use crate::reading::{ReadError, read_all};
 use crate::words::{form_of, misfit, number_of};
 use crate::writing::write_all;
-use command_devices::written_devices_are_complete;
-use command_finish::finished_traces_are_complete;
-use command_run::{Gate, written_runs_are_complete};
+use command_runs::{
+    Gate, finished_traces_are_complete, written_devices_are_complete, written_runs_are_complete,
+};
 use io_ports::{Sink, Source};
 use program_status::Status;
 use program_words::Form;

@@ -5,7 +5,7 @@ ghost use Rattle.pcitree.specs.Given.{given};
 ghost use Rattle.pcitree.specs.Answers.{IsServed, Causes};
 
 use crate::program::pcitree;
-use command_run::Gate;
+use command_runs::Gate;
 use io_ports::{SureSink, SureSource};
 use program_status::Status;
 use std::alloc::Global;

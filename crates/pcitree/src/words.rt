@@ -4,8 +4,8 @@ ghost use Rattle.program_words.specs.Shapes.{shape_of, input_limit};
 ghost use Rattle.pcitree.specs.Words.{names_file, fits, fitting, is_of, form_of, misfit, is_file, is_number, file_in, file_place, limit_by, rows_in};
 ghost use Rattle.pcitree.specs.Given.{number_in, number_of};
 
-use command_draw::{Rows, names_event, rows_of};
-use command_generate::names_rounds;
+use command_runs::names_rounds;
+use command_traces::{Rows, names_event, rows_of};
 use program_words::{FORMS, Form, Part};
 
 /// Whether the word, behind another, is as the part has it.

@@ -1,5 +1,5 @@
-use fault_pages::{Page, explain};
-use program_help::{Help, VERSION, WordHelp, word_help};
+use program_pages::{Page, explain};
+use program_words::{Help, VERSION, WordHelp, word_help};
 use std::io;
 
 /// What the program is asked for.

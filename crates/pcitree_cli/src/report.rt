@@ -1,9 +1,9 @@
 use history_model::Rule;
 use pci_command::NoMemory;
 use pcitree::Status;
-use program_help::Help;
-use shown_lines::Message;
-use status_message::{about, message};
+use program_messages::{about, message};
+use program_pages::Message;
+use program_words::Help;
 use std::io::ErrorKind;
 
 /// The rule of the bridge by which the word that was called judges the events of a trace.

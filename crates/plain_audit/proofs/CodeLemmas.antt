@@ -8,8 +8,8 @@ use Rattle.history_model.specs.declared.event.Event.{Event}
 use Rattle.history_model.specs.Words.{Landing, landed}
 use Rattle.history_model.specs.Knowledge.{up_to_end, Reading, reading_in, reading_or, last_reading, has_landed}
 use Rattle.law_fresh.specs.Aware.{Aware, is_behind, shows, aware_of}
-use Rattle.history_facts.proofs.RequestLemmas.{same_op_true}
-use Rattle.audit_model.specs.Chains.{op_in, shown_by, first_shown, joined, to_seen, to_reader, chain_to}
+use Rattle.history_model.proofs.facts.RequestLemmas.{same_op_true}
+use Rattle.law_audit.specs.Chains.{op_in, shown_by, first_shown, joined, to_seen, to_reader, chain_to}
 use Rattle.plain_audit.specs.Places.{shows_by, shown_after, last_shown, ArePlaces}
 
 -- what the places show of a reading is what those who know show

@@ -17,7 +17,7 @@ use Rattle.history_model.specs.declared.event.Event.TheVariants.{Act, Arrive}
 use Rattle.history_model.specs.Words.{Landing, without, brings, landings_at, landings_in, landings_of, brought, landed}
 use Rattle.history_model.specs.Runs.{history_of}
 use Rattle.law_fresh.proofs.Laws.{IsOf, brought_of}
-use Rattle.audit_model.specs.Chains.{op_in}
+use Rattle.law_audit.specs.Chains.{op_in}
 use Rattle.plain_audit.specs.Places.{has_some, reaches_dword, op_shows, shows_by, or_op, shown_op, event_shows}
 
 -- data phases that reach the dword land there

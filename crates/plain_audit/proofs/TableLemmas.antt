@@ -15,14 +15,14 @@ use Rattle.history_model.specs.Program.{Ending, ended}
 use Rattle.history_model.specs.Words.{Landing, landed}
 use Rattle.history_model.specs.Knowledge.{value_in, up_to_end, Reading, reading_in, has_landed, is_write}
 use Rattle.history_model.specs.Runs.{Run, history_of}
-use Rattle.law_slots.proofs.Laws.{Run-before}
+use Rattle.law_lanes.proofs.Laws.{Run-before}
 use Rattle.law_fresh.specs.Aware.{is_behind, knows, first_known, shows, shown, taught_by, taught_after, aware_of}
 use Rattle.law_fresh.specs.Told.{was_told}
 use Rattle.law_fresh.proofs.Laws.{Front, front_run, front_end, before_in, LandingBegun, LandingsBegun-run}
-use Rattle.audit_model.specs.Chains.{op_in}
+use Rattle.law_audit.specs.Chains.{op_in}
 use Rattle.plain_audit.specs.Places.{knows_by, shows_by, first_shown, shown_after, last_shown, brings_it, is_open, learned, ArePlaces}
-use Rattle.audit_model.proofs.MasterLemmas.{has_place, ended_there}
-use Rattle.audit_model.proofs.KnownLemmas.{same_knows, find_same}
+use Rattle.law_audit.proofs.MasterLemmas.{has_place, ended_there}
+use Rattle.law_audit.proofs.KnownLemmas.{same_knows, find_same}
 
 found_any : (test : Landing → Bool) (xs : List Landing) → is_some (op_in (find test xs)) ≡ list_any test xs
 found_any test [] = refl

@@ -14,7 +14,7 @@ use Rattle.history_model.specs.Program.{Ending}
 use Rattle.history_model.specs.Words.{Landing, landed}
 use Rattle.history_model.specs.Knowledge.{has_landed, value_in, Reading, reading_in}
 use Rattle.law_fresh.specs.Aware.{Aware, is_behind}
-use Rattle.audit_model.specs.Chains.{op_in}
+use Rattle.law_audit.specs.Chains.{op_in}
 use Rattle.machine_steps.specs.Endings.{ended_op}
 
 -- What was seen in a dword.

@@ -1,7 +1,7 @@
 ghost use Rattle.std.specs.Prelude.{◌≡◌, [], ◌∷◌, IfOk};
 ghost use Rattle.history_model.specs.Runs.{history_of};
 ghost use Rattle.law_fresh.specs.Aware.{aware_of};
-ghost use Rattle.audit_model.specs.Chains.{first_shown, joined, chain_to, chain_from};
+ghost use Rattle.law_audit.specs.Chains.{first_shown, joined, chain_to, chain_from};
 ghost use Rattle.plain_audit.specs.Places.{ArePlaces};
 
 use crate::places::Places;

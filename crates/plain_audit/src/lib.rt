@@ -10,8 +10,8 @@ ghost use Rattle.board_model.specs.Requests.{op_of};
 ghost use Rattle.history_model.specs.Runs.{Run, history_of};
 ghost use Rattle.history_model.specs.Knowledge.{is_write, Told, Fresh};
 ghost use Rattle.law_fresh.specs.Told.{was_told};
-ghost use Rattle.audit_model.specs.Chains.{chain_of};
-ghost use Rattle.audit_model.specs.Links.{IsChain};
+ghost use Rattle.law_audit.specs.Chains.{chain_of};
+ghost use Rattle.law_audit.specs.Links.{IsChain};
 ghost use Rattle.plain_audit.specs.Places.{knows_by, last_shown};
 
 mod chains;
@@ -19,12 +19,12 @@ mod landings;
 mod places;
 mod readings;
 
-use audit_model::chains_tell;
 use board_model::{Board, request_of};
-use bus_tree::Tree;
+use board_tree::Tree;
 use chains::chain_from;
 use history_model::Event;
 pub use landings::{first_shown, has_landed};
+use law_audit::chains_tell;
 use law_fresh::{runs_are_fresh, told_is_known};
 use machine_steps::is_write;
 use pci_command::{List, NoMemory, OpId};

@@ -8,7 +8,7 @@ use Rattle.board_model.specs.declared.board.Board.{Board}
 use Rattle.board_model.specs.WellFormed.{is_well_formed_bridge}
 use Rattle.board_model.specs.Valid.{is_numbered, is_nested, IsValid}
 use Rattle.board_model.proofs.Laws.{WellFormed-parts}
-use Rattle.bus_tree.proofs.DecodableLemmas.{IsDecodable-valid}
+use Rattle.board_tree.proofs.DecodableLemmas.{IsDecodable-valid}
 use Rattle.plain_decode.specs.ReadBack.{IsReadBack, AreReadBack}
 
 numbered : (ordered nested : Bool) → (not ordered || not nested) ≡ false → ordered ≡ true

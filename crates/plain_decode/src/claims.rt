@@ -4,8 +4,7 @@ ghost use Rattle.board_model.specs.Claims.{range_holds, decodes_down, claim_upwa
 ghost use Rattle.plain_decode.specs.ReadBack.{IsReadBack, AreReadBack};
 
 use crate::{CfgRoute, claim_down, claim_up, convert_cfg, decoding_is_claim};
-use board_claim::is_in_ranges;
-use board_model::{Board, Bridge, Lane, Place, Target};
+use board_model::{Board, Bridge, Lane, Place, Target, is_in_ranges};
 use pci_command::{Request, Space};
 
 /// Who claims the request on the bus: targets by their ranges, bridges by their headers.

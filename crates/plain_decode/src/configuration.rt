@@ -5,8 +5,8 @@ ghost use Rattle.board_model.specs.Valid.{is_numbered};
 ghost use Rattle.plain_decode.specs.Decoding.{route_of_address, type_0_of};
 
 use crate::CfgRoute;
+use board_headers::read_back;
 use board_model::Bridge;
-use bridge_header::read_back;
 
 /// Where the configuration address of type 1 goes, by its bus field (bits 23 to 16) alone:
 /// converted to type 0, with its bits 15 to 2, if it names the secondary bus; unchanged, if it

@@ -1,14 +1,14 @@
 ghost use Rattle.std.specs.Prelude.{◌≡◌, IsSome};
 ghost use Rattle.board_model.specs.Requests.{op_of};
 ghost use Rattle.board_model.specs.Claims.{claim};
-ghost use Rattle.bus_tree.specs.Decodable.{IsDecodable};
+ghost use Rattle.board_tree.specs.Decodable.{IsDecodable};
 ghost use Rattle.plain_decode.specs.Hops.{hop_of};
 ghost use Rattle.plain_decode.specs.Lengths.{way_length_of};
 
 use crate::Hop;
 use crate::claims::claim_on;
 use board_model::{Board, Place, op_of};
-use bus_tree::{Tree, route_of};
+use board_tree::{Tree, route_of};
 use pci_command::{OpId, Request};
 
 /// Where a request on a bus of the tree goes next: to who claims it.

@@ -4,8 +4,8 @@ ghost use Rattle.board_model.specs.WellFormed.{is_well_formed_bridge};
 ghost use Rattle.board_model.specs.Valid.{is_numbered};
 ghost use Rattle.plain_decode.specs.Decoding.{holds_elsewhere};
 
+use board_headers::read_back;
 use board_model::{Bridge, window_holds};
-use bridge_header::read_back;
 use pci_command::Space;
 
 /// Positive decoding on the primary bus: whether the address lies in a window of the bridge for

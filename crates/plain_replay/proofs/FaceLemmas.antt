@@ -14,9 +14,9 @@ use Rattle.history_model.specs.World.{World, both}
 use Rattle.board_model.specs.Ways.{lane_back}
 use Rattle.history_model.specs.Answers.{lane_answer, presents}
 use Rattle.history_model.specs.Runs.{mark_of_first, next_mark_in}
-use Rattle.lane_replay.specs.Bridge.{turned}
-use Rattle.lane_replay.proofs.LaneLemmas.{lane_there}
-use Rattle.lane_replay.specs.Faces.{face_answer}
+use Rattle.judge_lanes.specs.Bridge.{turned}
+use Rattle.judge_lanes.proofs.LaneLemmas.{lane_there}
+use Rattle.judge_lanes.specs.Faces.{face_answer}
 
 -- the lane of a bridge in this direction
 pub lane_is : (world : World) (lane : BridgeLane) (x : Both) (here : LaneState) → x ≡ both world (record { bus = lane.bus; up = false }) →

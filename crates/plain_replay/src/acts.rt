@@ -17,7 +17,7 @@ use machine_steps::{Presented, act_given, ends_on};
 use pci_command::OpId;
 
 /// The first act, by increasing bus and there by line.
-#[tactic(auto, using(law_progress::proofs::NextFirstLemmas::first_more))]
+#[tactic(auto, using(law_lanes::proofs::progress::NextFirstLemmas::first_more))]
 pub(crate) fn first_act(board: &Board, before: &[Event]) -> Option<Event>
     requires formed { IsTrue (is_well_formed board.now) }
     requires run { Run board.now (history_of before.now) }
@@ -56,7 +56,7 @@ fn act_of_lanes(board: &Board, before: &[Event], bus: u8) -> Option<Event>
 }
 
 /// The first act on the bus of a bridge below, by increasing number.
-#[tactic(auto, using(law_progress::proofs::NextFirstLemmas::first_more))]
+#[tactic(auto, using(law_lanes::proofs::progress::NextFirstLemmas::first_more))]
 fn act_from_below(board: &Board, before: &[Event], bus: u8) -> Option<Event>
     requires formed { IsTrue (is_well_formed board.now) }
     requires run { Run board.now (history_of before.now) }
@@ -134,7 +134,7 @@ fn act_by_lane(board: &Board, before: &[Event], bus: u8, lane: Lane, op: OpId) -
 }
 
 /// The first act of a master on the bus, in the order of the board.
-#[tactic(auto, using(law_progress::proofs::NextFirstLemmas::first_more, board_claim::proofs::FewLemmas::few_masters_before, board_claim::proofs::FewLemmas::master_more))]
+#[tactic(auto, using(law_lanes::proofs::progress::NextFirstLemmas::first_more, board_model::proofs::claims::FewLemmas::few_masters_before, board_model::proofs::claims::FewLemmas::master_more))]
 fn act_of_masters(board: &Board, before: &[Event], bus: u8) -> Option<Event>
     requires formed { IsTrue (is_well_formed board.now) }
     requires run { Run board.now (history_of before.now) }

@@ -13,8 +13,9 @@ ghost use Rattle.history_model.specs.Runs.{Run, history_of};
 
 use crate::lanes::lanes_after_events;
 use crate::words::{stalls_used, through, value_of};
-use board_claim::{claim_in_space, is_in_ranges};
-use board_model::{Board, Lane, Place, Target, Word, bridge_to, request_of};
+use board_model::{
+    Board, Lane, Place, Target, Word, bridge_to, claim_in_space, is_in_ranges, request_of,
+};
 use history_model::{Answer, Event, Step};
 use machine_steps::{
     Presented, address_left, dword_address, header_answer, left_of, nobody, write_step,

@@ -5,7 +5,7 @@ ghost use Rattle.history_model.specs.Runs.{Run, history_of, next_mark};
 use crate::lanes::lanes_after_events;
 use board_model::{Board, Lane};
 use history_model::{Event, Mark};
-use lane_replay::mark_of_first;
+use judge_lanes::mark_of_first;
 
 /// The mark of the next arrival on the lane after these events, the first event first; none where
 /// nothing is in flight.

@@ -4,13 +4,13 @@ ghost use Rattle.board_model.specs.Requests.{op_of};
 ghost use Rattle.history_model.specs.World.{world_of};
 ghost use Rattle.history_model.specs.Runs.{history_of};
 ghost use Rattle.history_model.specs.Left.{post_left, flying_left, standing_left, lane_left, bridge_left};
-ghost use Rattle.lane_replay.specs.Running.{IsRunning};
+ghost use Rattle.judge_lanes.specs.Running.{IsRunning};
 
 use crate::lanes::lanes_after_events;
 use crate::words::through;
 use board_model::{Board, Lane, end_of, op_of};
 use history_model::{Carried, Event};
-use lane_replay::{LaneTables, posted_left};
+use judge_lanes::{LaneTables, posted_left};
 use pci_command::OpId;
 
 /// What posted writes and credits on the lanes of all bridges have left.

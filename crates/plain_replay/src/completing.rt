@@ -10,7 +10,7 @@ use crate::lanes::lanes_after_events;
 use crate::turns::turn_of;
 use board_model::Board;
 use history_model::Event;
-use lane_replay::LaneTables;
+use judge_lanes::LaneTables;
 
 /// Whether a run is complete: the program of every master ended, and nothing is in flight or stands
 /// on any lane. The events are given the first event first.
@@ -23,7 +23,7 @@ pub fn complete(board: &Board, events: &[Event]) -> bool
 }
 
 /// Whether the program of every master ended.
-#[tactic(auto, using(board_claim::proofs::FewLemmas::few_masters_before, board_claim::proofs::FewLemmas::master_more))]
+#[tactic(auto, using(board_model::proofs::claims::FewLemmas::few_masters_before, board_model::proofs::claims::FewLemmas::master_more))]
 fn have_ended(board: &Board, events: &[Event]) -> bool
     requires { IsTrue (is_well_formed board.now) }
     ensures { IsTrue result ↔ ((master : ℕ) → master < length board.now.masters → turn_of board.now (history_of events.now) master ≡ None) }

@@ -10,7 +10,7 @@ use history_model::Event;
 use machine_steps::{arrival_of, ends_on};
 
 /// The first arrival, by increasing bus and there by line.
-#[tactic(auto, using(law_progress::proofs::NextFirstLemmas::first_more))]
+#[tactic(auto, using(law_lanes::proofs::progress::NextFirstLemmas::first_more))]
 pub(crate) fn first_arrival(board: &Board, before: &[Event]) -> Option<Event>
     requires formed { IsTrue (is_well_formed board.now) }
     requires run { Run board.now (history_of before.now) }
@@ -37,7 +37,7 @@ fn arrival_on(board: &Board, before: &[Event], bus: u8) -> Option<Event>
 }
 
 /// The first arrival on the bus from a bridge below, by increasing number.
-#[tactic(auto, using(law_progress::proofs::NextFirstLemmas::first_more))]
+#[tactic(auto, using(law_lanes::proofs::progress::NextFirstLemmas::first_more))]
 fn arrival_from_below(board: &Board, before: &[Event], bus: u8) -> Option<Event>
     requires formed { IsTrue (is_well_formed board.now) }
     requires run { Run board.now (history_of before.now) }

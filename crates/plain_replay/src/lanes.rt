@@ -6,7 +6,7 @@ ghost use Rattle.history_model.specs.World.{both, world_of};
 
 use board_model::{Board, Lane};
 use history_model::{Event, Rule};
-use lane_replay::BridgeLanes;
+use judge_lanes::BridgeLanes;
 
 /// The lanes of the bridge to the bus after these events, the first event first, on bridges that
 /// keep the local master. There is nothing on those of no bridge.

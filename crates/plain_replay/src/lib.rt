@@ -1,6 +1,6 @@
 //! The plain program that computes what a run is, by replay of the events before and without
 //! memory: who presents, what is answered, which event is allowed, which comes next and how many
-//! can follow. No word of the program calls it: `kept_state` keeps the same in one pass. It is for
+//! can follow. No word of the program calls it: `judge_state` keeps the same in one pass. It is for
 //! the gate alone, so that its contracts, tests and edits are kept.
 #![tactic(auto)]
 

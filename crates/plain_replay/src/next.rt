@@ -6,9 +6,9 @@ ghost use Rattle.history_model.specs.Next.{next_of};
 use crate::acts::first_act;
 use crate::first_arrivals::first_arrival;
 use board_model::{Board, board_fits};
-use bus_tree::Tree;
+use board_tree::Tree;
 use history_model::Event;
-use law_progress::next_goes_on;
+use law_lanes::next_goes_on;
 
 /// The next event of a run in a fixed order: the first arrival that is allowed, by increasing bus
 /// and there by line; then the first act, by increasing bus, line and, of a lane, in the order in

@@ -5,12 +5,12 @@ ghost use Rattle.history_model.specs.World.{world_of};
 ghost use Rattle.history_model.specs.Answers.{stalls_used};
 ghost use Rattle.history_model.specs.Runs.{history_of};
 ghost use Rattle.history_model.specs.Left.{stalls_left, discard_left, drop_left};
-ghost use Rattle.lane_replay.specs.Running.{IsRunning};
+ghost use Rattle.judge_lanes.specs.Running.{IsRunning};
 
 use crate::lanes::lanes_after_events;
 use crate::words::stalls_used;
 use board_model::{Board, Planned, Target};
-use bus_tree::longest_way;
+use board_tree::longest_way;
 use history_model::Event;
 
 /// The stall tokens that are not used yet.

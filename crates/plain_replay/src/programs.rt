@@ -2,18 +2,18 @@ ghost use Rattle.std.specs.Prelude.{◌≡◌, ◌+◌, ◌*◌, ◌-◌, ◌^�
 ghost use Rattle.list_facts.specs.Lists.{total};
 ghost use Rattle.board_model.specs.Requests.{op_of, tries_of};
 ghost use Rattle.board_model.specs.Ways.{cost_of, cost_of_try};
-ghost use Rattle.bus_tree.specs.Decodable.{IsDecodable};
+ghost use Rattle.board_tree.specs.Decodable.{IsDecodable};
 ghost use Rattle.history_model.specs.Program.{turn_of};
 ghost use Rattle.history_model.specs.Runs.{history_of};
 ghost use Rattle.history_model.specs.Left.{op_left, turn_left, program_left, programs_left};
-ghost use Rattle.lane_replay.specs.Running.{IsRunning};
+ghost use Rattle.judge_lanes.specs.Running.{IsRunning};
 
 use crate::turns::turn_of;
 use crate::waiting::delayed_left;
 use crate::words::through;
 use board_model::{Board, Master, Op, is_posted, op_of, request_on};
 use history_model::Event;
-use lane_replay::{behind_left, posted_left, tries_left};
+use judge_lanes::{behind_left, posted_left, tries_left};
 use pci_command::OpId;
 
 /// What the programs have left: the operation that is each master's turn, and those behind it.

@@ -1,13 +1,13 @@
 ghost use Rattle.std.specs.Prelude.{◌≡◌};
 ghost use Rattle.history_model.specs.Runs.{Run, history_of};
 ghost use Rattle.history_model.specs.Left.{left_of};
-ghost use Rattle.lane_replay.specs.Running.{IsRunning};
+ghost use Rattle.judge_lanes.specs.Running.{IsRunning};
 
 use crate::carried::bridges_left;
 use crate::planned::{discards_left, drops_left, stalls_left};
 use crate::programs::programs_left;
 use board_model::Board;
-use bus_tree::Tree;
+use board_tree::Tree;
 use history_model::Event;
 
 /// How many events can follow a run of the board at most. The events of the run are given the

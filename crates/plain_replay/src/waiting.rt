@@ -7,14 +7,13 @@ ghost use Rattle.history_model.specs.World.{world_of};
 ghost use Rattle.history_model.specs.Runs.{history_of};
 ghost use Rattle.history_model.specs.Local.{is_ask_of, is_gone_of};
 ghost use Rattle.history_model.specs.Left.{is_slot_of, lane_or, reach_of, slot_left, reach_left, delayed_left};
-ghost use Rattle.lane_replay.specs.Running.{IsRunning};
+ghost use Rattle.judge_lanes.specs.Running.{IsRunning};
 
 use crate::lanes::lanes_after_events;
-use board_claim::claim;
-use board_model::{Board, Lane, Op, Place, end_of, request_on};
-use bus_tree::route_of;
+use board_model::{Board, Lane, Op, Place, claim, end_of, request_on};
+use board_tree::route_of;
 use history_model::Event;
-use lane_replay::{Reach, found_left, has_slot};
+use judge_lanes::{Reach, found_left, has_slot};
 use pci_command::OpId;
 
 /// What a try of a delayed request has left, by the place of the item of its furthest slot.

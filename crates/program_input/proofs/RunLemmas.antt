@@ -3,7 +3,7 @@ use Rattle.std.proofs.Common.{◌≡◌, ℕ, List, ◌⊎◌, inr, refl, subst}
 use Rattle.board_model.specs.declared.board.Board.{Board}
 use Rattle.history_model.specs.declared.event.Event.{Event}
 use Rattle.history_model.specs.Runs.{Run, history_of}
-use Rattle.kept_state.proofs.RefusedLemmas.{no_refused}
+use Rattle.judge_state.proofs.RefusedLemmas.{no_refused}
 use Rattle.program_input.specs.Traces.{IsRunTrace, RefusesRun}
 use Rattle.program_status.specs.Subjects.{subject_of}
 use Rattle.program_status.specs.Subjects.Subject.{Memory, Input}

@@ -6,11 +6,11 @@ use Rattle.board_model.specs.declared.board.Board.{Board}
 use Rattle.board_model.specs.WellFormed.{is_well_formed}
 use Rattle.board_model.specs.Ways.{bound_of}
 use Rattle.board_model.specs.Valid.{IsValid}
-use Rattle.board_faults.specs.declared.fault.TreeFault.{TreeFault}
-use Rattle.board_faults.specs.Faults.{first_fault_of}
+use Rattle.board_checks.specs.declared.fault.TreeFault.{TreeFault}
+use Rattle.board_checks.specs.Faults.{first_fault_of}
 use Rattle.board_parser.specs.Boards.{board_read}
-use Rattle.bus_tree.specs.Refusals.{refusal_by, refusal_of}
-use Rattle.bus_tree.proofs.ValidLemmas.{IsValid-passed}
+use Rattle.board_tree.specs.Refusals.{refusal_by, refusal_of}
+use Rattle.board_tree.proofs.ValidLemmas.{IsValid-passed}
 use Rattle.program_status.specs.declared.status.Status.{Status}
 use Rattle.program_status.specs.declared.status.Status.TheVariants.{BadBoard}
 use Rattle.program_status.specs.declared.status.BoardFault.TheVariants.{Tree, Bound}

@@ -3,8 +3,8 @@ use Rattle.std.specs.Prelude.{ℕ, ◌≡◌, List, Some, None, Ok}
 use Rattle.board_model.specs.declared.board.Board.{Board}
 use Rattle.board_model.specs.Valid.{IsValid}
 use Rattle.board_parser.specs.Boards.{board_read}
-use Rattle.bus_tree.specs.declared.refusal.TreeRefusal.{TreeRefusal}
-use Rattle.bus_tree.specs.declared.refusal.TreeRefusal.TheVariants.{Fault, AboveBound}
+use Rattle.board_tree.specs.declared.refusal.TreeRefusal.{TreeRefusal}
+use Rattle.board_tree.specs.declared.refusal.TreeRefusal.TheVariants.{Fault, AboveBound}
 use Rattle.program_status.specs.declared.status.BoardFault.{BoardFault}
 use Rattle.program_status.specs.declared.status.BoardFault.TheVariants.{Tree, Bound}
 use Rattle.program_status.specs.declared.status.Status.{Status}

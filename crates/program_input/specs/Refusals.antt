@@ -5,8 +5,8 @@ use Rattle.board_model.specs.declared.board.Board.{Board}
 use Rattle.board_model.specs.Ways.{bound_of}
 use Rattle.board_statements.specs.declared.fault.LineFault.{LineFault}
 use Rattle.board_parser.specs.Boards.{board_read}
-use Rattle.board_faults.specs.declared.fault.TreeFault.{TreeFault}
-use Rattle.board_faults.specs.Faults.{first_fault_of}
+use Rattle.board_checks.specs.declared.fault.TreeFault.{TreeFault}
+use Rattle.board_checks.specs.Faults.{first_fault_of}
 use Rattle.history_model.specs.declared.event.Event.{Event}
 use Rattle.trace_reader.specs.declared.fault.TraceFault.{TraceFault}
 use Rattle.trace_reader.specs.declared.fault.TraceFault.TheVariants as faults

@@ -6,7 +6,7 @@ use Rattle.history_model.specs.declared.event.Event.{Event}
 use Rattle.history_model.specs.declared.why.Why.{Why}
 use Rattle.history_model.specs.Runs.{Run, Complete, history_of}
 use Rattle.trace_reader.specs.Traces.{trace_read}
-use Rattle.kept_state.specs.Refused.{FirstRefused}
+use Rattle.judge_state.specs.Refused.{FirstRefused}
 use Rattle.program_status.specs.declared.status.Status.{Status}
 use Rattle.program_status.specs.declared.status.Status.TheVariants.{NotRun}
 use Rattle.program_input.specs.Refusals.{tree_fault, trace_refusal, RefusesBy}

@@ -5,7 +5,7 @@ ghost use Rattle.program_input.specs.Boards.{ReadsBoard, RefusesBoard, RefusesTr
 
 use board_model::Board;
 use board_parser::{ParseFault, parse, read_is_well_formed};
-use bus_tree::{Tree, TreeRefusal, validate};
+use board_tree::{Tree, TreeRefusal, validate};
 use program_status::{BoardFault, Status};
 use std::alloc::Global;
 

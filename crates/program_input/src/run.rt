@@ -2,7 +2,7 @@ ghost use Rattle.std.specs.Prelude.{◌<◌, ◌^◌, length, IfOk, IfErr};
 ghost use Rattle.program_input.specs.Traces.{ReadsRun, RefusesRun};
 
 use crate::trace::{TreeTrace, read_tree_trace};
-use kept_state::first_refused;
+use judge_state::first_refused;
 use program_status::Status;
 use std::alloc::Global;
 

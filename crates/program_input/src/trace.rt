@@ -2,7 +2,7 @@ ghost use Rattle.std.specs.Prelude.{◌<◌, ◌^◌, length, IfOk, IfErr};
 ghost use Rattle.program_input.specs.Traces.{ReadsTree, RefusesTrace};
 
 use crate::board::tree_of;
-use bus_tree::Tree;
+use board_tree::Tree;
 use history_model::Event;
 use pci_command::List;
 use program_status::{BoardFault, Status};

@@ -1,13 +1,13 @@
 -- How the program ends: a number, and a line on standard error.
 use Rattle.std.specs.Prelude.{ℕ, List, [], ◌++◌, codes}
 use Rattle.std.specs.Fmt.{decimal}
-use Rattle.board_faults.specs.Faults.{code_of as tree_code_of}
+use Rattle.board_checks.specs.Faults.{code_of as tree_code_of}
 use Rattle.board_statements.specs.declared.fault.Family.{Family}
 use Rattle.board_statements.specs.declared.fault.Family.TheVariants.{L, P, H}
 use Rattle.board_statements.specs.Faults.{family_of, code_of}
-use Rattle.device_faults.specs.Faults.{code_of as device_code_of}
+use Rattle.text_faults.specs.Faults.{code_of as device_code_of}
 use Rattle.history_model.specs.WhyText.{why_text}
-use Rattle.lspci_text.specs.Faults.{code_of as machine_code_of}
+use Rattle.import_text.specs.Faults.{code_of as machine_code_of}
 use Rattle.trace_reader.specs.Faults.{code_of as trace_code_of}
 use Rattle.program_status.specs.declared.status.Status.{Status}
 use Rattle.program_status.specs.declared.status.Status.TheVariants.{Done, NoMemory, Usage, ReadFault, WriteFault, TooLong, BadBoard, BadTrace, BadMachine, TooManyEvents, NotRun, Incomplete}

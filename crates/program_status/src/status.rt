@@ -1,13 +1,13 @@
 ghost use Rattle.std.specs.Prelude.{◌≡◌};
 ghost use Rattle.program_status.specs.StatusText.{letter_of};
 
-use board_faults::TreeFault;
+use board_checks::TreeFault;
 use board_statements::{Family, LineFault};
-use device_faults::DeviceFault;
 use history_model::Why;
-use lspci_text::LspciFault;
+use import_text::LspciFault;
 use std::alloc::AllocError;
 use std::fmt;
+use text_faults::DeviceFault;
 use trace_reader::TraceLineFault;
 
 /// A fault of a board.

@@ -1,4 +1,4 @@
-use shown_lines::Teller;
+use program_pages::Teller;
 use std::test::Fail;
 
 #[test]

@@ -1,15 +1,14 @@
 //! As many threads run as there are buses, and what is read depends on which bus was held: the texts
 //! were worked out by hand.
-use bus_tree::{Tree, validate};
+use board_tree::{Tree, validate};
+use engine_runs::{Gate, threaded_run};
 use history_model::Event;
+use judge_check::{Verdict, check};
 use pci_command::List;
-use ring_runs::threaded_run;
 use std::alloc::Global;
 use std::sync::atomic::{AtomicU64, Ordering};
 use std::test::Fail;
 use std::thread;
-use threaded_workers::Gate;
-use trace_check::{Verdict, check};
 use trace_reader::read_trace;
 
 /// Bus 1 works when bus 0 has written: the write arrives in the same phase, and lands before the

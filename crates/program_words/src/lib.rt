@@ -4,6 +4,10 @@
 ghost use Rattle.std.specs.Prelude.{◌≡◌, ◌≤◌, ◌<◌, ◌^◌, map, length};
 ghost use Rattle.program_words.specs.Shapes.{shape_of, shown_as, parts_of, input_limit};
 
+mod help;
+
+pub use help::{Help, OWN_WORDS, VERSION, WordHelp, word_help};
+
 /// What a word has to be.
 #[derive(Clone, Copy, Debug, PartialEq, Eq)]
 pub enum Part {

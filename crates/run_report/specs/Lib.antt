@@ -1,3 +1,4 @@
 pub mod Counts
 pub mod Report
 pub mod Tallies
+pub mod way_counts

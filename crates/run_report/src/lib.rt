@@ -6,6 +6,7 @@ mod lines;
 mod sizes;
 mod tallies;
 mod text;
+pub mod way_counts;
 
-pub use tallies::{Kind, Tally};
 pub use text::report;
+pub use way_counts::{complete_runs_have_the_way_counts, complete_runs_weigh_their_ways};

@@ -5,7 +5,7 @@ ghost use Rattle.run_report.specs.Report.{report_of};
 use crate::lines::{print_buses, print_length, print_size};
 use crate::sizes::{buses_of, masters_of, operations_of};
 use crate::tallies::tallies_of;
-use bus_tree::Tree;
+use board_tree::Tree;
 use history_model::Event;
 use pci_command::{List, NoMemory};
 use std::alloc::{AllocError, Global};

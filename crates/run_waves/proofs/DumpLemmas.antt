@@ -7,9 +7,9 @@ use Rattle.history_model.specs.declared.event.Event.{Event}
 use Rattle.history_model.specs.Runs.{Run, Allowed, history_of}
 use Rattle.board_printer.specs.Lines.{Line, line_text, text_of}
 use Rattle.board_printer.proofs.LineLemmas.{text_of-append}
-use Rattle.law_slots.proofs.Laws.{Run-before}
-use Rattle.lane_replay.proofs.RoomLemmas.{history_more}
-use Rattle.kept_state.specs.State.{KeptState}
+use Rattle.law_lanes.proofs.Laws.{Run-before}
+use Rattle.judge_lanes.proofs.RoomLemmas.{history_more}
+use Rattle.judge_state.specs.State.{KeptState}
 use Rattle.run_waves.specs.declared.scene.Scene.{Scene}
 use Rattle.run_waves.specs.declared.reading.Reading.{Reading}
 use Rattle.run_waves.specs.declared.signal.Signal.{Signal}

@@ -15,9 +15,9 @@ use Rattle.history_model.specs.Program.{ending_of, master_outcome, follows, turn
 use Rattle.history_model.specs.Knowledge.{stands_after}
 use Rattle.history_model.specs.Answers.{is_turn}
 use Rattle.history_model.specs.Runs.{Run, Allowed}
-use Rattle.history_facts.proofs.RequestLemmas.{same_op_true}
-use Rattle.history_facts.proofs.WantsLemmas.{wants-turn}
-use Rattle.law_changes.proofs.Laws.{turn_master}
+use Rattle.history_model.proofs.facts.RequestLemmas.{same_op_true}
+use Rattle.history_model.proofs.facts.WantsLemmas.{wants-turn}
+use Rattle.law_bound.proofs.changes.Laws.{turn_master}
 use Rattle.law_fresh.proofs.BehindLemmas.{IsBehind, follows_behind, Begun, Begun-turn, Begun-kept}
 use Rattle.run_waves.specs.Shown.{presents_in, waits}
 

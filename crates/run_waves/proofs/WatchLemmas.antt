@@ -16,9 +16,9 @@ use Rattle.history_model.specs.Lanes.{LaneState}
 use Rattle.history_model.specs.Program.{turn_of}
 use Rattle.history_model.specs.Answers.{is_turn}
 use Rattle.history_model.specs.Runs.{Allowed}
-use Rattle.kept_state.specs.State.{KeptState, flat, turn_in, lane_in}
-use Rattle.kept_state.specs.Stands.{StandsFor}
-use Rattle.kept_state.proofs.LookLemmas.{lane_now}
+use Rattle.judge_state.specs.State.{KeptState, flat, turn_in, lane_in}
+use Rattle.judge_state.specs.Stands.{StandsFor}
+use Rattle.judge_state.proofs.LookLemmas.{lane_now}
 use Rattle.run_waves.specs.declared.scene.Scene.{Scene}
 use Rattle.run_waves.specs.declared.reading.Reading.TheVariants as readings
 use Rattle.run_waves.specs.declared.signal.LaneCount.{LaneCount}

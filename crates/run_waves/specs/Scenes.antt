@@ -10,8 +10,8 @@ use Rattle.history_model.specs.Local.{bus_of}
 use Rattle.history_model.specs.Program.{turn_of}
 use Rattle.board_printer.specs.Lines.{Line}
 use Rattle.history_model.specs.Answers.{is_turn}
-use Rattle.kept_state.specs.State.{KeptState, turn_in}
-use Rattle.kept_state.specs.Stands.{StandsFor}
+use Rattle.judge_state.specs.State.{KeptState, turn_in}
+use Rattle.judge_state.specs.Stands.{StandsFor}
 use Rattle.std.proofs.Math.ListN.{set}
 use Rattle.run_waves.specs.declared.signal.BusPart.{BusPart}
 use Rattle.run_waves.specs.declared.signal.Signal.{Signal}

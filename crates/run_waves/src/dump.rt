@@ -15,7 +15,7 @@ use crate::scene::Scene;
 use crate::signal::{BusPart, Signal};
 use crate::watch::Watch;
 use board_model::Board;
-use bus_tree::Tree;
+use board_tree::Tree;
 use history_model::Event;
 use pci_command::{List, NoMemory};
 use std::alloc::{AllocError, Global};

@@ -13,4 +13,3 @@ mod signals;
 mod watch;
 
 pub use dump::waves;
-pub use signal::{BusPart, LaneCount, Signal};

@@ -6,10 +6,10 @@ use crate::reading::Reading;
 use crate::scene::Scene;
 use crate::signal::{LaneCount, Signal};
 use board_model::{Board, Lane};
-use bus_tree::Tree;
+use board_tree::Tree;
 use history_model::{By, Carried, Event};
-use kept_state::Kept;
-use lane_replay::LaneTables;
+use judge_lanes::LaneTables;
+use judge_state::Kept;
 use pci_command::{NoMemory, same_op};
 use std::alloc::Global;
 
@@ -27,8 +27,8 @@ impl Watch {
     ghost use Rattle.history_model.specs.declared.event.Event.{Event};
     ghost use Rattle.history_model.specs.Answers.{stalls_used};
     ghost use Rattle.history_model.specs.Runs.{Allowed};
-    ghost use Rattle.kept_state.specs.State.{turn_in, lane_in};
-    ghost use Rattle.kept_state.specs.Stands.{StandsFor, Stands};
+    ghost use Rattle.judge_state.specs.State.{turn_in, lane_in};
+    ghost use Rattle.judge_state.specs.Stands.{StandsFor, Stands};
     ghost use Rattle.std.specs.Prelude.{false, slice_get};
     ghost use Rattle.std.specs.Option.{option_map_or};
     ghost use Rattle.run_waves.specs.Shown.{Moment, past, beginning, next, ops_of, index_of, try_of, stalls_of, item_by, first_of};

@@ -13,7 +13,7 @@ use Rattle.board_text.specs.Lines.{is_newline, without_empty_end, lines_of}
 use Rattle.board_text.proofs.CutLemmas.{line_step}
 use Rattle.trace_reader.specs.Traces.{with_before, until_events}
 use Rattle.trace_reader.specs.Parts.{behind_lines, IsWholeTo}
-use Rattle.roundtrip_words.proofs.Laws.{split_line, ends_behind}
+use Rattle.board_roundtrip.proofs.words.Laws.{split_line, ends_behind}
 
 -- the lines of a text that is whole, and of one behind it, are those of both
 abbrev pub IsWhole : List ℕ → Type 0

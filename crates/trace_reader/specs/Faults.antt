@@ -1,7 +1,7 @@
 -- The faults of a trace outside its board: as a line has them, and the number by which they are printed.
 use Rattle.std.specs.Prelude.{ℕ}
-use Rattle.trace_lines.specs.declared.line.LineFault.{LineFault}
-use Rattle.trace_lines.specs.declared.line.LineFault.TheVariants as lines
+use Rattle.trace_reader.specs.declared.lines.line.LineFault.{LineFault}
+use Rattle.trace_reader.specs.declared.lines.line.LineFault.TheVariants as lines
 use Rattle.trace_reader.specs.declared.fault.TraceLineFault.{TraceLineFault}
 use Rattle.trace_reader.specs.declared.fault.TraceLineFault.TheVariants.{NoFirstLine, NoEventsLine, Unreadable, NoKind, Misshapen, Unknown, WrongCount, BehindEnd}
 

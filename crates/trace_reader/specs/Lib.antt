@@ -1,3 +1,4 @@
 pub mod Faults
 pub mod Traces
 pub mod Parts
+pub mod lines

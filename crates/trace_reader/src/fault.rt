@@ -43,18 +43,18 @@ impl TraceLineFault {
     }
 }
 
-impl From<trace_lines::LineFault> for TraceLineFault {
+impl From<crate::lines::LineFault> for TraceLineFault {
     ghost use Rattle.std.specs.Prelude.{◌≡◌};
     ghost use Rattle.trace_reader.specs.Faults.{fault_of_line};
 
     ghost from_gives = { λ fault given. given ≡ fault_of_line fault };
 
-    fn from(fault: trace_lines::LineFault) -> TraceLineFault {
+    fn from(fault: crate::lines::LineFault) -> TraceLineFault {
         match fault {
-            trace_lines::LineFault::Unreadable => TraceLineFault::Unreadable,
-            trace_lines::LineFault::NoKind => TraceLineFault::NoKind,
-            trace_lines::LineFault::Misshapen => TraceLineFault::Misshapen,
-            trace_lines::LineFault::Unknown => TraceLineFault::Unknown,
+            crate::lines::LineFault::Unreadable => TraceLineFault::Unreadable,
+            crate::lines::LineFault::NoKind => TraceLineFault::NoKind,
+            crate::lines::LineFault::Misshapen => TraceLineFault::Misshapen,
+            crate::lines::LineFault::Unknown => TraceLineFault::Unknown,
         }
     }
 }

@@ -3,8 +3,10 @@
 
 mod events;
 mod fault;
+mod lines;
 mod parts;
 mod trace;
 
 pub use fault::{TraceFault, TraceLineFault};
+pub use lines::{Kind, LineFault, Names, TraceLine, read_line};
 pub use trace::read_trace;

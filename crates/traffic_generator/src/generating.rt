@@ -7,7 +7,7 @@ use crate::draws::Draws;
 use crate::programs::{Aims, program};
 use crate::{Rounds, generated_boards_are_valid};
 use board_model::{Board, Master, Name};
-use bus_tree::{Tree, validate};
+use board_tree::{Tree, validate};
 use pci_command::{List, NoMemory};
 use std::alloc::Global;
 

@@ -13,9 +13,9 @@ use Rattle.history_model.specs.Knowledge.{Reading, is_land_of, has_landed, words
 use Rattle.history_model.specs.Runs.{RunBy, history_of}
 use Rattle.board_model.specs.declared.word.Word.{Word}
 use Rattle.audit_clocks.specs.Rows.{number}
-use Rattle.audit_model.specs.Clocks.{reaches}
-use Rattle.dword_landings.specs.Hits.{dword, or_place, whole_at}
-use Rattle.dword_landings.proofs.Laws.{whole_has}
+use Rattle.law_audit.specs.Clocks.{reaches}
+use Rattle.audit_landings.specs.Hits.{dword, or_place, whole_at}
+use Rattle.audit_landings.proofs.Laws.{whole_has}
 use Rattle.law_untagged.specs.Untagged.{UntaggedRun}
 use Rattle.law_untagged.specs.Origins.{ending_reading, untagged_got}
 use Rattle.law_untagged.specs.Heard.{untagged_was_told}
@@ -25,17 +25,17 @@ use Rattle.law_untagged.proofs.HeardLemmas.{ending_front}
 use Rattle.law_untagged.proofs.OrderLemmas.{front_front, front_more, front_self}
 use Rattle.law_untagged.proofs.ToldLemmas.{got_along}
 use Rattle.law_untagged.proofs.UntaggedOrderLemmas.{untagged_in_order}
-use Rattle.untagged_clocks.specs.Clocks.{clocks_of}
-use Rattle.untagged_clocks.proofs.ToldLemmas.{run_along, ends_it, told_reaches}
+use Rattle.law_untagged.specs.clocks.Clocks.{clocks_of}
+use Rattle.law_untagged.proofs.clocks.ToldLemmas.{run_along, ends_it, told_reaches}
 use Rattle.untagged_run.specs.declared.got.Got.{Got}
 use Rattle.untagged_run.specs.Flat.{flat}
 use Rattle.untagged_run.specs.Table.{IsGot, SameGot}
 use Rattle.untagged_run.specs.Course.{AreGots}
 use Rattle.machine_steps.specs.Endings.{ended_op}
-use Rattle.untagged_told.specs.Knowers.{KnowerState, known_at, Knows}
-use Rattle.untagged_told.proofs.NextLemmas.{master_within}
-use Rattle.write_index.specs.Entries.{Listing}
-use Rattle.write_index.specs.Pending.{is_before, landed_before, reaches_in, names, is_pending, first_pending}
+use Rattle.untagged_run.specs.told.Knowers.{KnowerState, known_at, Knows}
+use Rattle.untagged_run.proofs.told.NextLemmas.{master_within}
+use Rattle.untagged_check.specs.index.Entries.{Listing}
+use Rattle.untagged_check.specs.index.Pending.{is_before, landed_before, reaches_in, names, is_pending, first_pending}
 use Rattle.untagged_check.specs.Found.{IndexesRun, is_unlanded, first_unlanded, found_by, found_with, found_at, found_ending}
 
 -- what is found by tests that agree

@@ -11,8 +11,8 @@ use Rattle.law_untagged.specs.Apart.{Apart}
 use Rattle.law_untagged.specs.Origins.{UntaggedFresh}
 use Rattle.law_untagged.specs.Stale.{Breaks, breaks, stale_of}
 use Rattle.law_untagged.specs.Sound.{SoundRun}
-use Rattle.kept_state.specs.Refused.{FirstRefusedBy}
-use Rattle.kept_state.proofs.RefusedLemmas.{no_refused_by}
+use Rattle.judge_state.specs.Refused.{FirstRefusedBy}
+use Rattle.judge_state.proofs.RefusedLemmas.{no_refused_by}
 use Rattle.untagged_check.specs.declared.verdict.Stale.{Stale}
 use Rattle.untagged_check.specs.Judged.{reads_of, UntaggedVerdict, UntaggedRefused}
 use Rattle.untagged_check.proofs.ListLemmas.{reads_none}

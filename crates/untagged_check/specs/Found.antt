@@ -7,12 +7,12 @@ use Rattle.history_model.specs.declared.event.Event.{Event}
 use Rattle.history_model.specs.Knowledge.{is_write}
 use Rattle.board_model.specs.declared.word.Word.{Word}
 use Rattle.audit_clocks.specs.Tables.{value_of}
-use Rattle.dword_landings.specs.Hits.{whole_at}
+use Rattle.audit_landings.specs.Hits.{whole_at}
 use Rattle.law_untagged.specs.Stale.{StaleRead, ops_by}
 use Rattle.untagged_run.specs.declared.got.Got.{Got}
-use Rattle.write_index.specs.Entries.{Listing}
-use Rattle.write_index.specs.Kept.{Indexes}
-use Rattle.write_index.specs.Pending.{is_before, reaches_in, names}
+use Rattle.untagged_check.specs.index.Entries.{Listing}
+use Rattle.untagged_check.specs.index.Kept.{Indexes}
+use Rattle.untagged_check.specs.index.Pending.{is_before, reaches_in, names}
 
 -- a write of the dword that had not landed whole before so many events, and that these numbers reach
 abbrev pub is_unlanded : Board → List Event → Word → ℕ → List ℕ → OpId → Bool

@@ -10,7 +10,7 @@ use Rattle.law_untagged.specs.Apart.{Apart}
 use Rattle.law_untagged.specs.Origins.{UntaggedFresh}
 use Rattle.law_untagged.specs.Stale.{StaleRead, Breaks, breaks, stale_of}
 use Rattle.law_untagged.specs.Sound.{SoundRun}
-use Rattle.kept_state.specs.Refused.{FirstRefusedBy}
+use Rattle.judge_state.specs.Refused.{FirstRefusedBy}
 use Rattle.untagged_check.specs.declared.verdict.Stale.{Stale}
 use Rattle.untagged_check.specs.declared.verdict.Untagged.{Untagged as Judgement}
 use Rattle.untagged_check.specs.declared.verdict.Untagged.TheVariants.{NotRun, Run as IsRun}

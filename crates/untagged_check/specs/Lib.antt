@@ -1,2 +1,4 @@
 pub mod Judged
 pub mod Found
+pub mod index
+pub mod masters

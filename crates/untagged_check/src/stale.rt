@@ -7,21 +7,20 @@ ghost use Rattle.history_model.specs.Program.{ended};
 ghost use Rattle.law_untagged.specs.Stale.{stale_of};
 ghost use Rattle.untagged_run.specs.Course.{AreGots};
 ghost use Rattle.machine_steps.specs.Endings.{ended_op};
-ghost use Rattle.untagged_told.specs.Knowers.{Knows};
+ghost use Rattle.untagged_run.specs.told.Knowers.{Knows};
 ghost use Rattle.untagged_check.specs.Judged.{reads_of, listed};
 ghost use Rattle.untagged_check.specs.Found.{IndexesRun, first_unlanded, found_at, found_by, found_ending, found_with};
 
+use crate::index::WriteIndex;
 use crate::verdict::Stale;
 use audit_clocks::Numbers;
-use bus_tree::Tree;
-use dword_landings::whole_landings;
+use audit_landings::whole_landings;
+use board_tree::Tree;
 use history_model::Event;
 use machine_steps::ended_op;
 use pci_command::{NoMemory, OpId};
 use std::alloc::Global;
-use untagged_run::{Got, got_at};
-use untagged_told::Knowers;
-use write_index::WriteIndex;
+use untagged_run::{Got, Knowers, got_at};
 
 /// The reads of a run that break freshness, in the order in which their masters ended them.
 pub(crate) fn stale_reads(

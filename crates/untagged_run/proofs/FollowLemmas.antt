@@ -5,7 +5,7 @@ use Rattle.circular_buffer.proofs.Places.{slice_get-append_left, slice_get-appen
 use Rattle.board_model.specs.declared.board.Board.{Board}
 use Rattle.history_model.specs.declared.event.Event.{Event}
 use Rattle.history_model.specs.Runs.{history_of}
-use Rattle.lane_replay.proofs.RoomLemmas.{history_more}
+use Rattle.judge_lanes.proofs.RoomLemmas.{history_more}
 use Rattle.law_untagged.specs.Origins.{ending_reading}
 use Rattle.untagged_run.specs.declared.got.Got.{Got}
 use Rattle.untagged_run.specs.Flat.{flat}

@@ -23,9 +23,9 @@ use Rattle.history_model.specs.declared.rule.Rule.TheVariants.{Untagged}
 use Rattle.history_model.specs.Lanes.{LaneState, is_of}
 use Rattle.history_model.specs.World.{World, anyone, is_own, same_lane, lane_outcome}
 use Rattle.history_model.specs.Knowledge.{Reading, reading_of, reading_or}
-use Rattle.kept_state.specs.State.{KeptState, lane_in}
-use Rattle.kept_state.specs.Stands.{StandsForBy}
-use Rattle.kept_state.proofs.LookLemmas.{lane_now_by}
+use Rattle.judge_state.specs.State.{KeptState, lane_in}
+use Rattle.judge_state.specs.Stands.{StandsForBy}
+use Rattle.judge_state.proofs.LookLemmas.{lane_now_by}
 use Rattle.law_untagged.specs.Untagged.{untagged_world}
 use Rattle.law_untagged.specs.Origins.{origin_in, source_of, asks_for, ends_item, origins_of, ending_reading}
 use Rattle.untagged_run.specs.declared.got.Got.{Got}

@@ -4,7 +4,7 @@ use Rattle.std.proofs.lemmas.List.{length-append}
 use Rattle.board_model.specs.declared.board.Board.{Board}
 use Rattle.history_model.specs.declared.event.Event.{Event}
 use Rattle.history_model.specs.declared.rule.Rule.TheVariants.{Untagged}
-use Rattle.kept_state.specs.Stands.{StandsForBy}
+use Rattle.judge_state.specs.Stands.{StandsForBy}
 use Rattle.law_untagged.specs.Origins.{ending_reading}
 use Rattle.untagged_run.specs.declared.got.Got.{Got}
 use Rattle.untagged_run.specs.declared.made.Made.{Made}

@@ -4,9 +4,9 @@ use Rattle.board_model.specs.declared.board.Board.{Board}
 use Rattle.history_model.specs.declared.event.Event.{Event}
 use Rattle.history_model.specs.declared.rule.Rule.TheVariants.{Untagged}
 use Rattle.history_model.specs.Runs.{RunBy, history_of}
-use Rattle.kept_state.specs.State.{KeptState}
-use Rattle.kept_state.specs.Stands.{StandsForBy}
-use Rattle.kept_state.specs.Refused.{FirstRefusedBy}
+use Rattle.judge_state.specs.State.{KeptState}
+use Rattle.judge_state.specs.Stands.{StandsForBy}
+use Rattle.judge_state.specs.Refused.{FirstRefusedBy}
 use Rattle.law_untagged.specs.Origins.{ending_reading}
 use Rattle.untagged_run.specs.declared.got.Got.{Got}
 use Rattle.untagged_run.specs.declared.got.Followed.{Followed}

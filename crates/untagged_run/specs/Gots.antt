@@ -23,7 +23,7 @@ use Rattle.history_model.specs.declared.item.Slot.{Slot}
 use Rattle.history_model.specs.Lanes.{Both, is_of}
 use Rattle.history_model.specs.World.{anyone, is_own, lane_outcome}
 use Rattle.machine_steps.specs.Words.{word_at}
-use Rattle.kept_state.specs.State.{lane_in}
+use Rattle.judge_state.specs.State.{lane_in}
 use Rattle.board_model.specs.declared.word.Word.{Word}
 use Rattle.law_untagged.specs.Origins.{ends_item}
 use Rattle.untagged_run.specs.declared.got.Got.{Got}

@@ -7,6 +7,8 @@ mod course;
 mod got;
 mod made;
 mod origins;
+pub mod told;
 
 pub use course::follow;
 pub use got::{Followed, Got, got_at};
+pub use told::Knowers;

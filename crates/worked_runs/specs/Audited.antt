@@ -2,7 +2,7 @@
 use Rattle.std.specs.Prelude.{ℕ, List, [], ◌∷◌}
 use Rattle.pci_command.specs.declared.op_id.OpId.{OpId}
 use Rattle.pci_command.specs.declared.command.Space.TheVariants.{Mem}
-use Rattle.audit_model.specs.Audit.{Finding}
+use Rattle.law_audit.specs.Audit.{Finding}
 
 abbrev op : ℕ → ℕ → ℕ → OpId
 op master index attempt = record { master = master; index = index; attempt = attempt }

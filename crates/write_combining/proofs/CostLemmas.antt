@@ -19,7 +19,7 @@ use Rattle.board_model.specs.Requests.{request_on}
 use Rattle.board_model.specs.Ways.{Route, route_of, way, aborts_at, pieces_in, pieces_at, pieces_by, cost_of}
 use Rattle.board_model.specs.WellFormed.{is_well_formed_bridge, is_well_formed_target, is_well_formed_op}
 use Rattle.write_combining.specs.Writes.{MemoryWrite, write_by, memory_write, op_of_write}
-use Rattle.history_facts.proofs.BlockLemmas.{SameBlock, aborts_alike}
+use Rattle.history_model.proofs.facts.BlockLemmas.{SameBlock, aborts_alike}
 use Rattle.write_combining.proofs.JoinLemmas.{Combines, Merges, Joins}
 use Rattle.write_combining.proofs.FormLemmas.{Formed, Formed-op, InBlock, InBlock-burst, long_combined, long_merged}
 use Rattle.write_combining.proofs.RouteLemmas.{route_alike}

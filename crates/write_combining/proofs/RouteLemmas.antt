@@ -12,7 +12,7 @@ use Rattle.board_model.specs.Ways.{Route, end_of, route_by, route_within, route_
 use Rattle.board_model.specs.WellFormed.{is_well_formed_bridge, is_well_formed_target}
 use Rattle.write_combining.specs.Writes.{MemoryWrite, op_of_write}
 use Rattle.write_combining.specs.Combined.{combined}
-use Rattle.history_facts.proofs.BlockLemmas.{SameBlock, claim_alike}
+use Rattle.history_model.proofs.facts.BlockLemmas.{SameBlock, claim_alike}
 
 by_alike : (f g : BridgeLane → Route) (on : ℕ) (place : Place) → ((lane : BridgeLane) → f lane ≡ g lane) → route_by f on place ≡ route_by g on place
 by_alike f g on (Target target) alike = refl

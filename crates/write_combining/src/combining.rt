@@ -5,7 +5,7 @@ ghost use Rattle.write_combining.specs.Kept.{KeepsBoard};
 use crate::copies::{copy_list, copy_name, copy_op, copy_targets};
 use crate::{combining_keeps, join};
 use board_model::{Board, Master, Op};
-use bus_tree::Tree;
+use board_tree::Tree;
 use pci_command::{List, NoMemory};
 use std::alloc::Global;
 use std::mem;

@@ -9,5 +9,5 @@ mod laws;
 mod merge;
 
 pub use combining::combine;
-pub use joining::join;
+pub(crate) use joining::join;
 pub use laws::{combining_keeps, joined_brings_the_same};

@@ -1,5 +1,5 @@
-use Rattle.board_laws.proofs.ValidLemmas.{IsTree-valid}
-use Rattle.law_slots.proofs.WellFormedLemmas.{WellFormed-numbers, WellFormed-single}
+use Rattle.board_model.proofs.form_laws.ValidLemmas.{IsTree-valid}
+use Rattle.law_lanes.proofs.WellFormedLemmas.{WellFormed-numbers, WellFormed-single}
 use Rattle.board_model.proofs.Laws.{op_formed}
 use Rattle.law_untagged.proofs.RunLemmas.{runs_alike}
 use Rattle.law_untagged.proofs.apart_runs_are_alike.Goals as goal

@@ -1,5 +1,5 @@
 use Rattle.std.proofs.Common.{sym, subst}
-use Rattle.target_agents.specs.declared.access.Access.{Access}
+use Rattle.bus_targets.specs.declared.access.Access.{Access}
 use Rattle.bus_core.specs.Places.{NotesPart}
 use Rattle.bus_core.proofs.NoteLemmas.{part_noted, none_noted}
 use Rattle.bus_core.proofs.places.note_part.Goals as goal

@@ -1,6 +1,6 @@
 use Rattle.std.proofs.Common.{IfOk, sym, subst, map}
 use Rattle.std.specs.Prelude.{string_bytes}
-use Rattle.command_draw.specs.Answers.{AnswersDraw}
+use Rattle.command_traces.specs.draw.Answers.{AnswersDraw}
 use Rattle.program_words.specs.declared.Form.{Form}
 use Rattle.pcitree.specs.Answers.{AnswersTo}
 use Rattle.pcitree.specs.Given.{IsGiven}

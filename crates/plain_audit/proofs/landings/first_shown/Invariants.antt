@@ -2,7 +2,7 @@ use Rattle.std.proofs.Common.{◌≡◌, take}
 use Rattle.std.specs.List.{find}
 use Rattle.history_model.specs.Words.{landed}
 use Rattle.history_model.specs.Runs.{history_of}
-use Rattle.audit_model.specs.Chains.{op_in}
+use Rattle.law_audit.specs.Chains.{op_in}
 use Rattle.plain_audit.specs.Places.{dword, shows_by}
 use Rattle.plain_audit.proofs.landings.first_shown.Given as goal
 

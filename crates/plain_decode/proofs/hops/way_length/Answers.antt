@@ -1,4 +1,4 @@
-use Rattle.bus_tree.proofs.DecodableLemmas.{IsDecodable-valid}
+use Rattle.board_tree.proofs.DecodableLemmas.{IsDecodable-valid}
 use Rattle.plain_decode.proofs.hops.way_length.Goals as goal
 
 pub way_length_in-requires : goal.way_length_in-requires

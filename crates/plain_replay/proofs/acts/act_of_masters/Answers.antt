@@ -4,7 +4,7 @@ use Rattle.history_model.specs.declared.event.Event.{Event}
 use Rattle.history_model.specs.Program.{turn_of}
 use Rattle.history_model.specs.Runs.{history_of}
 use Rattle.history_model.specs.Next.{act_of_turn}
-use Rattle.law_progress.proofs.NextFirstLemmas.{below_found}
+use Rattle.law_lanes.proofs.progress.NextFirstLemmas.{below_found}
 use Rattle.plain_replay.proofs.acts.act_of_masters.Goals as goal
 
 pub returns-in-Some : goal.returns-in-Some

@@ -3,7 +3,7 @@ use Rattle.board_model.specs.declared.board.Board.{Board}
 use Rattle.history_model.specs.declared.event.Event.{Event}
 use Rattle.history_model.specs.Runs.{history_of}
 use Rattle.history_model.specs.Next.{act_on}
-use Rattle.law_progress.proofs.NextFirstLemmas.{bus_found, bus_none}
+use Rattle.law_lanes.proofs.progress.NextFirstLemmas.{bus_found, bus_none}
 use Rattle.plain_replay.proofs.acts.first_act.Goals as goal
 
 pub returns-in-Some : goal.returns-in-Some

@@ -2,8 +2,8 @@ use Rattle.std.proofs.Common.{◌∙◌}
 use Rattle.history_model.specs.World.{world_of}
 use Rattle.history_model.specs.Answers.{bridge_to}
 use Rattle.history_model.specs.Runs.{history_of}
-use Rattle.lane_replay.specs.Bridge.{turned}
-use Rattle.lane_replay.proofs.LaneLemmas.{lane_there, turned_back}
+use Rattle.judge_lanes.specs.Bridge.{turned}
+use Rattle.judge_lanes.proofs.LaneLemmas.{lane_there, turned_back}
 use Rattle.plain_replay.proofs.FaceLemmas.{face_there}
 use Rattle.plain_replay.proofs.answers.lane_answer.Goals as goal
 

@@ -4,7 +4,7 @@ use Rattle.board_model.specs.declared.board.Board.{Board}
 use Rattle.history_model.specs.declared.event.Event.{Event}
 use Rattle.history_model.specs.Runs.{history_of}
 use Rattle.history_model.specs.Next.{up_from, given_on, arrival_at}
-use Rattle.law_progress.proofs.NextFirstLemmas.{bus_found, bus_none}
+use Rattle.law_lanes.proofs.progress.NextFirstLemmas.{bus_found, bus_none}
 use Rattle.plain_replay.proofs.first_arrivals.arrival_from_below.Goals as goal
 
 pub returns-in-Some : goal.returns-in-Some

@@ -1,5 +1,5 @@
 use Rattle.std.proofs.Common.{arith}
-use Rattle.lane_replay.proofs.RoomLemmas.{room_before, lanes_more}
+use Rattle.judge_lanes.proofs.RoomLemmas.{room_before, lanes_more}
 use Rattle.plain_replay.proofs.lanes.lanes_after_events.Goals as goal
 
 pub happen-requires : goal.happen-requires

@@ -1,8 +1,8 @@
 use Rattle.std.proofs.Common.{◌≡◌, take}
 use Rattle.history_model.specs.World.{world_of}
 use Rattle.history_model.specs.Runs.{history_of}
-use Rattle.lane_replay.specs.Bridge.{lanes_of}
-use Rattle.lane_replay.proofs.RoomLemmas.{Counted}
+use Rattle.judge_lanes.specs.Bridge.{lanes_of}
+use Rattle.judge_lanes.proofs.RoomLemmas.{Counted}
 use Rattle.plain_replay.proofs.lanes.lanes_after_events.Given as goal
 
 -- the lanes after the events so far, each of which counted at most one arrival

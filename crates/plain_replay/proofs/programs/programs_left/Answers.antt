@@ -1,10 +1,10 @@
 use Rattle.std.proofs.Common.{◌≡◌, ◌<◌, length, get_or, arith}
 use Rattle.list_facts.specs.Lists.{total}
-use Rattle.board_claim.proofs.FewLemmas.{few_masters_before, master_more}
+use Rattle.board_model.proofs.claims.FewLemmas.{few_masters_before, master_more}
 use Rattle.board_model.specs.declared.agents.Master.{Master}
 use Rattle.board_model.specs.Ways.{cost_of}
 use Rattle.history_model.specs.Runs.{history_of}
-use Rattle.lane_replay.proofs.SumLemmas.{total_item}
+use Rattle.judge_lanes.proofs.SumLemmas.{total_item}
 use Rattle.plain_replay.proofs.ProgramLemmas.{programs_more}
 use Rattle.plain_replay.proofs.programs.programs_left.Goals as goal
 

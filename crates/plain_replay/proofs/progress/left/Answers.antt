@@ -1,5 +1,5 @@
 use Rattle.history_model.specs.Runs.{history_of}
-use Rattle.lane_replay.proofs.RunningLemmas.{IsRunning-valid}
+use Rattle.judge_lanes.proofs.RunningLemmas.{IsRunning-valid}
 use Rattle.plain_replay.proofs.progress.left.Goals as goal
 
 pub left_on-requires : goal.left_on-requires

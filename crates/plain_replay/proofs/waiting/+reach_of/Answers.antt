@@ -6,8 +6,8 @@ use Rattle.board_model.specs.Ways.{end_of}
 use Rattle.history_model.specs.Left.{Reach, lane_or}
 use Rattle.history_model.specs.World.{world_of}
 use Rattle.history_model.specs.Runs.{history_of}
-use Rattle.lane_replay.specs.declared.remaining.Reach.{Reach as Found}
-use Rattle.lane_replay.proofs.ReachLemmas.{none, through, reach_on, reach_nowhere, reach_at, reach_through, short_none, short_through}
+use Rattle.judge_lanes.specs.declared.remaining.Reach.{Reach as Found}
+use Rattle.judge_lanes.proofs.ReachLemmas.{none, through, reach_on, reach_nowhere, reach_at, reach_through, short_none, short_through}
 use Rattle.plain_replay.proofs.waiting.+reach_of.Goals as goal
 
 pub returns-then-most-eq0 : goal.returns-then-most-eq0

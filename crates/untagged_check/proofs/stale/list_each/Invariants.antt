@@ -1,7 +1,7 @@
 use Rattle.std.proofs.Common.{◌≡◌, take}
 use Rattle.history_model.specs.Runs.{history_of}
 use Rattle.law_untagged.specs.Stale.{stale_in}
-use Rattle.untagged_told.specs.Knowers.{Knows}
+use Rattle.untagged_run.specs.told.Knowers.{Knows}
 use Rattle.untagged_check.specs.Judged.{reads_of}
 use Rattle.untagged_check.proofs.stale.list_each.Given as goal
 

@@ -2,7 +2,7 @@ use Rattle.std.proofs.Common.{List, take, sym, subst, arith}
 use Rattle.history_model.specs.declared.event.Event.{Event}
 use Rattle.history_model.specs.declared.rule.Rule.TheVariants.{Untagged}
 use Rattle.history_model.specs.Runs.{RunBy, history_of}
-use Rattle.kept_state.proofs.RefusedLemmas.{refused_by}
+use Rattle.judge_state.proofs.RefusedLemmas.{refused_by}
 use Rattle.untagged_run.specs.Course.{CourseState, AreGots}
 use Rattle.untagged_run.proofs.FollowLemmas.{Upto, upto_more, upto_all}
 use Rattle.untagged_run.proofs.course.follow.Goals as goal

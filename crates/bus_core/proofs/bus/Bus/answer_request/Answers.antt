@@ -2,7 +2,7 @@ use Rattle.std.proofs.Common.{◌≡◌, Option, None, subst, sym, ◌∙◌}
 use Rattle.board_model.specs.declared.bridge.Place.TheVariants.{Target, Header, Lane, Nobody}
 use Rattle.board_model.specs.Claims.{claim}
 use Rattle.history_model.specs.declared.item.Answer.{Answer}
-use Rattle.master_agents.specs.Through.{count_in}
+use Rattle.bus_agents.specs.Through.{count_in}
 use Rattle.bus_core.specs.declared.given.Given.{Given}
 use Rattle.bus_core.specs.declared.given.Sent.{Sent}
 use Rattle.bus_core.specs.Bus.{BusView}

@@ -3,8 +3,8 @@ use Rattle.std.proofs.lemmas.Bool.{and_parts}
 use Rattle.std.proofs.lemmas.List.{with_items_is}
 use Rattle.board_model.specs.declared.bridge.Lane.{Lane as BridgeLane}
 use Rattle.pci_command.specs.declared.request.Request.{Request}
-use Rattle.bridge_face.specs.Arrivals.{carried}
-use Rattle.bus_port.specs.Port.{PortView}
+use Rattle.bus_face.specs.Arrivals.{carried}
+use Rattle.bus_core.specs.port.Port.{PortView}
 use Rattle.bus_core.specs.Bus.{BusView, Shape, shape_of, arrivals_at}
 use Rattle.bus_core.specs.Places.{OneChanged, ComesAt}
 use Rattle.bus_core.specs.Serves.{names_its_kind, OneMoreAt, BusArrives}

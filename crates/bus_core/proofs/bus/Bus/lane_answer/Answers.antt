@@ -5,7 +5,7 @@ use Rattle.board_model.specs.Ways.{lane_back}
 use Rattle.board_model.specs.declared.bridge.Place.TheVariants.{Lane as LaneOf}
 use Rattle.history_model.specs.declared.item.Answer.{Answer}
 use Rattle.history_model.specs.World.{same_lane}
-use Rattle.bus_port.specs.Port.{PortView}
+use Rattle.bus_core.specs.port.Port.{PortView}
 use Rattle.bus_core.specs.declared.given.Given.{Given}
 use Rattle.bus_core.specs.declared.given.Sent.{Sent}
 use Rattle.bus_core.specs.Bus.{BusView, shape_of, arrivals_at}

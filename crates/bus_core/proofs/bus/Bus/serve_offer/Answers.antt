@@ -4,8 +4,8 @@ use Rattle.board_model.specs.declared.bridge.Lane.{Lane as BridgeLane}
 use Rattle.history_model.specs.declared.event.By.TheVariants.{Lane as ByLane}
 use Rattle.history_model.specs.declared.event.Event.TheVariants.{Act}
 use Rattle.history_model.specs.declared.item.Answer.{Answer}
-use Rattle.bridge_face.specs.Offers.{offers_of}
-use Rattle.bus_port.specs.Port.{PortView}
+use Rattle.bus_face.specs.Offers.{offers_of}
+use Rattle.bus_core.specs.port.Port.{PortView}
 use Rattle.bus_core.specs.Bus.{BusView, Shape}
 use Rattle.bus_core.specs.Calls.{BusAnswers}
 use Rattle.bus_core.proofs.OfferLemmas.{offer_turns, offer_retried, offer_did}

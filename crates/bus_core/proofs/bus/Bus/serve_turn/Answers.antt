@@ -4,7 +4,7 @@ use Rattle.history_model.specs.declared.event.By.TheVariants.{Master}
 use Rattle.history_model.specs.declared.event.Event.TheVariants.{Act}
 use Rattle.history_model.specs.declared.item.Answer.{Answer}
 use Rattle.history_model.specs.declared.item.Answer.TheVariants.{Gives}
-use Rattle.master_agents.specs.Turns.{MasterView}
+use Rattle.bus_agents.specs.Turns.{MasterView}
 use Rattle.bus_core.specs.Bus.{BusView, Shape}
 use Rattle.bus_core.specs.Calls.{BusAnswers}
 use Rattle.bus_core.specs.Places.{TellsMaster}

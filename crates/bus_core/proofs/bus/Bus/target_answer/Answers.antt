@@ -4,7 +4,7 @@ use Rattle.std.specs.List.{position}
 use Rattle.board_model.specs.declared.bridge.Place.TheVariants.{Target}
 use Rattle.history_model.specs.declared.event.Step.{Step}
 use Rattle.history_model.specs.declared.item.Answer.TheVariants.{Gives}
-use Rattle.target_agents.specs.State.{TargetView}
+use Rattle.bus_targets.specs.State.{TargetView}
 use Rattle.bus_core.specs.declared.given.Given.{Given}
 use Rattle.bus_core.specs.Bus.{BusView, shape_of}
 use Rattle.bus_core.specs.Parts.{PlaceAnswers}

@@ -2,7 +2,7 @@ use Rattle.std.proofs.Common.{◌≡◌, ℕ, List, map, Option, Some, ap, subst
 use Rattle.std.proofs.lemmas.List.{with_items_is}
 use Rattle.board_model.specs.declared.bridge.Lane.{Lane as BridgeLane}
 use Rattle.history_model.specs.World.{lane_outcome}
-use Rattle.bus_port.specs.Port.{PortView}
+use Rattle.bus_core.specs.port.Port.{PortView}
 use Rattle.bus_core.specs.Bus.{BusView, Shape, shape_of, arrivals_at}
 use Rattle.bus_core.specs.Parts.{TellsLane}
 use Rattle.bus_core.specs.Places.{EndsAt}

@@ -1,5 +1,5 @@
 use Rattle.std.proofs.Common.{List, ap, subst, ◌∙◌}
-use Rattle.master_agents.specs.Turns.{MasterView}
+use Rattle.bus_agents.specs.Turns.{MasterView}
 use Rattle.bus_core.specs.Bus.{BusView}
 use Rattle.bus_core.specs.Places.{WantsAt}
 use Rattle.bus_core.proofs.bus.Bus.wants.Goals as goal

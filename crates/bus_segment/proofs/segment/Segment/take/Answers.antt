@@ -1,5 +1,5 @@
 use Rattle.std.proofs.Common.{◌≡◌, ◌+◌, max, Option, Some, IfSome, ap, sym, subst, ◌∙◌}
-use Rattle.bus_port.specs.Port.{PortView}
+use Rattle.bus_core.specs.port.Port.{PortView}
 use Rattle.bus_core.specs.Bus.{BusView}
 use Rattle.bus_core.specs.Serves.{BusArrives}
 use Rattle.bus_core.proofs.ListLemmas.{get_map}

@@ -1,7 +1,7 @@
 use Rattle.std.proofs.Common.{sym, ap, ◌∙◌, subst, ◌≡◌}
 use Rattle.history_model.specs.Lanes.{LaneState}
 use Rattle.history_model.specs.declared.event.Event.{Event}
-use Rattle.kept_state.proofs.LookLemmas.{lane_now}
+use Rattle.judge_state.proofs.LookLemmas.{lane_now}
 use Rattle.run_waves.specs.Shown.{first_of, item_by}
 use Rattle.run_waves.proofs.watch.Watch.arriving.Goals as goal
 

@@ -1,8 +1,8 @@
 use Rattle.std.proofs.Common.{Option, Some, sym, ap, subst, ◌∙◌}
 use Rattle.board_model.specs.declared.board.Board.{Board}
 use Rattle.history_model.specs.declared.item.Carried.{Carried}
-use Rattle.kept_state.specs.State.{KeptState}
-use Rattle.kept_state.specs.Stands.{StandsFor}
+use Rattle.judge_state.specs.State.{KeptState}
+use Rattle.judge_state.specs.Stands.{StandsFor}
 use Rattle.run_waves.specs.Shown.{past, next, item_by}
 use Rattle.run_waves.specs.Scenes.{IsAt}
 use Rattle.run_waves.proofs.WatchLemmas.{at_next}

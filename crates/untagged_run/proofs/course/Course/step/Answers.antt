@@ -2,8 +2,8 @@ use Rattle.std.proofs.Common.{◌≡◌, ◌+◌, ◌∷◌, length, sym, subst}
 use Rattle.board_model.specs.declared.board.Board.{Board}
 use Rattle.history_model.specs.declared.event.Event.{Event}
 use Rattle.history_model.specs.declared.rule.Rule.TheVariants.{Untagged}
-use Rattle.kept_state.specs.State.{KeptState}
-use Rattle.kept_state.specs.Stands.{StandsForBy}
+use Rattle.judge_state.specs.State.{KeptState}
+use Rattle.judge_state.specs.Stands.{StandsForBy}
 use Rattle.untagged_run.specs.declared.made.Made.{Made}
 use Rattle.untagged_run.specs.Gots.{made_now}
 use Rattle.untagged_run.specs.Course.{CourseState, IsCourse, GoesOn}

@@ -1,5 +1,0 @@
-use Rattle.audit_model.proofs.ChainLemmas.{chain_tells}
-use Rattle.audit_model.proofs.chains_tell.Goals as goal
-
-pub returns : goal.returns
-returns c = λ board h w r chain valid run is. chain_tells board h w r chain valid run is

@@ -1,0 +1,17 @@
+//! What the lines of a board text add up to: each statement is added to a draft of the board, or is
+//! refused by its first fault.
+mod add;
+mod bridges;
+mod counts;
+mod details;
+mod draft;
+mod fault;
+mod lists;
+mod masters;
+mod plans;
+mod sheet;
+mod targets;
+
+pub use draft::{Draft, Owner};
+pub use fault::AddFault;
+pub use sheet::Sheet;

@@ -1,0 +1,4 @@
+use Rattle.board_tree.proofs.ways.+route_within.Given as goal
+
+abbrev pub decreases-route_within : goal.decreases-route_within
+decreases-route_within l = l.most

@@ -1,7 +1,0 @@
-pub mod State
-pub mod Held
-pub mod Replies
-pub mod Arrivals
-pub mod Offers
-pub mod Stands
-pub mod OnLanes

@@ -1,2 +1,0 @@
-pub mod HeaderBytes
-pub mod Windows

@@ -1,0 +1,4 @@
+pub mod Turns
+pub mod Through
+pub mod marks
+pub mod arbiter

@@ -1,6 +1,0 @@
-use Rattle.std.proofs.Common.{subst, ◌<◌, ℕ}
-use Rattle.bus_arbiter.proofs.RoundLemmas.{each_once}
-use Rattle.bus_arbiter.proofs.arbiter.Arbiter.round_is_fair.Goals as goal
-
-pub returns : goal.returns
-returns c = each_once c.args.lines c.args.self.now c.ranges.lines.fits (subst (λ (line : ℕ). line < 32) c.self.view_is c.self.invariant)

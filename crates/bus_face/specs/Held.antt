@@ -1,0 +1,14 @@
+-- A completion stands only for a request whose slot is held.
+use Rattle.std.specs.Prelude.{◌≡◌, ℕ, List}
+use Rattle.bus_face.specs.declared.requests.slot_table.Slot.{Slot}
+use Rattle.bus_face.specs.requests.Slots.{Slots, IsHeld}
+use Rattle.bus_face.specs.declared.completions.done_table.Done.{Done}
+use Rattle.bus_face.specs.completions.Completions.{Completions, IsStanding}
+
+abbrev pub HoldsSlots : List Slot → List Done → Type 0
+HoldsSlots slots dones = (slot : ℕ) → IsStanding slot dones → IsHeld slot slots
+
+-- what holds of every half bridge
+pub record IsFace (slots : Slots) (dones : Completions) : Type 0 where
+  pub holds : HoldsSlots slots.slots dones.dones
+  pub depths : slots.depth ≡ dones.depth

@@ -1,0 +1,10 @@
+pub mod State
+pub mod Held
+pub mod Replies
+pub mod Arrivals
+pub mod Offers
+pub mod Stands
+pub mod OnLanes
+pub mod posts
+pub mod requests
+pub mod completions

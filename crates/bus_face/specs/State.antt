@@ -1,0 +1,19 @@
+-- What half a bridge keeps, on the bus of its face.
+use Rattle.std.specs.Prelude.{ℕ}
+use Rattle.bus_face.specs.posts.Posted.{Posted}
+use Rattle.bus_face.specs.requests.Asks.{Asks}
+use Rattle.bus_face.specs.requests.Slots.{Slots}
+use Rattle.bus_face.specs.completions.Completions.{Completions}
+
+pub record FaceState : Type 0 where
+  -- the posted writes, delayed requests and completions that came to this bus, in three tables
+  pub posts : Posted
+  pub asks : Asks
+  pub dones : Completions
+  -- the slots of the delayed requests that were latched here
+  pub slots : Slots
+  -- how many posted writes may be owed, and are
+  pub posted : ℕ
+  pub owed : ℕ
+  -- how many items arrived so far
+  pub arrivals : ℕ

@@ -1,0 +1,6 @@
+use Rattle.std.proofs.Common.{◌+◌}
+use Rattle.bus_segment.specs.turns.Works.{AsksUpTo}
+use Rattle.bus_segment.proofs.turns.lines.master_lines.Given as goal
+
+abbrev pub invariant-loop-place : goal.invariant-loop-place
+invariant-loop-place l = AsksUpTo l.bus 9 (9 + l.place) l.lines

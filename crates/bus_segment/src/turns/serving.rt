@@ -1,0 +1,136 @@
+ghost use Rattle.std.specs.Prelude.{◌≡◌, ◌+◌, ◌<◌, ◌≤◌, true, false, length, vec_len, IsTrue};
+ghost use Rattle.std.specs.Vec.{vec_capacity};
+ghost use Rattle.std.specs.List.{find};
+ghost use Rattle.std.specs.Option.{option_copied};
+ghost use Rattle.board_model.specs.WellFormed.{is_well_formed};
+ghost use Rattle.bus_face.specs.Offers.{is_offer_of};
+ghost use Rattle.bus_core.specs.Bus.{shape_of};
+ghost use Rattle.bus_segment.specs.Steps.{IsOfLane, Retries};
+ghost use Rattle.bus_segment.specs.turns.Works.{seen, Works, HasLine, IsServed, IsOfPort, AllRetried, most_at};
+
+use crate::Segment;
+use crate::turns::lines::lines;
+use board_model::Board;
+use bus_agents::Arbiter;
+use bus_face::Offer;
+use lane_items::LaneEnd;
+use pci_command::OpId;
+
+/// The first request line of a master; those below are of bridges.
+const MASTERS: u8 = 9;
+
+/// Each initiator that presents something is served once, in the order of the grants, as long as the
+/// segment does not stop.
+pub(crate) fn serve_all<L: LaneEnd + Drop>(
+    segment: &mut Segment<L>,
+    arbiter: &mut Arbiter,
+    board: &Board,
+)
+    requires formed { IsTrue (is_well_formed board.now) }
+    requires going { segment.old.stopped ≡ false }
+    requires ends { length segment.old.ends.items ≡ length segment.old.bus.ports }
+    requires ports { length segment.old.bus.ports ≤ 9 }
+    requires masters { length segment.old.bus.masters ≤ 8 }
+    requires spare { vec_len segment.old.events + 152 ≤ vec_capacity segment.old.events }
+    ensures works { Works L.had L.sent L.got L.kept L.paired board.now 152
+        (seen segment.old.bus segment.old.stamp segment.old.stopped) (seen segment.new.bus segment.new.stamp segment.new.stopped)
+        segment.old.ends.items segment.new.ends.items segment.old.events.items segment.new.events.items }
+    ensures quiet { length segment.new.events.items ≡ length segment.old.events.items → segment.new.stopped ≡ false →
+        AllRetried board.now 0 segment.old.bus segment.new.bus segment.old.ends.items segment.new.ends.items }
+{
+    let mut lines = lines(segment.bus());
+    'grants: while !segment.stopped() {
+        let Some(line) = arbiter.grant(lines) else {
+            return;
+        };
+        lines &= !(1 << line);
+        serve(segment, board, line);
+    }
+}
+
+/// The initiator with this line is served.
+fn serve<L: LaneEnd + Drop>(segment: &mut Segment<L>, board: &Board, line: u8)
+    requires formed { IsTrue (is_well_formed board.now) }
+    requires going { segment.old.stopped ≡ false }
+    requires ends { length segment.old.ends.items ≡ length segment.old.bus.ports }
+    requires ports { length segment.old.bus.ports ≤ 9 }
+    requires masters { length segment.old.bus.masters ≤ 8 }
+    requires line { IsServed (shape_of segment.old.bus) line }
+    requires spare { vec_len segment.old.events + most_at line ≤ vec_capacity segment.old.events }
+    ensures works { Works L.had L.sent L.got L.kept L.paired board.now (most_at line)
+        (seen segment.old.bus segment.old.stamp segment.old.stopped) (seen segment.new.bus segment.new.stamp segment.new.stopped)
+        segment.old.ends.items segment.new.ends.items segment.old.events.items segment.new.events.items }
+    ensures spare { vec_capacity segment.old.events ≤ vec_capacity segment.new.events }
+    ensures quiet { length segment.new.events.items ≡ length segment.old.events.items → segment.new.stopped ≡ false →
+        Retries board.now segment.old.bus segment.new.bus segment.old.ends.items segment.new.ends.items (HasLine (shape_of segment.old.bus) line) }
+{
+    if line < MASTERS {
+        serve_lane(segment, board, line);
+    } else {
+        segment.serve_master(board, line - MASTERS);
+    }
+}
+
+/// The lane of the port at this place presents each thing that it offers now, as long as the segment
+/// does not stop.
+fn serve_lane<L: LaneEnd + Drop>(segment: &mut Segment<L>, board: &Board, place: u8)
+    requires formed { IsTrue (is_well_formed board.now) }
+    requires going { segment.old.stopped ≡ false }
+    requires ends { length segment.old.ends.items ≡ length segment.old.bus.ports }
+    requires place { place < length segment.old.bus.ports }
+    requires spare { vec_len segment.old.events + 16 ≤ vec_capacity segment.old.events }
+    ensures works { Works L.had L.sent L.got L.kept L.paired board.now 16
+        (seen segment.old.bus segment.old.stamp segment.old.stopped) (seen segment.new.bus segment.new.stamp segment.new.stopped)
+        segment.old.ends.items segment.new.ends.items segment.old.events.items segment.new.events.items }
+    ensures spare { vec_capacity segment.old.events ≤ vec_capacity segment.new.events }
+    ensures quiet { length segment.new.events.items ≡ length segment.old.events.items → segment.new.stopped ≡ false →
+        Retries board.now segment.old.bus segment.new.bus segment.old.ends.items segment.new.ends.items (IsOfPort (shape_of segment.old.bus) place) }
+{
+    let offers = segment.bus().offers(place as usize);
+    for offer in offers.as_slice() {
+        if segment.stopped() {
+            return;
+        }
+        serve_op(segment, board, place, offer.op);
+    }
+}
+
+/// The lane of the port at this place presents the operation, if it offers it still.
+fn serve_op<L: LaneEnd + Drop>(segment: &mut Segment<L>, board: &Board, place: u8, op: OpId)
+    requires formed { IsTrue (is_well_formed board.now) }
+    requires going { segment.old.stopped ≡ false }
+    requires ends { length segment.old.ends.items ≡ length segment.old.bus.ports }
+    requires place { place < length segment.old.bus.ports }
+    requires spare { vec_len segment.old.events + 1 ≤ vec_capacity segment.old.events }
+    ensures works { Works L.had L.sent L.got L.kept L.paired board.now 1
+        (seen segment.old.bus segment.old.stamp segment.old.stopped) (seen segment.new.bus segment.new.stamp segment.new.stopped)
+        segment.old.ends.items segment.new.ends.items segment.old.events.items segment.new.events.items }
+    ensures spare { vec_capacity segment.old.events ≤ vec_capacity segment.new.events }
+    ensures quiet { length segment.new.events.items ≡ length segment.old.events.items → segment.new.stopped ≡ false →
+        Retries board.now segment.old.bus segment.new.bus segment.old.ends.items segment.new.ends.items (IsOfLane (shape_of segment.old.bus) place op) }
+{
+    let offers = segment.bus().offers(place as usize);
+    match offer_of(offers.as_slice(), op) {
+        Some(offer) => segment.serve_offer(board, place, &offer),
+        None => {}
+    }
+}
+
+/// The first offer of the operation.
+fn offer_of(offers: &[Offer], op: OpId) -> Option<Offer>
+    ensures { result ≡ find (is_offer_of op) offers.now }
+{
+    find_offer(offers, op).copied()
+}
+
+fn find_offer(offers: &[Offer], op: OpId) -> Option<&Offer>
+    ensures { option_copied result ≡ find (is_offer_of op) offers.now }
+{
+    offers.iter().find(|offer| is_of(offer, op))
+}
+
+fn is_of(offer: &Offer, op: OpId) -> bool
+    ensures { result ≡ is_offer_of op offer.now }
+{
+    op == offer.op
+}

@@ -1,6 +1,0 @@
-//! `audit`: what the program writes for a trace text of a run, complete or not, or why it refuses it.
-#![tactic(auto)]
-
-mod answer;
-
-pub use answer::answer_audit;

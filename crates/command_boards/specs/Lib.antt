@@ -1,0 +1,3 @@
+pub mod headers
+pub mod combine
+pub mod import

@@ -1,8 +1,0 @@
-//! `draw`: the page that the program writes for a trace text of a run, complete or not, or why it refuses it.
-#![tactic(auto)]
-
-mod answer;
-mod rows;
-
-pub use answer::answer_draw;
-pub use rows::{Rows, event_of, names_event, rows_of};

@@ -1,8 +1,0 @@
-//! `generate`: what the program writes for a number of rounds.
-#![tactic(auto)]
-
-mod answer;
-mod word;
-
-pub use answer::answer_generate;
-pub use word::{names_rounds, rounds_of};

@@ -1,6 +1,0 @@
-//! `headers`: what the program writes for the text of a board, or why it refuses it.
-#![tactic(auto)]
-
-mod answer;
-
-pub use answer::answer_headers;

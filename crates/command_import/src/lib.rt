@@ -1,6 +1,0 @@
-//! `import`: the board text of a machine of which `lspci` wrote, or why what it wrote is refused.
-#![tactic(auto)]
-
-mod answer;
-
-pub use answer::answer_import;

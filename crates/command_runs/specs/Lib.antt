@@ -1,0 +1,4 @@
+pub mod run
+pub mod finish
+pub mod devices
+pub mod generate

@@ -1,0 +1,35 @@
+ghost use Rattle.std.specs.Prelude.{◌≡◌, IfOk, IfErr, IsTrue};
+ghost use Rattle.command_runs.specs.generate.Answers.{names_rounds, AnswersGenerate, GeneratesTo, RefusesGenerate};
+
+use crate::generate::rounds_of;
+use judge_finish::finish;
+use pci_command::{List, NoMemory};
+use program_status::Status;
+use run_report::report;
+use std::alloc::Global;
+use traffic_generator::{Rounds, generate, generated_boards_are_valid};
+
+/// The report of the run of the board of so many rounds as the word names.
+pub fn answer_generate(alloc: Global, word: &[u8]) -> Result<Vec<u8>, Status>
+    requires { IsTrue (names_rounds word.now) }
+    ensures ok { IfOk result (λ text. AnswersGenerate word.now text.items) }
+    ensures err { IfErr result (RefusesGenerate word.now) }
+{
+    let rounds = rounds_of(word).unwrap();
+    match report_of(alloc, &rounds) {
+        Ok(text) => Ok(text.into_vec()),
+        Err(_) => Err(Status::NoMemory),
+    }
+}
+
+fn report_of(alloc: Global, rounds: &Rounds) -> Result<List<u8>, NoMemory>
+    ensures { IfOk result (GeneratesTo rounds.now) }
+{
+    generated_boards_are_valid();
+    let tree = generate(alloc, rounds)?;
+    let _board = tree.board();
+    let Ok(events) = finish(alloc, &tree, List::from_vec(Vec::new(alloc))) else {
+        return Err(NoMemory);
+    };
+    report(alloc, &tree, events.as_slice())
+}

@@ -1,0 +1,6 @@
+pub mod check
+pub mod audit
+pub mod report
+pub mod untagged
+pub mod waves
+pub mod draw

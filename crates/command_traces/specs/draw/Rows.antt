@@ -1,0 +1,38 @@
+-- Which events of a run are drawn.
+use Rattle.std.specs.Prelude.{ℕ, ◌+◌, ◌-◌, min, Bool, List, Option, Some, None, Result, Ok, Err, nat_lt, is_some, if◌then◌else◌}
+use Rattle.board_text.specs.declared.numbers.NumberFault.{NumberFault}
+use Rattle.board_text.specs.Numbers.{decimal_answer}
+use Rattle.command_traces.specs.declared.draw.rows.Rows.{Rows}
+
+-- all, or those from one number to another; a LAST above the number of events is lowered to it
+abbrev pub first_row : Option Rows → ℕ
+first_row None = 1
+first_row (Some rows) = rows.first
+
+abbrev pub last_row : Option Rows → ℕ → ℕ
+last_row None count = count
+last_row (Some rows) count = min rows.last count
+
+-- how many that are
+abbrev pub drawn_count : Option Rows → ℕ → ℕ
+drawn_count rows count = last_row rows count + 1 - first_row rows
+
+-- the number of an event that a word tells: a decimal of 1 to 10 digits, from 1 on
+abbrev pub event_by : Result ℕ NumberFault → Option ℕ
+event_by (Ok number) = if nat_lt 0 number then Some number else None
+event_by (Err fault) = None
+
+unfoldable pub event_of : List ℕ → Option ℕ
+event_of word = event_by (decimal_answer word)
+
+abbrev pub names_event : List ℕ → Bool
+names_event word = is_some (event_of word)
+
+-- the events that two words tell, the first and the last, which is not below the first
+abbrev pub rows_by : Option ℕ → Option ℕ → Option Rows
+rows_by None last = None
+rows_by (Some first) None = None
+rows_by (Some first) (Some last) = if nat_lt last first then None else Some (record { first = first; last = last })
+
+abbrev pub rows_of : List ℕ → List ℕ → Option Rows
+rows_of first last = rows_by (event_of first) (event_of last)

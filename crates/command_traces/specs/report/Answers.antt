@@ -1,0 +1,29 @@
+-- report: what is written for a trace text, and with which status it is refused.
+use Rattle.std.specs.Prelude.{◌≡◌, ℕ, List}
+use Rattle.board_model.specs.declared.board.Board.{Board}
+use Rattle.board_model.specs.Valid.{IsValid}
+use Rattle.history_model.specs.declared.event.Event.{Event}
+use Rattle.history_model.specs.Runs.{Run, Complete, history_of}
+use Rattle.history_model.specs.Knowledge.{Fresh}
+use Rattle.run_report.specs.Report.{report_of}
+use Rattle.run_report.specs.way_counts.Plain.{IsSteady}
+use Rattle.run_report.specs.way_counts.WayCounts.{way_report}
+use Rattle.program_input.specs.Traces.{ReadsTrace}
+
+-- a run of a board, which is fresh: each read that was told of a write reads its words after it has landed; and the
+-- text of its report
+pub record Reports (board : Board) (events : List Event) (text : List ℕ) : Type 0 where
+  pub run : Run board (history_of events)
+  pub fresh : Fresh board (history_of events)
+  pub written : text ≡ report_of board (history_of events)
+  -- of a complete run of a board without stalls, bursts in parts, polls, discards and drops, whoever made it, these
+  -- are the way counts of the board
+  pub counted : IsSteady board → Complete board (history_of events) → text ≡ way_report board
+
+-- the input is the text of a valid board and of a run of it, complete or not, and its report is written
+pub record AnswersReport (input text : List ℕ) : Type 0 where
+  pub board : Board
+  pub events : List Event
+  pub reads : ReadsTrace input board events
+  pub valid : IsValid board
+  pub reports : Reports board events text

@@ -1,0 +1,37 @@
+ghost use Rattle.std.specs.Prelude.{◌<◌, ◌^◌, length, IfOk, IfErr};
+ghost use Rattle.history_model.specs.Runs.{Run, history_of};
+ghost use Rattle.program_input.specs.Traces.{RefusesRun};
+ghost use Rattle.command_traces.specs.audit.Answers.{AnswersAudit, Audits};
+
+use audit_text::audit_text;
+use board_tree::Tree;
+use history_model::Event;
+use law_fresh::runs_are_fresh;
+use pci_command::{List, NoMemory};
+use program_input::{TreeTrace, read_run};
+use program_status::Status;
+use std::alloc::Global;
+
+/// The audit of a run, complete or not, for its trace text.
+pub fn answer_audit(alloc: Global, input: &[u8]) -> Result<Vec<u8>, Status>
+    requires { length input.now < 2 ^ 31 }
+    ensures ok { IfOk result (λ text. AnswersAudit input.now text.items) }
+    ensures err { IfErr result (RefusesRun input.now) }
+{
+    let TreeTrace { tree, events } = read_run(alloc, input)?;
+    match text_of_run(alloc, &tree, events.as_slice()) {
+        Ok(text) => Ok(text.into_vec()),
+        Err(_) => Err(Status::NoMemory),
+    }
+}
+
+/// The audit of a run, which is fresh.
+fn text_of_run(alloc: Global, tree: &Tree, events: &[Event]) -> Result<List<u8>, NoMemory>
+    requires { Run tree.now (history_of events.now) }
+    ensures { IfOk result (Audits tree.now events.now) }
+{
+    runs_are_fresh();
+    // The board of a tree is valid, so that its runs are fresh.
+    let _valid = tree.board();
+    audit_text(alloc, tree, events)
+}

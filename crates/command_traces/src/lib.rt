@@ -1,0 +1,16 @@
+//! The words that read a trace: `check`, `audit`, `report`, `untagged`, `waves`, `draw`.
+#![tactic(auto)]
+
+mod audit;
+pub mod check;
+pub mod draw;
+mod report;
+pub mod untagged;
+mod waves;
+
+pub use audit::answer_audit;
+pub use check::answer_check;
+pub use draw::{Rows, answer_draw, names_event, rows_of};
+pub use report::answer_report;
+pub use untagged::answer_untagged;
+pub use waves::answer_waves;

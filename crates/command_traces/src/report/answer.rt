@@ -1,0 +1,38 @@
+ghost use Rattle.std.specs.Prelude.{◌<◌, ◌^◌, length, IfOk, IfErr};
+ghost use Rattle.history_model.specs.Runs.{Run, history_of};
+ghost use Rattle.program_input.specs.Traces.{RefusesRun};
+ghost use Rattle.command_traces.specs.report.Answers.{AnswersReport, Reports};
+
+use board_tree::Tree;
+use history_model::Event;
+use law_fresh::runs_are_fresh;
+use pci_command::{List, NoMemory};
+use program_input::{TreeTrace, read_run};
+use program_status::Status;
+use run_report::{complete_runs_have_the_way_counts, report};
+use std::alloc::Global;
+
+/// The report of a run, complete or not, for its trace text.
+pub fn answer_report(alloc: Global, input: &[u8]) -> Result<Vec<u8>, Status>
+    requires { length input.now < 2 ^ 31 }
+    ensures ok { IfOk result (λ text. AnswersReport input.now text.items) }
+    ensures err { IfErr result (RefusesRun input.now) }
+{
+    let TreeTrace { tree, events } = read_run(alloc, input)?;
+    match text_of_run(alloc, &tree, events.as_slice()) {
+        Ok(text) => Ok(text.into_vec()),
+        Err(_) => Err(Status::NoMemory),
+    }
+}
+
+/// The report of a run.
+fn text_of_run(alloc: Global, tree: &Tree, events: &[Event]) -> Result<List<u8>, NoMemory>
+    requires { Run tree.now (history_of events.now) }
+    ensures { IfOk result (Reports tree.now events.now) }
+{
+    runs_are_fresh();
+    complete_runs_have_the_way_counts();
+    // The board of a tree is valid.
+    let _valid = tree.board();
+    report(alloc, tree, events)
+}

@@ -1,8 +1,0 @@
-//! `untagged`: what the program writes for a trace text of a run on bridges that keep no local master, or
-//! why it refuses it.
-#![tactic(auto)]
-
-mod answer;
-mod text;
-
-pub use answer::answer_untagged;

@@ -1,7 +1,0 @@
-use Rattle.std.proofs.Common.{take}
-use Rattle.discard_events.specs.Marks.{AreNamed}
-use Rattle.discard_events.proofs.lane_marks.named_on.Given as goal
-
--- those that the lines so far name
-abbrev pub invariant-loop-line : goal.invariant-loop-line
-invariant-loop-line l = AreNamed l.lane (take l.line-index l.lines) l.numbers.items

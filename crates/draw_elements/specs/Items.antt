@@ -1,0 +1,104 @@
+-- An item of a lane in a picture: a slanted line from the face where it was sent to where it arrived, and a bar down to where
+-- it left.
+use Rattle.std.specs.Prelude.{ℕ, ◌-◌, Bool, true, false, List, [], ◌∷◌, ◌++◌, codes, nat_lt, if◌then◌else◌}
+use Rattle.std.specs.Fmt.{decimal}
+use Rattle.board_model.specs.declared.board.Board.{Board}
+use Rattle.board_model.specs.Ways.{lane_back}
+use Rattle.trace_text.specs.Words.{lane_word, op_word}
+use Rattle.draw_items.specs.declared.item.Kind.{Kind}
+use Rattle.draw_items.specs.declared.item.Kind.TheVariants.{Post, Request, Completion, Credit, Gone}
+use Rattle.draw_items.specs.declared.item.Item.{Item}
+use Rattle.draw_items.specs.Items.{has_stood}
+use Rattle.draw_elements.specs.columns.Places.{Layout, face_place, bar_place}
+use Rattle.draw_elements.specs.Heights.{y, height_text, circle_element}
+use Rattle.draw_elements.specs.Labels.{kind_word}
+use Rattle.draw_elements.specs.declared.items.Route.{Route}
+
+abbrev pub kind_class : Kind → List ℕ
+kind_class Post = codes "p"
+kind_class Request = codes "a"
+kind_class Completion = codes "d"
+kind_class Credit = codes "r"
+kind_class Gone = codes "x"
+
+-- fruitless tries of a poll are pale
+abbrev pub faint : Bool → List ℕ
+faint true = codes " f"
+faint false = []
+
+-- a row, or else the row behind the last event
+abbrev pub or_end : ℕ → ℕ → ℕ
+or_end row end = if nat_lt 0 row then row else end
+
+-- where it is drawn: from the face where what goes on its lane is sent; where it stood to its bar, else to the face where its
+-- lane ends
+abbrev pub route_of : Layout → ℕ → Item → Route
+route_of layout end item =
+    record {
+      from = face_place (lane_back item.lane) layout;
+      to = if has_stood item then bar_place item.lane item.track layout else face_place item.lane layout;
+      sent = item.sent;
+      came = or_end item.came end;
+      left = if has_stood item then or_end item.left end else or_end item.came end;
+    }
+
+-- `M{x1} {y1}L{x2} {y2}`
+unfoldable pub route_text : ℕ → Route → List ℕ
+route_text first route = 77 ∷ (decimal route.from ++ 32 ∷ (y first route.sent ++ 76 ∷ (decimal route.to ++ 32 ∷ y first route.came)))
+
+-- the rim: with `V{y3}` where it goes down
+abbrev pub rim_down : ℕ → Route → List ℕ
+rim_down first route = if nat_lt route.came route.left then 86 ∷ y first route.left else []
+
+abbrev pub item_rim : ℕ → Route → List ℕ
+item_rim first route = codes "<path class=\"g\" d=\"" ++ (route_text first route ++ (rim_down first route ++ codes "\"/>\n"))
+
+-- the title: what it is, its operation and lane, and its events
+abbrev pub came_text : Item → List ℕ
+came_text item = if nat_lt 0 item.came then codes ", arrived " ++ decimal item.came else []
+
+abbrev pub left_text : Item → List ℕ
+left_text item = if nat_lt 0 item.left then codes ", left " ++ decimal item.left else []
+
+unfoldable pub title_text : Board → Item → List ℕ
+title_text board item =
+    codes "<title>" ++ (kind_word item.kind ++ (32 ∷ (op_word board item.op ++ (codes " on " ++ (lane_word item.lane ++ (codes ": sent " ++ (decimal item.sent ++ (came_text item ++ (left_text item ++ codes "</title>")))))))))
+
+-- a credit has none
+unfoldable pub title_of : Board → Kind → Item → List ℕ
+title_of board Post item = title_text board item
+title_of board Request item = title_text board item
+title_of board Completion item = title_text board item
+title_of board Credit item = []
+title_of board Gone item = title_text board item
+
+-- the bar
+unfoldable pub bar_text : ℕ → Route → List ℕ
+bar_text first route =
+    if nat_lt route.came route.left
+    then codes "<path class=\"s\" d=\"M" ++ (decimal route.to ++ (32 ∷ (y first route.came ++ (86 ∷ (y first route.left ++ codes "\"/>")))))
+    else []
+
+-- a cross where its arrival was marked, else a small circle where it stood
+unfoldable pub cross_sign : ℕ → Route → List ℕ
+cross_sign first route =
+    codes "<path class=\"x\" d=\"M" ++ (decimal (route.to - 4) ++ (32 ∷ (height_text first route.came 4 ++ codes "l8 8m0 -8l-8 8\"/>")))
+
+unfoldable pub sign_text : ℕ → Item → Route → List ℕ
+sign_text first item route = if item.marked then cross_sign first route else if has_stood item then circle_element first route.came route.to 3 else []
+
+-- the slanted line
+unfoldable pub slant_text : ℕ → Route → List ℕ
+slant_text first route = codes "<path d=\"" ++ (route_text first route ++ codes "\"/>")
+
+-- the group of its class
+unfoldable pub group_text : Kind → Bool → List ℕ
+group_text kind pale = codes "<g class=\"" ++ (kind_class kind ++ (faint pale ++ codes "\">"))
+
+abbrev pub item_text : Board → ℕ → Bool → Item → Route → List ℕ
+item_text board first pale item route =
+    group_text item.kind pale
+    ++ (title_of board item.kind item
+    ++ (slant_text first route
+    ++ (bar_text first route
+    ++ (sign_text first item route ++ codes "</g>\n"))))

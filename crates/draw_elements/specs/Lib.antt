@@ -1,0 +1,5 @@
+pub mod Heights
+pub mod Labels
+pub mod Items
+pub mod Acts
+pub mod columns

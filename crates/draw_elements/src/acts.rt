@@ -1,0 +1,282 @@
+ghost use Rattle.std.specs.Prelude.{◌≡◌, ◌++◌, codes, if◌then◌else◌, string_bytes, IfOk, OnOk};
+ghost use Rattle.board_model.specs.Requests.{request_of};
+ghost use Rattle.draw_elements.specs.Acts.{bar_of, begin_of, end_at, end_of, act_of, head_text, line_path, line_element, round_element, goes_right, cross_element, aside, nobody_element, writes_memory, act_class, act_body, act_text, act_rim};
+
+use crate::columns::Columns;
+use crate::height::{Height, print_circle};
+use crate::words::faint;
+use board_model::{Board, Lane, Place, request_of};
+use draw_items::{Item, lane_back};
+use history_model::{By, Step};
+use pci_command::{Command, NoMemory, OpId};
+use std::alloc::AllocError;
+
+/// Where an act begins and ends.
+#[derive(Clone, Copy, Debug)]
+pub struct Act {
+    pub begin: u64,
+    pub end: u64,
+}
+
+impl Act {
+    /// That of this initiator, step and place; `item` is what a lane presents, and `taken` the completion that is taken.
+    pub fn of(
+        columns: &Columns,
+        by: By,
+        op: OpId,
+        step: Step,
+        place: Place,
+        item: Option<Item>,
+        taken: Option<Item>,
+    ) -> Result<Act, NoMemory>
+        ensures { IfOk result (λ act. act ≡ act_of columns.now by op step place item taken) }
+    {
+        let begin = begin_of(columns, by, op, item)?;
+        let end = end_of(columns, step, place, taken)?;
+        Ok(Act { begin, end })
+    }
+
+    /// Whether it goes to the right.
+    fn goes_right(&self) -> bool
+        ensures { result ≡ goes_right self.now }
+    {
+        self.begin < self.end
+    }
+}
+
+fn bar_of(columns: &Columns, item: Option<Item>) -> Result<u64, NoMemory>
+    ensures { IfOk result (λ place. place ≡ bar_of columns.now item) }
+{
+    match item {
+        Some(item) => columns.bar(item.lane, item.track),
+        None => Ok(0),
+    }
+}
+
+fn begin_of(columns: &Columns, by: By, op: OpId, item: Option<Item>) -> Result<u64, NoMemory>
+    ensures { IfOk result (λ place. place ≡ begin_of columns.now by op item) }
+{
+    match by {
+        By::Master => Ok(columns.master(op.master)),
+        By::Lane(_) => bar_of(columns, item),
+    }
+}
+
+fn end_of(columns: &Columns, step: Step, place: Place, taken: Option<Item>) -> Result<u64, NoMemory>
+    ensures { IfOk result (λ end. end ≡ end_of columns.now step place taken) }
+{
+    match place {
+        Place::Target(target) => Ok(columns.target(target)),
+        Place::Header(bus) => Ok(columns.face(Lane { bus, up: true })),
+        Place::Lane(lane) => end_at(columns, lane, taken, step),
+        Place::Nobody => Ok(0),
+    }
+}
+
+fn end_at(columns: &Columns, lane: Lane, taken: Option<Item>, step: Step) -> Result<u64, NoMemory>
+    ensures { IfOk result (λ end. end ≡ end_at columns.now lane taken step) }
+{
+    match step {
+        Step::Take(_) => bar_of(columns, taken),
+        Step::Land
+        | Step::Part(_)
+        | Step::Read(_)
+        | Step::Accept
+        | Step::Latch
+        | Step::Stall
+        | Step::MasterAbort
+        | Step::TargetAbort => Ok(columns.face(lane_back(lane))),
+    }
+}
+
+fn y(first: u32, row: u32) -> Height
+    ensures { result ≡ record { first = first; row = row; down = 8 } }
+{
+    Height {
+        first,
+        row,
+        down: 8,
+    }
+}
+
+/// An arrow head with its point at a place of row n, to the right or to the left.
+#[tactic(auto, unfolding(crate::specs::Acts::head_text))]
+pub fn print_head(
+    text: &mut String,
+    first: u32,
+    n: u32,
+    x: u64,
+    right: bool,
+) -> Result<(), AllocError>
+    ensures { OnOk result (string_bytes text.new ≡ string_bytes text.old ++ head_text first n x right) }
+{
+    let back = if right { "l-7" } else { "l7" };
+    write!(
+        text,
+        "<path class=\"q\" d=\"M{x} {}{back} -4v8z\"/>",
+        y(first, n)
+    )
+}
+
+fn print_path(text: &mut String, first: u32, n: u32, act: &Act) -> Result<(), AllocError>
+    ensures { OnOk result (string_bytes text.new ≡ string_bytes text.old ++ line_path first n act.now) }
+{
+    write!(text, "M{} {}H{}", act.begin, y(first, n), act.end)
+}
+
+#[tactic(auto, unfolding(crate::specs::Acts::line_element))]
+fn print_line(text: &mut String, first: u32, n: u32, act: &Act) -> Result<(), AllocError>
+    ensures { OnOk result (string_bytes text.new ≡ string_bytes text.old ++ line_element first n act.now) }
+{
+    text.push_str("<path d=\"")?;
+    print_path(text, first, n, act)?;
+    text.push_str("\"/>")
+}
+
+/// A line with a circle at its end.
+#[tactic(auto, unfolding(crate::specs::Acts::round_element))]
+fn print_round(
+    text: &mut String,
+    first: u32,
+    n: u32,
+    act: &Act,
+    radius: u8,
+) -> Result<(), AllocError>
+    ensures { OnOk result (string_bytes text.new ≡ string_bytes text.old ++ round_element first n act.now radius) }
+{
+    print_line(text, first, n, act)?;
+    print_circle(text, first, n, act.end, radius)
+}
+
+fn print_cross(text: &mut String, first: u32, n: u32, act: &Act) -> Result<(), AllocError>
+    ensures { OnOk result (string_bytes text.new ≡ string_bytes text.old ++ cross_element first n act.now) }
+{
+    text.push_str("<path d=\"")?;
+    print_path(text, first, n, act)?;
+    text.push_str("m-4 -4l8 8m0 -8l-8 8\"/>")
+}
+
+/// Where the cross stands of what nobody claims: to the right of a master, and away from a face.
+fn aside(columns: &Columns, by: By) -> &'static str
+    ensures { result.now ≡ aside columns.now by }
+{
+    match by {
+        By::Master => "12",
+        By::Lane(lane) => { if columns.is_left(lane) { "12" } else { "-12" } }
+    }
+}
+
+fn print_nobody(
+    text: &mut String,
+    columns: &Columns,
+    first: u32,
+    n: u32,
+    by: By,
+    act: &Act,
+) -> Result<(), AllocError>
+    ensures { OnOk result (string_bytes text.new ≡ string_bytes text.old ++ nobody_element columns.now first n by act.now) }
+{
+    write!(
+        text,
+        "<path d=\"M{} {}h{}m-4 -4l8 8m0 -8l-8 8\"/>",
+        act.begin,
+        y(first, n),
+        aside(columns, by)
+    )
+}
+
+fn print_class(
+    text: &mut String,
+    board: &Board,
+    bus: u8,
+    op: OpId,
+    step: Step,
+) -> Result<(), AllocError>
+    ensures { OnOk result (string_bytes text.new ≡ string_bytes text.old ++ act_class (request_of board.now op bus) step) }
+{
+    match step {
+        Step::Land => print_landing(text, board, bus, op),
+        Step::Part(_) | Step::Accept => text.push_str("p"),
+        Step::Read(_) | Step::Take(_) => text.push_str("d"),
+        Step::Latch => text.push_str("a"),
+        Step::Stall | Step::TargetAbort | Step::MasterAbort => text.push_str("x"),
+    }
+}
+
+fn print_landing(text: &mut String, board: &Board, bus: u8, op: OpId) -> Result<(), AllocError>
+    ensures { OnOk result (string_bytes text.new ≡ string_bytes text.old ++ (if writes_memory (request_of board.now op bus) then codes "p" else codes "a")) }
+{
+    match request_of(board, op, bus) {
+        Some(request) => {
+            if request.command == Command::MemWrite {
+                text.push_str("p")
+            } else {
+                text.push_str("a")
+            }
+        }
+        None => text.push_str("a"),
+    }
+}
+
+fn print_body(
+    text: &mut String,
+    columns: &Columns,
+    first: u32,
+    n: u32,
+    by: By,
+    act: &Act,
+    step: Step,
+) -> Result<(), AllocError>
+    ensures { OnOk result (string_bytes text.new ≡ string_bytes text.old ++ act_body columns.now first n by act.now step) }
+{
+    match step {
+        Step::Land => print_round(text, first, n, act, 5),
+        Step::Part(_) => print_round(text, first, n, act, 3),
+        Step::Read(_) => {
+            print_round(text, first, n, act, 4)?;
+            print_head(text, first, n, act.begin, !act.goes_right())
+        }
+        Step::Take(_) => {
+            print_line(text, first, n, act)?;
+            print_head(text, first, n, act.begin, !act.goes_right())
+        }
+        Step::Accept | Step::Latch => {
+            print_line(text, first, n, act)?;
+            print_head(text, first, n, act.end, act.goes_right())
+        }
+        Step::Stall | Step::TargetAbort => print_cross(text, first, n, act),
+        Step::MasterAbort => print_nobody(text, columns, first, n, by, act),
+    }
+}
+
+/// An act in row n, pale if it is a fruitless try.
+pub fn print_act(
+    text: &mut String,
+    board: &Board,
+    columns: &Columns,
+    first: u32,
+    n: u32,
+    pale: bool,
+    bus: u8,
+    by: By,
+    op: OpId,
+    step: Step,
+    act: &Act,
+) -> Result<(), AllocError>
+    ensures { OnOk result (string_bytes text.new ≡ string_bytes text.old ++ act_text board.now columns.now first n pale bus by op step act.now) }
+{
+    text.push_str("<g class=\"")?;
+    print_class(text, board, bus, op, step)?;
+    write!(text, "{}\">", faint(pale))?;
+    print_body(text, columns, first, n, by, act, step)?;
+    text.push_str("</g>\n")
+}
+
+/// The rim of an act that somebody claims.
+pub fn print_act_rim(text: &mut String, first: u32, n: u32, act: &Act) -> Result<(), AllocError>
+    ensures { OnOk result (string_bytes text.new ≡ string_bytes text.old ++ act_rim first n act.now) }
+{
+    text.push_str("<path class=\"g\" d=\"")?;
+    print_path(text, first, n, act)?;
+    text.push_str("\"/>\n")
+}

@@ -1,0 +1,226 @@
+ghost use Rattle.std.specs.Prelude.{◌≡◌, ◌++◌, string_bytes, IfOk, OnOk};
+ghost use Rattle.draw_elements.specs.Items.{route_of, or_end, route_text, rim_down, item_rim, title_of, title_text, came_text, left_text, bar_text, cross_sign, sign_text, slant_text, group_text, item_text};
+
+use crate::columns::Columns;
+use crate::height::{Height, print_circle};
+use crate::words::{faint, kind_class, kind_word};
+use board_model::Board;
+use draw_items::{Item, Kind, lane_back};
+use pci_command::NoMemory;
+use std::alloc::AllocError;
+use trace_text::{LaneWord, print_operation};
+
+/// Where an item is drawn: from where it was sent to where it arrived, and down to where it left.
+#[derive(Clone, Copy, Debug)]
+pub struct Route {
+    /// The places.
+    pub from: u64,
+    pub to: u64,
+    /// The rows.
+    pub sent: u32,
+    pub came: u32,
+    pub left: u32,
+}
+
+impl Route {
+    /// That of an item, if `end` is the row behind the last event.
+    pub fn of(columns: &Columns, end: u32, item: &Item) -> Result<Route, NoMemory>
+        ensures { IfOk result (λ route. route ≡ route_of columns.now end item.now) }
+    {
+        let from = columns.face(lane_back(item.lane));
+        let came = or_end(item.came, end);
+        if item.has_stood() {
+            Ok(Route {
+                from,
+                to: columns.bar(item.lane, item.track)?,
+                sent: item.sent,
+                came,
+                left: or_end(item.left, end),
+            })
+        } else {
+            Ok(Route {
+                from,
+                to: columns.face(item.lane),
+                sent: item.sent,
+                came,
+                left: came,
+            })
+        }
+    }
+}
+
+fn or_end(row: u32, end: u32) -> u32
+    ensures { result ≡ or_end row end }
+{
+    if row > 0 { row } else { end }
+}
+
+fn y(first: u32, row: u32) -> Height
+    ensures { result ≡ record { first = first; row = row; down = 8 } }
+{
+    Height {
+        first,
+        row,
+        down: 8,
+    }
+}
+
+#[tactic(auto, unfolding(crate::specs::Items::route_text))]
+fn print_route(text: &mut String, first: u32, route: &Route) -> Result<(), AllocError>
+    ensures { OnOk result (string_bytes text.new ≡ string_bytes text.old ++ route_text first route.now) }
+{
+    write!(
+        text,
+        "M{} {}L{} {}",
+        route.from,
+        y(first, route.sent),
+        route.to,
+        y(first, route.came)
+    )
+}
+
+/// The rim of an item.
+pub fn print_item_rim(text: &mut String, first: u32, route: &Route) -> Result<(), AllocError>
+    ensures { OnOk result (string_bytes text.new ≡ string_bytes text.old ++ item_rim first route.now) }
+{
+    text.push_str("<path class=\"g\" d=\"")?;
+    print_route(text, first, route)?;
+    print_down(text, first, route)?;
+    text.push_str("\"/>\n")
+}
+
+fn print_down(text: &mut String, first: u32, route: &Route) -> Result<(), AllocError>
+    ensures { OnOk result (string_bytes text.new ≡ string_bytes text.old ++ rim_down first route.now) }
+{
+    if route.came < route.left {
+        write!(text, "V{}", y(first, route.left))
+    } else {
+        Ok(())
+    }
+}
+
+/// An item, pale if it belongs to a fruitless try.
+pub fn print_item(
+    text: &mut String,
+    board: &Board,
+    first: u32,
+    pale: bool,
+    item: &Item,
+    route: &Route,
+) -> Result<(), AllocError>
+    ensures { OnOk result (string_bytes text.new ≡ string_bytes text.old ++ item_text board.now first pale item.now route.now) }
+{
+    print_group(text, item.kind, pale)?;
+    print_title_of(text, board, item)?;
+    print_slant(text, first, route)?;
+    print_bar(text, first, route)?;
+    print_sign(text, first, item, route)?;
+    text.push_str("</g>\n")
+}
+
+#[tactic(auto, unfolding(crate::specs::Items::title_of))]
+fn print_title_of(text: &mut String, board: &Board, item: &Item) -> Result<(), AllocError>
+    ensures { OnOk result (string_bytes text.new ≡ string_bytes text.old ++ title_of board.now item.now.kind item.now) }
+{
+    match item.kind {
+        Kind::Post | Kind::Request | Kind::Completion | Kind::Gone => {
+            print_title(text, board, item)
+        }
+        Kind::Credit => Ok(()),
+    }
+}
+
+#[tactic(auto, unfolding(crate::specs::Items::title_text))]
+fn print_title(text: &mut String, board: &Board, item: &Item) -> Result<(), AllocError>
+    ensures { OnOk result (string_bytes text.new ≡ string_bytes text.old ++ title_text board.now item.now) }
+{
+    write!(text, "<title>{} ", kind_word(item.kind))?;
+    print_operation(text, board, &item.op)?;
+    write!(text, " on {}: sent {}", LaneWord(item.lane), item.sent)?;
+    print_came(text, item)?;
+    print_left(text, item)?;
+    text.push_str("</title>")
+}
+
+fn print_came(text: &mut String, item: &Item) -> Result<(), AllocError>
+    ensures { OnOk result (string_bytes text.new ≡ string_bytes text.old ++ came_text item.now) }
+{
+    if item.came > 0 {
+        write!(text, ", arrived {}", item.came)
+    } else {
+        Ok(())
+    }
+}
+
+fn print_left(text: &mut String, item: &Item) -> Result<(), AllocError>
+    ensures { OnOk result (string_bytes text.new ≡ string_bytes text.old ++ left_text item.now) }
+{
+    if item.left > 0 {
+        write!(text, ", left {}", item.left)
+    } else {
+        Ok(())
+    }
+}
+
+#[tactic(auto, unfolding(crate::specs::Items::bar_text))]
+fn print_bar(text: &mut String, first: u32, route: &Route) -> Result<(), AllocError>
+    ensures { OnOk result (string_bytes text.new ≡ string_bytes text.old ++ bar_text first route.now) }
+{
+    if route.came < route.left {
+        write!(
+            text,
+            "<path class=\"s\" d=\"M{} {}V{}\"/>",
+            route.to,
+            y(first, route.came),
+            y(first, route.left)
+        )
+    } else {
+        Ok(())
+    }
+}
+
+#[tactic(auto, unfolding(crate::specs::Items::group_text))]
+fn print_group(text: &mut String, kind: Kind, pale: bool) -> Result<(), AllocError>
+    ensures { OnOk result (string_bytes text.new ≡ string_bytes text.old ++ group_text kind pale) }
+{
+    write!(text, "<g class=\"{}{}\">", kind_class(kind), faint(pale))
+}
+
+#[tactic(auto, unfolding(crate::specs::Items::slant_text))]
+fn print_slant(text: &mut String, first: u32, route: &Route) -> Result<(), AllocError>
+    ensures { OnOk result (string_bytes text.new ≡ string_bytes text.old ++ slant_text first route.now) }
+{
+    text.push_str("<path d=\"")?;
+    print_route(text, first, route)?;
+    text.push_str("\"/>")
+}
+
+/// What stands where the item arrived.
+#[tactic(auto, unfolding(crate::specs::Items::sign_text))]
+fn print_sign(text: &mut String, first: u32, item: &Item, route: &Route) -> Result<(), AllocError>
+    ensures { OnOk result (string_bytes text.new ≡ string_bytes text.old ++ sign_text first item.now route.now) }
+{
+    if item.marked {
+        print_cross_sign(text, first, route)
+    } else if item.has_stood() {
+        print_circle(text, first, route.came, route.to, 3)
+    } else {
+        Ok(())
+    }
+}
+
+#[tactic(auto, unfolding(crate::specs::Items::cross_sign))]
+fn print_cross_sign(text: &mut String, first: u32, route: &Route) -> Result<(), AllocError>
+    ensures { OnOk result (string_bytes text.new ≡ string_bytes text.old ++ cross_sign first route.now) }
+{
+    let y = Height {
+        first,
+        row: route.came,
+        down: 4,
+    };
+    write!(
+        text,
+        "<path class=\"x\" d=\"M{} {y}l8 8m0 -8l-8 8\"/>",
+        route.to.saturating_sub(4)
+    )
+}

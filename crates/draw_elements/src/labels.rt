@@ -1,0 +1,217 @@
+ghost use Rattle.std.specs.Prelude.{◌≡◌, ◌++◌, [], string_bytes, OnOk};
+ghost use Rattle.board_printer.specs.Lines.{spaced};
+ghost use Rattle.trace_text.specs.Words.{place_words};
+ghost use Rattle.trace_text.specs.Events.{result_words, mark_words, act_line, arrival_line};
+ghost use Rattle.board_model.specs.Requests.{request_of};
+ghost use Rattle.draw_elements.specs.Labels.{words_text, event_text, item_note, arrival_note, space_note, phases_note, read_note, write_note, access_note, place_note, note_of};
+
+use crate::words::kind_word;
+use board_model::{Board, Lane, Place, end_of, request_of};
+use board_printer::{Address, DataWord, HexWord};
+use draw_items::{Item, Kind};
+use history_model::{By, Event, Mark, Step};
+use pci_command::{OpId, Outcome, Phase, Space};
+use std::alloc::AllocError;
+use trace_text::{ByWord, LaneWord, print_operation, step_word, target_name};
+
+/// The line of the event, without its newline.
+pub fn print_event(text: &mut String, board: &Board, event: &Event) -> Result<(), AllocError>
+    ensures { OnOk result (string_bytes text.new ≡ string_bytes text.old ++ event_text board.now event.now) }
+{
+    match *event {
+        Event::Act {
+            bus,
+            by,
+            op,
+            step,
+            place,
+        } => print_act_line(text, board, bus, by, op, step, place),
+        Event::Arrive { lane, mark } => print_arrival(text, board, lane, mark),
+    }
+}
+
+fn print_act_line(
+    text: &mut String,
+    board: &Board,
+    bus: u8,
+    by: By,
+    op: OpId,
+    step: Step,
+    place: Place,
+) -> Result<(), AllocError>
+    ensures { OnOk result (string_bytes text.new ≡ string_bytes text.old ++ words_text (act_line board.now bus by op step place)) }
+{
+    write!(text, "{bus} {} {} ", step_word(step), ByWord(by))?;
+    print_operation(text, board, &op)?;
+    print_place(text, board, place)?;
+    print_result(text, step)
+}
+
+fn print_arrival(text: &mut String, board: &Board, lane: Lane, mark: Mark) -> Result<(), AllocError>
+    ensures { OnOk result (string_bytes text.new ≡ string_bytes text.old ++ words_text (arrival_line board.now lane mark)) }
+{
+    write!(text, "{} arrive {}", end_of(board, lane), LaneWord(lane))?;
+    print_mark(text, mark)
+}
+
+fn print_place(text: &mut String, board: &Board, place: Place) -> Result<(), AllocError>
+    ensures { OnOk result (string_bytes text.new ≡ string_bytes text.old ++ spaced (place_words board.now place) []) }
+{
+    match place {
+        Place::Target(index) => write!(text, " {}", target_name(board, index)),
+        Place::Header(bus) => write!(text, " ={bus}"),
+        Place::Lane(lane) => write!(text, " {}", LaneWord(lane)),
+        Place::Nobody => Ok(()),
+    }
+}
+
+fn print_result(text: &mut String, step: Step) -> Result<(), AllocError>
+    ensures { OnOk result (string_bytes text.new ≡ string_bytes text.old ++ spaced (result_words step) []) }
+{
+    match step {
+        Step::Part(phases) => write!(text, " {phases}"),
+        Step::Read(value) => write!(text, " {}", HexWord(value)),
+        Step::Take(outcome) => match outcome {
+            Outcome::Value(value) => write!(text, " {}", HexWord(value)),
+            Outcome::Written => text.push_str(" ok"),
+            Outcome::Aborted => text.push_str(" abort"),
+            Outcome::Nobody => text.push_str(" nobody"),
+        },
+        Step::Land
+        | Step::Accept
+        | Step::Latch
+        | Step::Stall
+        | Step::MasterAbort
+        | Step::TargetAbort => Ok(()),
+    }
+}
+
+fn print_mark(text: &mut String, mark: Mark) -> Result<(), AllocError>
+    ensures { OnOk result (string_bytes text.new ≡ string_bytes text.old ++ spaced (mark_words mark) []) }
+{
+    match mark {
+        Mark::Plain => Ok(()),
+        Mark::Discard => text.push_str(" discard"),
+        Mark::Drop => text.push_str(" drop"),
+    }
+}
+
+/// What is noted behind an event: what arrives, or the address at a target and what is written.
+pub fn print_note(
+    text: &mut String,
+    board: &Board,
+    item: Option<Item>,
+    event: &Event,
+) -> Result<(), AllocError>
+    ensures { OnOk result (string_bytes text.new ≡ string_bytes text.old ++ note_of board.now item event.now) }
+{
+    match *event {
+        Event::Act {
+            bus,
+            op,
+            step,
+            place,
+            ..
+        } => print_place_note(text, board, bus, op, step, place),
+        Event::Arrive { .. } => print_arriving(text, board, item),
+    }
+}
+
+fn print_arriving(text: &mut String, board: &Board, item: Option<Item>) -> Result<(), AllocError>
+    ensures { OnOk result (string_bytes text.new ≡ string_bytes text.old ++ arrival_note board.now item) }
+{
+    match item {
+        Some(item) => print_item_note(text, board, item.kind, item.op),
+        None => Ok(()),
+    }
+}
+
+fn print_item_note(text: &mut String, board: &Board, kind: Kind, op: OpId) -> Result<(), AllocError>
+    ensures { OnOk result (string_bytes text.new ≡ string_bytes text.old ++ item_note board.now kind op) }
+{
+    match kind {
+        Kind::Post | Kind::Request | Kind::Completion | Kind::Gone => {
+            write!(text, "{} ", kind_word(kind))?;
+            print_operation(text, board, &op)
+        }
+        Kind::Credit => text.push_str("credit"),
+    }
+}
+
+fn print_place_note(
+    text: &mut String,
+    board: &Board,
+    bus: u8,
+    op: OpId,
+    step: Step,
+    place: Place,
+) -> Result<(), AllocError>
+    ensures { OnOk result (string_bytes text.new ≡ string_bytes text.old ++ place_note board.now bus op step place) }
+{
+    match place {
+        Place::Target(_) => print_access(text, board, bus, op, step),
+        Place::Header(_) | Place::Lane(_) | Place::Nobody => Ok(()),
+    }
+}
+
+fn print_access(
+    text: &mut String,
+    board: &Board,
+    bus: u8,
+    op: OpId,
+    step: Step,
+) -> Result<(), AllocError>
+    ensures { OnOk result (string_bytes text.new ≡ string_bytes text.old ++ access_note step (request_of board.now op bus)) }
+{
+    match step {
+        Step::Land | Step::Part(_) => print_write(text, board, bus, op),
+        Step::Read(_) => print_read(text, board, bus, op),
+        Step::Accept
+        | Step::Latch
+        | Step::Take(_)
+        | Step::Stall
+        | Step::MasterAbort
+        | Step::TargetAbort => Ok(()),
+    }
+}
+
+fn print_write(text: &mut String, board: &Board, bus: u8, op: OpId) -> Result<(), AllocError>
+    ensures { OnOk result (string_bytes text.new ≡ string_bytes text.old ++ write_note (request_of board.now op bus)) }
+{
+    match request_of(board, op, bus) {
+        Some(request) => {
+            print_address(text, request.command.space(), request.address)?;
+            print_phases(text, request.phases.as_slice())
+        }
+        None => Ok(()),
+    }
+}
+
+fn print_read(text: &mut String, board: &Board, bus: u8, op: OpId) -> Result<(), AllocError>
+    ensures { OnOk result (string_bytes text.new ≡ string_bytes text.old ++ read_note (request_of board.now op bus)) }
+{
+    match request_of(board, op, bus) {
+        Some(request) => print_address(text, request.command.space(), request.address),
+        None => Ok(()),
+    }
+}
+
+fn print_address(text: &mut String, space: Space, address: u64) -> Result<(), AllocError>
+    ensures { OnOk result (string_bytes text.new ≡ string_bytes text.old ++ space_note space address) }
+{
+    match space {
+        Space::Mem => write!(text, "{}", Address(address)),
+        Space::Io => write!(text, "io {}", Address(address)),
+        Space::Cfg => write!(text, "cfg {}", Address(address % 0x100)),
+    }
+}
+
+fn print_phases(text: &mut String, phases: &[Phase]) -> Result<(), AllocError>
+    ensures { OnOk result (string_bytes text.new ≡ string_bytes text.old ++ phases_note phases.now) }
+{
+    match phases {
+        [] => Ok(()),
+        [phase] => write!(text, " {}", DataWord(*phase)),
+        [phase, ..] => write!(text, " {} ..", DataWord(*phase)),
+    }
+}

@@ -1,0 +1,18 @@
+//! The elements of a picture of a run, as text: events with what is noted behind them, items on lanes, and acts.
+#![tactic(auto)]
+
+mod acts;
+mod columns;
+mod height;
+mod items;
+mod labels;
+mod words;
+
+pub use acts::{Act, print_act, print_act_rim, print_head};
+pub use columns::{
+    Band, Column, Columns, Line, Most, columns_of, most_of, print_name, product, sum,
+};
+pub use height::{Height, print_circle};
+pub use items::{Route, print_item, print_item_rim};
+pub use labels::{print_event, print_note};
+pub use words::faint;

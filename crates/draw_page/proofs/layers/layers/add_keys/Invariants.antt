@@ -1,0 +1,9 @@
+use Rattle.std.proofs.Common.{◌≡◌, ◌++◌, drop}
+use Rattle.std.specs.List.{flat_map}
+use Rattle.draw_shapes.specs.Elements.{key_shapes}
+use Rattle.draw_page.proofs.layers.layers.add_keys.Given as goal
+
+-- the elements so far, and those to come
+abbrev pub invariant-loop-row : goal.invariant-loop-row
+invariant-loop-row l =
+    l.elements.items ++ flat_map (key_shapes l.columns l.frame) (drop l.row-index l.rows) ≡ l.initial.elements.items ++ flat_map (key_shapes l.columns l.frame) l.rows

@@ -1,0 +1,4 @@
+pub mod Tops
+pub mod Pages
+pub mod layers
+pub mod style

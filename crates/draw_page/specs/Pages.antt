@@ -1,0 +1,63 @@
+-- The page of a picture.
+use Rattle.std.specs.Prelude.{ℕ, ◌+◌, ◌*◌, min, List, ◌++◌, length, codes}
+use Rattle.board_model.specs.declared.board.Board.{Board}
+use Rattle.history_model.specs.declared.event.Event.{Event}
+use Rattle.history_model.specs.Runs.{history_of}
+use Rattle.law_audit.specs.Audit.{Finding, findings}
+use Rattle.draw_items.specs.Items.{traffic_of}
+use Rattle.draw_items.specs.Waits.{waits_of}
+use Rattle.draw_told.specs.declared.told.Span.{Span}
+use Rattle.draw_told.specs.Told.{spans_of}
+use Rattle.draw_told.specs.Brackets.{brackets_of}
+use Rattle.draw_elements.specs.columns.Places.{Layout, layout_of}
+use Rattle.draw_sheets.specs.declared.row.Row.{Row}
+use Rattle.draw_sheets.specs.declared.frame.Frame.{Frame}
+use Rattle.draw_sheets.specs.Frames.{frame_of}
+use Rattle.draw_shapes.specs.Shapes.{Shape}
+use Rattle.draw_page.specs.layers.Rows.{rows_of}
+use Rattle.draw_page.specs.layers.Layers.{layers}
+use Rattle.draw_sheets.specs.heads.Names.{names_text}
+use Rattle.draw_page.specs.Tops.{title_text, top_text, told_text}
+use Rattle.draw_strips.specs.Strips.{strips_text}
+
+-- the columns with their names, and the strips
+unfoldable pub table_open : List ℕ
+table_open = codes "<table>\n<thead><tr><th>"
+
+unfoldable pub names_part : Board → Layout → List ℕ
+names_part board layout = table_open ++ (names_text board layout ++ codes "\n<tbody>\n")
+
+unfoldable pub table_text : Board → Layout → Frame → List Shape → List ℕ
+table_text board layout frame shapes = names_part board layout ++ (strips_text layout frame shapes ++ codes "</table>\n")
+
+unfoldable pub page_with : Board → ℕ → Layout → Frame → List Finding → List Span → List Shape → List ℕ
+page_with board count layout frame found spans shapes =
+    top_text (title_text count (length board.bridges + 1) frame.first frame.last) ++ (told_text board found spans ++ table_text board layout frame shapes)
+
+-- of the events of a run those from one number to another are drawn
+abbrev pub brackets_end : Board → List Event → Frame → ℕ
+brackets_end board events frame = frame.told_x + (10 * length (brackets_of (spans_of board events)).ends + 10)
+
+unfoldable pub layout_in : Board → List Event → Frame → Layout
+layout_in board events frame = layout_of board (traffic_of events).items (brackets_end board events frame)
+
+unfoldable pub shapes_in : Board → List Event → Layout → Frame → List Row → List Shape
+shapes_in board events layout frame rows =
+    layers board events layout frame rows (traffic_of events).items (waits_of events) (spans_of board events) (brackets_of (spans_of board events)).tracks
+
+abbrev pub page_on : Board → List Event → Layout → Frame → List Row → List ℕ
+page_on board events layout frame rows =
+    page_with board (length events) layout frame (findings board (history_of events)) (spans_of board events) (shapes_in board events layout frame rows)
+
+unfoldable pub page_in : Board → List Event → Frame → List Row → List ℕ
+page_in board events frame rows = page_on board events (layout_in board events frame) frame rows
+
+abbrev pub page_of_rows : Board → List Event → ℕ → ℕ → List Row → List ℕ
+page_of_rows board events first last rows = page_in board events (frame_of (length events) first last rows) rows
+
+unfoldable pub page_from : Board → List Event → ℕ → ℕ → List ℕ
+page_from board events first last = page_of_rows board events first last (rows_of board events (traffic_of events) first last)
+
+-- the page; a LAST above the number of events is lowered to it
+unfoldable pub page_of : Board → List Event → ℕ → ℕ → List ℕ
+page_of board events first last = page_from board events first (min last (length events))

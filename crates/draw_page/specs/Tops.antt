@@ -1,0 +1,63 @@
+-- The top of a page: its head, its title, and the lines of the audit.
+use Rattle.std.specs.Prelude.{ℕ, ◌&&◌, ◌==◌, nat_le, List, [], ◌++◌, length, codes, if◌then◌else◌}
+use Rattle.std.specs.Fmt.{decimal}
+use Rattle.std.specs.List.{flat_map, zip}
+use Rattle.board_model.specs.declared.board.Board.{Board}
+use Rattle.law_audit.specs.Audit.{Finding}
+use Rattle.audit_text.specs.Lines.{finding_words}
+use Rattle.draw_told.specs.declared.told.Span.{Span}
+use Rattle.draw_page.specs.style.Styles.{style, key}
+
+-- `events N, buses B`, and `, drawn FIRST to LAST` where these are not all
+unfoldable pub drawn_words : ℕ → ℕ → ℕ → List ℕ
+drawn_words count first last = if first == 1 && last == count then [] else codes ", drawn " ++ (decimal first ++ (codes " to " ++ decimal last))
+
+unfoldable pub title_text : ℕ → ℕ → ℕ → ℕ → List ℕ
+title_text count buses first last = codes "events " ++ (decimal count ++ (codes ", buses " ++ (decimal buses ++ drawn_words count first last)))
+
+unfoldable pub document : List ℕ
+document = codes "<!DOCTYPE html>\n<html lang=\"en\">\n<meta charset=\"utf-8\">\n<meta name=\"viewport\" content=\"width=device-width\">\n<title>pcitree: "
+
+unfoldable pub style_open : List ℕ
+style_open = codes "</title>\n<style>\n"
+
+unfoldable pub style_part : List ℕ
+style_part = style_open ++ (style ++ codes "</style>\n")
+
+unfoldable pub head_text : List ℕ → List ℕ
+head_text title = document ++ (title ++ style_part)
+
+unfoldable pub top_text : List ℕ → List ℕ
+top_text title = head_text title ++ (codes "<h1>" ++ (title ++ (codes "</h1>\n" ++ key)))
+
+-- a line of the audit, with links to its rows
+unfoldable pub link_text : ℕ → List ℕ
+link_text n = codes "<a href=\"#e" ++ (decimal n ++ (codes "\">" ++ (decimal n ++ codes "</a>")))
+
+unfoldable pub landed_word : List ℕ
+landed_word = codes "</code>: landed at "
+
+unfoldable pub landed_text : ℕ → List ℕ
+landed_text n = landed_word ++ link_text n
+
+unfoldable pub read_text : ℕ → List ℕ
+read_text n = codes ", read at " ++ (link_text n ++ codes "\n")
+
+abbrev pub links_text : Span → List ℕ
+links_text span = landed_text span.landed ++ read_text span.read
+
+unfoldable pub told_line : Board → Finding × Span → List ℕ
+told_line board line = codes "<li><code>" ++ (finding_words board line.0 ++ links_text line.1)
+
+-- all lines, where there is one; they stand open if they are eight at most
+abbrev pub open_word : ℕ → List ℕ
+open_word count = if nat_le count 8 then codes " open" else []
+
+unfoldable pub told_open : ℕ → List ℕ
+told_open count = codes "<details" ++ (open_word count ++ (codes "><summary>told " ++ (decimal count ++ codes "</summary>\n<ol>\n")))
+
+unfoldable pub told_lines : Board → List Finding → List Span → List ℕ
+told_lines board found spans = told_open (length found) ++ (flat_map (told_line board) (zip found spans) ++ codes "</ol></details>\n")
+
+unfoldable pub told_text : Board → List Finding → List Span → List ℕ
+told_text board found spans = if length found == 0 then [] else told_lines board found spans

@@ -1,0 +1,53 @@
+-- The rows of a picture: the events that are drawn, with what is to be known of each.
+use Rattle.std.specs.Prelude.{ℕ, ◌+◌, ◌-◌, Bool, false, List, [], ◌∷◌, take, drop, Option, Some, None}
+use Rattle.board_model.specs.declared.board.Board.{Board}
+use Rattle.history_model.specs.declared.event.Event.{Event}
+use Rattle.history_model.specs.declared.event.Event.TheVariants.{Act, Arrive}
+use Rattle.draw_items.specs.declared.item.Item.{Item}
+use Rattle.draw_items.specs.Items.{Lanes, item_of, taken_by}
+use Rattle.draw_items.specs.Tries.{is_pale}
+use Rattle.draw_told.specs.Told.{is_loud, is_key}
+use Rattle.draw_sheets.specs.declared.row.Row.{Row}
+use Rattle.draw_sheets.specs.Widths.{width_of}
+
+-- the operation of an act, and of what arrives: whether it is a fruitless try, and whether a line of the audit tells of it
+abbrev pub is_item_pale : List Event → Option Item → Bool
+is_item_pale events None = false
+is_item_pale events (Some item) = is_pale events item.op
+
+unfoldable pub is_event_pale : List Event → Option Item → Event → Bool
+is_event_pale events item (Act on by o step place) = is_pale events o
+is_event_pale events item (Arrive lane mark) = is_item_pale events item
+
+unfoldable pub is_event_loud : Board → List Event → Event → Bool
+is_event_loud board events (Act on by o step place) = is_loud board events o
+is_event_loud board events (Arrive lane mark) = false
+
+-- event n
+abbrev pub row_with : Board → List Event → ℕ → Event → Option Item → Option Item → Row
+row_with board events n e item taken =
+    record {
+      n = n;
+      event = e;
+      item = item;
+      taken = taken;
+      key = is_key board events n;
+      loud = is_event_loud board events e;
+      pale = is_event_pale events item e;
+      width = width_of board item e;
+    }
+
+abbrev pub row_of : Board → List Event → Lanes → ℕ → Event → Row
+row_of board events lanes n e = row_with board events n e (item_of n lanes) (taken_by n lanes)
+
+-- so many events are before these
+abbrev pub rows_after : Board → List Event → Lanes → ℕ → List Event → List Row
+rows_after board events lanes n [] = []
+rows_after board events lanes n (e ∷ rest) = row_of board events lanes (n + 1) e ∷ rows_after board events lanes (n + 1) rest
+
+-- the events from one number to another
+abbrev pub drawn : List Event → ℕ → ℕ → List Event
+drawn events before last = drop before (take last events)
+
+unfoldable pub rows_of : Board → List Event → Lanes → ℕ → ℕ → List Row
+rows_of board events lanes first last = rows_after board events lanes (first - 1) (drawn events (first - 1) last)

@@ -1,0 +1,9 @@
+//! The page of a picture of a run, in HTML with inline SVG.
+#![tactic(auto)]
+
+mod layers;
+mod page;
+mod style;
+mod top;
+
+pub use page::page_of;

@@ -1,0 +1,183 @@
+ghost use Rattle.std.specs.Prelude.{◌≡◌, ◌++◌, ◌+◌, ◌*◌, ◌<◌, ◌^◌, length, string_bytes, IfOk, OnOk};
+ghost use Rattle.history_model.specs.Runs.{Run, history_of};
+ghost use Rattle.draw_items.specs.Items.{traffic_of};
+ghost use Rattle.draw_items.specs.Kept.{TellsTries};
+ghost use Rattle.draw_told.specs.Kept.{TellsTold};
+ghost use Rattle.draw_elements.specs.columns.Places.{layout_of};
+ghost use Rattle.draw_page.specs.Pages.{table_open, names_part, table_text, page_with, page_in, page_from, page_of};
+
+use crate::layers::{layers_of, rows_of};
+use crate::top::{Title, print_told, print_top};
+use board_model::Board;
+use board_tree::Tree;
+use draw_elements::{Columns, columns_of, most_of, product, sum};
+use draw_items::{Traffic, Tries, traffic_of, tries_of, waits_of};
+use draw_shapes::Element;
+use draw_sheets::{Frame, Row, frame_of, print_names};
+use draw_strips::print_strips;
+use draw_told::{Brackets, Told, brackets_of, told_of};
+use history_model::Event;
+use pci_command::{List, NoMemory};
+use std::alloc::{AllocError, Global};
+
+/// The page of a run, complete or not, from its events, the oldest first; drawn are those from number `first` to number
+/// `last`.
+#[tactic(auto, unfolding(crate::specs::Pages::page_of))]
+pub fn page_of(
+    alloc: Global,
+    tree: &Tree,
+    events: &[Event],
+    first: u32,
+    last: u32,
+) -> Result<List<u8>, NoMemory>
+    requires run { Run tree.now (history_of events.now) }
+    requires few { length events.now < 2 ^ 31 }
+    ensures { IfOk result (λ page. page ≡ page_of tree.now events.now first last) }
+{
+    let told = told_of(alloc, tree, events)?;
+    let last = last.min(events.len() as u32);
+    page_from(alloc, tree.board(), events, &told, first, last)
+}
+
+#[tactic(auto, unfolding(crate::specs::Pages::page_from))]
+fn page_from(
+    alloc: Global,
+    board: &Board,
+    events: &[Event],
+    told: &Told,
+    first: u32,
+    last: u32,
+) -> Result<List<u8>, NoMemory>
+    requires few { length events.now < 2 ^ 31 }
+    requires told { TellsTold board.now events.now told.now }
+    ensures { IfOk result (λ page. page ≡ page_from board.now events.now first last) }
+{
+    let traffic = traffic_of(alloc, events)?;
+    let tries = tries_of(alloc, events)?;
+    let rows = rows_of(alloc, board, events, &traffic, &tries, told, first, last)?;
+    let rows = rows.as_slice();
+    let frame = frame_of(alloc, events.len() as u32, first, last, rows)?;
+    page_in(alloc, board, events, told, &traffic, &tries, &frame, rows)
+}
+
+#[tactic(auto, unfolding(crate::specs::Pages::page_in, crate::specs::Pages::layout_in, crate::specs::Pages::shapes_in))]
+fn page_in(
+    alloc: Global,
+    board: &Board,
+    events: &[Event],
+    told: &Told,
+    traffic: &Traffic,
+    tries: &Tries,
+    frame: &Frame,
+    rows: &[Row],
+) -> Result<List<u8>, NoMemory>
+    requires few { length events.now < 2 ^ 31 }
+    requires told { TellsTold board.now events.now told.now }
+    requires traffic { traffic.now ≡ traffic_of events.now }
+    requires tries { TellsTries events.now tries.now }
+    ensures { IfOk result (λ page. page ≡ page_in board.now events.now frame.now rows.now) }
+{
+    let brackets = brackets_of(alloc, told.spans())?;
+    let columns = columns_in(alloc, board, traffic, &brackets, frame)?;
+    let waits = waits_of(alloc, events)?;
+    let elements = layers_of(
+        alloc,
+        board,
+        &columns,
+        frame,
+        rows,
+        traffic.items(),
+        waits.as_slice(),
+        tries,
+        told,
+        &brackets,
+    )?;
+    let mut text = String::new(alloc);
+    let count = events.len() as u32;
+    print_page(
+        alloc,
+        &mut text,
+        board,
+        count,
+        &columns,
+        frame,
+        told,
+        elements.as_slice(),
+    )?;
+    Ok(List::from_vec(text.into_bytes()))
+}
+
+/// The columns, behind the brackets.
+fn columns_in(
+    alloc: Global,
+    board: &Board,
+    traffic: &Traffic,
+    brackets: &Brackets,
+    frame: &Frame,
+) -> Result<Columns, NoMemory>
+    ensures { IfOk result (λ columns. columns ≡ layout_of board.now traffic.now.items (frame.now.told_x + (10 * length brackets.now.ends + 10))) }
+{
+    let wide = sum(product(10, brackets.count() as u64)?, 10)?;
+    let start = sum(frame.told_x, wide)?;
+    let most = most_of(alloc, traffic.items())?;
+    columns_of(alloc, board, &most, start)
+}
+
+#[tactic(auto, unfolding(crate::specs::Pages::page_with))]
+fn print_page(
+    alloc: Global,
+    text: &mut String,
+    board: &Board,
+    count: u32,
+    columns: &Columns,
+    frame: &Frame,
+    told: &Told,
+    elements: &[Element],
+) -> Result<(), NoMemory>
+    ensures { OnOk result (string_bytes text.new ≡ string_bytes text.old ++ page_with board.now count columns.now frame.now told.now.found told.now.spans elements.now) }
+{
+    let title = Title {
+        count,
+        buses: sum(board.bridges.as_slice().len() as u64, 1)?,
+        first: frame.first,
+        last: frame.last,
+    };
+    print_top(text, title)?;
+    print_told(text, board, told.found(), told.spans())?;
+    print_table(alloc, text, board, columns, frame, elements)
+}
+
+/// The columns with their names, and the strips.
+#[tactic(auto, unfolding(crate::specs::Pages::table_text))]
+fn print_table(
+    alloc: Global,
+    text: &mut String,
+    board: &Board,
+    columns: &Columns,
+    frame: &Frame,
+    elements: &[Element],
+) -> Result<(), NoMemory>
+    ensures { OnOk result (string_bytes text.new ≡ string_bytes text.old ++ table_text board.now columns.now frame.now elements.now) }
+{
+    print_names_part(text, board, columns)?;
+    print_strips(alloc, text, columns, frame, elements)?;
+    text.push_str("</table>\n")?;
+    Ok(())
+}
+
+#[tactic(auto, unfolding(crate::specs::Pages::names_part))]
+fn print_names_part(text: &mut String, board: &Board, columns: &Columns) -> Result<(), NoMemory>
+    ensures { OnOk result (string_bytes text.new ≡ string_bytes text.old ++ names_part board.now columns.now) }
+{
+    print_table_open(text)?;
+    print_names(text, board, columns)?;
+    text.push_str("\n<tbody>\n")?;
+    Ok(())
+}
+
+#[tactic(auto, unfolding(crate::specs::Pages::table_open))]
+fn print_table_open(text: &mut String) -> Result<(), AllocError>
+    ensures { OnOk result (string_bytes text.new ≡ string_bytes text.old ++ table_open) }
+{
+    text.push_str("<table>\n<thead><tr><th>")
+}

@@ -1,0 +1,118 @@
+-- The elements of a picture, by layers: of a row, an item, an operation that is presented, a bracket.
+use Rattle.std.specs.Prelude.{ℕ, ◌+◌, ◌-◌, ◌*◌, Bool, true, false, ◌&&◌, min, max, nat_lt, List, [], ◌++◌, Option, Some, None, if◌then◌else◌}
+use Rattle.board_model.specs.declared.board.Board.{Board}
+use Rattle.history_model.specs.declared.event.Step.{Step}
+use Rattle.history_model.specs.declared.event.Step.TheVariants.{Land, Part, Read, Accept, Latch, Take, Stall, MasterAbort, TargetAbort}
+use Rattle.history_model.specs.declared.event.Event.{Event}
+use Rattle.history_model.specs.declared.event.Event.TheVariants.{Act, Arrive}
+use Rattle.draw_items.specs.declared.item.Kind.{Kind}
+use Rattle.draw_items.specs.declared.item.Kind.TheVariants.{Post, Request, Completion, Credit, Gone}
+use Rattle.draw_items.specs.declared.item.Item.{Item}
+use Rattle.draw_items.specs.declared.waits.Wait.{Wait}
+use Rattle.draw_elements.specs.declared.columns.line.Line.TheVariants as lines
+use Rattle.draw_elements.specs.columns.Places.{Layout, place_of}
+use Rattle.draw_elements.specs.declared.acts.Act.{Act as Ends}
+use Rattle.draw_elements.specs.declared.items.Route.{Route}
+use Rattle.draw_elements.specs.Items.{route_of, item_text, item_rim}
+use Rattle.draw_elements.specs.Acts.{act_of, act_text, act_rim}
+use Rattle.draw_sheets.specs.declared.row.Row.{Row}
+use Rattle.draw_sheets.specs.declared.frame.Frame.{Frame}
+use Rattle.draw_shapes.specs.Shapes.{Shape, in_row, seen}
+use Rattle.draw_shapes.specs.Keys.{mark_text, dotted_text, wait_text, bracket_text}
+use Rattle.draw_shapes.specs.Lists.{row_text}
+
+-- nobody claims the last of these
+abbrev pub is_claimed : Step → Bool
+is_claimed Land = true
+is_claimed (Part phases) = true
+is_claimed (Read value) = true
+is_claimed Accept = true
+is_claimed Latch = true
+is_claimed (Take outcome) = true
+is_claimed Stall = true
+is_claimed MasterAbort = false
+is_claimed TargetAbort = true
+
+-- Layer 1: marks of keys, with a dotted line from the brackets to the nearer end of the act.
+
+abbrev pub dotted_to : Frame → ℕ → Ends → List Shape
+dotted_to frame n act = in_row n (dotted_text frame.first n frame.told_x (min act.begin act.end))
+
+abbrev pub dotted_shapes : Layout → Frame → Row → Event → List Shape
+dotted_shapes layout frame row (Act on by o step place) =
+    if is_claimed step then dotted_to frame row.n (act_of layout by o step place row.item row.taken) else []
+dotted_shapes layout frame row (Arrive lane mark) = []
+
+abbrev pub mark_shapes : Frame → Row → List Shape
+mark_shapes frame row = in_row row.n (mark_text frame.first row.n (frame.text_x - 4) (row.width + 8))
+
+unfoldable pub key_shapes : Layout → Frame → Row → List Shape
+key_shapes layout frame row = if row.key then mark_shapes frame row ++ dotted_shapes layout frame row row.event else []
+
+-- Layer 2: rims of what belongs to an operation in the chain of a line.
+
+abbrev pub can_have_rim : Kind → Bool
+can_have_rim Post = true
+can_have_rim Request = true
+can_have_rim Completion = true
+can_have_rim Credit = false
+can_have_rim Gone = false
+
+abbrev pub route_rim : Frame → Route → List Shape
+route_rim frame route = seen frame route.sent route.left (item_rim frame.first route)
+
+unfoldable pub item_rims : Layout → Frame → Bool → Item → List Shape
+item_rims layout frame loud item = if can_have_rim item.kind && loud then route_rim frame (route_of layout frame.end item) else []
+
+abbrev pub rim_in : Frame → ℕ → Ends → List Shape
+rim_in frame n act = in_row n (act_rim frame.first n act)
+
+abbrev pub act_rims_of : Layout → Frame → Row → Event → List Shape
+act_rims_of layout frame row (Act on by o step place) =
+    if is_claimed step && row.loud then rim_in frame row.n (act_of layout by o step place row.item row.taken) else []
+act_rims_of layout frame row (Arrive lane mark) = []
+
+unfoldable pub act_rims : Layout → Frame → Row → List Shape
+act_rims layout frame row = act_rims_of layout frame row row.event
+
+-- Layer 3: masters that wait.
+
+unfoldable pub wait_shapes : Layout → Frame → Bool → Wait → List Shape
+wait_shapes layout frame pale wait =
+    if nat_lt wait.first wait.last
+    then seen frame wait.first wait.last (wait_text frame.first (place_of (lines.Master wait.op.master) layout) pale wait)
+    else []
+
+-- Layer 4: items.
+
+abbrev pub routed : Board → Frame → Bool → Item → Route → List Shape
+routed board frame pale item route = seen frame route.sent route.left (item_text board frame.first pale item route)
+
+unfoldable pub item_shapes : Board → Layout → Frame → Bool → Item → List Shape
+item_shapes board layout frame pale item = routed board frame pale item (route_of layout frame.end item)
+
+-- Layer 5: acts.
+
+abbrev pub act_shapes_of : Board → Layout → Frame → Row → Event → List Shape
+act_shapes_of board layout frame row (Act on by o step place) =
+    in_row row.n (act_text board layout frame.first row.n row.pale on by o step (act_of layout by o step place row.item row.taken))
+act_shapes_of board layout frame row (Arrive lane mark) = []
+
+unfoldable pub act_shapes : Board → Layout → Frame → Row → List Shape
+act_shapes board layout frame row = act_shapes_of board layout frame row row.event
+
+-- Layer 6: brackets, those that have a track.
+
+abbrev pub bracket_on : Frame → ℕ → ℕ → ℕ → List Shape
+bracket_on frame landed read track =
+    seen frame (min landed read) (max landed read)
+    (bracket_text frame.first frame.told_x (frame.told_x + (10 * track + 10)) landed read (frame.told_x + 4))
+
+unfoldable pub bracket_shapes : Frame → ℕ → ℕ → Option ℕ → List Shape
+bracket_shapes frame landed read None = []
+bracket_shapes frame landed read (Some track) = bracket_on frame landed read track
+
+-- Layer 7: the list.
+
+unfoldable pub list_shapes : Board → Frame → Row → List Shape
+list_shapes board frame row = in_row row.n (row_text board frame row)

@@ -1,0 +1,51 @@
+-- The list of events beside a picture, as text: number, line and note of each.
+use Rattle.std.specs.Prelude.{ℕ, Bool, true, false, ◌||◌, ◌==◌, List, [], ◌++◌, length, codes, Option, Some, None, if◌then◌else◌}
+use Rattle.std.specs.Fmt.{decimal}
+use Rattle.board_model.specs.declared.board.Board.{Board}
+use Rattle.draw_items.specs.declared.item.Kind.{Kind}
+use Rattle.draw_items.specs.declared.item.Kind.TheVariants.{Post, Request, Completion, Credit, Gone}
+use Rattle.draw_items.specs.declared.item.Item.{Item}
+use Rattle.history_model.specs.declared.event.Event.{Event}
+use Rattle.history_model.specs.declared.event.Event.TheVariants.{Act, Arrive}
+use Rattle.draw_elements.specs.Heights.{height_text}
+use Rattle.draw_elements.specs.Labels.{event_text, note_of}
+use Rattle.draw_sheets.specs.declared.row.Row.{Row}
+use Rattle.draw_sheets.specs.declared.frame.Frame.{Frame}
+
+abbrev pub is_credit : Kind → Bool
+is_credit Post = false
+is_credit Request = false
+is_credit Completion = false
+is_credit Credit = true
+is_credit Gone = false
+
+abbrev pub brings_credit : Option Item → Bool
+brings_credit None = false
+brings_credit (Some item) = is_credit item.kind
+
+abbrev pub is_credit_event : Option Item → Event → Bool
+is_credit_event item (Act on by o step place) = false
+is_credit_event item (Arrive lane mark) = brings_credit item
+
+-- bold for a key, else grey for a fruitless try and where a credit arrives
+abbrev pub row_class : Row → List ℕ
+row_class row =
+    if row.key then codes " class=\"h\"" else if row.pale || is_credit_event row.item row.event then codes " class=\"c\"" else []
+
+unfoldable pub number_text : ℕ → ℕ → ℕ → List ℕ
+number_text first n x =
+    codes "<text id=\"e" ++ (decimal n ++ (codes "\" class=\"n\" x=\"" ++ (decimal x ++ (codes "\" y=\"" ++ (height_text first n 12 ++ (codes "\">" ++ (decimal n ++ codes "</text>")))))))
+
+unfoldable pub line_open : ℕ → ℕ → ℕ → List ℕ → List ℕ
+line_open first n x class = codes "<text" ++ (class ++ (codes " x=\"" ++ (decimal x ++ (codes "\" y=\"" ++ (height_text first n 12 ++ codes "\">")))))
+
+-- a note, where there is one
+unfoldable pub noted : List ℕ → List ℕ
+noted note = if length note == 0 then [] else codes "<tspan class=\"c\"> " ++ (note ++ codes "</tspan>")
+
+unfoldable pub row_text : Board → Frame → Row → List ℕ
+row_text board frame row =
+    number_text frame.first row.n frame.number_x
+    ++ (line_open frame.first row.n frame.text_x (row_class row)
+    ++ (event_text board row.event
+    ++ (noted (note_of board row.item row.event) ++ codes "</text>\n")))

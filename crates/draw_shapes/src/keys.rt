@@ -1,0 +1,144 @@
+ghost use Rattle.std.specs.Prelude.{◌≡◌, ◌++◌, string_bytes, OnOk};
+ghost use Rattle.draw_shapes.specs.Keys.{mark_size, mark_text, dotted_text, wait_bar, wait_text, bracket_title, bracket_down, bracket_path, bracket_text};
+
+use draw_elements::{Height, faint, print_circle, print_head};
+use draw_items::Wait;
+use std::alloc::AllocError;
+
+fn y(first: u32, row: u32) -> Height
+    ensures { result ≡ record { first = first; row = row; down = 8 } }
+{
+    Height {
+        first,
+        row,
+        down: 8,
+    }
+}
+
+/// A mark behind the line of an event, from a place on and so wide.
+#[tactic(auto, unfolding(crate::specs::Keys::mark_text))]
+pub(crate) fn print_mark(
+    text: &mut String,
+    first: u32,
+    n: u32,
+    x: u64,
+    size: u64,
+) -> Result<(), AllocError>
+    ensures { OnOk result (string_bytes text.new ≡ string_bytes text.old ++ mark_text first n x size) }
+{
+    let top = Height {
+        first,
+        row: n,
+        down: 0,
+    };
+    write!(text, "<path class=\"o\" d=\"M{x} {top}")?;
+    print_mark_size(text, size)
+}
+
+#[tactic(auto, unfolding(crate::specs::Keys::mark_size))]
+fn print_mark_size(text: &mut String, size: u64) -> Result<(), AllocError>
+    ensures { OnOk result (string_bytes text.new ≡ string_bytes text.old ++ mark_size size) }
+{
+    writeln!(text, "h{size}v16h-{size}z\"/>")
+}
+
+/// A dotted line in a row.
+#[tactic(auto, unfolding(crate::specs::Keys::dotted_text))]
+pub(crate) fn print_dotted(
+    text: &mut String,
+    first: u32,
+    n: u32,
+    x: u64,
+    to: u64,
+) -> Result<(), AllocError>
+    ensures { OnOk result (string_bytes text.new ≡ string_bytes text.old ++ dotted_text first n x to) }
+{
+    writeln!(text, "<path class=\"u\" d=\"M{x} {}H{to}\"/>", y(first, n))
+}
+
+/// The bar of a master that waits.
+#[tactic(auto, unfolding(crate::specs::Keys::wait_text))]
+pub(crate) fn print_wait(
+    text: &mut String,
+    first: u32,
+    x: u64,
+    pale: bool,
+    wait: &Wait,
+) -> Result<(), AllocError>
+    ensures { OnOk result (string_bytes text.new ≡ string_bytes text.old ++ wait_text first x pale wait.now) }
+{
+    text.push_str("<path class=\"w")?;
+    text.push_str(faint(pale))?;
+    print_wait_bar(text, first, x, wait)
+}
+
+#[tactic(auto, unfolding(crate::specs::Keys::wait_bar))]
+fn print_wait_bar(text: &mut String, first: u32, x: u64, wait: &Wait) -> Result<(), AllocError>
+    ensures { OnOk result (string_bytes text.new ≡ string_bytes text.old ++ wait_bar first x wait.now) }
+{
+    writeln!(
+        text,
+        "\" d=\"M{x} {}V{}\"/>",
+        y(first, wait.first),
+        y(first, wait.last)
+    )
+}
+
+/// The bracket of a line of the audit, from a place out to another and back, with an arrow whose tip is there.
+#[tactic(auto, unfolding(crate::specs::Keys::bracket_text))]
+pub(crate) fn print_bracket(
+    text: &mut String,
+    first: u32,
+    x: u64,
+    right: u64,
+    landed: u32,
+    read: u32,
+    tip: u64,
+) -> Result<(), AllocError>
+    ensures { OnOk result (string_bytes text.new ≡ string_bytes text.old ++ bracket_text first x right landed read tip) }
+{
+    print_bracket_title(text, landed, read)?;
+    print_bracket_path(text, first, x, right, landed, read, tip)?;
+    print_circle(text, first, landed, x, 4)?;
+    print_head(text, first, read, x, false)?;
+    text.push_str("</g>\n")
+}
+
+#[tactic(auto, unfolding(crate::specs::Keys::bracket_title))]
+fn print_bracket_title(text: &mut String, landed: u32, read: u32) -> Result<(), AllocError>
+    ensures { OnOk result (string_bytes text.new ≡ string_bytes text.old ++ bracket_title landed read) }
+{
+    write!(
+        text,
+        "<g class=\"b\"><title>landed {landed}, read {read}</title>"
+    )
+}
+
+#[tactic(auto, unfolding(crate::specs::Keys::bracket_path))]
+fn print_bracket_path(
+    text: &mut String,
+    first: u32,
+    x: u64,
+    right: u64,
+    landed: u32,
+    read: u32,
+    tip: u64,
+) -> Result<(), AllocError>
+    ensures { OnOk result (string_bytes text.new ≡ string_bytes text.old ++ bracket_path first x right landed read tip) }
+{
+    write!(text, "<path d=\"M{x} {}", y(first, landed))?;
+    print_bracket_down(text, first, right, read, tip)
+}
+
+#[tactic(auto, unfolding(crate::specs::Keys::bracket_down))]
+fn print_bracket_down(
+    text: &mut String,
+    first: u32,
+    right: u64,
+    read: u32,
+    tip: u64,
+) -> Result<(), AllocError>
+    ensures { OnOk result (string_bytes text.new ≡ string_bytes text.old ++ bracket_down first right read tip) }
+{
+    write!(text, "H{right}V{}H{tip}\"/>", y(first, read))
+}

@@ -1,0 +1,116 @@
+ghost use Rattle.std.specs.Prelude.{◌≡◌, ◌++◌, string_bytes, OnOk};
+ghost use Rattle.draw_elements.specs.Labels.{note_of};
+ghost use Rattle.draw_shapes.specs.Lists.{is_credit, brings_credit, is_credit_event, row_class, number_text, line_open, noted, row_text};
+
+use board_model::Board;
+use draw_elements::{Height, print_event, print_note};
+use draw_items::{Item, Kind};
+use draw_sheets::{Frame, Row};
+use history_model::Event;
+use std::alloc::{AllocError, Global};
+
+/// An event in the list: its number, its line and what is noted behind it.
+#[tactic(auto, unfolding(crate::specs::Lists::row_text))]
+pub(crate) fn print_row(
+    alloc: Global,
+    text: &mut String,
+    board: &Board,
+    frame: &Frame,
+    row: &Row,
+) -> Result<(), AllocError>
+    ensures { OnOk result (string_bytes text.new ≡ string_bytes text.old ++ row_text board.now frame.now row.now) }
+{
+    print_number(text, frame.first, row.n, frame.number_x)?;
+    print_line_open(text, frame.first, row.n, frame.text_x, row_class(row))?;
+    print_event(text, board, &row.event)?;
+    print_noted(alloc, text, board, row)?;
+    text.push_str("</text>\n")
+}
+
+fn foot(first: u32, row: u32) -> Height
+    ensures { result ≡ record { first = first; row = row; down = 12 } }
+{
+    Height {
+        first,
+        row,
+        down: 12,
+    }
+}
+
+#[tactic(auto, unfolding(crate::specs::Lists::number_text))]
+fn print_number(text: &mut String, first: u32, n: u32, x: u64) -> Result<(), AllocError>
+    ensures { OnOk result (string_bytes text.new ≡ string_bytes text.old ++ number_text first n x) }
+{
+    write!(
+        text,
+        "<text id=\"e{n}\" class=\"n\" x=\"{x}\" y=\"{}\">{n}</text>",
+        foot(first, n)
+    )
+}
+
+#[tactic(auto, unfolding(crate::specs::Lists::line_open))]
+fn print_line_open(
+    text: &mut String,
+    first: u32,
+    n: u32,
+    x: u64,
+    class: &str,
+) -> Result<(), AllocError>
+    ensures { OnOk result (string_bytes text.new ≡ string_bytes text.old ++ line_open first n x class.now) }
+{
+    write!(text, "<text{class} x=\"{x}\" y=\"{}\">", foot(first, n))
+}
+
+/// What is noted behind the line, where there is anything.
+#[tactic(auto, unfolding(crate::specs::Lists::noted))]
+fn print_noted(alloc: Global, text: &mut String, board: &Board, row: &Row) -> Result<(), AllocError>
+    ensures { OnOk result (string_bytes text.new ≡ string_bytes text.old ++ noted (note_of board.now row.now.item row.now.event)) }
+{
+    let mut note = String::new(alloc);
+    print_note(&mut note, board, row.item, &row.event)?;
+    if note.len() == 0 {
+        Ok(())
+    } else {
+        write!(text, "<tspan class=\"c\"> {note}</tspan>")
+    }
+}
+
+/// Bold for a key, else grey for a fruitless try and where a credit arrives.
+fn row_class(row: &Row) -> &'static str
+    ensures { result.now ≡ row_class row.now }
+{
+    if row.key {
+        " class=\"h\""
+    } else if row.pale || is_credit_event(row.item, &row.event) {
+        " class=\"c\""
+    } else {
+        ""
+    }
+}
+
+fn is_credit_event(item: Option<Item>, event: &Event) -> bool
+    ensures { result ≡ is_credit_event item event.now }
+{
+    match event {
+        Event::Act { .. } => false,
+        Event::Arrive { .. } => brings_credit(item),
+    }
+}
+
+fn brings_credit(item: Option<Item>) -> bool
+    ensures { result ≡ brings_credit item }
+{
+    match item {
+        Some(item) => is_credit(item.kind),
+        None => false,
+    }
+}
+
+fn is_credit(kind: Kind) -> bool
+    ensures { result ≡ is_credit kind }
+{
+    match kind {
+        Kind::Credit => true,
+        Kind::Post | Kind::Request | Kind::Completion | Kind::Gone => false,
+    }
+}

@@ -1,0 +1,376 @@
+ghost use Rattle.std.specs.Prelude.{◌≡◌, ◌++◌, min, OnOk, IfOk};
+ghost use Rattle.draw_shapes.specs.Elements.{is_claimed, dotted_to, dotted_shapes, mark_shapes, key_shapes, can_have_rim, route_rim, item_rims, rim_in, act_rims_of, act_rims, wait_shapes, routed, item_shapes, act_shapes_of, act_shapes, bracket_on, bracket_shapes, list_shapes};
+
+use crate::element::{Element, add_between, add_in_row, is_seen};
+use crate::keys::{print_bracket, print_dotted, print_mark, print_wait};
+use crate::lists::print_row;
+use board_model::Board;
+use draw_elements::{
+    Act, Columns, Route, print_act, print_act_rim, print_item, print_item_rim, product, sum,
+};
+use draw_items::{Item, Kind, Wait};
+use draw_sheets::{Frame, Row};
+use history_model::{Event, Step};
+use pci_command::NoMemory;
+use std::alloc::Global;
+
+/// The mark of a key, and its dotted line.
+#[tactic(auto, unfolding(crate::specs::Elements::key_shapes))]
+pub fn add_key(
+    alloc: Global,
+    elements: &mut Vec<Element>,
+    columns: &Columns,
+    frame: &Frame,
+    row: &Row,
+) -> Result<(), NoMemory>
+    ensures { OnOk result (elements.new.items ≡ elements.old.items ++ key_shapes columns.now frame.now row.now) }
+{
+    if row.key {
+        add_mark(alloc, elements, frame, row)?;
+        add_dotted_of(alloc, elements, columns, frame, row, &row.event)
+    } else {
+        Ok(())
+    }
+}
+
+fn add_mark(
+    alloc: Global,
+    elements: &mut Vec<Element>,
+    frame: &Frame,
+    row: &Row,
+) -> Result<(), NoMemory>
+    ensures { OnOk result (elements.new.items ≡ elements.old.items ++ mark_shapes frame.now row.now) }
+{
+    let mut text = String::new(alloc);
+    let x = frame.text_x.saturating_sub(4);
+    print_mark(&mut text, frame.first, row.n, x, sum(row.width, 8)?)?;
+    add_in_row(elements, row.n, text)
+}
+
+fn add_dotted_of(
+    alloc: Global,
+    elements: &mut Vec<Element>,
+    columns: &Columns,
+    frame: &Frame,
+    row: &Row,
+    event: &Event,
+) -> Result<(), NoMemory>
+    ensures { OnOk result (elements.new.items ≡ elements.old.items ++ dotted_shapes columns.now frame.now row.now event.now) }
+{
+    match *event {
+        Event::Act {
+            by,
+            op,
+            step,
+            place,
+            ..
+        } if is_claimed(step) => {
+            let act = Act::of(columns, by, op, step, place, row.item, row.taken)?;
+            add_dotted(alloc, elements, frame, row.n, &act)
+        }
+        Event::Act { .. } | Event::Arrive { .. } => Ok(()),
+    }
+}
+
+/// A dotted line from the brackets to the nearer end of the act.
+fn add_dotted(
+    alloc: Global,
+    elements: &mut Vec<Element>,
+    frame: &Frame,
+    n: u32,
+    act: &Act,
+) -> Result<(), NoMemory>
+    ensures { OnOk result (elements.new.items ≡ elements.old.items ++ dotted_to frame.now n act.now) }
+{
+    let mut text = String::new(alloc);
+    let nearer = act.begin.min(act.end);
+    print_dotted(&mut text, frame.first, n, frame.told_x, nearer)?;
+    add_in_row(elements, n, text)
+}
+
+/// Whether somebody claims it.
+fn is_claimed(step: Step) -> bool
+    ensures { result ≡ is_claimed step }
+{
+    match step {
+        Step::Land
+        | Step::Part(_)
+        | Step::Read(_)
+        | Step::Accept
+        | Step::Latch
+        | Step::Take(_)
+        | Step::Stall
+        | Step::TargetAbort => true,
+        Step::MasterAbort => false,
+    }
+}
+
+/// The rim of an item whose operation is in the chain of a line.
+#[tactic(auto, unfolding(crate::specs::Elements::item_rims))]
+pub fn add_item_rim(
+    alloc: Global,
+    elements: &mut Vec<Element>,
+    columns: &Columns,
+    frame: &Frame,
+    loud: bool,
+    item: &Item,
+) -> Result<(), NoMemory>
+    ensures { OnOk result (elements.new.items ≡ elements.old.items ++ item_rims columns.now frame.now loud item.now) }
+{
+    if can_have_rim(item.kind) && loud {
+        let route = Route::of(columns, frame.end, item)?;
+        add_route_rim(alloc, elements, frame, &route)
+    } else {
+        Ok(())
+    }
+}
+
+fn add_route_rim(
+    alloc: Global,
+    elements: &mut Vec<Element>,
+    frame: &Frame,
+    route: &Route,
+) -> Result<(), NoMemory>
+    ensures { OnOk result (elements.new.items ≡ elements.old.items ++ route_rim frame.now route.now) }
+{
+    if is_seen(frame, route.sent, route.left) {
+        let mut text = String::new(alloc);
+        print_item_rim(&mut text, frame.first, route)?;
+        add_between(elements, route.sent, route.left, text)
+    } else {
+        Ok(())
+    }
+}
+
+fn can_have_rim(kind: Kind) -> bool
+    ensures { result ≡ can_have_rim kind }
+{
+    match kind {
+        Kind::Post | Kind::Request | Kind::Completion => true,
+        Kind::Credit | Kind::Gone => false,
+    }
+}
+
+/// The rim of an act whose operation is in the chain of a line.
+#[tactic(auto, unfolding(crate::specs::Elements::act_rims))]
+pub fn add_act_rim(
+    alloc: Global,
+    elements: &mut Vec<Element>,
+    columns: &Columns,
+    frame: &Frame,
+    row: &Row,
+) -> Result<(), NoMemory>
+    ensures { OnOk result (elements.new.items ≡ elements.old.items ++ act_rims columns.now frame.now row.now) }
+{
+    add_act_rim_of(alloc, elements, columns, frame, row, &row.event)
+}
+
+fn add_act_rim_of(
+    alloc: Global,
+    elements: &mut Vec<Element>,
+    columns: &Columns,
+    frame: &Frame,
+    row: &Row,
+    event: &Event,
+) -> Result<(), NoMemory>
+    ensures { OnOk result (elements.new.items ≡ elements.old.items ++ act_rims_of columns.now frame.now row.now event.now) }
+{
+    match *event {
+        Event::Act {
+            by,
+            op,
+            step,
+            place,
+            ..
+        } if is_claimed(step) && row.loud => {
+            let act = Act::of(columns, by, op, step, place, row.item, row.taken)?;
+            add_rim(alloc, elements, frame, row.n, &act)
+        }
+        Event::Act { .. } | Event::Arrive { .. } => Ok(()),
+    }
+}
+
+fn add_rim(
+    alloc: Global,
+    elements: &mut Vec<Element>,
+    frame: &Frame,
+    n: u32,
+    act: &Act,
+) -> Result<(), NoMemory>
+    ensures { OnOk result (elements.new.items ≡ elements.old.items ++ rim_in frame.now n act.now) }
+{
+    let mut text = String::new(alloc);
+    print_act_rim(&mut text, frame.first, n, act)?;
+    add_in_row(elements, n, text)
+}
+
+/// The bar of a master that waits.
+#[tactic(auto, unfolding(crate::specs::Elements::wait_shapes))]
+pub fn add_wait(
+    alloc: Global,
+    elements: &mut Vec<Element>,
+    columns: &Columns,
+    frame: &Frame,
+    pale: bool,
+    wait: &Wait,
+) -> Result<(), NoMemory>
+    ensures { OnOk result (elements.new.items ≡ elements.old.items ++ wait_shapes columns.now frame.now pale wait.now) }
+{
+    if wait.first < wait.last && is_seen(frame, wait.first, wait.last) {
+        let mut text = String::new(alloc);
+        let x = columns.master(wait.op.master);
+        print_wait(&mut text, frame.first, x, pale, wait)?;
+        add_between(elements, wait.first, wait.last, text)
+    } else {
+        Ok(())
+    }
+}
+
+/// An item.
+#[tactic(auto, unfolding(crate::specs::Elements::item_shapes))]
+pub fn add_item(
+    alloc: Global,
+    elements: &mut Vec<Element>,
+    board: &Board,
+    columns: &Columns,
+    frame: &Frame,
+    pale: bool,
+    item: &Item,
+) -> Result<(), NoMemory>
+    ensures { OnOk result (elements.new.items ≡ elements.old.items ++ item_shapes board.now columns.now frame.now pale item.now) }
+{
+    let route = Route::of(columns, frame.end, item)?;
+    add_routed(alloc, elements, board, frame, pale, item, &route)
+}
+
+fn add_routed(
+    alloc: Global,
+    elements: &mut Vec<Element>,
+    board: &Board,
+    frame: &Frame,
+    pale: bool,
+    item: &Item,
+    route: &Route,
+) -> Result<(), NoMemory>
+    ensures { OnOk result (elements.new.items ≡ elements.old.items ++ routed board.now frame.now pale item.now route.now) }
+{
+    if is_seen(frame, route.sent, route.left) {
+        let mut text = String::new(alloc);
+        print_item(&mut text, board, frame.first, pale, item, route)?;
+        add_between(elements, route.sent, route.left, text)
+    } else {
+        Ok(())
+    }
+}
+
+/// An act.
+#[tactic(auto, unfolding(crate::specs::Elements::act_shapes))]
+pub fn add_act(
+    alloc: Global,
+    elements: &mut Vec<Element>,
+    board: &Board,
+    columns: &Columns,
+    frame: &Frame,
+    row: &Row,
+) -> Result<(), NoMemory>
+    ensures { OnOk result (elements.new.items ≡ elements.old.items ++ act_shapes board.now columns.now frame.now row.now) }
+{
+    add_act_of(alloc, elements, board, columns, frame, row, &row.event)
+}
+
+fn add_act_of(
+    alloc: Global,
+    elements: &mut Vec<Element>,
+    board: &Board,
+    columns: &Columns,
+    frame: &Frame,
+    row: &Row,
+    event: &Event,
+) -> Result<(), NoMemory>
+    ensures { OnOk result (elements.new.items ≡ elements.old.items ++ act_shapes_of board.now columns.now frame.now row.now event.now) }
+{
+    match *event {
+        Event::Act {
+            bus,
+            by,
+            op,
+            step,
+            place,
+        } => {
+            let act = Act::of(columns, by, op, step, place, row.item, row.taken)?;
+            let mut text = String::new(alloc);
+            print_act(
+                &mut text,
+                board,
+                columns,
+                frame.first,
+                row.n,
+                row.pale,
+                bus,
+                by,
+                op,
+                step,
+                &act,
+            )?;
+            add_in_row(elements, row.n, text)
+        }
+        Event::Arrive { .. } => Ok(()),
+    }
+}
+
+/// The bracket of a write that landed and was read in these events, where it has a track.
+#[tactic(auto, unfolding(crate::specs::Elements::bracket_shapes))]
+pub fn add_bracket(
+    alloc: Global,
+    elements: &mut Vec<Element>,
+    frame: &Frame,
+    landed: u32,
+    read: u32,
+    track: Option<usize>,
+) -> Result<(), NoMemory>
+    ensures { OnOk result (elements.new.items ≡ elements.old.items ++ bracket_shapes frame.now landed read track) }
+{
+    match track {
+        Some(track) => add_bracket_on(alloc, elements, frame, landed, read, track as u64),
+        None => Ok(()),
+    }
+}
+
+fn add_bracket_on(
+    alloc: Global,
+    elements: &mut Vec<Element>,
+    frame: &Frame,
+    landed: u32,
+    read: u32,
+    track: u64,
+) -> Result<(), NoMemory>
+    ensures { OnOk result (elements.new.items ≡ elements.old.items ++ bracket_on frame.now landed read track) }
+{
+    let low = landed.min(read);
+    let high = landed.max(read);
+    if !is_seen(frame, low, high) {
+        return Ok(());
+    }
+    let x = frame.told_x;
+    let right = sum(x, sum(product(10, track)?, 10)?)?;
+    let tip = sum(x, 4)?;
+    let mut text = String::new(alloc);
+    print_bracket(&mut text, frame.first, x, right, landed, read, tip)?;
+    add_between(elements, low, high, text)
+}
+
+/// An event in the list.
+#[tactic(auto, unfolding(crate::specs::Elements::list_shapes))]
+pub fn add_row(
+    alloc: Global,
+    elements: &mut Vec<Element>,
+    board: &Board,
+    frame: &Frame,
+    row: &Row,
+) -> Result<(), NoMemory>
+    ensures { OnOk result (elements.new.items ≡ elements.old.items ++ list_shapes board.now frame.now row.now) }
+{
+    let mut text = String::new(alloc);
+    print_row(alloc, &mut text, board, frame, row)?;
+    add_in_row(elements, row.n, text)
+}

@@ -1,4 +1,0 @@
-pub mod Heights
-pub mod Labels
-pub mod Items
-pub mod Acts

@@ -1,9 +1,0 @@
-use Rattle.std.proofs.Common.{◌≡◌, ◌++◌, drop}
-use Rattle.std.specs.List.{flat_map}
-use Rattle.drawn_shapes.specs.Elements.{act_rims}
-use Rattle.drawn_layers.proofs.layers.add_act_rims.Given as goal
-
--- the elements so far, and those to come
-abbrev pub invariant-loop-row : goal.invariant-loop-row
-invariant-loop-row l =
-    l.elements.items ++ flat_map (act_rims l.columns l.frame) (drop l.row-index l.rows) ≡ l.initial.elements.items ++ flat_map (act_rims l.columns l.frame) l.rows

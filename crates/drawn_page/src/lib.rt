@@ -1,7 +1,0 @@
-//! The page of a picture of a run, in HTML with inline SVG.
-#![tactic(auto)]
-
-mod page;
-mod top;
-
-pub use page::page_of;

@@ -1,8 +1,0 @@
-use Rattle.std.proofs.Common.{[], ◌∙◌}
-use Rattle.drawn_run.specs.Waits.{waits_after, waits_of}
-use Rattle.drawn_run.proofs.WaitLemmas.{waits_all}
-use Rattle.drawn_run.proofs.waits.waits_of.Goals as goal
-
-pub returns : goal.returns
-unfolding waits_of
-returns c = c.from_vec.ensures ∙ waits_all c.args.events.now c.loop-before.before c.loop-before.waits.items (waits_after 0 c.args.events.now []) c.loop-before-test.false c.loop-before.invariant.so

@@ -1,0 +1,4 @@
+pub mod Workers
+pub mod Phase
+pub mod ring
+pub mod merging

@@ -1,0 +1,52 @@
+ghost use Rattle.std.specs.Prelude.{◌≡◌, All};
+ghost use Rattle.engine_runs.specs.Loop.{seen};
+ghost use Rattle.engine_runs.specs.threads.Turns.{HasRoom, HasTurned, Ran, EachRan};
+
+use crate::threads::Gate;
+use board_model::Board;
+use bus_segment::{Worker, steps_go_on};
+use lane_items::LaneEnd;
+use std::thread;
+use std::thread::Threads;
+
+/// Each bus does its turns of a phase, in one of so many threads: it meets the gate, and then does
+/// turns until one did nothing or there is no more room for the events of another.
+pub(crate) fn work_all<L: LaneEnd + Drop + Send, R: Threads + Sync, G: Gate + Sync>(
+    rt: &R,
+    gate: &G,
+    threads: usize,
+    board: &Board,
+    workers: &mut [Worker<L>],
+)
+    requires { All (λ w. HasRoom board.now w) workers.old }
+    ensures { EachRan L.had L.sent L.got L.kept L.paired board.now workers.old workers.new }
+{
+    let threads = threads.max(1);
+    thread::for_each_mut(rt, workers, threads, &|_, worker| work(gate, board, worker));
+}
+
+/// The turns of one bus.
+fn work<L: LaneEnd + Drop, G: Gate>(gate: &G, board: &Board, worker: &mut Worker<L>)
+    requires { HasRoom board.now worker.old }
+    ensures { Ran L.had L.sent L.got L.kept L.paired board.now (seen worker.old) (seen worker.new) }
+{
+    steps_go_on::<L>();
+    gate.meet(worker.bus());
+    let mut goes_on = turn(gate, board, worker);
+    for _ in 0..worker.spare() {
+        if !goes_on {
+            return;
+        }
+        goes_on = turn(gate, board, worker);
+    }
+}
+
+/// One turn: whether another one follows it.
+fn turn<L: LaneEnd + Drop, G: Gate>(gate: &G, board: &Board, worker: &mut Worker<L>) -> bool
+    requires { HasRoom board.now worker.old }
+    ensures { HasTurned L.had L.sent L.got L.kept L.paired board.now (seen worker.old) worker.new result }
+{
+    let events = worker.turn(board);
+    gate.did(worker.bus(), events);
+    events > 0 && !worker.stopped() && worker.spare() >= 512
+}

@@ -1,0 +1,185 @@
+ghost use Rattle.std.specs.Prelude.{◌≡◌, ◌+◌, ◌<◌, ◌^◌, ◌==◌, [], is_some, length, map, IfOk};
+ghost use Rattle.std.specs.List.{find, list_any, count_by};
+ghost use Rattle.std.specs.Option.{option_copied};
+ghost use Rattle.import_bridges.specs.declared.fate.BridgeFate.TheVariants.{Taken};
+ghost use Rattle.import_bridges.specs.Bridges.{secondary_of, subordinate_of, place_of, last_by, last_behind, shares_buses, is_full, bridge_with, bridge_behind, bridge_fate, taken_of, fates_behind, bridge_fates, taken_among};
+
+use crate::devices::device_number;
+use crate::header::byte_at;
+use crate::windows::{io_fate, memory_fate, prefetchable_fate};
+use crate::{BridgeFate, Buses, DevicePlace, Machine, NoBridge, TakenBridge};
+use import_text::Function;
+use pci_command::{List, NoMemory};
+use std::alloc::Global;
+
+/// What becomes of each bridge of the machine.
+pub fn bridge_fates(alloc: Global, machine: &Machine) -> Result<List<BridgeFate>, NoMemory>
+    ensures { IfOk result (λ fates. fates ≡ bridge_fates machine.now) }
+{
+    let mut fates = Vec::new(alloc);
+    let mut taken = Vec::new(alloc);
+    let mut given = Vec::new(alloc);
+    let mut left = machine.bridges.as_slice();
+    while let [function, behind @ ..] = left {
+        let fate = bridge_fate(machine, taken.as_slice(), given.as_slice(), function);
+        if let BridgeFate::Taken(bridge) = fate {
+            given.push(place_of(&bridge))?;
+            taken.push(bridge)?;
+        }
+        fates.push(fate)?;
+        left = behind;
+    }
+    Ok(List::from_vec(fates))
+}
+
+/// Those that the board has.
+pub fn taken_among(alloc: Global, fates: &[BridgeFate]) -> Result<List<TakenBridge>, NoMemory>
+    ensures { IfOk result (λ taken. taken ≡ taken_among fates.now) }
+{
+    let mut taken = Vec::new(alloc);
+    let mut left = fates;
+    while let [fate, behind @ ..] = left {
+        if let BridgeFate::Taken(bridge) = fate {
+            taken.push(*bridge)?;
+        }
+        left = behind;
+    }
+    Ok(List::from_vec(taken))
+}
+
+/// The device number that a bridge got, and where.
+pub fn place_of(bridge: &TakenBridge) -> DevicePlace
+    ensures { result ≡ place_of bridge.now }
+{
+    DevicePlace {
+        bus: bridge.parent,
+        device: bridge.device,
+    }
+}
+
+fn secondary_of(function: &Function) -> u8
+    ensures { result ≡ secondary_of function.now }
+{
+    byte_at(function.header.as_slice(), 0x19)
+}
+
+fn subordinate_of(function: &Function) -> u8
+    ensures { result ≡ subordinate_of function.now }
+{
+    byte_at(function.header.as_slice(), 0x1a)
+}
+
+fn bridge_to(taken: &[TakenBridge], bus: u8) -> Option<&TakenBridge>
+    ensures { option_copied result ≡ find (λ bridge. bridge.bus == bus) taken.now }
+{
+    taken.iter().find(|bridge| bridge.bus == bus)
+}
+
+fn last_by(bridge: Option<&TakenBridge>) -> Option<u8>
+    ensures { result ≡ last_by (option_copied bridge.entry) }
+{
+    match bridge {
+        Some(bridge) => Some(bridge.last),
+        None => None,
+    }
+}
+
+/// The last bus behind the bridge to this one, where one leads there; any behind the root.
+fn last_behind(machine: &Machine, taken: &[TakenBridge], bus: u8) -> Option<u8>
+    ensures { result ≡ last_behind machine.now taken.now bus }
+{
+    if bus == machine.root.bus {
+        Some(255)
+    } else {
+        last_by(bridge_to(taken, bus))
+    }
+}
+
+/// Whether a bridge of the board leads to the bus, or it is the root.
+pub fn is_led_to(machine: &Machine, taken: &[TakenBridge], bus: u8) -> bool
+    ensures { result ≡ is_some (last_behind machine.now taken.now bus) }
+{
+    last_behind(machine, taken, bus).is_some()
+}
+
+fn bridge_fate(
+    machine: &Machine,
+    taken: &[TakenBridge],
+    given: &[DevicePlace],
+    function: &Function,
+) -> BridgeFate
+    requires { given.now ≡ map place_of taken.now }
+    ensures { result ≡ bridge_fate machine.now taken.now function.now }
+{
+    match last_behind(machine, taken, function.slot.bus) {
+        None => BridgeFate::LeftOut(NoBridge::NoWay(function.slot.bus)),
+        Some(last) => bridge_behind(machine, taken, given, function, last),
+    }
+}
+
+/// Where the last bus behind the bridge to its bus is this.
+fn bridge_behind(
+    machine: &Machine,
+    taken: &[TakenBridge],
+    given: &[DevicePlace],
+    function: &Function,
+    last: u8,
+) -> BridgeFate
+    requires { given.now ≡ map place_of taken.now }
+    ensures { result ≡ bridge_behind machine.now taken.now function.now (Some last) }
+{
+    let bus = function.slot.bus;
+    let first = secondary_of(function);
+    let end = subordinate_of(function);
+    let buses = Buses { first, last: end };
+    if !(bus < first && first <= end) {
+        return BridgeFate::LeftOut(NoBridge::WrongBuses(buses));
+    }
+    if last < end {
+        return BridgeFate::LeftOut(NoBridge::OutsideBuses(buses, bus));
+    }
+    if some_shares_buses(taken, bus, first, end) {
+        return BridgeFate::LeftOut(NoBridge::SharedBuses(buses));
+    }
+    if is_full(taken, bus) {
+        return BridgeFate::LeftOut(NoBridge::Full);
+    }
+    match device_number(machine, given, bus, function.slot.device) {
+        None => BridgeFate::LeftOut(NoBridge::NoDevice),
+        Some(device) => BridgeFate::Taken(bridge_with(machine, taken, function, device)),
+    }
+}
+
+fn bridge_with(
+    machine: &Machine,
+    taken: &[TakenBridge],
+    function: &Function,
+    device: u8,
+) -> TakenBridge
+    ensures { bridge_with machine.now taken.now function.now (Some device) ≡ Taken result }
+{
+    let root = machine.root.bus;
+    TakenBridge {
+        parent: function.slot.bus,
+        bus: secondary_of(function),
+        last: subordinate_of(function),
+        device,
+        mem: memory_fate(root, taken, function),
+        pref: prefetchable_fate(root, taken, function),
+        io: io_fate(root, taken, function),
+    }
+}
+
+/// Whether a bridge on the bus has some of the buses from first to last.
+fn some_shares_buses(taken: &[TakenBridge], bus: u8, first: u8, last: u8) -> bool
+    ensures { result ≡ list_any (shares_buses bus first last) taken.now }
+{
+    taken.iter().any(|bridge| bridge.parent == bus && bridge.bus <= last && first <= bridge.last)
+}
+
+fn is_full(taken: &[TakenBridge], bus: u8) -> bool
+    ensures { result ≡ is_full taken.now bus }
+{
+    let beside = taken.iter().filter(|bridge| bridge.parent == bus).count();
+    beside == 8 || taken.len() == 31
+}

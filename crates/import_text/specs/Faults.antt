@@ -1,0 +1,9 @@
+-- The number by which a fault is printed, behind an I.
+use Rattle.std.specs.Prelude.{ℕ}
+use Rattle.import_text.specs.declared.fault.LspciFault.{LspciFault}
+use Rattle.import_text.specs.declared.fault.LspciFault.TheVariants.{NoSlot, Repeated, NoRow}
+
+abbrev pub code_of : LspciFault → ℕ
+code_of NoSlot = 1
+code_of Repeated = 2
+code_of NoRow = 3

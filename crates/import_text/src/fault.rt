@@ -1,0 +1,50 @@
+use pci_command::NoMemory;
+use thiserror::Error;
+
+/// Why a text is not what `lspci` writes of a machine.
+#[derive(Clone, Copy, Debug, PartialEq, Eq, Error)]
+pub enum LspciFault {
+    #[error("no line is a slot line")]
+    NoSlot,
+    #[error("a slot that was there before")]
+    Repeated,
+    #[error("a function lacks one of the rows 00, 10, 20 and 30")]
+    NoRow,
+}
+
+impl LspciFault {
+    ghost use Rattle.std.specs.Prelude.{◌≡◌};
+    ghost use Rattle.import_text.specs.Faults.{code_of};
+
+    /// Its number in what is printed, from I1 on.
+    pub fn code(self) -> u8
+        ensures { result ≡ code_of self }
+    {
+        match self {
+            LspciFault::NoSlot => 1,
+            LspciFault::Repeated => 2,
+            LspciFault::NoRow => 3,
+        }
+    }
+}
+
+/// Why a text was not read.
+#[derive(Clone, Copy, Debug, PartialEq, Eq, Error)]
+pub enum ReadFault {
+    /// The first fault of the text, and the line where it is. Lines are numbered from 1.
+    #[error("line {line}: {fault}")]
+    Fault { line: u32, fault: LspciFault },
+    #[error("no memory")]
+    NoMemory,
+}
+
+impl From<NoMemory> for ReadFault {
+    ghost use Rattle.std.specs.Prelude.{◌≡◌};
+    ghost use Rattle.import_text.specs.declared.fault.ReadFault.TheVariants.{NoMemory};
+
+    ghost from_gives = { λ _ fault. fault ≡ NoMemory };
+
+    fn from(_refused: NoMemory) -> ReadFault {
+        ReadFault::NoMemory
+    }
+}

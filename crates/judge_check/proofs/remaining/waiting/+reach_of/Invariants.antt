@@ -1,0 +1,4 @@
+use Rattle.judge_check.proofs.remaining.waiting.+reach_of.Given as goal
+
+abbrev pub decreases-reach_of : goal.decreases-reach_of
+decreases-reach_of l = l.most

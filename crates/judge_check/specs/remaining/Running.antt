@@ -1,0 +1,19 @@
+-- What is kept of a run of a valid board, and what bounds its numbers.
+use Rattle.std.specs.Prelude.{◌≤◌, length, IsTrue}
+use Rattle.board_model.specs.declared.bridge.Lane.{Lane as BridgeLane}
+use Rattle.board_model.specs.declared.board.Board.{Board}
+use Rattle.board_model.specs.WellFormed.{is_well_formed}
+use Rattle.board_model.specs.Ways.{bound_of}
+use Rattle.board_tree.specs.Decodable.{IsDecodable}
+use Rattle.law_lanes.specs.Depths.{Within}
+use Rattle.judge_state.specs.State.{KeptState, lane_in}
+
+pub record IsRunning (board : Board) (k : KeptState) : Type 0 where
+  pub well_formed : IsTrue (is_well_formed board)
+  pub decodable : IsDecodable board
+  -- a run has few events, and few lines are discards or drops
+  pub short : bound_of board ≤ 500000
+  pub discards : length board.discards ≤ 1024
+  pub drops : length board.drops ≤ 1024
+  -- little is on a lane
+  pub lanes : (lane : BridgeLane) → Within 8 8 (lane_in board k.lanes lane)

@@ -1,0 +1,47 @@
+use Rattle.std.proofs.Common.{◌≡◌, ℕ, Option, Some, None, refl, sym, ◌∙◌, arith}
+use Rattle.history_model.specs.declared.event.Event.{Event}
+use Rattle.law_lanes.proofs.progress.NextFirstLemmas.{first_more, bus_found, bus_none}
+use Rattle.judge_next.specs.Now.{act_on_now}
+use Rattle.judge_next.proofs.course.first_act.Goals as goal
+
+-- nothing on one bus more
+pub loop-bus-preserved : goal.loop-bus-preserved
+loop-bus-preserved c =
+    let gives : ℕ → Option Event = act_on_now c.args.board.now c.args.kept.now in
+    let here : gives c.loop-bus.bus ≡ None = sym c.act_at.ensures.value ∙ c.in_default.is in
+    (first_more gives c.loop-bus.bus c.loop-bus.invariant.0 here, c.act_at.ensures.all, c.act_at.ensures.known)
+
+pub returns-in-Some-clause-value : goal.returns-in-Some-clause-value
+returns-in-Some-clause-value c =
+    let gives : ℕ → Option Event = act_on_now c.args.board.now c.args.kept.now in
+    let here : gives c.loop-bus.bus ≡ Some c.in-Some.event = sym c.act_at.ensures.value ∙ c.in-Some.is in
+    bus_found gives c.loop-bus.bus c.in-Some.event c.loop-bus.invariant.0 here (omega arith)
+
+pub returns-clause-value : goal.returns-clause-value
+returns-clause-value c =
+    let gives : ℕ → Option Event = act_on_now c.args.board.now c.args.kept.now in
+    bus_none gives c.loop-bus.bus c.loop-bus.invariant.0 (omega arith)
+
+pub act_at-requires-clause-formed : goal.act_at-requires-clause-formed
+act_at-requires-clause-formed c = c.requires.formed
+
+pub act_at-requires-clause-lines : goal.act_at-requires-clause-lines
+act_at-requires-clause-lines c = c.requires.lines
+
+pub act_at-requires-clause-all : goal.act_at-requires-clause-all
+act_at-requires-clause-all c = c.loop-bus.invariant.1
+
+pub act_at-requires-clause-known : goal.act_at-requires-clause-known
+act_at-requires-clause-known c = c.loop-bus.invariant.2
+
+pub returns-in-Some-clause-all : goal.returns-in-Some-clause-all
+returns-in-Some-clause-all c = c.act_at.ensures.all
+
+pub returns-in-Some-clause-known : goal.returns-in-Some-clause-known
+returns-in-Some-clause-known c = c.act_at.ensures.known
+
+pub returns-clause-all : goal.returns-clause-all
+returns-clause-all c = c.loop-bus.invariant.1
+
+pub returns-clause-known : goal.returns-clause-known
+returns-clause-known c = c.loop-bus.invariant.2

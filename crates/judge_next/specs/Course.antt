@@ -1,0 +1,28 @@
+-- What is known beside the state that is kept, so that the next event is looked for only where something may have
+-- changed: the lines of each bus, and which buses are quiet.
+use Rattle.std.specs.Prelude.{◌≡◌, ℕ, Bool, true, List, Some, None, length, slice_get}
+use Rattle.board_model.specs.declared.board.Board.{Board}
+use Rattle.board_model.specs.Fits.{BusesFit}
+use Rattle.history_model.specs.declared.event.Event.{Event}
+use Rattle.judge_state.specs.State.{KeptState}
+use Rattle.judge_state.specs.Stands.{StandsFor}
+use Rattle.judge_next.specs.declared.course.Course.{Course}
+use Rattle.judge_next.specs.Lines.{AreLines}
+use Rattle.judge_next.specs.Now.{act_on_now}
+
+-- on a bus that is known to be quiet there is no act
+abbrev pub KnowsQuiet : Board → KeptState → List Bool → Type 0
+KnowsQuiet board k quiet = (bus : ℕ) → slice_get quiet bus ≡ Some true → act_on_now board k bus ≡ None
+
+-- what is kept stands for a run of the board, and what is known of its buses is so
+pub record IsCourse (board : Board) (h : List Event) (c : Course) : Type 0 where
+  pub stands : StandsFor board h c.kept
+  -- its bus numbers are as wide as their fields
+  pub fits : BusesFit board
+  pub lines : AreLines board c.lines.items
+  pub all_buses : length c.quiet.items ≡ 256
+  pub quiet : KnowsQuiet board c.kept c.quiet.items
+
+-- for some run of the board
+abbrev pub HasCourse : Board → Course → Type 0
+HasCourse board c = (h : List Event) × IsCourse board h c

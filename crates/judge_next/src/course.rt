@@ -1,0 +1,244 @@
+ghost use Rattle.std.specs.Prelude.{◌≡◌, ◌↔◌, ◌∷◌, true, false, List, length, slice_get, Some, None, IfOk, IfNone, IfSome, OnOk, OnErr, IsTrue};
+ghost use Rattle.std.specs.Option.{option_or};
+ghost use Rattle.std.proofs.Math.ListN.{set};
+ghost use Rattle.board_model.specs.WellFormed.{is_well_formed};
+ghost use Rattle.board_model.specs.declared.board.Board.{Board};
+ghost use Rattle.history_model.specs.declared.event.Event.{Event};
+ghost use Rattle.history_model.specs.Runs.{Allowed, Complete};
+ghost use Rattle.machine_steps.specs.Verdicts.{Holds, cause_in};
+ghost use Rattle.history_model.specs.Local.{bus_of};
+ghost use Rattle.history_model.specs.Next.{first_bus, first_in, next_of};
+ghost use Rattle.judge_state.specs.Stands.{StandsFor};
+ghost use Rattle.judge_next.specs.Lines.{AreLines};
+ghost use Rattle.judge_next.specs.Now.{arrival_now, arrival_on, lane_now, master_now, act_on_now};
+ghost use Rattle.judge_next.specs.Course.{KnowsQuiet, IsCourse, HasCourse};
+
+use crate::acts::{act_of_lanes, act_of_masters, arrival_of_lanes};
+use crate::lines::Lines;
+use board_model::{Board, board_fits};
+use board_tree::Tree;
+use history_model::{Event, Why};
+use judge_state::Kept;
+use law_lanes::next_goes_on;
+use machine_steps::bus_of;
+use pci_command::NoMemory;
+use std::alloc::Global;
+
+/// A run that goes on: the state that it leaves, and where its next event is looked for.
+#[derive(Debug, Drop)]
+pub struct Course {
+    kept: Kept,
+    lines: Vec<Lines>,
+    quiet: Vec<bool>,
+}
+
+impl Course {
+    /// The course of the run for which what is kept stands.
+    pub fn new(alloc: Global, tree: &Tree, kept: Kept) -> Result<Course, NoMemory>
+        ensures { (h : List Event) → StandsFor tree.now h kept → IfOk result (IsCourse tree.now h) }
+    {
+        let board = tree.board();
+        // its bus numbers are as wide as their fields
+        board_fits(board);
+        let lines = all_lines(alloc, board)?;
+        let quiet = vec![in alloc; false; 256]?;
+        Ok(Course { kept, lines, quiet })
+    }
+
+    /// One more event, where it is allowed after those of the run: then the run goes on by it.
+    pub fn step(&mut self, tree: &Tree, event: &Event) -> Result<(), Why>
+        requires { HasCourse tree.now self.old }
+        ensures verdict { (h : List Event) → IsCourse tree.now h self.old → Holds tree.now h event.now (cause_in result) }
+        ensures goes_on { (h : List Event) → IsCourse tree.now h self.old → OnOk result (IsCourse tree.now (event.now ∷ h) self.new) }
+        ensures refused { OnErr result (self.new ≡ self.old) }
+    {
+        match self.kept.step(tree, event) {
+            Ok(()) => {
+                wake(&mut self.quiet, bus_of(tree.board(), event));
+                Ok(())
+            }
+            Err(why) => Err(why),
+        }
+    }
+
+    /// The next event of the run, in the fixed order: the first arrival that is allowed, by increasing bus
+    /// and there by line; then the first act, by increasing bus, line and, of a lane, in the order in
+    /// which its items stand. There is none where the run is complete.
+    pub fn next(&mut self, tree: &Tree) -> Option<Event>
+        requires { HasCourse tree.now self.old }
+        ensures next { (h : List Event) → IsCourse tree.now h self.old → result ≡ next_of tree.now h }
+        ensures stays { (h : List Event) → IsCourse tree.now h self.old → IsCourse tree.now h self.new }
+        ensures allowed { (h : List Event) → IsCourse tree.now h self.old → IfSome result (Allowed tree.now h) }
+        ensures complete { (h : List Event) → IsCourse tree.now h self.old → result ≡ None ↔ Complete tree.now h }
+    {
+        next_goes_on();
+        let board = tree.board();
+        next_now(&self.kept, board, self.lines.as_slice(), &mut self.quiet)
+    }
+
+    /// The run goes on by its next event, if it is not complete.
+    pub fn go_on(&mut self, tree: &Tree) -> Option<Event>
+        requires { HasCourse tree.now self.old }
+        ensures next { (h : List Event) → IsCourse tree.now h self.old → result ≡ next_of tree.now h }
+        ensures stays { (h : List Event) → IsCourse tree.now h self.old → IfNone result (IsCourse tree.now h self.new) }
+        ensures goes_on { (h : List Event) → IsCourse tree.now h self.old → IfSome result (λ event. IsCourse tree.now (event ∷ h) self.new) }
+        ensures allowed { (h : List Event) → IsCourse tree.now h self.old → IfSome result (Allowed tree.now h) }
+        ensures complete { (h : List Event) → IsCourse tree.now h self.old → result ≡ None ↔ Complete tree.now h }
+    {
+        let event = self.next(tree)?;
+        // it is allowed, so that the run goes on by it
+        let _ok = self.step(tree, &event);
+        Some(event)
+    }
+}
+
+/// The lines of each of 256 buses.
+fn all_lines(alloc: Global, board: &Board) -> Result<Vec<Lines>, NoMemory>
+    requires { IsTrue (is_well_formed board.now) }
+    ensures { IfOk result (λ lines. AreLines board.now lines.items) }
+{
+    let mut lines = Vec::new(alloc);
+    for bus in 0..256u16 {
+        let of_bus = Lines::new(alloc, board, bus as u8)?;
+        lines.push(of_bus)?;
+    }
+    Ok(lines)
+}
+
+/// The bus is not known to be quiet any more.
+fn wake(quiet: &mut Vec<bool>, bus: u8)
+    requires { length quiet.old.items ≡ 256 }
+    ensures { quiet.new.items ≡ set quiet.old.items bus false }
+{
+    quiet[bus as usize] = false;
+}
+
+/// Whether the bus is known to be quiet.
+fn is_quiet(quiet: &Vec<bool>, bus: u8) -> bool
+    requires { length quiet.now.items ≡ 256 }
+    ensures { result ≡ true → slice_get quiet.now.items bus ≡ Some true }
+{
+    quiet[bus as usize]
+}
+
+/// The bus is known to be quiet from now on.
+fn hush(quiet: &mut Vec<bool>, bus: u8)
+    requires { length quiet.old.items ≡ 256 }
+    ensures { quiet.new.items ≡ set quiet.old.items bus true }
+{
+    quiet[bus as usize] = true;
+}
+
+/// The first arrival, and where there is none the first act.
+fn next_now(kept: &Kept, board: &Board, lines: &[Lines], quiet: &mut Vec<bool>) -> Option<Event>
+    requires formed { IsTrue (is_well_formed board.now) }
+    requires lines { AreLines board.now lines.now }
+    requires all { length quiet.old.items ≡ 256 }
+    requires known { KnowsQuiet board.now kept.now quiet.old.items }
+    ensures value { result ≡ option_or (first_bus (arrival_on board.now kept.now)) (first_bus (act_on_now board.now kept.now)) }
+    ensures all { length quiet.new.items ≡ 256 }
+    ensures known { KnowsQuiet board.now kept.now quiet.new.items }
+{
+    match first_arrival(kept, board, lines) {
+        Some(event) => Some(event),
+        None => first_act(kept, board, lines, quiet),
+    }
+}
+
+/// The first arrival, by increasing bus and there by line.
+fn first_arrival(kept: &Kept, board: &Board, lines: &[Lines]) -> Option<Event>
+    requires { AreLines board.now lines.now }
+    ensures { result ≡ first_bus (arrival_on board.now kept.now) }
+{
+    for bus in 0..256u16 {
+        if let Some(event) = arrival_on(kept, board, lines, bus as u8) {
+            return Some(event);
+        }
+    }
+    None
+}
+
+fn arrival_on(kept: &Kept, board: &Board, lines: &[Lines], bus: u8) -> Option<Event>
+    requires { AreLines board.now lines.now }
+    ensures { result ≡ arrival_on board.now kept.now bus }
+{
+    match lines.get(bus as usize) {
+        Some(lines) => arrival_of_lines(kept, board, lines),
+        None => None,
+    }
+}
+
+fn arrival_of_lines(kept: &Kept, board: &Board, lines: &Lines) -> Option<Event>
+    ensures { result ≡ first_in (arrival_now board.now kept.now) lines.now.lanes }
+{
+    arrival_of_lanes(kept, board, lines.lanes())
+}
+
+/// The first act, by increasing bus and there by line. Buses that are known to be quiet are passed
+/// over, and those that are found to be are known from then on.
+fn first_act(kept: &Kept, board: &Board, lines: &[Lines], quiet: &mut Vec<bool>) -> Option<Event>
+    requires formed { IsTrue (is_well_formed board.now) }
+    requires lines { AreLines board.now lines.now }
+    requires all { length quiet.old.items ≡ 256 }
+    requires known { KnowsQuiet board.now kept.now quiet.old.items }
+    ensures value { result ≡ first_bus (act_on_now board.now kept.now) }
+    ensures all { length quiet.new.items ≡ 256 }
+    ensures known { KnowsQuiet board.now kept.now quiet.new.items }
+{
+    for bus in 0..256u16 {
+        if let Some(event) = act_at(kept, board, lines, quiet, bus as u8) {
+            return Some(event);
+        }
+    }
+    None
+}
+
+/// The first act on the bus, where that is not known to be quiet.
+fn act_at(
+    kept: &Kept,
+    board: &Board,
+    lines: &[Lines],
+    quiet: &mut Vec<bool>,
+    bus: u8,
+) -> Option<Event>
+    requires formed { IsTrue (is_well_formed board.now) }
+    requires lines { AreLines board.now lines.now }
+    requires all { length quiet.old.items ≡ 256 }
+    requires known { KnowsQuiet board.now kept.now quiet.old.items }
+    ensures value { result ≡ act_on_now board.now kept.now bus }
+    ensures all { length quiet.new.items ≡ 256 }
+    ensures known { KnowsQuiet board.now kept.now quiet.new.items }
+{
+    if is_quiet(quiet, bus) {
+        return None;
+    }
+    match act_on(kept, board, lines, bus) {
+        Some(event) => Some(event),
+        None => {
+            hush(quiet, bus);
+            None
+        }
+    }
+}
+
+fn act_on(kept: &Kept, board: &Board, lines: &[Lines], bus: u8) -> Option<Event>
+    requires formed { IsTrue (is_well_formed board.now) }
+    requires lines { AreLines board.now lines.now }
+    ensures { result ≡ act_on_now board.now kept.now bus }
+{
+    match lines.get(bus as usize) {
+        Some(lines) => act_of_lines(kept, board, bus, lines),
+        None => None,
+    }
+}
+
+/// On a bus its lanes act before its masters.
+fn act_of_lines(kept: &Kept, board: &Board, bus: u8, lines: &Lines) -> Option<Event>
+    requires formed { IsTrue (is_well_formed board.now) }
+    ensures { result ≡ option_or (first_in (lane_now board.now kept.now bus) lines.now.lanes) (first_in (master_now board.now kept.now bus) lines.now.masters) }
+{
+    match act_of_lanes(kept, board, bus, lines.lanes()) {
+        Some(event) => Some(event),
+        None => act_of_masters(kept, board, bus, lines.masters()),
+    }
+}

@@ -1,9 +1,0 @@
-use Rattle.std.proofs.Common.{◌≡◌, ◌+◌, ◌*◌, ◌^◌, ◌≤◌, drop}
-use Rattle.kept_left.specs.Now.{stalls_now}
-use Rattle.kept_left.proofs.planned.stalls_left.Given as goal
-
--- what is counted, and the tokens of the targets to come, are all
-abbrev pub invariant-loop-index : goal.invariant-loop-index
-invariant-loop-index l =
-    (l.left + stalls_now l.kept l.index (drop l.index l.board.targets) ≡ stalls_now l.kept 0 l.board.targets)
-    × (l.left ≤ 2 ^ 32 * l.index)

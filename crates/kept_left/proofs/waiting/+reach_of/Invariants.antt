@@ -1,4 +1,0 @@
-use Rattle.kept_left.proofs.waiting.+reach_of.Given as goal
-
-abbrev pub decreases-reach_of : goal.decreases-reach_of
-decreases-reach_of l = l.most

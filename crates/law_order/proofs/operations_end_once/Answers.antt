@@ -1,5 +1,0 @@
-use Rattle.law_order.proofs.OnceLemmas.{ends_once, turn_not_ended}
-use Rattle.law_order.proofs.operations_end_once.Goals as goal
-
-pub returns : goal.returns
-returns c = record { once = ends_once; turn = turn_not_ended }

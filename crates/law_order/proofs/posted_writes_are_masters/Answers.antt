@@ -1,5 +1,0 @@
-use Rattle.law_order.proofs.MasterLemmas.{Owned-run, standing_owned, flying_owned}
-use Rattle.law_order.proofs.posted_writes_are_masters.Goals as goal
-
-pub returns : goal.returns
-returns c = record { accepted = λ board h lane run. Owned-run board h run lane; stands = standing_owned; flying = flying_owned }

@@ -1,5 +1,0 @@
-use Rattle.law_order.proofs.OrderRunLemmas.{InOrder-run}
-use Rattle.law_order.proofs.posts_keep_their_order.Goals as goal
-
-pub returns : goal.returns
-returns c = λ board h lane run. InOrder-run board h run lane

@@ -1,5 +1,0 @@
-use Rattle.law_order.proofs.SentLemmas.{sent_received, sent_counted}
-use Rattle.law_order.proofs.sent_is_received.Goals as goal
-
-pub returns : goal.returns
-returns c = record { items = sent_received; many = sent_counted }

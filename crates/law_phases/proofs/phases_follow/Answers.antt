@@ -1,6 +1,0 @@
-use Rattle.law_phases.proofs.EngineLemmas.{next_engine}
-use Rattle.law_phases.proofs.phases_follow.Goals as goal
-
-pub returns : goal.returns
-returns c = λ carries stamp_of board received hand got sent next kept part worked took crosses none.
-    next_engine carries stamp_of board received hand got sent part worked next kept took crosses none

@@ -1,5 +1,0 @@
-use Rattle.law_phases.proofs.QuietLemmas.{buses_complete}
-use Rattle.law_phases.proofs.quiet_buses_make_a_complete_run.Goals as goal
-
-pub returns : goal.returns
-returns c = λ board sent h valid so_far quiet. buses_complete board valid sent h so_far quiet

@@ -1,4 +1,0 @@
--- What the law of posted events states.
-
--- each act of a posted write, each arrival of one or of a credit, and each stall lowers what is left
-pub use Rattle.law_posted.proofs.EventLemmas.{events_lower}

@@ -1,9 +1,0 @@
-use Rattle.law_progress.proofs.NextSoundLemmas.{next_allowed}
-use Rattle.law_progress.proofs.NextStopLemmas.{next_complete}
-use Rattle.law_progress.proofs.next_goes_on.Goals as goal
-
-pub returns-clause-allowed : goal.returns-clause-allowed
-returns-clause-allowed c = next_allowed
-
-pub returns-clause-complete : goal.returns-clause-complete
-returns-clause-complete c = next_complete

@@ -1,9 +1,0 @@
-use Rattle.law_room.proofs.RoomLemmas.{what_is_left}
-use Rattle.law_room.proofs.SettleLemmas.{settled_in_order}
-use Rattle.law_room.proofs.order_says_what_is_left.Goals as goal
-
-pub returns-clause-left : goal.returns-clause-left
-returns-clause-left c = what_is_left
-
-pub returns-clause-settled : goal.returns-clause-settled
-returns-clause-settled c = settled_in_order

@@ -1,5 +1,0 @@
-use Rattle.law_rules.proofs.PartLemmas.{short_by, delayed-not_parted_by}
-use Rattle.law_rules.proofs.parts.Goals as goal
-
-pub returns : goal.returns
-returns c = record { some_left = short_by; delayed_are_whole = delayed-not_parted_by }

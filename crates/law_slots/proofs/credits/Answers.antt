@@ -1,5 +1,0 @@
-use Rattle.law_slots.proofs.CreditsLemmas.{Credits-run_by, Credits-run}
-use Rattle.law_slots.proofs.credits.Goals as goal
-
-pub returns : goal.returns
-returns c = record { counted = Credits-run; under_either_rule = Credits-run_by }

@@ -1,9 +1,0 @@
-use Rattle.law_slots.proofs.KindLemmas.{RightKind-run}
-use Rattle.law_slots.proofs.kinds.Goals as goal
-
-pub returns : goal.returns
-returns c =
-    record {
-      flying = λ board h lane run. (RightKind-run board h lane run).0;
-      stands = λ board h lane run. (RightKind-run board h lane run).1;
-    }

@@ -1,6 +1,0 @@
-use Rattle.law_slots.proofs.MatchedLemmas.{TakesItsOwn-run}
-use Rattle.law_slots.proofs.MatchedRunLemmas.{Matched-run}
-use Rattle.law_slots.proofs.matched.Goals as goal
-
-pub returns : goal.returns
-returns c = record { taken = TakesItsOwn-run; every_run = Matched-run }

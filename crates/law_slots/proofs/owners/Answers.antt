@@ -1,5 +1,0 @@
-use Rattle.law_slots.proofs.OwnersRunLemmas.{Owners-run}
-use Rattle.law_slots.proofs.owners.Goals as goal
-
-pub returns : goal.returns
-returns c = λ board h distinct single run. Owners-run board distinct single h run

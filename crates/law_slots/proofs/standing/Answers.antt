@@ -1,5 +1,0 @@
-use Rattle.law_slots.proofs.StandingLemmas.{CanStand-run_by, CanStand-run}
-use Rattle.law_slots.proofs.standing.Goals as goal
-
-pub returns : goal.returns
-returns c = record { stands = CanStand-run; under_either_rule = CanStand-run_by }

@@ -1,9 +1,0 @@
-pub mod Slots
-pub mod Standing
-pub mod Credits
-pub mod Quiet
-pub mod Depths
-pub mod Phases
-pub mod Latched
-pub mod Kinds
-pub mod Owners

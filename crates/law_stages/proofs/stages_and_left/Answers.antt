@@ -1,5 +1,0 @@
-use Rattle.law_stages.proofs.CountLemmas.{delayed_sum}
-use Rattle.law_stages.proofs.stages_and_left.Goals as goal
-
-pub returns : goal.returns
-returns c = λ board h o op master valid run is_op is_master. delayed_sum board valid h run o op master is_op is_master

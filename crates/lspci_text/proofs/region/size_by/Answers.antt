@@ -1,6 +1,0 @@
-use Rattle.std.proofs.Common.{arith}
-use Rattle.lspci_text.proofs.DigitLemmas.{decimal_fits}
-use Rattle.lspci_text.proofs.region.size_by.Goals as goal
-
-pub decimal-requires : goal.decimal-requires
-decimal-requires c = grind (arith, decimal_fits c.args.digits.now)

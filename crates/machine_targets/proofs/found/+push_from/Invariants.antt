@@ -1,4 +1,0 @@
-use Rattle.machine_targets.proofs.found.+push_from.Given as goal
-
-abbrev pub decreases-push_from : goal.decreases-push_from
-decreases-push_from l = l.steps

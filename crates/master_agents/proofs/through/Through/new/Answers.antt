@@ -1,5 +1,0 @@
-use Rattle.master_agents.proofs.ThroughLemmas.{none_stands}
-use Rattle.master_agents.proofs.through.Through.new.Goals as goal
-
-pub returns : goal.returns
-returns c = none_stands c.args.board.now c.in_ok-gone.gone c.in_ok-gone.ensures

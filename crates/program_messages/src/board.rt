@@ -1,0 +1,165 @@
+ghost use Rattle.std.specs.Prelude.{◌<◌, ◌≤◌, ◌^◌, length};
+
+use crate::refused::{
+    Spot, TOO_LONG, board_part, line_at, named_spot, place_of, smallest, word_at_fault,
+};
+use board_statements::LineFault;
+use pci_command::NoMemory;
+use program_pages::{Fault, Teller};
+use program_status::{BoardFault, Status};
+use std::alloc::Global;
+use text_faults::DeviceFault;
+
+/// How many lines are shown of one fault.
+const MOST_SHOWN: u32 = 8;
+
+/// A board is refused: the word at fault of a line, or the lines that have a fault together.
+pub(crate) fn tell_board(
+    teller: &mut Teller,
+    input: &[u8],
+    status: &Status,
+    number: u32,
+    fault: BoardFault,
+) -> Result<(), NoMemory> {
+    let text = board_part(teller.alloc(), input)?;
+    let sentence = match Fault::of(status) {
+        Some(fault) => fault.to_string(teller.alloc())?,
+        None => String::new(teller.alloc()),
+    };
+    match fault {
+        BoardFault::Line(fault) => {
+            tell_line(
+                teller,
+                text.as_slice(),
+                status,
+                number,
+                fault,
+                sentence.as_str(),
+            )
+        }
+        BoardFault::Tree(_) => {
+            teller.say(sentence.as_str())?;
+            show_smallest(teller, text.as_slice(), status, 0)
+        }
+        BoardFault::Bound(bound) => {
+            let line = format!(in teller.alloc(); "{sentence}: this board may have {bound}")?;
+            teller.say(line.as_str())
+        }
+        BoardFault::Device(fault) => tell_device(teller, input, number, fault, sentence.as_str()),
+    }
+}
+
+/// A line of devices, or a mark of their text.
+fn tell_device(
+    teller: &mut Teller,
+    input: &[u8],
+    number: u32,
+    fault: DeviceFault,
+    sentence: &str,
+) -> Result<(), NoMemory> {
+    let Some((_, line)) = line_at(input, number) else {
+        return teller.say(sentence);
+    };
+    if line.len() >= TOO_LONG {
+        return teller.say(sentence);
+    }
+    let word = match fault {
+        DeviceFault::Misshapen | DeviceFault::OverLimit => 0,
+        DeviceFault::NameUsed => 1,
+        DeviceFault::NotThere => 3,
+        DeviceFault::Misplaced | DeviceFault::NotClear => word_of_address(line),
+    };
+    let at = place_of(teller.alloc(), line, Spot::Word(word))?;
+    teller.point(number, line, at, sentence)
+}
+
+/// Which word of a line of devices is its address: behind `bell` or `wait`, or else the second.
+fn word_of_address(line: &[u8]) -> usize {
+    let start = line.iter().position(|byte| *byte != b' ' && *byte != b'\t');
+    let words = &line[start.unwrap_or(0)..];
+    if words.starts_with(b"device") || words.starts_with(b"handler") {
+        5
+    } else {
+        1
+    }
+}
+
+fn tell_line(
+    teller: &mut Teller,
+    text: &[u8],
+    status: &Status,
+    number: u32,
+    fault: LineFault,
+    sentence: &str,
+) -> Result<(), NoMemory> {
+    let Some((start, line)) = line_at(text, number) else {
+        return teller.say(sentence);
+    };
+    let end = start.saturating_add(line.len()).min(text.len());
+    let front = &text[..end];
+    if front.len() >= TOO_LONG {
+        return teller.say(sentence);
+    }
+    let line = &front[start.min(end)..];
+    let spot = spot_at_fault(teller.alloc(), front, start.min(end), status, fault)?;
+    let at = place_of(teller.alloc(), line, spot)?;
+    teller.point(number, line, at, sentence)?;
+    match fault {
+        LineFault::NameUsed | LineFault::BusUsed => show_smallest(teller, front, status, number),
+        _ => Ok(()),
+    }
+}
+
+/// The spot that the fault names, or else the word at fault of the line that begins at `start` and
+/// ends the text.
+fn spot_at_fault(
+    alloc: Global,
+    text: &[u8],
+    start: usize,
+    status: &Status,
+    fault: LineFault,
+) -> Result<Spot, NoMemory>
+    requires line { start ≤ length text.now }
+    requires short { length text.now < 2 ^ 31 }
+{
+    match named_spot(fault) {
+        Some(spot) => Ok(spot),
+        None => {
+            let place = word_at_fault(alloc, text, start, status)?;
+            Ok(Spot::Word(place.unwrap_or(0)))
+        }
+    }
+}
+
+/// The lines, but this one, that have the fault of the status together.
+fn show_smallest(
+    teller: &mut Teller,
+    text: &[u8],
+    status: &Status,
+    but: u32,
+) -> Result<(), NoMemory> {
+    let Some(left) = smallest(teller.alloc(), text, status)? else {
+        return Ok(());
+    };
+    let mut shown: u32 = 0;
+    let mut number: u32 = 1;
+    for line in left.as_slice().split(|byte| *byte == b'\n') {
+        if number != but && says_more(line) {
+            if shown >= MOST_SHOWN {
+                return teller.say("...");
+            }
+            teller.show(number, line)?;
+            shown += 1;
+        }
+        number = number.saturating_add(1);
+    }
+    Ok(())
+}
+
+/// Whether a line is neither blank nor the first one of a board text.
+fn says_more(line: &[u8]) -> bool {
+    match line.iter().position(|byte| *byte != b' ' && *byte != b'\t') {
+        None => false,
+        Some(at) => !line[at..].starts_with(b"pciboard"),
+    }
+}

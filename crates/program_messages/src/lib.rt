@@ -1,0 +1,14 @@
+//! What a status says in words, behind its first line: which line of the input, which word of it, and
+//! why. All of it is found by the program's own readers, from the input and the status alone.
+#![tactic(auto)]
+
+mod board;
+mod event;
+mod machine;
+mod refused;
+mod telling;
+mod trace;
+
+pub(crate) use refused::behind;
+pub use refused::{Spot, named_spot, place_of, smallest, word_at_fault};
+pub use telling::{about, message};

@@ -1,0 +1,14 @@
+//! Which part of a text its refusal is about: the word of the line at which a reader from left to right
+//! meets the fault, and the lines that have it by themselves. All of it is found by the program's own
+//! readers, from the text and the status alone.
+mod cut;
+mod leaving_out;
+mod reading;
+mod spot;
+mod word;
+
+pub use cut::{board_part, without_lines};
+pub use leaving_out::smallest;
+pub use reading::{TOO_LONG, behind, find_line, is_refused, line_at};
+pub use spot::{Spot, named_spot, place_of};
+pub use word::word_at_fault;

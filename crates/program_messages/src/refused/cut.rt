@@ -1,0 +1,53 @@
+use crate::refused::reading::find_line;
+use board_text::next_line;
+use pci_command::NoMemory;
+use std::alloc::Global;
+
+/// A text in which every byte from one place to another but its newlines is a space, so that its
+/// lines keep their numbers.
+pub fn without_lines(
+    alloc: Global,
+    text: &[u8],
+    from: usize,
+    to: usize,
+) -> Result<Vec<u8>, NoMemory> {
+    let mut other = text.to_vec(alloc)?;
+    for (place, byte) in other.iter_mut().enumerate() {
+        if from <= place && place < to && *byte != b'\n' {
+            *byte = b' ';
+        }
+    }
+    Ok(other)
+}
+
+/// The board text of an input, each line with the number that it has in the input: of a trace the
+/// part between its first line, which is blank here, and the line `events`, and of a text of devices
+/// that up to the line `devices`.
+pub fn board_part(alloc: Global, input: &[u8]) -> Result<Vec<u8>, NoMemory> {
+    match next_line(input, 0) {
+        Some((b"pcitrace 1", next)) => board_between(alloc, input, next, b"events"),
+        Some((b"pcidevices 1", next)) => board_between(alloc, input, next, b"devices"),
+        _ => Ok(input.to_vec(alloc)?),
+    }
+}
+
+fn board_between(
+    alloc: Global,
+    input: &[u8],
+    from: usize,
+    mark: &[u8],
+) -> Result<Vec<u8>, NoMemory> {
+    let end = match find_line(input, mark) {
+        Some((_, at)) => at,
+        None => input.len(),
+    };
+    without_lines(alloc, &input[..end.min(input.len())], 0, from)
+}
+
+/// Whether nothing but spaces and newlines stands between two places.
+pub(crate) fn is_blank(text: &[u8], from: usize, to: usize) -> bool {
+    text.iter().enumerate().all(|(place, byte)| place < from
+        || to <= place
+        || *byte == b' '
+        || *byte == b'\n')
+}

@@ -1,0 +1,69 @@
+use board_checks::TreeFault;
+use board_statements::LineFault;
+use history_model::Why;
+use import_text::LspciFault;
+use program_status::{BoardFault, Status};
+use std::fmt;
+use text_faults::DeviceFault;
+use trace_reader::TraceLineFault;
+
+/// What an input is refused for.
+#[derive(Clone, Copy, Debug, PartialEq, Eq)]
+pub enum Fault {
+    /// A fault of a line of the board.
+    Line(LineFault),
+    /// A fault of the tree of buses.
+    Tree(TreeFault),
+    /// A run may have too many events.
+    Bound,
+    /// A fault of the text of devices on a board.
+    Device(DeviceFault),
+    /// A fault of a trace outside its board.
+    Trace(TraceLineFault),
+    /// A fault of what `lspci` wrote of a machine.
+    Machine(LspciFault),
+    /// An event is not allowed.
+    Cause(Why),
+}
+
+impl Fault {
+    /// The fault that a status tells, if it tells one.
+    pub fn of(status: &Status) -> Option<Fault> {
+        match status {
+            Status::BadBoard { fault, .. } => Some(match fault {
+                BoardFault::Line(fault) => Fault::Line(*fault),
+                BoardFault::Tree(fault) => Fault::Tree(*fault),
+                BoardFault::Bound(_) => Fault::Bound,
+                BoardFault::Device(fault) => Fault::Device(*fault),
+            }),
+            Status::BadTrace { fault, .. } => Some(Fault::Trace(*fault)),
+            Status::BadMachine { fault, .. } => Some(Fault::Machine(*fault)),
+            Status::NotRun { why, .. } => Some(Fault::Cause(*why)),
+            _ => None,
+        }
+    }
+}
+
+impl fmt::Display for Fault {
+    fn fmt<W: fmt::Write>(&self, f: &mut fmt::Formatter<W>) -> fmt::Result {
+        match self {
+            Fault::Line(fault) => write!(f, "{fault}"),
+            Fault::Tree(fault) => write!(f, "{fault}"),
+            Fault::Bound => write!(f, "a run may have more than 500,000 events"),
+            Fault::Device(fault) => write!(f, "{fault}"),
+            Fault::Trace(fault) => write!(f, "{fault}"),
+            Fault::Machine(fault) => write!(f, "{fault}"),
+            Fault::Cause(why) => f.write_str(sentence_of(*why)),
+        }
+    }
+}
+
+fn sentence_of(why: Why) -> &'static str {
+    match why {
+        Why::NotPresented => "its initiator does not present that operation on that bus now",
+        Why::AnsweredOtherwise => "the operation is answered by another event",
+        Why::GetsRetry => "the operation is answered with Retry",
+        Why::NothingInFlight => "nothing is in flight on the lane",
+        Why::MarkedOtherwise => "the board marks this arrival otherwise",
+    }
+}

@@ -1,0 +1,33 @@
+use crate::{Fault, Page};
+use import_text::LspciFault;
+
+/// The pages of what `lspci` wrote, by code.
+pub static MACHINE_PAGES: [Page; 3] = [
+    Page {
+        code: "I1",
+        fault: Fault::Machine(LspciFault::NoSlot),
+        rule: "What `lspci -vvxxx` wrote has a slot line for each function: bus, device and function as\n\
+            `bb:dd.f`, maybe behind a domain, and its name.",
+        example: "this is no slot line\n",
+    },
+    Page {
+        code: "I2",
+        fault: Fault::Machine(LspciFault::Repeated),
+        rule: "Each function is told of once.",
+        example: "00:01.0 VGA compatible controller\n\
+            00: 34 12 11 11 00 00 00 00 00 00 00 03 00 00 00 00\n\
+            10: 00 00 00 00 00 00 00 00 00 00 00 00 00 00 00 00\n\
+            20: 00 00 00 00 00 00 00 00 00 00 00 00 00 00 00 00\n\
+            30: 00 00 00 00 00 00 00 00 00 00 00 00 00 00 00 00\n\
+            \n\
+            00:01.0 VGA compatible controller\n",
+    },
+    Page {
+        code: "I3",
+        fault: Fault::Machine(LspciFault::NoRow),
+        rule: "Each function has the rows 00, 10, 20 and 30 of its configuration header, as `lspci` writes\n\
+            them with `-x`: as root also where the header is not open to others.",
+        example: "00:01.0 VGA compatible controller\n\
+            00: 34 12 11 11 00 00 00 00 00 00 00 03 00 00 00 00\n",
+    },
+];

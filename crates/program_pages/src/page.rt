@@ -1,0 +1,66 @@
+ghost use Rattle.std.specs.Prelude.{◌≡◌, IsTrue, IfSome, find};
+ghost use Rattle.std.specs.Option.{option_map};
+ghost use Rattle.program_pages.specs.Pages.{has_code};
+
+use crate::{DEVICE_PAGES, Fault, MACHINE_PAGES, PAGES};
+use std::fmt;
+
+/// What one code means.
+#[derive(Clone, Copy, Debug)]
+pub struct Page {
+    /// The code as the program tells it: a letter and a number.
+    pub code: &'static str,
+    /// The fault: its text is one sentence.
+    pub fault: Fault,
+    /// The rule that is broken.
+    pub rule: &'static str,
+    /// A text that has this fault first.
+    pub example: &'static str,
+}
+
+/// The page of a code, in upper or lower case. None exactly where there is none.
+pub fn explain(code: &str) -> Option<&'static Page>
+    ensures { IfSome result (λ page. IsTrue (has_code code.now page.now)) }
+{
+    match find_page(&PAGES, code) {
+        Some(page) => Some(page),
+        None => match find_page(&DEVICE_PAGES, code) {
+            Some(page) => Some(page),
+            None => find_page(&MACHINE_PAGES, code),
+        },
+    }
+}
+
+/// The first of the pages that has this code, in upper or lower case.
+pub fn find_page<'a>(pages: &'a [Page], code: &str) -> Option<&'a Page>
+    ensures first { option_map (λ page. page.now) result ≡ find (has_code code.now) pages.now }
+    ensures found { IfSome result (λ page. IsTrue (has_code code.now page.now)) }
+{
+    match pages {
+        [] => None,
+        [page, rest @ ..] => {
+            if has_code(page, code) {
+                Some(page)
+            } else {
+                find_page(rest, code)
+            }
+        }
+    }
+}
+
+#[tactic(auto, unfolding(crate::specs::Pages::has_code))]
+fn has_code(page: &Page, code: &str) -> bool
+    ensures { result ≡ has_code code.now page.now }
+{
+    page.code.eq_ignore_ascii_case(code)
+}
+
+impl fmt::Display for Page {
+    fn fmt<W: fmt::Write>(&self, f: &mut fmt::Formatter<W>) -> fmt::Result {
+        write!(
+            f,
+            "{}: {}\n\n{}\n\nExample:\n\n{}",
+            self.code, self.fault, self.rule, self.example
+        )
+    }
+}

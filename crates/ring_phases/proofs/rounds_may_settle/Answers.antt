@@ -1,7 +1,0 @@
-use Rattle.ring_phases.proofs.RoundLemmas.{may_settle}
-use Rattle.ring_phases.proofs.rounds_may_settle.Goals as goal
-
-pub returns : goal.returns
-returns g c =
-    let E = g.L.LaneEnd in
-    λ board old new phases busy valid after ran. may_settle E.had E.sent E.got E.kept E.paired board valid old phases after new busy ran

@@ -1,9 +1,0 @@
-use Rattle.std.proofs.Common.{Vec, Global, List}
-use Rattle.lane_ring.specs.declared.ring_end.RingEnd.{RingEnd}
-use Rattle.ring_segments.proofs.PairLemmas.{add_is}
-use Rattle.ring_segments.proofs.ends.add.Goals as goal
-
-pub returns : goal.returns
-returns c =
-    let items : Vec RingEnd Global → List RingEnd = λ at. at.items in
-    add_is items c.args.ends.now.items c.args.place c.index_mut.result.now c.push.new.self c.args.end c.requires c.index_mut.ensures.value c.in_ok-push.ensures.items

@@ -1,6 +1,0 @@
-//! The ends of the lanes of a board over rings, where each bus is worked by a thread of its own.
-#![tactic(auto)]
-
-mod ends;
-
-pub use ends::ring_ends;

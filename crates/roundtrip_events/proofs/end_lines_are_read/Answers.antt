@@ -1,8 +1,0 @@
-use Rattle.roundtrip_events.proofs.EndLemmas.{end_read, end_plain}
-use Rattle.roundtrip_events.proofs.end_lines_are_read.Goals as goal
-
-pub returns-clause-read : goal.returns-clause-read
-returns-clause-read c = end_read
-
-pub returns-clause-words : goal.returns-clause-words
-returns-clause-words c = end_plain

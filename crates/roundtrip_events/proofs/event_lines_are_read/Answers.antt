@@ -1,8 +1,0 @@
-use Rattle.roundtrip_events.proofs.EventLemmas.{event_read, event_plain}
-use Rattle.roundtrip_events.proofs.event_lines_are_read.Goals as goal
-
-pub returns-clause-read : goal.returns-clause-read
-returns-clause-read c = event_read
-
-pub returns-clause-words : goal.returns-clause-words
-returns-clause-words c = event_plain

@@ -1,8 +1,0 @@
-use Rattle.std.proofs.Common.{take}
-use Rattle.std.specs.List.{AllByRecursion}
-use Rattle.roundtrip_events.specs.Fits.{EventFits}
-use Rattle.roundtrip_events.proofs.fits.events_fit.Given as goal
-
--- the events so far
-abbrev pub invariant-loop-event : goal.invariant-loop-event
-invariant-loop-event l = AllByRecursion EventFits (take l.event-index l.events)

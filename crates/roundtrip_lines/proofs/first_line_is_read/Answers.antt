@@ -1,8 +1,0 @@
-use Rattle.roundtrip_lines.proofs.Laws.{first_law, first_allowed}
-use Rattle.roundtrip_lines.proofs.first_line_is_read.Goals as goal
-
-pub returns-clause-told : goal.returns-clause-told
-returns-clause-told c = first_law
-
-pub returns-clause-allowed : goal.returns-clause-allowed
-returns-clause-allowed c = first_allowed

@@ -1,9 +1,0 @@
-use Rattle.roundtrip_runs.proofs.SaidLemmas.{WorldSays-run}
-use Rattle.roundtrip_runs.proofs.completions_say_how.Goals as goal
-
-pub returns : goal.returns
-returns c =
-    record {
-      flying = λ board h lane run. (WorldSays-run board h run lane).0;
-      standing = λ board h lane run. (WorldSays-run board h run lane).1;
-    }

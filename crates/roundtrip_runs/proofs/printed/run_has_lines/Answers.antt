@@ -1,8 +1,0 @@
-use Rattle.history_model.specs.Runs.{history_of}
-use Rattle.roundtrip_runs.proofs.LineLemmas.{HasLine-trace}
-use Rattle.roundtrip_runs.proofs.printed.run_has_lines.Goals as goal
-
-pub returns : goal.returns
-returns c =
-    HasLine-trace c.args.board.now c.args.events.now
-    (c.runs_have_lines.ensures c.args.board.now (history_of c.args.events.now) c.requires.well_formed c.requires.buses c.requires.run)

@@ -1,4 +1,0 @@
-pub mod Loop
-pub mod Settling
-pub mod Steady
-pub mod First

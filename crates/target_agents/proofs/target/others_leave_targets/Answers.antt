@@ -1,5 +1,0 @@
-use Rattle.target_agents.proofs.EventLemmas.{stands_elsewhere}
-use Rattle.target_agents.proofs.target.others_leave_targets.Goals as goal
-
-pub returns : goal.returns
-returns c = λ board p t e apart stands. stands_elsewhere board p t e apart stands

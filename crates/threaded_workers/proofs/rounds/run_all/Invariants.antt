@@ -1,9 +1,0 @@
-use Rattle.segment_workers.specs.Loop.{all_seen}
-use Rattle.threaded_workers.specs.Rounds.{IsInRounds}
-use Rattle.threaded_workers.proofs.rounds.run_all.Given as goal
-
--- so many phases were busy
-abbrev pub invariant-loop-phases : goal.invariant-loop-phases
-invariant-loop-phases g l =
-    let E = g.L.LaneEnd in
-    IsInRounds {End = g.row.L.Denot} E.had E.sent E.got E.kept E.paired l.board (all_seen l.workers.items) l.above l.phases

@@ -1,8 +1,0 @@
-//! Whether the events of a trace are a run of its board, and whether that run is complete.
-#![tactic(auto)]
-
-mod judging;
-mod verdict;
-
-pub use judging::check;
-pub use verdict::Verdict;

@@ -1,9 +1,0 @@
-use Rattle.std.proofs.Common.{◌≡◌, ℕ, ◌<◌, None, length, get_or}
-use Rattle.trace_lines.specs.Names.{above}
-use Rattle.trace_lines.proofs.names.bridges_of.Given as goal
-
-abbrev pub invariant-loop-bus : goal.invariant-loop-bus
-invariant-loop-bus l = record {
-  long : length l.all ≡ 256;
-  known : (bus : ℕ) → bus < l.bus → get_or l.all bus None ≡ above l.board bus;
-}

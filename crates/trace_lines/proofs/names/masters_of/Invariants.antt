@@ -1,8 +1,0 @@
-use Rattle.std.proofs.Common.{◌≡◌, ℕ, List, take}
-use Rattle.std.specs.List.{position}
-use Rattle.board_model.specs.WellFormed.{is_master_named}
-use Rattle.trace_lines.specs.Names.{place_of}
-use Rattle.trace_lines.proofs.names.masters_of.Given as goal
-
-abbrev pub invariant-loop-place : goal.invariant-loop-place
-invariant-loop-place l = (word : List ℕ) → place_of l.places word ≡ position (is_master_named word) (take l.place l.masters)

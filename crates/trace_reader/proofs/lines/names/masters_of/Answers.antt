@@ -1,0 +1,10 @@
+use Rattle.std.proofs.Common.{◌<◌, List, ℕ, length, ap, arith}
+use Rattle.std.specs.Str.{bytes_eq}
+use Rattle.board_model.specs.WellFormed.{is_master_named}
+use Rattle.trace_reader.proofs.lines.NameLemmas.{places_more}
+use Rattle.trace_reader.proofs.lines.names.masters_of.Goals as goal
+
+pub loop-place-preserved : goal.loop-place-preserved
+loop-place-preserved c =
+    let inside : c.loop-place.place < length c.as_slice-masters.result.now = omega arith in
+    λ word. places_more (is_master_named word) c.as_slice-masters.result.now c.loop-place.place c.index-masters-place.result _ _ _ inside c.index-masters-place.is (c.loop-place.invariant word) (ap (λ (name : List ℕ). bytes_eq name word) c.bytes.ensures.value) (c.in_ok-note.ensures word)

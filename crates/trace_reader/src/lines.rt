@@ -1,0 +1,13 @@
+//! The lines of a trace: each is read only as it is printed, as an event of the board or the end,
+//! or gives its first fault.
+mod cut;
+mod event;
+mod kind;
+mod line;
+mod names;
+mod operation;
+mod words;
+
+pub use kind::Kind;
+pub use line::{LineFault, TraceLine, read_line};
+pub use names::Names;

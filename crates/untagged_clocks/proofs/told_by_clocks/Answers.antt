@@ -1,5 +1,0 @@
-use Rattle.untagged_clocks.proofs.ToldLemmas.{told_reaches}
-use Rattle.untagged_clocks.proofs.told_by_clocks.Goals as goal
-
-pub returns : goal.returns
-returns c = λ board later e h ending reading w run writes ends read. told_reaches board later e h ending reading w run writes ends read

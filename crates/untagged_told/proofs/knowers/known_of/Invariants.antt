@@ -1,6 +1,0 @@
-use Rattle.std.proofs.Common.{◌≡◌, replicate}
-use Rattle.untagged_told.proofs.knowers.known_of.Given as goal
-
--- so many so far
-abbrev pub invariant-loop-master : goal.invariant-loop-master
-invariant-loop-master l = l.known.items ≡ replicate l._master (replicate l.masters 0)

@@ -1,5 +1,0 @@
-use Rattle.worker_phases.proofs.WorkerLemmas.{engine_of}
-use Rattle.worker_phases.proofs.segments_are_an_engine.Goals as goal
-
-pub returns : goal.returns
-returns g c = λ board workers received hand part between. engine_of g.L.LaneEnd.had g.L.LaneEnd.sent g.L.LaneEnd.got g.L.LaneEnd.kept g.L.LaneEnd.paired board workers received hand part between
