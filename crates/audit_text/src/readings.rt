@@ -7,6 +7,7 @@ ghost use Rattle.audit_text.specs.Notes.{word_of, read_in, read_of};
 
 use board_model::{Board, Place, Word, request_of};
 use history_model::{Event, Step};
+use machine_steps::dword_address;
 use pci_command::{OpId, Space};
 
 /// A Read event at a target: its operation, the dword and its value.
@@ -67,17 +68,7 @@ fn read_at(board: &Board, bus: u8, op: OpId, value: u32, target: u16) -> Option<
         op,
         target,
         space,
-        address: word_address(space, request.address),
+        address: dword_address(space, u128::from(request.address)) as u64,
         value,
     })
-}
-
-/// Where in its space a dword is.
-fn word_address(space: Space, address: u64) -> u64
-    ensures { result ≡ address_in space address }
-{
-    match space {
-        Space::Mem | Space::Io => address,
-        Space::Cfg => address % 0x100,
-    }
 }

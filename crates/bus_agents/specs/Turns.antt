@@ -1,6 +1,6 @@
 -- The turn of a master: PCI Local Bus Specification 2.2, section 3.3.3 (from memory; a master repeats what was
 -- retried).
-use Rattle.std.specs.Prelude.{◌≡◌, ◌≢◌, ℕ, List, [], ◌∷◌, Option, Some, None}
+use Rattle.std.specs.Prelude.{◌≡◌, ◌≢◌, ℕ, List, ◌∷◌, Option, Some, None}
 use Rattle.pci_command.specs.declared.op_id.OpId.{OpId}
 use Rattle.pci_command.specs.declared.op_id.Outcome.{Outcome}
 use Rattle.board_model.specs.declared.bridge.Place.{Place}

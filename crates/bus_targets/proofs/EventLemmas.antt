@@ -1,5 +1,5 @@
 -- A target stands for the event that its answer is, and for what happens elsewhere.
-use Rattle.std.proofs.Common.{◌≡◌, ◌≢◌, ℕ, Bool, true, false, ◌+◌, ◌-◌, ◌*◌, ◌<◌, ◌≤◌, ◌==◌, length, List, [], ◌∷◌, Option, Some, None, refl, sym, ap, subst, ◌∙◌, arith, if◌then◌else◌}
+use Rattle.std.proofs.Common.{◌≡◌, ◌≢◌, ℕ, Bool, true, false, ◌+◌, ◌-◌, ◌<◌, ◌==◌, List, [], ◌∷◌, Some, refl, sym, ap, subst, ◌∙◌, arith, if◌then◌else◌}
 use Rattle.std.specs.Prelude.{slice_get, is_some, nat_lt}
 use Rattle.std.proofs.lemmas.Bool.Decides.{nat_tests}
 use Rattle.pci_command.specs.declared.command.Space.{Space}
@@ -7,14 +7,14 @@ use Rattle.pci_command.specs.declared.command.Space.TheVariants.{Mem, Io, Cfg}
 use Rattle.pci_command.specs.declared.phases.Phase.{Phase}
 use Rattle.pci_command.specs.declared.request.Request.{Request}
 use Rattle.pci_command.specs.declared.op_id.OpId.{OpId}
-use Rattle.pci_command.specs.Command.{space_of, is_read}
+use Rattle.pci_command.specs.Command.{space_of}
 use Rattle.pci_command.specs.Same.{same_space}
 use Rattle.board_model.specs.declared.agents.Target.{Target as TargetAgent}
 use Rattle.board_model.specs.declared.bridge.Place.{Place}
 use Rattle.board_model.specs.declared.bridge.Place.TheVariants.{Target, Header, Lane, Nobody}
 use Rattle.board_model.specs.declared.board.Board.{Board}
 use Rattle.board_model.specs.Requests.{request_of}
-use Rattle.board_model.specs.Ways.{Dword, aborts_at, address_in}
+use Rattle.board_model.specs.Ways.{Dword, address_in}
 use Rattle.history_model.specs.declared.event.By.{By}
 use Rattle.history_model.specs.declared.event.Step.{Step}
 use Rattle.history_model.specs.declared.event.Step.TheVariants.{Land, Part as PartStep, Read, Accept, Latch, Take, Stall as StallStep, MasterAbort, TargetAbort}
@@ -27,7 +27,7 @@ use Rattle.machine_steps.proofs.ValueLemmas.{merged_landings, nothing_brought, v
 use Rattle.bus_targets.specs.declared.access.Access.{Access}
 use Rattle.bus_targets.specs.declared.access.Access.TheVariants.{Stall, Abort, Value, Part, Landed}
 use Rattle.bus_targets.specs.Words.{WordsOfSpace, place_in}
-use Rattle.bus_targets.specs.State.{TargetView, words_in, accessed_in, access_by, step_of, with_landed, landed_in, landed, after_access, IsElsewhere, HappensElsewhere}
+use Rattle.bus_targets.specs.State.{TargetView, words_in, accessed_in, access_by, step_of, with_landed, landed_in, after_access, IsElsewhere, HappensElsewhere}
 use Rattle.bus_targets.specs.Stands.{TableStands, TargetStands, IsAccess}
 use Rattle.bus_targets.proofs.WordLemmas.{landed_there}
 

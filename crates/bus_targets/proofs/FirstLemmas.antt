@@ -1,29 +1,27 @@
 -- A target stands for no events, as it opens.
-use Rattle.std.proofs.Common.{◌≡◌, ℕ, Bool, true, ◌+◌, List, [], ◌∷◌, Option, Some, None, refl, sym, ap, subst, ◌∙◌, arith, get_or, ◌⊎◌, inl, inr}
-use Rattle.std.specs.Prelude.{slice_get, is_some, map}
+use Rattle.std.proofs.Common.{◌≡◌, ℕ, true, List, [], Option, Some, None, refl, sym, ap, subst, ◌∙◌, arith, get_or, inl, inr}
+use Rattle.std.specs.Prelude.{slice_get, is_some}
 use Rattle.std.specs.Option.{option_map, IsSome}
-use Rattle.std.specs.List.{AllByRecursion, Contains}
+use Rattle.std.specs.List.{Contains}
 use Rattle.std.proofs.lemmas.Option.{slice_get-map, slice_get_cases, slice_get-get_or}
 use Rattle.list_facts.proofs.EachLemmas.{Each-slice_get}
 use Rattle.pci_command.specs.declared.command.Space.{Space}
 use Rattle.pci_command.specs.declared.command.Space.TheVariants.{Mem, Io, Cfg}
 use Rattle.pci_command.specs.declared.request.Request.{Request}
-use Rattle.pci_command.specs.declared.op_id.OpId.{OpId}
 use Rattle.pci_command.specs.Command.{space_of, is_read}
 use Rattle.board_model.specs.declared.agents.Target.{Target as TargetAgent}
-use Rattle.board_model.specs.declared.agents.Master.{Master as MasterAgent}
 use Rattle.board_model.specs.declared.op.Op.{Op}
 use Rattle.board_model.specs.declared.bridge.Place.TheVariants.{Target}
 use Rattle.board_model.specs.declared.board.Board.{Board}
-use Rattle.board_model.specs.Requests.{op_of, request_of, request_on, command_of, address_on}
+use Rattle.board_model.specs.Requests.{op_of, request_on, command_of, address_on}
 use Rattle.board_model.specs.Claims.{claim}
 use Rattle.board_model.specs.Ways.{address_in}
 use Rattle.board_model.proofs.Laws.{op_there}
-use Rattle.history_model.specs.Words.{opens_as, value_of}
+use Rattle.history_model.specs.Words.{opens_as}
 use Rattle.bus_targets.specs.Words.{WordsOfSpace, place_in}
 use Rattle.bus_targets.specs.Reads.{answers_at, KnowsRead, KnowsProgram}
 use Rattle.bus_targets.specs.State.{TargetView, words_in}
-use Rattle.bus_targets.specs.Stands.{TableStands, TargetStands, TableAtFirst, StandsAtFirst, FindsReads}
+use Rattle.bus_targets.specs.Stands.{TableStands, TableAtFirst, StandsAtFirst, FindsReads}
 use Rattle.bus_targets.proofs.PlaceLemmas.{has_place}
 use Rattle.bus_targets.proofs.ClaimLemmas.{target_claims}
 

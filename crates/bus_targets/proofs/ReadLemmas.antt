@@ -1,6 +1,5 @@
 -- The dwords that operations read are gathered, program by program.
-use Rattle.std.proofs.Common.{◌≡◌, ℕ, ◌+◌, ◌<◌, length, get_or, take, List, ◌∷◌, [], ◌++◌, refl, sym, ap, subst, ◌∙◌, arith, ◌≤◌}
-use Rattle.std.specs.Prelude.{slice_index_or}
+use Rattle.std.proofs.Common.{◌≡◌, ℕ, ◌+◌, ◌<◌, length, get_or, take, List, ◌∷◌, [], ◌++◌, sym, ap, subst, ◌∙◌, arith}
 use Rattle.std.specs.List.{AllByRecursion, Contains}
 use Rattle.std.proofs.lemmas.List.{take_more, length-append, get_or_append_left}
 use Rattle.std.proofs.lemmas.List.Elements.{Contains-push}

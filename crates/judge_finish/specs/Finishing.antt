@@ -4,11 +4,11 @@ use Rattle.board_model.specs.declared.board.Board.{Board}
 use Rattle.history_model.specs.declared.event.Event.{Event}
 use Rattle.history_model.specs.Runs.{Allowed, Complete, history_of}
 use Rattle.history_model.specs.Left.{left_of}
-use Rattle.law_fresh.specs.Laws.{LawsOfRun}
 use Rattle.history_model.specs.Next.{next_of}
+use Rattle.law_fresh.specs.Laws.{LawsOfRun}
+use Rattle.judge_state.specs.Refused.{FirstRefused}
 use Rattle.judge_next.specs.declared.course.Course.{Course}
 use Rattle.judge_next.specs.Course.{IsCourse}
-use Rattle.judge_state.specs.Refused.{FirstRefused}
 use Rattle.judge_check.specs.Verdicts.{CompleteRun}
 use Rattle.judge_finish.specs.declared.unfinished.Unfinished.{Unfinished}
 use Rattle.judge_finish.specs.declared.unfinished.Unfinished.TheVariants.{NotRun, NoMemory}

@@ -1,4 +1,4 @@
-use Rattle.std.proofs.Common.{◌≡◌, ◌<◌, length, get_or, subst}
+use Rattle.std.proofs.Common.{◌≡◌, ◌<◌, length, get_or}
 use Rattle.bus_targets.specs.Reads.{KnowsProgram}
 use Rattle.bus_targets.proofs.ReadLemmas.{programs_more}
 use Rattle.bus_targets.proofs.reads.addresses_read.Goals as goal

@@ -1,4 +1,4 @@
-use Rattle.bus_targets.proofs.ReadLemmas.{reads_more, still_there}
+use Rattle.bus_targets.proofs.ReadLemmas.{reads_more}
 use Rattle.bus_targets.proofs.reads.push_reads.Goals as goal
 
 pub loop-op-preserved : goal.loop-op-preserved

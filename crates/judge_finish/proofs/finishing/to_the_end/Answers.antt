@@ -28,10 +28,10 @@ loop-event-smaller c =
     let by : WentOnBy board (history_of whole) c.go_on.new.course e = c.in-Some.ensures (history_of whole) c.loop-event.invariant.1 in
     left_fell board whole c.push.new.self.items e pushed by.lowers
 
--- without a next event it is complete
+-- where there is no next event the run is complete, and all laws hold of it
 pub returns : goal.returns
 returns c =
     let board : Board = c.args.tree.now in
     let whole : List Event = c.loop-event.whole.items in
-    let done = c.in_default.ensures (history_of whole) c.loop-event.invariant.1 in
-    subst (Finishes board c.args.events) (sym c.from_vec.ensures) (finishes board c.args.events whole c.loop-event.invariant.0 done.0 done.1)
+    let ends = c.in_default.ensures (history_of whole) c.loop-event.invariant.1 in
+    subst (Finishes board c.args.events) (sym c.from_vec.ensures) (finishes board c.args.events whole c.loop-event.invariant.0 ends.0 ends.1)

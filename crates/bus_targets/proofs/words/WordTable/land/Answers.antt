@@ -1,4 +1,4 @@
-use Rattle.std.proofs.Common.{arith, ◌∙◌, ap, List, ℕ}
+use Rattle.std.proofs.Common.{arith, ◌∙◌, ap}
 use Rattle.bus_targets.specs.Words.{WordsOfSpace}
 use Rattle.bus_targets.proofs.WordLemmas.{lands_more}
 use Rattle.bus_targets.proofs.words.WordTable.land.Goals as goal
