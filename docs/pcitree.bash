@@ -13,4 +13,4 @@ _pcitree() {
     mapfile -t COMPREPLY < <(compgen -f -- "$word")
   fi
 }
-complete -F _pcitree pcitree
+complete -o filenames -F _pcitree pcitree
