@@ -44,10 +44,13 @@ fn board_between(
     without_lines(alloc, &input[..end.min(input.len())], 0, from)
 }
 
-/// Whether nothing but spaces and newlines stands between two places.
-pub(crate) fn is_blank(text: &[u8], from: usize, to: usize) -> bool {
-    text.iter().enumerate().all(|(place, byte)| place < from
-        || to <= place
-        || *byte == b' '
-        || *byte == b'\n')
+/// What of a text stands from one place to another, as far as it has these.
+pub(crate) fn between(text: &[u8], from: usize, to: usize) -> &[u8] {
+    let end = to.min(text.len());
+    &text[from.min(end)..end]
+}
+
+/// Whether a text has nothing but spaces and newlines.
+pub(crate) fn is_blank(text: &[u8]) -> bool {
+    text.iter().all(|byte| *byte == b' ' || *byte == b'\n')
 }
