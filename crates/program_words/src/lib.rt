@@ -128,8 +128,8 @@ const AUDIT: Row = Row {
     parts: &[Part::Word("audit"), Part::File],
     limit: TRACE,
     line: "says of each read of a trace which write it knew of, and how",
-    more: "The trace is of a run, complete or not. For each read that ended and knew of a write of its word\n\
-        there is a line: the last such write to land, and the chain of reads and writes that told of it.",
+    more: "The trace is of a run, complete or not. For each read that ended and whose master knew of a write\n\
+        of its word before it there is a line: the last such write to land, and how its master knew.",
 };
 
 const REPORT: Row = Row {
