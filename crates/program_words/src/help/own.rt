@@ -25,9 +25,9 @@ pub static OWN_WORDS: [OwnWord; 3] = [
         line: "says this, or more of one word; --help does the same",
         more: "The exit status is 0 where all went well, 1 for no memory, 2 for usage, 3 where the file was not\n\
             read, 4 where the output was not written, 5 for an input that is too long or a run with too many\n\
-            events to draw, 6 for a fault of the board or of what `lspci` wrote, 7 for one of the trace\n\
-            text, 8 for an event that is not allowed, 9 for a run that has not ended. Standard error says\n\
-            in its first line which it is, and behind it where and why.",
+            events to draw, 6 for a fault of the board or of what `lspci` wrote, 7 for one of the\n\
+            trace text, 8 for an event that is not allowed, 9 for a run that has not ended. Standard\n\
+            error says in its first line which it is, and behind it where and why.",
     },
     OwnWord {
         word: "--version",
