@@ -1,5 +1,5 @@
 -- A flag that is clear delivers.
-use Rattle.std.proofs.Common.{◌≡◌, ℕ, ◌<◌, ◌≤◌, Bool, true, false, ◌||◌, eqb, eqb-true, cond, filter, List, [], ◌∷◌, ◌++◌, length, Option, Some, None, is_some, refl, sym, ap, subst, ◌∙◌, arith}
+use Rattle.std.proofs.Common.{◌≡◌, ℕ, ◌<◌, ◌≤◌, Bool, true, false, ◌||◌, eqb, eqb-true, cond, filter, List, [], length, Option, Some, None, is_some, refl, sym, ap, subst, ◌∙◌, arith}
 use Rattle.std.specs.List.{list_any, list_all, AllByRecursion}
 use Rattle.std.proofs.lemmas.Bool.Decides.{nat_tests}
 use Rattle.list_facts.specs.Lists.{total}
@@ -18,11 +18,10 @@ use Rattle.board_model.specs.Ways.{Dword}
 use Rattle.board_model.specs.Valid.{IsValid}
 use Rattle.history_model.specs.declared.event.Event.{Event}
 use Rattle.history_model.specs.Words.{Landing, landed, opens_at, opens_as}
-use Rattle.history_model.specs.Knowledge.{ends_as, has_ended, given_value, up_to_end, Reading, got, saw_in, saw, has_landed, is_landing_of, stands_after, later, one, more, is_write, Told}
+use Rattle.history_model.specs.Knowledge.{has_ended, given_value, Reading, saw_in, saw, has_landed, is_landing_of, stands_after, later, one, more, is_write, Told}
 use Rattle.history_model.specs.Runs.{Run}
 use Rattle.law_lanes.specs.order.Order.{is_posted_in, is_posted_op}
 use Rattle.std.proofs.lemmas.Bool.{and_parts, or_right, or_left}
-use Rattle.std.proofs.lemmas.List.Folds.{list_any-append}
 use Rattle.list_facts.proofs.AnyLemmas.{any_some, found_any}
 use Rattle.list_facts.proofs.EachLemmas.{Each-find, Each-weaker}
 use Rattle.list_facts.proofs.FindLemmas.{find_passes}

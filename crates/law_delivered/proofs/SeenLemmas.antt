@@ -1,5 +1,5 @@
 -- A poll that was met by the value of a clear flag has read the flag after it was raised.
-use Rattle.std.proofs.Common.{◌≡◌, ◌≢◌, ℕ, zero, suc, ◌+◌, ◌≤◌, Bool, true, false, ◌&&◌, ◌||◌, not, ◌==◌, eqb, cond, filter, nat_lt, List, [], ◌∷◌, length, Option, Some, None, is_some, refl, sym, ap, subst, ◌∙◌, arith, slice_get}
+use Rattle.std.proofs.Common.{◌≡◌, ◌≢◌, ℕ, zero, suc, ◌+◌, ◌≤◌, Bool, true, false, ◌&&◌, ◌||◌, not, ◌==◌, eqb, cond, filter, List, [], ◌∷◌, length, Option, Some, None, is_some, refl, sym, ap, subst, ◌∙◌, arith, slice_get}
 use Rattle.std.specs.List.{list_any, position_from}
 use Rattle.std.proofs.lemmas.Bool.Decides.{nat_tests}
 use Rattle.pci_command.specs.declared.command.Command.TheVariants.{MemWrite}
@@ -7,8 +7,7 @@ use Rattle.pci_command.specs.declared.command.Space.TheVariants.{Mem}
 use Rattle.pci_command.specs.declared.request.Request.{Request}
 use Rattle.pci_command.specs.declared.op_id.OpId.{OpId}
 use Rattle.pci_command.specs.declared.op_id.Outcome.{Outcome}
-use Rattle.pci_command.specs.Command.{is_read, space_of}
-use Rattle.pci_command.specs.Same.{same_op}
+use Rattle.pci_command.specs.Command.{is_read}
 use Rattle.board_model.specs.declared.agents.Master.{Master as MasterAgent}
 use Rattle.board_model.specs.declared.agents.Target.{Target as TargetAgent}
 use Rattle.board_model.specs.declared.bridge.Lane.{Lane as BridgeLane}
@@ -18,28 +17,20 @@ use Rattle.board_model.specs.declared.op.Op.{Op}
 use Rattle.board_model.specs.declared.op.Op.TheVariants.{Write, Poll}
 use Rattle.board_model.specs.declared.board.Board.{Board}
 use Rattle.board_model.specs.Requests.{op_of, command_of, reads, reads_in, request_on}
-use Rattle.board_model.specs.Claims.{range_holds, claim_by_address, claim_in_space, claim}
-use Rattle.board_model.specs.Ways.{Dword, Route, route_by, route_within, route_of, end_of, address_in, aborts_at, words_at, words_by, dwords_of}
+use Rattle.board_model.specs.Claims.{range_holds, claim_by_address, claim_in_space}
+use Rattle.board_model.specs.Ways.{Dword, Route, route_by, route_within, route_of, end_of, words_at, words_by, dwords_of}
 use Rattle.board_model.specs.Valid.{is_bus, IsValid}
-use Rattle.history_model.specs.declared.event.By.{By}
-use Rattle.history_model.specs.declared.event.Step.{Step}
-use Rattle.history_model.specs.declared.event.Step.TheVariants.{Land, Part, Read, Accept, Latch, Take, Stall, MasterAbort, TargetAbort}
 use Rattle.history_model.specs.declared.event.Event.{Event}
-use Rattle.history_model.specs.declared.event.Event.TheVariants.{Act, Arrive}
-use Rattle.history_model.specs.declared.item.Answer.TheVariants.{Gives}
-use Rattle.history_model.specs.World.{world_of}
-use Rattle.history_model.specs.Answers.{stalls_used, target_step, target_answer, answer_by, answer_to}
-use Rattle.history_model.specs.Words.{through, without, opens_in, value_of}
-use Rattle.history_model.specs.Knowledge.{value_of_ending, ends_as, has_ended, or_else, given_value, up_to_end, Reading, reading_of, reading_by, reading_in, got, words_on, words_named}
+use Rattle.history_model.specs.Words.{opens_in, value_of}
+use Rattle.history_model.specs.Knowledge.{value_of_ending, ends_as, has_ended, or_else, given_value, up_to_end, Reading, reading_in, got, words_on, words_named}
 use Rattle.history_model.specs.Runs.{Run}
 use Rattle.std.proofs.lemmas.Bool.{and_parts, not-true}
-use Rattle.history_model.proofs.facts.RequestLemmas.{same_op_true}
-use Rattle.law_lanes.proofs.Laws.{delayed-not_parted, WellFormed-single}
 use Rattle.law_fresh.proofs.reads.Laws.{master_there, returned_got, always_got}
-use Rattle.law_fresh.proofs.Laws.{whole, At, found_at, target_on, answers_claim, Front, front_run, front_front, front_end, read_by}
+use Rattle.law_fresh.proofs.Laws.{At, found_at, target_on, Front, front_run, front_front, front_end, read_by}
 use Rattle.law_delivered.specs.Clear.{is_value, holds, opens_otherwise}
 use Rattle.law_delivered.specs.Delivered.{is_met}
 use Rattle.law_delivered.proofs.EndLemmas.{ending, one_end, target_bus, master_bus_there}
+use Rattle.law_delivered.proofs.NamedLemmas.{target_or}
 use Rattle.law_delivered.proofs.left.HeldLemmas.{reading_held}
 
 -- The poll has the way of a write to its address.
@@ -240,7 +231,7 @@ module _ (board : Board) (valid : IsValid board) (p : OpId) (address value tries
       let ends = poll_end board address value tries valid some.on master.0.bus some.place bus_there (master_bus_there board valid p.master master.0 master.1) some.here.claims in
       let pairs : (some.on, Target some.place) ≡ (owner.agent.bus, Target owner.place) = sym ends ∙ route_ends in
       let places : Target some.place ≡ Target owner.place = ap (λ (pair : ℕ × Place). pair.1) pairs in
-      let one : some.place ≡ owner.place = cc in
+      let one : some.place ≡ owner.place = ap (target_or 0) places in
       let word_at : ℕ → Dword = λ n. record { target = n; space = Mem; address = address } in
       let word : reading.word ≡ flag = some.here.word ∙ ap word_at one in
       record { word = word; held = some.here.held ∙ ap (value_of board reading.before) word }

@@ -1,38 +1,20 @@
 -- A read that has a word reads it.
-use Rattle.std.proofs.Common.{◌≡◌, ℕ, Bool, true, false, ◌||◌, eqb, eqb-true, cond, List, [], ◌∷◌, Option, Some, None, refl, sym, ap, subst, ◌∙◌, slice_get}
-use Rattle.std.specs.List.{list_any}
-use Rattle.pci_command.specs.declared.command.Command.TheVariants.{MemWrite}
+use Rattle.std.proofs.Common.{◌≡◌, ℕ, Bool, true, false, cond, List, [], ◌∷◌, Option, Some, None, sym, ap, ◌∙◌, slice_get}
 use Rattle.pci_command.specs.declared.phases.Phase.{Phase}
 use Rattle.pci_command.specs.declared.request.Request.{Request}
 use Rattle.pci_command.specs.declared.op_id.OpId.{OpId}
 use Rattle.pci_command.specs.Command.{space_of}
-use Rattle.pci_command.specs.Same.{same_command}
 use Rattle.board_model.specs.declared.agents.Master.{Master as MasterAgent}
 use Rattle.board_model.specs.declared.agents.Target.{Target as TargetAgent}
-use Rattle.board_model.specs.declared.bridge.Lane.{Lane as BridgeLane}
 use Rattle.board_model.specs.declared.bridge.Place.{Place}
 use Rattle.board_model.specs.declared.bridge.Place.TheVariants.{Target}
 use Rattle.board_model.specs.declared.op.Op.{Op}
 use Rattle.board_model.specs.declared.board.Board.{Board}
 use Rattle.board_model.specs.Requests.{op_of, command_of, request_on}
-use Rattle.board_model.specs.Claims.{claim}
-use Rattle.board_model.specs.Ways.{Dword, route_of, way, end_of, address_in, aborts_at, words_at, words_by, words_of, dwords_from, dwords_of}
+use Rattle.board_model.specs.Ways.{Dword, route_of, address_in, aborts_at, words_at, words_by, words_of, dwords_from, dwords_of}
 use Rattle.board_model.specs.Valid.{IsValid}
-use Rattle.board_model.specs.form_laws.Trees.{IsTree}
-use Rattle.history_model.specs.declared.event.By.{By}
-use Rattle.history_model.specs.declared.event.By.TheVariants.{Master, Lane as ByLane}
 use Rattle.history_model.specs.declared.event.Event.{Event}
-use Rattle.history_model.specs.Lanes.{has_number}
-use Rattle.history_model.specs.World.{same_lane, world_of}
-use Rattle.history_model.specs.Answers.{is_on, is_turn, wants, presents}
-use Rattle.history_model.specs.Program.{turn_of}
 use Rattle.history_model.specs.Knowledge.{Reading, words_on, words_named}
-use Rattle.history_model.specs.Runs.{Run}
-use Rattle.std.proofs.lemmas.Bool.{and_parts}
-use Rattle.board_model.proofs.form_laws.Laws.{IsTree-valid}
-use Rattle.history_model.proofs.facts.BridgeLemmas.{same_lane_true}
-use Rattle.history_model.proofs.facts.PathLemmas.{way_cons}
-use Rattle.law_bound.proofs.reach.Laws.{own_by, stands_of, asked_at, passed_at}
 use Rattle.law_fresh.proofs.reads.Laws.{master_there, not_posted}
 use Rattle.law_delivered.proofs.EndLemmas.{ending}
 use Rattle.law_delivered.proofs.NamedLemmas.{ending_there}
