@@ -6,15 +6,19 @@ use Rattle.history_model.specs.declared.event.Event.{Event}
 use Rattle.history_model.specs.Runs.{Run, history_of}
 use Rattle.history_model.specs.Knowledge.{Fresh}
 use Rattle.law_audit.specs.Audit.{findings}
+use Rattle.law_audit.specs.Sound.{AreSound, AreAll, AreOnce}
 use Rattle.audit_text.specs.Lines.{audit_of}
 use Rattle.program_input.specs.Traces.{ReadsTrace}
 
--- a run of a board, which is fresh: each read that was told of a write reads its words after it has landed; and the
--- text of its audit
+-- a run of a board, which is fresh: each read that was told of a write reads its words after it has landed; the text
+-- of its audit; and its findings are so, none is missing, and none is there twice
 pub record Audits (board : Board) (events : List Event) (text : List ℕ) : Type 0 where
   pub run : Run board (history_of events)
   pub fresh : Fresh board (history_of events)
   pub written : text ≡ audit_of board (findings board (history_of events))
+  pub sound : AreSound board (history_of events)
+  pub complete : AreAll board (history_of events)
+  pub once : AreOnce board (history_of events)
 
 -- the input is the text of a valid board and of a run of it, complete or not, and its audit is written
 pub record AnswersAudit (input text : List ℕ) : Type 0 where

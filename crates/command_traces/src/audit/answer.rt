@@ -6,6 +6,7 @@ ghost use Rattle.command_traces.specs.audit.Answers.{AnswersAudit, Audits};
 use audit_text::audit_text;
 use board_tree::Tree;
 use history_model::Event;
+use law_audit::{findings_are_so, reads_are_found_once, reads_that_knew_are_found};
 use law_fresh::runs_are_fresh;
 use pci_command::{List, NoMemory};
 use program_input::{TreeTrace, read_run};
@@ -25,13 +26,16 @@ pub fn answer_audit(alloc: Global, input: &[u8]) -> Result<Vec<u8>, Status>
     }
 }
 
-/// The audit of a run, which is fresh.
+/// The audit of a run, which is fresh: what it says is so, and it says it all, once.
 fn text_of_run(alloc: Global, tree: &Tree, events: &[Event]) -> Result<List<u8>, NoMemory>
     requires { Run tree.now (history_of events.now) }
     ensures { IfOk result (Audits tree.now events.now) }
 {
     runs_are_fresh();
-    // The board of a tree is valid, so that its runs are fresh.
+    findings_are_so();
+    reads_that_knew_are_found();
+    reads_are_found_once();
+    // The board of a tree is valid, so that the laws hold of its runs.
     let _valid = tree.board();
     audit_text(alloc, tree, events)
 }
