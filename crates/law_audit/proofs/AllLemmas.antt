@@ -1,20 +1,19 @@
 -- Each read whose master knew of a write of its word before is found.
-use Rattle.std.proofs.Common.{◌≡◌, ℕ, Bool, true, false, ◌&&◌, ◌||◌, cond, List, [], ◌∷◌, ◌++◌, map, reverse, Option, Some, None, is_some, Contains, refl, sym, ap, subst, ◌∙◌}
+use Rattle.std.proofs.Common.{◌≡◌, ℕ, true, false, List, [], ◌∷◌, ◌++◌, map, reverse, Option, Some, None, is_some, Contains, refl, sym, ap, subst, ◌∙◌}
 use Rattle.std.specs.List.{find, list_any}
 use Rattle.std.proofs.lemmas.List.Elements.{Contains-append_left, Contains-push}
-use Rattle.list_facts.proofs.AnyLemmas.{any_some, found_any}
+use Rattle.list_facts.proofs.AnyLemmas.{any_some}
 use Rattle.list_facts.proofs.EachLemmas.{Each-find}
 use Rattle.list_facts.proofs.FindLemmas.{find_passes}
 use Rattle.pci_command.specs.declared.op_id.OpId.{OpId}
 use Rattle.pci_command.specs.declared.op_id.Outcome.{Outcome}
 use Rattle.pci_command.specs.declared.op_id.Outcome.TheVariants.{Value, Written, Aborted, Nobody}
 use Rattle.board_model.specs.declared.board.Board.{Board}
-use Rattle.board_model.specs.Requests.{op_of}
 use Rattle.board_model.specs.Valid.{IsValid}
 use Rattle.history_model.specs.declared.event.Event.{Event}
-use Rattle.history_model.specs.Program.{Ending, ended}
+use Rattle.history_model.specs.Program.{ended}
 use Rattle.history_model.specs.Words.{Landing, landed}
-use Rattle.history_model.specs.Knowledge.{value_in, value_of_ending, ends_as, ends_with, Reading, last_reading, got, up_to_end, has_landed, is_landing_of, Told, is_write, words_named}
+use Rattle.history_model.specs.Knowledge.{value_in, value_of_ending, ends_as, ends_with, Reading, got, has_landed, is_landing_of, words_named}
 use Rattle.history_model.specs.Runs.{Run}
 use Rattle.history_model.proofs.facts.RequestLemmas.{same_op_true}
 use Rattle.law_fresh.specs.Aware.{knows, aware_of}

@@ -1,5 +1,5 @@
 -- The master of a read knew of a write before it exactly where the read knows of it.
-use Rattle.std.proofs.Common.{◌≡◌, ℕ, Bool, true, ◌&&◌, ◌||◌, List, [], ◌∷◌, Option, Some, length, is_some, refl, sym, subst, arith, ◌⊎◌, inl, inr, ⊎_elim}
+use Rattle.std.proofs.Common.{◌≡◌, Bool, true, ◌&&◌, ◌||◌, ◌==◌, List, [], ◌∷◌, length, is_some, refl, sym, subst, arith, ◌⊎◌, inl, inr, ⊎_elim}
 use Rattle.std.proofs.lemmas.Bool.{and_parts}
 use Rattle.std.proofs.lemmas.Bool.Decides.{nat_tests}
 use Rattle.pci_command.specs.declared.op_id.OpId.{OpId}
@@ -7,10 +7,9 @@ use Rattle.board_model.specs.declared.board.Board.{Board}
 use Rattle.board_model.specs.Requests.{op_of}
 use Rattle.board_model.specs.Valid.{IsValid}
 use Rattle.history_model.specs.declared.event.Event.{Event}
-use Rattle.history_model.specs.Knowledge.{has_ended, up_to_end, later, tells, Chain, one, more, Told, is_write}
+use Rattle.history_model.specs.Knowledge.{has_ended, up_to_end, tells, Chain, one, more, Told, is_write}
 use Rattle.history_model.specs.Runs.{Run}
 use Rattle.law_fresh.specs.Aware.{knows, aware_of}
-use Rattle.law_fresh.specs.Told.{was_told}
 use Rattle.law_fresh.proofs.Laws.{told_known, write_since, got_since, Since, or_either, write_op}
 use Rattle.law_fresh.proofs.SinceLemmas.{since_knows, knows_later}
 use Rattle.law_audit.specs.Links.{Leads, IsChain}
@@ -46,7 +45,8 @@ module _ (board : Board) (valid : IsValid board) (h : List Event) (run : Run boa
       let write = write_op board w writes in
       let reached = Reached-run board valid w write h run h (record { later = []; is = refl }) r.master by first.is in
       let most = knowers_most w.master (aware_of board w h).since (length board.masters) in
-      let self : (by.master == r.master) ≡ true = let masters = reached.of_master in grind (arith, nat_tests, masters) in
+      let masters : by.master ≡ r.master = reached.of_master in
+      let self : (by.master == r.master) ≡ true = grind (arith, nat_tests) in
       let ended_it = reached.ended_it in
       let after = first.after in
       record {

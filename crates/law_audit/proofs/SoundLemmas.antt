@@ -1,5 +1,5 @@
 -- Each finding of an audit is so.
-use Rattle.std.proofs.Common.{◌≡◌, ℕ, Bool, true, false, ◌||◌, cond, List, [], ◌∷◌, ◌++◌, append_assoc, reverse, Option, Some, None, is_some, Contains, refl, sym, ap, subst, ◌∙◌}
+use Rattle.std.proofs.Common.{◌≡◌, ℕ, Bool, true, false, cond, List, [], ◌∷◌, ◌++◌, append_assoc, reverse, Option, Some, None, is_some, refl, sym, ap, subst, ◌∙◌}
 use Rattle.std.specs.List.{find, AllByRecursion}
 use Rattle.std.proofs.lemmas.List.{reverse-append}
 use Rattle.list_facts.proofs.EachLemmas.{Each-append}
@@ -20,7 +20,7 @@ use Rattle.law_fresh.specs.Told.{was_told}
 use Rattle.law_fresh.proofs.Laws.{Begun, Begun-turn, Begun-kept, ends_turn, Front, front_run, knew_before, each_contains}
 use Rattle.law_fresh.proofs.reads.Laws.{returned_got}
 use Rattle.law_audit.specs.Chains.{op_in, chain_from, chain_of}
-use Rattle.law_audit.specs.Audit.{Finding, is_known_by, last_known, finding_of, findings_by, findings_as, findings_in, findings}
+use Rattle.law_audit.specs.Audit.{is_known_by, finding_of, findings_by, findings_as, findings_in, findings}
 use Rattle.law_audit.specs.Links.{IsChain}
 use Rattle.law_audit.specs.Sound.{Knew, IsFound, AreSound}
 use Rattle.law_audit.proofs.MasterLemmas.{ended_there}

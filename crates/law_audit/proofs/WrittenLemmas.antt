@@ -13,13 +13,13 @@ use Rattle.board_model.specs.declared.bridge.Place.TheVariants.{Target, Header, 
 use Rattle.board_model.specs.declared.op.Op.{Op}
 use Rattle.board_model.specs.declared.board.Board.{Board}
 use Rattle.board_model.specs.Requests.{op_of, request_on, request_of, reads, reads_in}
-use Rattle.board_model.specs.Ways.{Dword, address_in}
+use Rattle.board_model.specs.Ways.{Dword}
 use Rattle.history_model.specs.declared.event.By.{By}
 use Rattle.history_model.specs.declared.event.Step.{Step}
 use Rattle.history_model.specs.declared.event.Step.TheVariants.{Land, Part, Read, Accept, Latch, Take, Stall, MasterAbort, TargetAbort}
 use Rattle.history_model.specs.declared.event.Event.{Event}
 use Rattle.history_model.specs.declared.event.Event.TheVariants.{Act, Arrive}
-use Rattle.history_model.specs.Words.{Landing, through, without, brings, landings_at, landings_in, landings_of, landings_by, brought, landed}
+use Rattle.history_model.specs.Words.{Landing, through, without, brings, landings_in, landings_of, landings_by, brought, landed}
 use Rattle.history_model.specs.Knowledge.{is_write}
 use Rattle.history_model.specs.Runs.{Run}
 use Rattle.law_fresh.proofs.Laws.{IsOf, brought_of, IsThere, landings_there}
