@@ -25,14 +25,14 @@ use Rattle.law_audit.specs.Chains.{op_in, joined, to_seen, to_reader}
 use Rattle.law_audit.specs.Chains as chains
 use Rattle.law_audit.specs.Audit.{Finding, is_known_by}
 use Rattle.law_audit.specs.Audit as audit
+use Rattle.law_audit.proofs.WrittenLemmas.{IsOfWrite, landings_write}
+use Rattle.law_audit.proofs.LaterLemmas.{got_front}
 use Rattle.audit_text.specs.declared.readings.Reading.{Reading}
 use Rattle.audit_landings.specs.Hits.{op_of_landing, or_place, whole_at}
 use Rattle.audit_landings.proofs.Laws.{whole_has}
 use Rattle.audit_text.specs.Notes.{Notes, word_of, ended_of, end_in}
 use Rattle.audit_text.specs.Found.{since_of, knows_by, got_in, landed_before, is_before, last_known, shows_it, first_shown, shown_by, shown_to, chain_to, chain_from, finding_of, findings_by, findings_as, findings_in}
 use Rattle.audit_text.specs.Stands.{StandsFor, reading_as}
-use Rattle.audit_text.proofs.ReadLemmas.{got_front}
-use Rattle.audit_text.proofs.WriteLemmas.{IsOfWrite, landings_write}
 
 Each-reverse : (P : Landing → Type 0) (xs : List Landing) → AllByRecursion P xs → AllByRecursion P (reverse xs)
 Each-reverse P [] all = tt
@@ -176,8 +176,8 @@ module _ (board : Board) (valid : IsValid board) (h : List Event) (notes : Notes
       let n : ℕ = length (landed board reading.before reading.word) in
       ap (λ xs. take n xs) (stands.landings.landed (word_of reading.word.target reading.word.space reading.word.address)) ∙ taken board reading.word reading.before h front
 
-  writes_before : (reading : WordReading) → Front reading.before h → AllByRecursion (IsOfWrite board valid) (landed board reading.before reading.word)
-  writes_before reading front = landings_write board valid reading.before reading.word (front_run board reading.before h front run)
+  writes_before : (reading : WordReading) → Front reading.before h → AllByRecursion (IsOfWrite board) (landed board reading.before reading.word)
+  writes_before reading front = landings_write board reading.before reading.word (front_run board reading.before h front run)
 
   -- the last landing of which the read knew
   last_same : (r : OpId) (reading : WordReading) → Front reading.before h → last_known notes r None (landed_before notes (reading_as board reading)) ≡ audit.last_known board h r reading
@@ -187,7 +187,7 @@ module _ (board : Board) (valid : IsValid board) (h : List Event) (notes : Notes
       let test : OpId → Bool = λ q. knows_by notes q r in
       let alike : AllByRecursion (λ (l : Landing). test l.op ≡ is_known_by board h r l) (reverse list) =
       Each-reverse (λ (l : Landing). test l.op ≡ is_known_by board h r l) list
-      (Each-weaker (IsOfWrite board valid) (λ (l : Landing). test l.op ≡ is_known_by board h r l) (λ l writes. knows_noted l.op r writes) list (writes_before reading front)) in
+      (Each-weaker (IsOfWrite board) (λ (l : Landing). test l.op ≡ is_known_by board h r l) (λ l writes. knows_noted l.op r writes) list (writes_before reading front)) in
       ap (λ xs. last_known notes r None xs) (before_is reading front)
       ∙ last_in notes r None (map op_of_landing list)
       ∙ sym (last_found test list)
@@ -246,7 +246,7 @@ module _ (board : Board) (valid : IsValid board) (h : List Event) (notes : Notes
         ∙ (elim ((aware_of board w h).since r.master) as P [ None ↦ refl | Some q ↦ ap (λ xs. joined xs q r) (chain_same n q) ])
 
   -- what is found is a write
-  found_writes : (test : Landing → Bool) (xs : List Landing) (w : OpId) → AllByRecursion (IsOfWrite board valid) xs → op_in (find test xs) ≡ Some w → is_write board w ≡ true
+  found_writes : (test : Landing → Bool) (xs : List Landing) (w : OpId) → AllByRecursion (IsOfWrite board) xs → op_in (find test xs) ≡ Some w → is_write board w ≡ true
   found_writes test [] w all is = cc
   found_writes test (x ∷ xs) w all is =
       let P : Bool → Type 0 = λ b. op_in (cond b (Some x) (find test xs)) ≡ Some w → is_write board w ≡ true in
@@ -259,7 +259,7 @@ module _ (board : Board) (valid : IsValid board) (h : List Event) (notes : Notes
   finding_same r reading front None is = refl
   finding_same r reading front (Some w) is =
       let list : List Landing = landed board reading.before reading.word in
-      let writes : is_write board w ≡ true = found_writes (is_known_by board h r) (reverse list) w (Each-reverse (IsOfWrite board valid) list (writes_before reading front)) is in
+      let writes : is_write board w ≡ true = found_writes (is_known_by board h r) (reverse list) w (Each-reverse (IsOfWrite board) list (writes_before reading front)) is in
       let built : List OpId → List Finding = λ chain. record { read = r; word = reading.word; value = reading.value; write = w; chain = chain } ∷ [] in
       ap built (chain_from_same w writes r)
 

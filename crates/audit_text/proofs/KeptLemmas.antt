@@ -18,6 +18,7 @@ use Rattle.law_fresh.proofs.Laws.{or_either}
 use Rattle.law_fresh.proofs.Laws.{write_op, same_place}
 use Rattle.law_audit.proofs.StartLemmas.{start_stays}
 use Rattle.law_audit.proofs.OrderLemmas.{earlier_known, landings_know}
+use Rattle.law_audit.proofs.WrittenLemmas.{landings_write}
 use Rattle.board_model.specs.declared.word.Word.{Word}
 use Rattle.audit_clocks.specs.Tables.{writes_in}
 use Rattle.audit_clocks.specs.Tracks.{in_order_at}
@@ -29,7 +30,6 @@ use Rattle.audit_text.specs.Notes.{Notes, Happens}
 use Rattle.audit_text.specs.Found.{knows_by}
 use Rattle.audit_text.specs.Search.{is_known, tells_of, KnowsAlways, Searchable}
 use Rattle.audit_text.specs.Stands.{StandsFor}
-use Rattle.audit_text.proofs.WriteLemmas.{landings_write}
 
 -- What is kept of the dwords.
 
@@ -89,7 +89,7 @@ module _ (board : Board) (valid : IsValid board) (h : List Event) (notes : Notes
   landed_at word i w is = ap (λ xs. slice_get xs i) (sym (stands.landings.landed word)) ∙ is
 
   is_write_at : (word : Word) (i : ℕ) (w : OpId) → slice_get (writes word) i ≡ Some w → is_write board w ≡ true
-  is_write_at word i w is = each_op (λ o. is_write board o ≡ true) (landed board h (dword word)) i w (landings_write board valid h (dword word) run) (landed_at word i w is)
+  is_write_at word i w is = each_op (λ o. is_write board o ≡ true) (landed board h (dword word)) i w (landings_write board h (dword word) run) (landed_at word i w is)
 
   noted : (w q : OpId) → is_write board w ≡ true → knows_by notes w q ≡ knows (aware_of board w h) q
   noted w q is = ap (λ found. is_behind found q) (stands.since w q.master is)

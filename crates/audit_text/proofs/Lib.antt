@@ -1,5 +1,4 @@
 pub mod ReadLemmas
-pub mod WriteLemmas
 pub mod StandsLemmas
 pub mod ChainLemmas
 pub mod LineLemmas

@@ -159,36 +159,3 @@ module _ (board : Board) (h : List Event) (notes : Notes) (stands : StandsFor bo
         | None ↦ λ _ f. ap (λ xs. flat (value_of o xs)) f.1 ∙ stands.gots o
         | Some ending ↦ λ is f. let so : EndsSo (ended_of ending) readings clocks clocks_new notes.gots gots = f in end_got e readings gots ending o is now so.gets
       ]) refl ends
-
--- What was read stands in the history.
-
-pub front_same : (h : List Event) → Front h h
-front_same h = record { later = []; is = refl }
-
-pub front_next : (before h : List Event) (e : Event) → Front before h → Front before (e ∷ h)
-front_next before h e front = record { later = e ∷ front.later; is = ap (λ g. e ∷ g) front.is }
-
--- before an event, or the event itself
-read_front : (board : Board) (h : List Event) (o : OpId) (reading : WordReading) → last_reading board o h ≡ Some reading → Front reading.before h
-read_front board [] o reading is = cc
-read_front board (e ∷ h) o reading is =
-    let P : Option WordReading → Type 0 = λ here. reading_in board h o e ≡ here → reading_or here (last_reading board o h) ≡ Some reading → Front reading.before (e ∷ h) in
-    (elim (reading_in board h o e) as P [
-      | None ↦ λ _ f. front_next reading.before h e (read_front board h o reading f)
-      | Some here ↦ λ some f.
-          let same : here ≡ reading = cc in
-          let before : reading.before ≡ h = before_in board h o e reading (some ∙ ap Some same) in
-          subst (λ g. Front g (e ∷ h)) (sym before) (front_next h h e (front_same h))
-    ]) refl is
-
-front_of_end : (o : OpId) (before h : List Event) → Front before (up_to_end o h) → Front before h
-front_of_end o before [] front = front
-front_of_end o before (e ∷ h) front =
-    let P : Bool → Type 0 = λ b. Front before (cond b (e ∷ h) (up_to_end o h)) → Front before (e ∷ h) in
-    (elim (is_some (ends_with o e)) as P [
-      | true ↦ λ f. f
-      | false ↦ λ f. front_next before h e (front_of_end o before h f)
-    ]) front
-
-pub got_front : (board : Board) (h : List Event) (o : OpId) (reading : WordReading) → got board h o ≡ Some reading → Front reading.before h
-got_front board h o reading is = front_of_end o reading.before h (read_front board (up_to_end o h) o reading is)

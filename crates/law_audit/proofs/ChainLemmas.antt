@@ -26,7 +26,7 @@ use Rattle.law_audit.specs.Links.{IsChain}
 use Rattle.law_audit.proofs.LinkLemmas.{chain_push, chain_joined, knowers, knowers_most, knowers_more, knowers_rise, knowers_some}
 use Rattle.law_audit.proofs.MasterLemmas.{master_number, ended_there}
 use Rattle.law_audit.proofs.KnownLemmas.{same_knows, find_same}
-use Rattle.law_audit.proofs.FirstLemmas.{end_at, ended_later, since_front, behind_first, own_first}
+use Rattle.law_audit.proofs.FirstLemmas.{ends_it, end_at, ended_later, since_front, behind_first, own_first}
 
 -- What an operation was taught it was shown by a reading.
 
@@ -73,7 +73,7 @@ module _ (board : Board) (valid : IsValid board) (w : OpId) (write : WriteOp boa
   abbrev since_now : ℕ → Option OpId
   since_now = (aware_of board w h).since
 
-  abbrev counted : List Event → ℕ
+  abbrev pub counted : List Event → ℕ
   counted g = knowers w.master (aware_of board w g).since (length board.masters)
 
   -- an operation tells a later one of its master
@@ -118,10 +118,10 @@ module _ (board : Board) (valid : IsValid board) (w : OpId) (write : WriteOp boa
       }
 
   -- what is known of the operation with which a master came to know
-  record Reached (m : ℕ) (p : OpId) (least : ℕ) : Type 0 where
-    of_master : p.master ≡ m
-    ended_it : has_ended h p ≡ true
-    is_chain : (n : ℕ) → least ≤ n → IsChain board h w p (chain_to n board w h p)
+  pub record Reached (m : ℕ) (p : OpId) (least : ℕ) : Type 0 where
+    pub of_master : p.master ≡ m
+    pub ended_it : has_ended h p ≡ true
+    pub is_chain : (n : ℕ) → least ≤ n → IsChain board h w p (chain_to n board w h p)
 
   own_chain : (p : OpId) → p ≡ w → (n : ℕ) → 1 ≤ n → IsChain board h w p (chain_to n board w h p)
   own_chain p is zero least = absurd (omega (arith, least))
@@ -187,13 +187,6 @@ module _ (board : Board) (valid : IsValid board) (w : OpId) (write : WriteOp boa
       let there : F (Some ending) = rw self some in
       subst F (sym is) there
 
-  ends_it : (e : Event) (ending : Ending) → ended e ≡ Some ending → is_some (ends_as ending.op e) ≡ true
-  ends_it e ending is =
-      let F : Option Ending → Type 0 = λ found. is_some (outcome_in ending.op found) ≡ true in
-      let self = same_op_self ending.op in
-      let there : F (Some ending) = rw self refl in
-      subst F (sym is) there
-
   more_know : (e : Event) (g : List Event) (m : ℕ) → is_some ((aware_of board w g).since m) ≡ true → is_some ((aware_of board w (e ∷ g)).since m) ≡ true
   more_know e g m is =
       let P : Option OpId → Type 0 = λ found. (aware_of board w g).since m ≡ found → is_some found ≡ true → is_some ((aware_of board w (e ∷ g)).since m) ≡ true in
@@ -248,7 +241,7 @@ module _ (board : Board) (valid : IsValid board) (w : OpId) (write : WriteOp boa
       }
 
   -- the chain to the operation with which a master came to know of the write
-  Reached-run : (g : List Event) → Front g h → (m : ℕ) (p : OpId) → (aware_of board w g).since m ≡ Some p → Reached m p (counted g)
+  pub Reached-run : (g : List Event) → Front g h → (m : ℕ) (p : OpId) → (aware_of board w g).since m ≡ Some p → Reached m p (counted g)
   Reached-run [] front m p is = cc
   Reached-run (e ∷ g) front m p is =
       let rest : Front g h = record { later = front.later ++ e ∷ []; is = append_assoc front.later (e ∷ []) g ∙ front.is } in

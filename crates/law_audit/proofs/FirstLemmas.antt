@@ -12,14 +12,22 @@ use Rattle.board_model.specs.declared.board.Board.{Board}
 use Rattle.history_model.specs.declared.event.Event.{Event}
 use Rattle.history_model.specs.Program.{Ending, ended, turn_of}
 use Rattle.history_model.specs.Words.{Landing, landed}
-use Rattle.history_model.specs.Knowledge.{value_in, Reading, value_of_ending, ends_as, ends_with, has_ended, up_to_end, reading_in, has_landed, stands_after, later}
+use Rattle.history_model.specs.Knowledge.{value_in, Reading, value_of_ending, outcome_in, ends_as, ends_with, has_ended, up_to_end, reading_in, has_landed, stands_after, later}
 use Rattle.history_model.specs.Runs.{Run}
-use Rattle.history_model.proofs.facts.RequestLemmas.{same_op_true}
+use Rattle.history_model.proofs.facts.RequestLemmas.{same_op_true, same_op_self}
 use Rattle.law_lanes.specs.order.One.{times, ends_at_master}
 use Rattle.law_lanes.proofs.order.Laws.{turn_not_ended}
 use Rattle.law_fresh.specs.Aware.{Aware, is_behind, knows, shows, shown, first_known, taught_by, taught_after, aware_of}
 use Rattle.law_fresh.proofs.Laws.{Begun, Begun-turn, Begun-kept, LandingBegun, LandingsBegun-run, ends_turn, since_kept, first_brought, write_since, ends_as_ended, Front, before_in, or_either}
 use Rattle.law_fresh.proofs.Laws.{WriteOp, own_ended}
+
+-- an event ends the operation that it ends
+pub ends_it : (e : Event) (ending : Ending) → ended e ≡ Some ending → is_some (ends_as ending.op e) ≡ true
+ends_it e ending is =
+    let F : Option Ending → Type 0 = λ found. is_some (outcome_in ending.op found) ≡ true in
+    let self = same_op_self ending.op in
+    let there : F (Some ending) = rw self refl in
+    subst F (sym is) there
 
 -- A master ends an operation with a value once.
 

@@ -1,6 +1,7 @@
-//! What the audit of a run says, as definitions: for each read that ended with a value of its target,
-//! the last write of the word that its master knew of before, and the chain of operations by which it
-//! came to know of it. The laws are the contracts of functions that do nothing.
+//! What the audit of a run says, as definitions: for each read that ended with a value of its
+//! target, the last write of the word that its master knew of before, and the chain of operations by
+//! which it came to know of it. What an audit says is so, it leaves out no such read, and it names
+//! none twice. The laws are the contracts of functions that do nothing.
 #![tactic(auto)]
 
 ghost use Rattle.std.specs.Prelude.{◌≡◌, ◌≤◌, ℕ, true, List, ◌∷◌, Some, is_some, length};
@@ -14,6 +15,7 @@ ghost use Rattle.law_audit.specs.Clocks.{reaches, clocks_of};
 ghost use Rattle.pci_command.specs.declared.op_id.OpId.{OpId};
 ghost use Rattle.law_audit.specs.Chains.{chain_of};
 ghost use Rattle.law_audit.specs.Links.{IsChain};
+ghost use Rattle.law_audit.specs.Sound.{AreSound, AreAll, AreOnce};
 
 /// What a master knows of all writes is one number for each author: in every run of a valid board a
 /// master knows of a write exactly where its number for the write's master is above the write's index.
@@ -51,4 +53,22 @@ pub fn chains_tell()
     ensures { (board : Board) (h : List Event) (w : OpId) (r : OpId) (chain : List OpId) →
         IsValid board → Run board h → chain_of board h w r ≡ Some chain →
         IsChain board h w r chain }
+{}
+
+/// In every run of every valid board each finding of its audit is so: what the read read and
+/// returned, that its master knew of the write before, by this chain, and that of what had landed
+/// in the word as it read nothing behind a landing of that write was known.
+pub fn findings_are_so()
+    ensures { (board : Board) (h : List Event) → IsValid board → Run board h → AreSound board h }
+{}
+
+/// Each read that ended with what it read of a word, and whose master knew of a write of that word
+/// before, has a finding.
+pub fn reads_that_knew_are_found()
+    ensures { (board : Board) (h : List Event) → IsValid board → Run board h → AreAll board h }
+{}
+
+/// No read has two findings.
+pub fn reads_are_found_once()
+    ensures { (board : Board) (h : List Event) → IsValid board → Run board h → AreOnce board h }
 {}

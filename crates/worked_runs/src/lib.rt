@@ -10,6 +10,7 @@ ghost use Rattle.history_model.specs.Knowledge.{Told, saw};
 ghost use Rattle.history_model.specs.Left.{left_of};
 ghost use Rattle.law_audit.specs.Chains.{chain_of};
 ghost use Rattle.law_audit.specs.Audit.{findings};
+ghost use Rattle.law_audit.specs.Sound.{AreSound};
 ghost use Rattle.worked_runs.specs.Audited.{relay_chain, relay_findings, one_word_findings};
 ghost use Rattle.worked_runs.specs.Relay.{relay_board, relay_events, first_write, first_flag, second_write, last_read};
 ghost use Rattle.worked_runs.specs.Wrong.{wrong_value, early_completion, second_accept, all_at_once, plain_arrival, marked_arrival};
@@ -213,6 +214,12 @@ pub fn relay()
     ensures chain { chain_of relay_board (history_of relay_events) first_write last_read ≡ Some relay_chain }
     ensures not_told { chain_of relay_board (history_of relay_events) last_read first_write ≡ None }
     ensures findings { findings relay_board (history_of relay_events) ≡ relay_findings }
+{}
+
+/// And that line is so: what the last read returned, how its master knew of the write before, by
+/// which chain, and that nothing had landed in the word behind it.
+pub fn relay_is_found()
+    ensures { AreSound relay_board (history_of relay_events) }
 {}
 
 /// But the first master is told of nothing: not of the write by which the second one told the third.

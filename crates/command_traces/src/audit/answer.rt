@@ -7,6 +7,7 @@ use audit_text::audit_text;
 use board_tree::Tree;
 use history_model::Event;
 use law_delivered::reads_return_what_was_left;
+use law_audit::{findings_are_so, reads_are_found_once, reads_that_knew_are_found};
 use law_fresh::runs_are_fresh;
 use pci_command::{List, NoMemory};
 use program_input::{TreeTrace, read_run};
@@ -26,14 +27,17 @@ pub fn answer_audit(alloc: Global, input: &[u8]) -> Result<Vec<u8>, Status>
     }
 }
 
-/// The audit of a run, which is fresh.
+/// The audit of a run, which is fresh: what it says is so, and it says it all, once.
 fn text_of_run(alloc: Global, tree: &Tree, events: &[Event]) -> Result<List<u8>, NoMemory>
     requires { Run tree.now (history_of events.now) }
     ensures { IfOk result (Audits tree.now events.now) }
 {
     runs_are_fresh();
     reads_return_what_was_left();
-    // The board of a tree is valid, so that these laws speak of its runs.
+    findings_are_so();
+    reads_that_knew_are_found();
+    reads_are_found_once();
+    // The board of a tree is valid, so that the laws hold of its runs.
     let _valid = tree.board();
     audit_text(alloc, tree, events)
 }
