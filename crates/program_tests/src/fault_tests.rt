@@ -1,10 +1,10 @@
 //! Each call of a port fails in turn, a sink fills up, and texts are cut. What is wanted stands in
 //! the tables, and was worked out by hand.
+use crate::calls::{sink, source, words};
 use board_statements::LineFault;
-use io_ports::{MemorySink, MemorySource, SureSink, SureSource};
+use io_ports::{SureSink, SureSource};
 use pci_command::List;
-use pcitree::{BoardFault, NoGate, Status, pcitree, pcitree_surely};
-use std::alloc::Global;
+use pcitree::{BoardFault, NoGate, Status, file_word, pcitree, pcitree_surely};
 use std::test::Fail;
 use trace_reader::TraceLineFault;
 
@@ -33,28 +33,6 @@ events
 end 2
 ";
 
-/// A call gives or takes at most so many bytes.
-const MOST: usize = 16;
-
-fn words(alloc: Global, all: &[&str]) -> Result<Vec<String>, Fail> {
-    let mut words = Vec::new(alloc);
-    for word in all {
-        words.push(String::from_str(alloc, word)?)?;
-    }
-    Ok(words)
-}
-
-fn source(alloc: Global, text: &[u8], failing: u32) -> Result<MemorySource, Fail> {
-    let bytes = List::from_vec(text.to_vec(alloc)?);
-    let failing = List::from_vec(vec![in alloc; failing]?);
-    Ok(MemorySource::new(bytes, MOST, failing))
-}
-
-fn sink(alloc: Global, size: usize, failing: u32) -> Result<MemorySink, Fail> {
-    let failing = List::from_vec(vec![in alloc; failing]?);
-    Ok(MemorySink::new(alloc, MOST, failing, size)?)
-}
-
 /// The first bytes of the text, so many of them as it has.
 fn front(text: &str, count: usize) -> &[u8] {
     let bytes = text.as_bytes();
@@ -65,7 +43,7 @@ fn front(text: &str, count: usize) -> &[u8] {
 #[test]
 fn each_call_of_the_source_fails_in_turn(rt: HostRuntime) -> Result<(), Fail> {
     let alloc = rt.alloc();
-    let words = words(alloc, &["run", "--steady", "f"])?;
+    let words = words(alloc, "run --steady f")?;
     // seven calls give the board, and the eighth is its end
     for (call, status, taken) in [
         (1, Status::ReadFault, ""),
@@ -97,7 +75,7 @@ fn each_call_of_the_source_fails_in_turn(rt: HostRuntime) -> Result<(), Fail> {
 #[test]
 fn each_call_of_the_sink_fails_in_turn(rt: HostRuntime) -> Result<(), Fail> {
     let alloc = rt.alloc();
-    let words = words(alloc, &["run", "--steady", "f"])?;
+    let words = words(alloc, "run --steady f")?;
     // eleven calls take 16 bytes each, and the twelfth the other five
     for (call, status, taken) in [
         (1, Status::WriteFault, 0),
@@ -133,7 +111,7 @@ fn each_call_of_the_sink_fails_in_turn(rt: HostRuntime) -> Result<(), Fail> {
 #[test]
 fn a_sink_fills_up(rt: HostRuntime) -> Result<(), Fail> {
     let alloc = rt.alloc();
-    let words = words(alloc, &["run", "--steady", "f"])?;
+    let words = words(alloc, "run --steady f")?;
     for (size, status) in [
         (100, Status::WriteFault),
         (180, Status::WriteFault),
@@ -158,7 +136,7 @@ fn a_sink_fills_up(rt: HostRuntime) -> Result<(), Fail> {
 #[test]
 fn ports_that_never_fail(rt: HostRuntime) -> Result<(), Fail> {
     let alloc = rt.alloc();
-    let words = words(alloc, &["run", "--steady", "f"])?;
+    let words = words(alloc, "run --steady f")?;
     let mut source = SureSource::new(List::from_vec(BOARD.as_bytes().to_vec(alloc)?));
     let mut sink = SureSink::new();
     let answer = pcitree_surely(
@@ -184,7 +162,7 @@ fn at_line(line: u32, fault: LineFault) -> Status {
 #[test]
 fn a_board_is_cut(rt: HostRuntime) -> Result<(), Fail> {
     let alloc = rt.alloc();
-    let words = words(alloc, &["run", "--steady", "f"])?;
+    let words = words(alloc, "run --steady f")?;
     for (count, status, end) in [
         (0, at_line(1, LineFault::NoFirstLine), ""),
         (10, Status::Done, "events\nend 0\n"),
@@ -218,7 +196,7 @@ fn a_board_is_cut(rt: HostRuntime) -> Result<(), Fail> {
 #[test]
 fn a_trace_is_cut(rt: HostRuntime) -> Result<(), Fail> {
     let alloc = rt.alloc();
-    let words = words(alloc, &["check", "f"])?;
+    let words = words(alloc, "check f")?;
     for (count, line, fault) in [
         (0, 1, TraceLineFault::NoFirstLine),
         (11, 2, TraceLineFault::NoEventsLine),
@@ -243,6 +221,28 @@ fn a_trace_is_cut(rt: HostRuntime) -> Result<(), Fail> {
             "of {count} bytes"
         );
         assert_eq!(rt; sink.bytes(), b"".as_slice());
+    }
+    Ok(())
+}
+
+#[test]
+fn words_of_no_form_are_told_by_place(rt: HostRuntime) -> Result<(), Fail> {
+    let alloc = rt.alloc();
+    for (line, place) in [
+        ("", None),
+        ("run", None),
+        ("run --fast f", None),
+        ("run --steady", None),
+        ("run a b", None),
+        ("headers f g", None),
+        ("walk f", None),
+        ("generate 1", None),
+        ("run --steady f", Some(2)),
+        ("headers f", Some(1)),
+        ("draw f 1 2", Some(1)),
+    ] {
+        let words = words(alloc, line)?;
+        assert_eq!(rt; file_word(words.as_slice()), place, "of {line}");
     }
     Ok(())
 }

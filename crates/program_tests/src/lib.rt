@@ -3,6 +3,8 @@
 #![tactic(auto)]
 
 #[cfg(test)]
+mod calls;
+#[cfg(test)]
 mod fault_tests;
 #[cfg(test)]
 mod io_ports_tests;
@@ -11,4 +13,4 @@ mod refused_text_tests;
 #[cfg(test)]
 mod shown_lines_tests;
 #[cfg(test)]
-mod threads_tests;
+mod thread_tests;

@@ -1,19 +1,42 @@
 //! As many threads run as there are buses, and what is read depends on which bus was held: the texts
 //! were worked out by hand.
-use board_tree::{Tree, validate};
-use engine_runs::{Gate, threaded_run};
-use history_model::Event;
-use judge_check::{Verdict, check};
-use pci_command::List;
+use crate::calls::{sink, source, words};
+use pcitree::{Gate, NoGate, Status, pcitree};
 use std::alloc::Global;
 use std::sync::atomic::{AtomicU64, Ordering};
 use std::test::Fail;
 use std::thread;
-use trace_reader::read_trace;
+use std::thread::Threads;
+
+/// Three writers on one bus, behind a bridge that holds one posted write.
+const DEPTH_ONE: &str = "\
+pciboard 1
+bridge 1 on 0 dev 1 last 1 mem 80000000 800fffff posted 1
+target ram on 1 dev 1
+range mem 80000000 00001000
+master a on 0
+mw 80000000 00000001
+master b on 0
+mw 80000000 00000002
+master c on 0
+mw 80000000 00000003
+";
+
+/// The data is written on bus 0 and read on bus 1.
+const TWO_BUSES: &str = "\
+pciboard 1
+bridge 1 on 0 dev 1 last 1 mem 80000000 800fffff
+target ram on 1 dev 1
+range mem 80000000 00001000
+master a on 0
+mw 80000000 00000001
+master b on 1
+mr 80000000
+";
 
 /// Bus 1 works when bus 0 has written: the write arrives in the same phase, and lands before the
 /// read.
-const WRITTEN_FIRST: &[u8] = b"\
+const WRITTEN_FIRST: &str = "\
 pcitrace 1
 pciboard 1
 bridge 1 on 0 dev 1 last 1 mem 80000000 800fffff
@@ -33,7 +56,7 @@ end 5
 ";
 
 /// The same board, where bus 0 works when bus 1 has read.
-const READ_FIRST: &[u8] = b"\
+const READ_FIRST: &str = "\
 pcitrace 1
 pciboard 1
 bridge 1 on 0 dev 1 last 1 mem 80000000 800fffff
@@ -134,46 +157,50 @@ impl Gate for Hold {
     }
 }
 
-/// The board and the events of a trace.
-fn read(alloc: Global, text: &[u8]) -> Result<(Tree, List<Event>), Fail> {
-    if text.len() > 1000 {
-        return Err("too long".into());
-    }
-    let (board, events) = read_trace(alloc, text)?;
-    let tree = validate(board).ok().ok_or("not valid")?;
-    Ok((tree, events))
-}
-
-/// The verdict on these events of the board.
-fn judged(alloc: Global, tree: &Tree, events: &List<Event>) -> Result<Verdict, Fail> {
-    if events.as_slice().len() > 1000 {
-        return Err("too many".into());
-    }
-    Ok(check(alloc, tree, events.as_slice())?)
+/// What the program answers to these words, and what its sink took.
+fn call<R: Threads + Sync, G: Gate + Sync>(
+    rt: &R,
+    alloc: Global,
+    line: &str,
+    text: &[u8],
+    gate: &G,
+) -> Result<(Status, Vec<u8>), Fail> {
+    let words = words(alloc, line)?;
+    let mut source = source(alloc, text, 0)?;
+    let mut sink = sink(alloc, 4096, 0)?;
+    let answer = pcitree(rt, alloc, words.as_slice(), &mut source, &mut sink, gate);
+    Ok((answer, sink.bytes().to_vec(alloc)?))
 }
 
 #[test]
 fn as_many_threads_run_as_there_are_buses(rt: HostRuntime) -> Result<(), Fail> {
-    let (tree, _) = read(rt.alloc(), WRITTEN_FIRST)?;
+    let alloc = rt.alloc();
     let gate = BothMeet {
         met: AtomicU64::new(0),
         alone: AtomicU64::new(0),
     };
-    let events = threaded_run(&rt, rt.alloc(), &tree, &gate)?;
+    let (status, trace) = call(&rt, alloc, "run f", DEPTH_ONE.as_bytes(), &gate)?;
+    assert_eq!(rt; status, Status::Done);
     assert_eq!(rt; gate.alone.load(Ordering::SeqCst), 0);
-    assert_eq!(rt; judged(rt.alloc(), &tree, &events)?, Verdict::Complete);
+    let (status, verdict) = call(&rt, alloc, "check f", &trace, &NoGate)?;
+    assert_eq!(rt; status, Status::Done);
+    assert_eq!(rt;
+        verdict.as_slice(),
+        b"complete run of 12 events, bound 12\n".as_slice()
+    );
     Ok(())
 }
 
 #[test]
 fn what_is_read_depends_on_which_bus_was_held(rt: HostRuntime) -> Result<(), Fail> {
+    let alloc = rt.alloc();
     for (held, text, turns) in [
         (1, WRITTEN_FIRST, [Some(1), Some(3)]),
         (0, READ_FIRST, [Some(1), Some(1)]),
     ] {
-        let (tree, wanted) = read(rt.alloc(), text)?;
         let gate = Hold::new(held);
-        let events = threaded_run(&rt, rt.alloc(), &tree, &gate)?;
+        let (status, trace) = call(&rt, alloc, "run f", TWO_BUSES.as_bytes(), &gate)?;
+        assert_eq!(rt; status, Status::Done, "with bus {held} held");
         assert_eq!(rt;
             gate.alone.load(Ordering::SeqCst),
             0,
@@ -184,12 +211,7 @@ fn what_is_read_depends_on_which_bus_was_held(rt: HostRuntime) -> Result<(), Fai
             turns,
             "with bus {held} held"
         );
-        assert_eq!(rt;
-            events.as_slice(),
-            wanted.as_slice(),
-            "with bus {held} held"
-        );
-        assert_eq!(rt; judged(rt.alloc(), &tree, &events)?, Verdict::Complete);
+        assert_eq!(rt; trace.as_slice(), text.as_bytes(), "with bus {held} held");
     }
     Ok(())
 }

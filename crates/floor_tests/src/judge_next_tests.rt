@@ -1,0 +1,68 @@
+ghost use Rattle.std.specs.Prelude.{IfOk};
+ghost use Rattle.judge_next.specs.Course.{HasCourse};
+
+use crate::worked_read_tests::one_bus;
+use board_model::Place;
+use board_tree::Tree;
+use history_model::{By, Event, Step, Why};
+use judge_next::Course;
+use judge_state::Kept;
+use pci_command::{NoMemory, OpId};
+use std::alloc::Global;
+use std::test::Fail;
+
+/// What the master's operation of this number ends with at the target.
+fn act(index: u16, step: Step) -> Event {
+    Event::Act {
+        bus: 0,
+        by: By::Master,
+        op: OpId {
+            master: 0,
+            index,
+            attempt: 0,
+        },
+        step,
+        place: Place::Target(0),
+    }
+}
+
+/// The run without events.
+fn begin(alloc: Global, tree: &Tree) -> Result<Course, NoMemory>
+    ensures { IfOk result (HasCourse tree.now) }
+{
+    let kept = Kept::new(alloc, tree)?;
+    Course::new(alloc, tree, kept)
+}
+
+/// One event more, if it is allowed: it is the course of a run either way.
+fn step(course: &mut Course, tree: &Tree, event: &Event) -> Result<(), Why>
+    requires { HasCourse tree.now course.old }
+    ensures { HasCourse tree.now course.new }
+{
+    course.step(tree, event)
+}
+
+/// The next event: it is the course of the same run then.
+fn next(course: &mut Course, tree: &Tree) -> Option<Event>
+    requires { HasCourse tree.now course.old }
+    ensures { HasCourse tree.now course.new }
+{
+    course.next(tree)
+}
+
+#[test]
+fn a_refused_event_leaves_the_run_as_it_was(rt: HostRuntime) -> Result<(), Fail> {
+    let tree = one_bus(&rt, rt.alloc())?;
+    let mut course = begin(rt.alloc(), &tree)?;
+    for (wrong, right) in [
+        (act(0, Step::Read(0)), act(0, Step::Land)),
+        (act(1, Step::Read(0)), act(1, Step::Read(0x2a))),
+    ] {
+        let refused = step(&mut course, &tree, &wrong);
+        assert_eq!(rt; refused, Err(Why::AnsweredOtherwise));
+        assert_eq!(rt; next(&mut course, &tree), Some(right));
+        assert_eq!(rt; step(&mut course, &tree, &right), Ok(()));
+    }
+    assert_eq!(rt; next(&mut course, &tree), None);
+    Ok(())
+}
