@@ -12,7 +12,7 @@ pub enum LspciFault {
     NoRow,
     #[error("a device number above 1f")]
     HighDevice,
-    #[error("the board that it tells of is not valid, or its text is longer than 1 MiB")]
+    #[error("the board of this machine is not valid, or its text is longer than 1 MiB")]
     NoBoard,
 }
 
