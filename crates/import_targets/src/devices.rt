@@ -35,8 +35,7 @@ pub fn devices_of(
     Ok(List::from_vec(devices))
 }
 
-/// Those of the functions that are left.
-#[tactic(auto, using(crate::proofs::DeviceLemmas::step_devices))]
+/// Those of the functions.
 fn push_devices(
     alloc: Global,
     devices: &mut Vec<Device>,
