@@ -1,4 +1,4 @@
-use Rattle.std.proofs.Common.{◌≡◌, true, false, length, take, sym, ◌∙◌}
+use Rattle.std.proofs.Common.{◌≡◌, true, false, take, sym, ◌∙◌}
 use Rattle.std.specs.List.{list_any}
 use Rattle.import_text.specs.Functions.{has_slot}
 use Rattle.import_text.proofs.SlotLemmas.{was_there, was_new, seen_more, repeats, repeats_behind}
