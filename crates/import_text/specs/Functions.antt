@@ -125,9 +125,11 @@ lacking functions = line_told (find lacks_row functions)
 abbrev pub has_high_device : Function → Bool
 has_high_device function = nat_lt 31 function.slot.device
 
+-- the line of the first that has one
 abbrev pub high : List Function → Option ℕ
 high functions = line_told (find has_high_device functions)
 
+-- the functions, unless one has
 abbrev pub read_or_high : Option ℕ → List Function → Result (List Function) (ℕ × LspciFault)
 read_or_high (Some line) functions = Err (line, HighDevice)
 read_or_high None functions = Ok functions

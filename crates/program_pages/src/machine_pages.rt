@@ -33,8 +33,8 @@ pub static MACHINE_PAGES: [Page; 5] = [
     Page {
         code: "I4",
         fault: Fault::Machine(LspciFault::HighDevice),
-        rule: "A device number, `dd` of the slot line `bb:dd.f`, is from 00 to 1f: a bus has no more\n\
-            devices.",
+        rule: "A device number, `dd` of the slot line `bb:dd.f`, is from 00 to 1f: a bus has\n\
+            no more devices.",
         example: "00:20.0 Memory controller\n\
             00: 34 12 01 00 07 00 00 00 00 00 80 05 00 00 00 00\n\
             10: 00 00 00 10 00 00 00 00 00 00 00 00 00 00 00 00\n\
@@ -44,9 +44,10 @@ pub static MACHINE_PAGES: [Page; 5] = [
     Page {
         code: "I5",
         fault: Fault::Machine(LspciFault::NoBoard),
-        rule: "What `import` is about to write is read before it is written: it has to be the text of a\n\
-            valid board, of at most 1 MiB, since no other text is read. The comments on thousands of\n\
-            functions can be longer than that. No example of a few lines is known.",
+        rule: "What `import` is about to write is read before it is written: it has to be\n\
+            the text of a valid board, of at most 1 MiB, since no other text is read. The\n\
+            comments on thousands of functions can be longer than that. No example of a few\n\
+            lines is known.",
         example: "",
     },
 ];

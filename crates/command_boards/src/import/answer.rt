@@ -12,8 +12,9 @@ use program_input::read_tree;
 use program_status::Status;
 use std::alloc::Global;
 
-/// The board text of the machine of which `lspci -vvxxx` wrote these bytes, below the least bus of its
-/// least domain. It is read before it is answered: it is the text of a valid board, of at most 1 MiB.
+/// The board text of the machine of which `lspci -vvxxx` wrote these bytes, below the least bus of
+/// its least domain. It is read before it is answered: it is the text of a valid board, of at most
+/// 1 MiB.
 pub fn answer_import(alloc: Global, input: &[u8]) -> Result<Vec<u8>, Status>
     requires { length input.now < 2 ^ 31 }
     ensures ok { IfOk result (λ text. AnswersImport input.now text.items) }
