@@ -4,7 +4,7 @@ _pcitree() {
   if [ "$COMP_CWORD" = 1 ]; then
     mapfile -t COMPREPLY < <(compgen -W "run headers check finish audit report waves draw untagged combine generate devices import explain help --version --help" -- "$word")
   elif [ "$first" = explain ]; then
-    mapfile -t COMPREPLY < <(compgen -W "L1 L2 L3 P1 P2 P3 P4 P5 P6 P7 P8 P9 P10 P11 P12 H1 H2 H3 H4 V1 V2 V3 V4 V5 V6 V7 V8 V9 Q1 Q2 Q3 Q4 Q5 Q6 X1 X2 X3 X4 X5 X6 X7 X8 N1 N2 N3 N4 N5 I1 I2 I3" -- "${word^^}")
+    mapfile -t COMPREPLY < <(compgen -W "L1 L2 L3 P1 P2 P3 P4 P5 P6 P7 P8 P9 P10 P11 P12 H1 H2 H3 H4 V1 V2 V3 V4 V5 V6 V7 V8 V9 Q1 Q2 Q3 Q4 Q5 Q6 X1 X2 X3 X4 X5 X6 X7 X8 N1 N2 N3 N4 N5 I1 I2 I3 I4 I5" -- "${word^^}")
   elif [ "$first" = help ] || [ "$first" = --help ]; then
     mapfile -t COMPREPLY < <(compgen -W "run headers check finish audit report waves draw untagged combine generate devices import explain help --version" -- "$word")
   elif [ "$first" = run ] && [ "$COMP_CWORD" = 2 ]; then

@@ -77,7 +77,7 @@ abbrev pub functions_left : Device → ℕ
 functions_left device =
     if is_target device.fate then count_by (λ (judged : List Judged). not (claims_something judged)) device.functions else length device.functions
 
--- Addresses from 2^32 on.
+-- Addresses and sizes from 2^32 on.
 
 abbrev pub is_far : Window → Bool
 is_far window = nat_le (2 ^ 32) window.limit
@@ -91,8 +91,9 @@ abbrev pub is_far_bridge : BridgeFate → Bool
 is_far_bridge (LeftOut reason) = false
 is_far_bridge (Taken bridge) = has_far_window bridge.mem || (has_far_window bridge.pref || has_far_window bridge.io)
 
+-- of a range the size is written too
 abbrev pub is_far_range : RangeFate → Bool
-is_far_range (Placed span) = is_far span
+is_far_range (Placed span) = is_far span || nat_le (2 ^ 32 - 1) (span.limit - span.base)
 is_far_range (NotPlaced reason) = false
 
 abbrev pub has_far_range : List Judged → Bool

@@ -19,14 +19,18 @@ pub(crate) fn print_bridges(
 ) -> Result<(), AllocError>
     ensures { OnOk result (string_bytes text.new ≡ string_bytes text.old ++ bridge_lines machine.now functions.now fates.now) }
 {
-    match (functions.split_first(), fates.split_first()) {
-        (Some((function, functions)), Some((fate, fates))) => {
-            print_title(text, function)?;
-            print_body(text, machine, function, fate)?;
-            print_bridges(text, machine, functions, fates)
-        }
-        _ => Ok(()),
+    let mut left = functions;
+    let mut fates_left = fates;
+    while let [function, behind @ ..] = left {
+        let [fate, fates_behind @ ..] = fates_left else {
+            return Ok(());
+        };
+        print_title(text, function)?;
+        print_body(text, machine, function, fate)?;
+        left = behind;
+        fates_left = fates_behind;
     }
+    Ok(())
 }
 
 fn print_body(

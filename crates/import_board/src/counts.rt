@@ -1,4 +1,4 @@
-ghost use Rattle.std.specs.Prelude.{◌≡◌, ◌≤◌, ◌+◌, ◌||◌, ◌&&◌, length, not};
+ghost use Rattle.std.specs.Prelude.{◌≡◌, ◌≤◌, ◌+◌, ◌*◌, ◌||◌, ◌&&◌, length, not};
 ghost use Rattle.std.specs.List.{list_any, count_by};
 ghost use Rattle.list_facts.specs.Lists.{total};
 ghost use Rattle.import_targets.specs.Devices.{is_target, is_placed, claims_something};
@@ -85,21 +85,33 @@ pub(crate) fn windows_left(fates: &[BridgeFate]) -> u64
     count
 }
 
+fn own_ranges_of(function: &Function, fate: &BridgeFate) -> u64
+    ensures { result ≡ capped (one_if (is_taken fate.now) * length (found_in function.now)) }
+{
+    if is_taken(fate) {
+        found_count(function) as u64
+    } else {
+        0
+    }
+}
+
 /// How many own ranges the bridges have that are taken.
+#[tactic(auto, using(crate::proofs::CountLemmas::capped_small, crate::proofs::CountLemmas::capped_more, crate::proofs::CountLemmas::capped_inner))]
 fn own_ranges(functions: &[Function], fates: &[BridgeFate]) -> u64
     ensures { result ≡ capped (own_ranges functions.now fates.now) }
 {
-    match (functions.split_first(), fates.split_first()) {
-        (Some((function, functions)), Some((fate, fates))) => {
-            let behind = own_ranges(functions, fates);
-            if is_taken(fate) {
-                behind.saturating_add(found_count(function) as u64)
-            } else {
-                behind
-            }
-        }
-        _ => 0,
+    let mut count = 0_u64;
+    let mut left = functions;
+    let mut fates_left = fates;
+    while let [function, behind @ ..] = left {
+        let [fate, fates_behind @ ..] = fates_left else {
+            return count;
+        };
+        count = count.saturating_add(own_ranges_of(function, fate));
+        left = behind;
+        fates_left = fates_behind;
     }
+    count
 }
 
 fn count_placed(judged: &[Judged]) -> usize
@@ -283,7 +295,9 @@ fn is_far_range(fate: RangeFate) -> bool
     ensures { result ≡ is_far_range fate }
 {
     match fate {
-        RangeFate::Taken(span) => is_far(span),
+        RangeFate::Taken(span) => {
+            is_far(span) || span.limit.saturating_sub(span.base) >= 0xffff_ffff
+        }
         RangeFate::LeftOut(_) => false,
     }
 }
@@ -302,7 +316,7 @@ fn some_far(functions: &[List<Judged>]) -> bool
         .any(|judged| has_far_range(judged.as_slice()))
 }
 
-/// Whether a window or a range of the board reaches 2^32.
+/// Whether a window or a range of the board reaches 2^32, or a range has so many addresses.
 pub(crate) fn has_far(fates: &[BridgeFate], devices: &[Device]) -> bool
     ensures { result ≡ (list_any is_far_bridge fates.now || list_any is_far_device devices.now) }
 {

@@ -22,15 +22,16 @@ pub(crate) fn print_devices(
 ) -> Result<(), AllocError>
     ensures { OnOk result (string_bytes text.new ≡ string_bytes text.old ++ devices_lines machine.now functions.now devices.now) }
 {
-    match devices.split_first() {
-        None => Ok(()),
-        Some((device, devices)) => {
-            let many = device.functions.as_slice().len().min(functions.len());
-            let (own, behind) = functions.split_at(many);
-            print_device(text, machine, device, own)?;
-            print_devices(text, machine, behind, devices)
-        }
+    let mut functions_left = functions;
+    let mut left = devices;
+    while let [device, behind @ ..] = left {
+        let many = device.functions.as_slice().len().min(functions_left.len());
+        let (own, functions_behind) = functions_left.split_at(many);
+        print_device(text, machine, device, own)?;
+        functions_left = functions_behind;
+        left = behind;
     }
+    Ok(())
 }
 
 fn print_device(

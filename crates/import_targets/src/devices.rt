@@ -35,8 +35,7 @@ pub fn devices_of(
     Ok(List::from_vec(devices))
 }
 
-/// Those of the functions that are left.
-#[tactic(auto, using(crate::proofs::DeviceLemmas::step_devices))]
+/// Those of the functions.
 fn push_devices(
     alloc: Global,
     devices: &mut Vec<Device>,
@@ -48,14 +47,13 @@ fn push_devices(
     requires given { taken.old.given.items ≡ map place_of bridges.now ++ taken.old.targets.items }
     ensures { IfOk result (λ _. devices.new.items ≡ devices.old.items ++ devices_behind machine.now bridges.now taken.old.placed.items taken.old.targets.items (by_device functions.now)) }
 {
-    match functions.split_first() {
-        None => Ok(()),
-        Some((first, _)) => {
-            let (own, behind) = functions.split_at(run_length(functions));
-            devices.push(judged_device(alloc, machine, bridges, taken, first, own)?)?;
-            push_devices(alloc, devices, machine, bridges, taken, behind)
-        }
+    let mut left = functions;
+    while let [first, ..] = left {
+        let (own, behind) = left.split_at(run_length(left));
+        devices.push(judged_device(alloc, machine, bridges, taken, first, own)?)?;
+        left = behind;
     }
+    Ok(())
 }
 
 /// What was taken by now: the device numbers that were given, those of targets, and ranges.

@@ -1,9 +1,11 @@
 -- The number by which a fault is printed, behind an I.
 use Rattle.std.specs.Prelude.{ℕ}
 use Rattle.import_text.specs.declared.fault.LspciFault.{LspciFault}
-use Rattle.import_text.specs.declared.fault.LspciFault.TheVariants.{NoSlot, Repeated, NoRow}
+use Rattle.import_text.specs.declared.fault.LspciFault.TheVariants.{NoSlot, Repeated, NoRow, HighDevice, NoBoard}
 
 abbrev pub code_of : LspciFault → ℕ
 code_of NoSlot = 1
 code_of Repeated = 2
 code_of NoRow = 3
+code_of HighDevice = 4
+code_of NoBoard = 5

@@ -1,5 +1,5 @@
 -- The functions of a text, or its first fault.
-use Rattle.std.specs.Prelude.{◌≡◌, ℕ, Bool, true, false, ◌+◌, List, [], ◌∷◌, ◌++◌, length, take, find, Option, Some, None, Result, Ok, Err, ◌==◌, ◌&&◌, not, if◌then◌else◌}
+use Rattle.std.specs.Prelude.{◌≡◌, ℕ, Bool, true, false, ◌+◌, List, [], ◌∷◌, ◌++◌, length, take, find, Option, Some, None, Result, Ok, Err, ◌==◌, ◌&&◌, not, nat_lt, if◌then◌else◌}
 use Rattle.std.specs.List.{position_or_len, list_any}
 use Rattle.import_text.specs.declared.slot.Slot.{Slot as Place}
 use Rattle.import_text.specs.declared.capability.Kind.{Kind}
@@ -7,7 +7,7 @@ use Rattle.import_text.specs.declared.entry.Entry.{Entry}
 use Rattle.import_text.specs.declared.entry.Entry.TheVariants.{Slot, Row, Region, Capability, Other}
 use Rattle.import_text.specs.declared.function.Function.{Function}
 use Rattle.import_text.specs.declared.fault.LspciFault.{LspciFault}
-use Rattle.import_text.specs.declared.fault.LspciFault.TheVariants.{NoSlot, Repeated, NoRow}
+use Rattle.import_text.specs.declared.fault.LspciFault.TheVariants.{NoSlot, Repeated, NoRow, HighDevice}
 use Rattle.import_text.specs.declared.fault.ReadFault.{ReadFault}
 use Rattle.import_text.specs.declared.fault.ReadFault.TheVariants.{Fault, NoMemory}
 use Rattle.import_text.specs.Entries.{entries_read}
@@ -121,15 +121,29 @@ line_told (Some function) = Some function.line
 abbrev pub lacking : List Function → Option ℕ
 lacking functions = line_told (find lacks_row functions)
 
+-- a device number above 1f, which no bus has
+abbrev pub has_high_device : Function → Bool
+has_high_device function = nat_lt 31 function.slot.device
+
+-- the line of the first that has one
+abbrev pub high : List Function → Option ℕ
+high functions = line_told (find has_high_device functions)
+
+-- the functions, unless one has
+abbrev pub read_or_high : Option ℕ → List Function → Result (List Function) (ℕ × LspciFault)
+read_or_high (Some line) functions = Err (line, HighDevice)
+read_or_high None functions = Ok functions
+
 abbrev pub read_or_lacking : Option ℕ → List Function → Result (List Function) (ℕ × LspciFault)
 read_or_lacking (Some line) functions = Err (line, NoRow)
-read_or_lacking None functions = Ok functions
+read_or_lacking None functions = read_or_high (high functions) functions
 
 abbrev pub read_or_repeated : Option ℕ → List Function → Result (List Function) (ℕ × LspciFault)
 read_or_repeated (Some line) functions = Err (line, Repeated)
 read_or_repeated None functions = read_or_lacking (lacking functions) functions
 
--- no slot line at all, told of the line behind the last; then a slot that was there before; then a row that is missing
+-- no slot line at all, told of the line behind the last; then a slot that was there before; then a row that is missing;
+-- then a device number that no bus has
 abbrev pub judged : ℕ → List Function → Result (List Function) (ℕ × LspciFault)
 judged lines functions =
     if length functions == 0 then Err (lines + 1, NoSlot) else read_or_repeated (repeated_after [] functions) functions

@@ -10,6 +10,10 @@ pub enum LspciFault {
     Repeated,
     #[error("a function lacks one of the rows 00, 10, 20 and 30")]
     NoRow,
+    #[error("a device number above 1f")]
+    HighDevice,
+    #[error("the board of this machine is not valid, or its text is longer than 1 MiB")]
+    NoBoard,
 }
 
 impl LspciFault {
@@ -24,6 +28,8 @@ impl LspciFault {
             LspciFault::NoSlot => 1,
             LspciFault::Repeated => 2,
             LspciFault::NoRow => 3,
+            LspciFault::HighDevice => 4,
+            LspciFault::NoBoard => 5,
         }
     }
 }
@@ -31,7 +37,7 @@ impl LspciFault {
 /// Why a text was not read.
 #[derive(Clone, Copy, Debug, PartialEq, Eq, Error)]
 pub enum ReadFault {
-    /// The first fault of the text, and the line where it is. Lines are numbered from 1.
+    /// The first fault of the text, and the line where it is, from 1 on.
     #[error("line {line}: {fault}")]
     Fault { line: u32, fault: LspciFault },
     #[error("no memory")]

@@ -6,7 +6,7 @@ use pci_command::{List, NoMemory};
 use std::alloc::Global;
 
 /// Where a function is: its domain, its bus, its device number there, and its number in the device.
-#[derive(Clone, Copy, Debug, Default, PartialEq, Eq)]
+#[derive(Clone, Copy, Debug, Default, PartialEq, Eq, PartialOrd, Ord)]
 pub struct Slot {
     pub domain: u32,
     pub bus: u8,

@@ -2,7 +2,7 @@ use crate::{Fault, Page};
 use import_text::LspciFault;
 
 /// The pages of what `lspci` wrote, by code.
-pub static MACHINE_PAGES: [Page; 3] = [
+pub static MACHINE_PAGES: [Page; 5] = [
     Page {
         code: "I1",
         fault: Fault::Machine(LspciFault::NoSlot),
@@ -29,5 +29,25 @@ pub static MACHINE_PAGES: [Page; 3] = [
             them with `-x`: as root also where the header is not open to others.",
         example: "00:01.0 VGA compatible controller\n\
             00: 34 12 11 11 00 00 00 00 00 00 00 03 00 00 00 00\n",
+    },
+    Page {
+        code: "I4",
+        fault: Fault::Machine(LspciFault::HighDevice),
+        rule: "A device number, `dd` of the slot line `bb:dd.f`, is from 00 to 1f: a bus has\n\
+            no more devices.",
+        example: "00:20.0 Memory controller\n\
+            00: 34 12 01 00 07 00 00 00 00 00 80 05 00 00 00 00\n\
+            10: 00 00 00 10 00 00 00 00 00 00 00 00 00 00 00 00\n\
+            20: 00 00 00 00 00 00 00 00 00 00 00 00 00 00 00 00\n\
+            30: 00 00 00 00 00 00 00 00 00 00 00 00 00 00 00 00\n",
+    },
+    Page {
+        code: "I5",
+        fault: Fault::Machine(LspciFault::NoBoard),
+        rule: "What `import` is about to write is read before it is written: it has to be\n\
+            the text of a valid board, of at most 1 MiB, since no other text is read. The\n\
+            comments on thousands of functions can be longer than that. No example of a few\n\
+            lines is known.",
+        example: "",
     },
 ];

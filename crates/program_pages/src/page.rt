@@ -14,7 +14,7 @@ pub struct Page {
     pub fault: Fault,
     /// The rule that is broken.
     pub rule: &'static str,
-    /// A text that has this fault first.
+    /// A text that has this fault first: empty where none of a few lines is known.
     pub example: &'static str,
 }
 
@@ -57,10 +57,10 @@ fn has_code(page: &Page, code: &str) -> bool
 
 impl fmt::Display for Page {
     fn fmt<W: fmt::Write>(&self, f: &mut fmt::Formatter<W>) -> fmt::Result {
-        write!(
-            f,
-            "{}: {}\n\n{}\n\nExample:\n\n{}",
-            self.code, self.fault, self.rule, self.example
-        )
+        writeln!(f, "{}: {}\n\n{}", self.code, self.fault, self.rule)?;
+        if self.example.is_empty() {
+            return Ok(());
+        }
+        write!(f, "\nExample:\n\n{}", self.example)
     }
 }

@@ -43,7 +43,7 @@ pub enum Status {
     BadBoard { line: u32, fault: BoardFault },
     /// The text of the trace has a fault outside its board, at this line from 1 on.
     BadTrace { line: u32, fault: TraceLineFault },
-    /// What `lspci` wrote has a fault, at this line from 1 on.
+    /// What `lspci` wrote has a fault, at this line from 1 on, or 0 for the whole of it.
     BadMachine { line: u32, fault: LspciFault },
     /// So many events are to be drawn: more than a page may show.
     TooManyEvents { events: u64 },

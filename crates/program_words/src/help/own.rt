@@ -17,7 +17,7 @@ pub static OWN_WORDS: [OwnWord; 3] = [
         operand: " CODE",
         line: "says what a code such as P6 means, with an example",
         more: "The codes are those of the first line on standard error: L1 to L3, P1 to P12, H1 to H4,\n\
-            V1 to V9, Q1 to Q6, X1 to X8 and N1 to N5, in upper or lower case.",
+            V1 to V9, Q1 to Q6, X1 to X8, N1 to N5 and I1 to I5, in upper or lower case.",
     },
     OwnWord {
         word: "help",

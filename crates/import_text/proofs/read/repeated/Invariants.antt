@@ -1,10 +1,14 @@
-use Rattle.std.proofs.Common.{◌≡◌, ◌-◌, [], length, take, drop}
-use Rattle.import_text.specs.Functions.{repeated_after}
+use Rattle.std.proofs.Common.{◌≡◌, [], take, drop}
+use Rattle.std.specs.List.{list_any}
+use Rattle.std.specs.BTreeSet.{contains}
+use Rattle.import_text.specs.declared.slot.Slot.{Slot}
+use Rattle.import_text.specs.Functions.{has_slot, repeated_after}
+use Rattle.import_text.proofs.SlotLemmas.{order}
 use Rattle.import_text.proofs.read.repeated.Given as goal
 
--- none of those so far has the slot of one before
-abbrev pub invariant-loop-count : goal.invariant-loop-count
-invariant-loop-count l = repeated_after [] l.functions ≡ repeated_after (take l.count l.functions) (drop l.count l.functions)
-
-abbrev pub decreases-loop-count : goal.decreases-loop-count
-decreases-loop-count l = length l.functions - l.count
+-- none of those so far has the slot of one before, and their slots were seen, no others
+abbrev pub invariant-loop-function : goal.invariant-loop-function
+invariant-loop-function l = record {
+  none : repeated_after [] l.functions ≡ repeated_after (take l.function-index l.functions) (drop l.function-index l.functions);
+  seen : (slot : Slot) → contains order l.seen slot ≡ list_any (has_slot slot) (take l.function-index l.functions);
+}
