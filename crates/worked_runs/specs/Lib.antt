@@ -14,3 +14,4 @@ pub mod Passing
 pub mod Crossing
 pub mod Audited
 pub mod Premises
+pub mod Safe

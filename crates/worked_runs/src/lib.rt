@@ -27,6 +27,7 @@ ghost use Rattle.worked_runs.specs.Crossing.{crossing_board, crossing_events, cr
 ghost use Rattle.worked_runs.specs.Stealing.{stealing_board, stealing_events, held_back_events};
 
 mod premises;
+mod safe;
 
 pub use premises::{
     answers_need_what_was_sent, bridges_carry, flags_that_open_set_do_not_deliver,
@@ -35,6 +36,7 @@ pub use premises::{
     runs_need_not_be_complete, sides_need_the_depths, writes_are_settled_as_they_land,
     writes_are_told_one_way, wrong_parts_make_no_run,
 };
+pub use safe::data_behind_a_flag;
 
 /// A write, and a read of what it wrote, by one master: what its audit says.
 pub fn one_word()
