@@ -6,7 +6,7 @@ use crate::threads::run_rings;
 pub use crate::threads::{Gate, NoGate};
 use board_tree::Tree;
 use history_model::Event;
-use law_fresh::laws_of_runs;
+use law_delivered::laws_of_runs;
 use pci_command::{List, NoMemory};
 use std::alloc::Global;
 use std::thread::Threads;

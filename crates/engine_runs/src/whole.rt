@@ -5,7 +5,7 @@ ghost use Rattle.judge_check.specs.Verdicts.{CompleteRun};
 use crate::run_steady;
 use board_tree::Tree;
 use history_model::Event;
-use law_fresh::laws_of_runs;
+use law_delivered::laws_of_runs;
 use pci_command::{List, NoMemory};
 use std::alloc::Global;
 

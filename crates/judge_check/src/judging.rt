@@ -9,7 +9,7 @@ use crate::remaining::{is_complete, left};
 use board_tree::Tree;
 use history_model::Event;
 use judge_state::{Kept, take_all};
-use law_fresh::laws_of_runs;
+use law_delivered::laws_of_runs;
 use pci_command::NoMemory;
 use std::alloc::Global;
 

@@ -8,7 +8,7 @@ use Rattle.history_model.specs.declared.event.Event.{Event}
 use Rattle.history_model.specs.Runs.{Run, Allowed, Complete, history_of}
 use Rattle.history_model.specs.Left.{left_of}
 use Rattle.history_model.specs.Next.{next_of}
-use Rattle.law_fresh.specs.Laws.{LawsOfRun}
+use Rattle.law_delivered.specs.Laws.{LawsOfRun}
 use Rattle.judge_next.specs.declared.course.Course.{Course}
 use Rattle.judge_next.specs.Course.{IsCourse}
 use Rattle.judge_finish.specs.Finishing.{GoesOn, GoesOnBy, Finishes}
@@ -81,6 +81,8 @@ finishes board events whole went complete laws =
         complete = complete;
         matched = laws.matched;
         fresh = laws.fresh;
+        as_left = laws.as_left;
+        as_held = laws.as_held;
         bound = subst (λ n. n ≤ bound_of board) (length-reverse whole) laws.bounded;
       };
     }

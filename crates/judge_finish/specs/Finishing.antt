@@ -5,7 +5,7 @@ use Rattle.history_model.specs.declared.event.Event.{Event}
 use Rattle.history_model.specs.Runs.{Allowed, Complete, history_of}
 use Rattle.history_model.specs.Left.{left_of}
 use Rattle.history_model.specs.Next.{next_of}
-use Rattle.law_fresh.specs.Laws.{LawsOfRun}
+use Rattle.law_delivered.specs.Laws.{LawsOfRun}
 use Rattle.judge_state.specs.Refused.{FirstRefused}
 use Rattle.judge_next.specs.declared.course.Course.{Course}
 use Rattle.judge_next.specs.Course.{IsCourse}

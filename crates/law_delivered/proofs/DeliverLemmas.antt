@@ -1,5 +1,5 @@
 -- A flag that is clear delivers.
-use Rattle.std.proofs.Common.{◌≡◌, ℕ, ◌<◌, ◌≤◌, Bool, true, false, ◌||◌, eqb, eqb-true, cond, filter, List, [], ◌∷◌, ◌++◌, length, Option, Some, None, is_some, refl, sym, ap, subst, ◌∙◌, arith}
+use Rattle.std.proofs.Common.{◌≡◌, ℕ, ◌<◌, ◌≤◌, Bool, true, false, ◌||◌, eqb, eqb-true, cond, filter, List, [], length, Option, Some, None, is_some, refl, sym, ap, subst, ◌∙◌, arith}
 use Rattle.std.specs.List.{list_any, list_all, AllByRecursion}
 use Rattle.std.proofs.lemmas.Bool.Decides.{nat_tests}
 use Rattle.list_facts.specs.Lists.{total}
@@ -18,27 +18,27 @@ use Rattle.board_model.specs.Ways.{Dword}
 use Rattle.board_model.specs.Valid.{IsValid}
 use Rattle.history_model.specs.declared.event.Event.{Event}
 use Rattle.history_model.specs.Words.{Landing, landed, opens_at, opens_as}
-use Rattle.history_model.specs.Knowledge.{ends_as, has_ended, given_value, up_to_end, Reading, got, saw_in, saw, has_landed, is_landing_of, stands_after, later, one, more, is_write, Told}
+use Rattle.history_model.specs.Knowledge.{has_ended, given_value, Reading, saw_in, saw, has_landed, is_landing_of, stands_after, later, one, more, is_write, Told}
 use Rattle.history_model.specs.Runs.{Run}
 use Rattle.law_lanes.specs.order.Order.{is_posted_in, is_posted_op}
 use Rattle.std.proofs.lemmas.Bool.{and_parts, or_right, or_left}
-use Rattle.std.proofs.lemmas.List.Folds.{list_any-append}
 use Rattle.list_facts.proofs.AnyLemmas.{any_some, found_any}
 use Rattle.list_facts.proofs.EachLemmas.{Each-find, Each-weaker}
 use Rattle.list_facts.proofs.FindLemmas.{find_passes}
 use Rattle.history_model.proofs.facts.PostedLemmas.{write_not_read}
 use Rattle.history_model.proofs.facts.RequestLemmas.{same_op_self}
 use Rattle.law_bound.proofs.changes.Laws.{entry_of}
-use Rattle.law_fresh.proofs.reads.Laws.{master_there, no_reading}
-use Rattle.law_fresh.proofs.Laws.{Fresh-run, Front, front_run, front_front, front_end, read_by}
+use Rattle.law_fresh.proofs.reads.Laws.{master_there}
+use Rattle.law_fresh.proofs.BackLemmas.{ended_front}
+use Rattle.law_fresh.proofs.Laws.{front_run}
 use Rattle.law_fresh.proofs.Laws.{WriteOp, write_tries, same_place}
 use Rattle.law_delivered.specs.Clear.{phases_at, is_value, brings_value, rings, rings_in, rings_whole, holds, opens_otherwise, is_clear}
 use Rattle.law_delivered.specs.Delivered.{Awaits, is_met, raises, Delivers}
 use Rattle.law_delivered.proofs.FlagLemmas.{Written, written, op_whole, written_whole, written_rings, one_rings}
-use Rattle.law_delivered.proofs.NamedLemmas.{named_lands}
 use Rattle.law_delivered.proofs.RaisedLemmas.{alone_landed, landed_ended, ended_before}
 use Rattle.law_delivered.proofs.SeenLemmas.{Owner, owner_of, Met, met}
 use Rattle.law_delivered.proofs.ValueLemmas.{LandsWhole, lands_value, value_landed}
+use Rattle.law_delivered.proofs.left.LeftLemmas.{got_there, told_lands}
 
 -- The parts of a clear flag.
 record Clear (board : Board) (address value : ℕ) : Type 0 where
@@ -72,13 +72,6 @@ raiser board address value n is =
       | None ↦ λ _ f. cc
       | Some op ↦ λ is_op f. let some : 1 ≤ rings address value op = grind (arith, nat_tests) in record { op = op; is_op = is_op; some = some; posted = rings_posted address value op some }
     ]) refl is
-
--- what ended before has ended after
-ended_later : (before h : List Event) (o : OpId) → Front before h → has_ended before o ≡ true → has_ended h o ≡ true
-ended_later before h o front old =
-    let test : Event → Bool = λ e. is_some (ends_as o e) in
-    let both : list_any test (front.later ++ before) ≡ true = list_any-append test front.later before ∙ or_right (list_any test front.later) (list_any test before) old in
-    subst (λ g. list_any test g ≡ true) front.is both
 
 module _ (board : Board) (valid : IsValid board) (h : List Event) (run : Run board h) (p : OpId) (address value tries : ℕ) (is_op : op_of board p ≡ Some (Poll Mem address 0xffff_ffff value tries))
     (clear : Clear board address value) (n : OpId) (raised : Raiser board address value n) (is : is_met value (given_value h p) ≡ true) where
@@ -156,7 +149,7 @@ module _ (board : Board) (valid : IsValid board) (h : List Event) (run : Run boa
   ended_first w writes masters stands =
       let none = first_try in
       let index : w.index < n.index = grind (arith, nat_tests) in
-      ended_later before h w met_it.front (ended_before board before w n writes run_before (landed_ended board before n posted run_before landed_it) masters index)
+      ended_front w before h met_it.front (ended_before board before w n writes run_before (landed_ended board before n posted run_before landed_it) masters index)
 
   told : (w r : OpId) → is_write board w ≡ true → w.master ≡ n.master → stands_after w n ≡ true → r.master ≡ p.master → stands_after p r ≡ true → is_some (op_of board r) ≡ true → Told board h w r
   told w r writes masters stands others behind there =
@@ -169,29 +162,16 @@ module _ (board : Board) (valid : IsValid board) (h : List Event) (run : Run boa
       let later_p : later board h p r ≡ true = rw (same_p, ended_p, behind, there) refl in
       (writes, more w n r (or_left (later board h w n) (saw board h n w) later_w) (more n p r (or_right (later board h n p) (saw board h p n) saw_it) (one p r (or_left (later board h p r) (saw board h r p) later_p))))
 
--- an operation that got something is there
-got_there : (board : Board) (h : List Event) (r : OpId) (reading : Reading) → Run board h → got board h r ≡ Some reading → is_some (op_of board r) ≡ true
-got_there board h r reading run is_got =
-    let P : Option Op → Type 0 = λ found. op_of board r ≡ found → is_some found ≡ true in
-    (elim (op_of board r) as P [
-      | Some op ↦ λ _. refl
-      | None ↦ λ none.
-          let other : reads board r ≡ false = ap reads_in none in
-          let nothing = no_reading board r (up_to_end r h) other (front_run board (up_to_end r h) h (front_end r h) run) in
-          let e : ◌≡◌ {A = Option Reading} None (Some reading) = sym nothing ∙ is_got in
-          cc
-    ]) refl
+-- an operation that reads is there
+is_there : (board : Board) (r : OpId) → reads board r ≡ true → is_some (op_of board r) ≡ true
+is_there board r is =
+    let P : Option Op → Type 0 = λ found. reads_in found ≡ true → is_some found ≡ true in
+    (elim (op_of board r) as P [ None ↦ λ e. cc | Some op ↦ λ _. refl ]) is
 
 pub clear_delivers : (board : Board) (h : List Event) (p : OpId) (address value : ℕ) → IsValid board → Run board h → is_clear board address value ≡ true → Awaits board p address value → Delivers board h p address value
 clear_delivers board h p address value valid run clear awaits n w r reading is_it raised writes masters stands others behind is_got named =
     let parts = clear_parts board address value clear in
     let raised_by = raiser board address value n raised in
-    let there = got_there board h r reading run is_got in
+    let there = is_there board r (got_there board h r reading run is_got) in
     let told_it = told board valid h run p address value awaits.0 awaits.1 parts n raised_by is_it w r writes masters stands others behind there in
-    let fresh = Fresh-run board h valid run in
-    let landed_w = fresh.informed w r reading told_it is_got named in
-    let upto : List Event = up_to_end r h in
-    let read = read_by board w upto r reading is_got in
-    let front_e : Front (read.event ∷ reading.before) h = front_front (read.event ∷ reading.before) upto h read.front (front_end r h) in
-    let run_e : Run board (read.event ∷ reading.before) = front_run board (read.event ∷ reading.before) h front_e run in
-    named_lands board reading.before w reading.word valid run_e.1 writes named landed_w
+    told_lands board h w r reading valid run told_it is_got named

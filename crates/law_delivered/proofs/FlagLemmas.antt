@@ -44,7 +44,7 @@ IsOne phase phases = (test : Phase → Bool) → test phase ≡ true → list_an
 
 -- phases at an address, of fewer data phases
 
-at_drop : (test : Phase → Bool) (address at gone : ℕ) (phases : List Phase) → list_any test (phases_at address (at + 4 * gone) (drop gone phases)) ≡ true → list_any test (phases_at address at phases) ≡ true
+pub at_drop : (test : Phase → Bool) (address at gone : ℕ) (phases : List Phase) → list_any test (phases_at address (at + 4 * gone) (drop gone phases)) ≡ true → list_any test (phases_at address at phases) ≡ true
 at_drop test address at zero phases some = let same : at + 4 * 0 ≡ at = omega arith in subst (λ a. list_any test (phases_at address a phases) ≡ true) same some
 at_drop test address at (suc gone) [] some = cc
 at_drop test address at (suc gone) (phase ∷ phases) some =
@@ -53,7 +53,7 @@ at_drop test address at (suc gone) (phase ∷ phases) some =
     let later = at_drop test address (at + 4) gone phases (subst (λ a. list_any test (phases_at address a (drop gone phases)) ≡ true) further some) in
     list_any-append test first (phases_at address (at + 4) phases) ∙ or_right (list_any test first) _ later
 
-at_take : (test : Phase → Bool) (address at number : ℕ) (phases : List Phase) → list_any test (phases_at address at (take number phases)) ≡ true → list_any test (phases_at address at phases) ≡ true
+pub at_take : (test : Phase → Bool) (address at number : ℕ) (phases : List Phase) → list_any test (phases_at address at (take number phases)) ≡ true → list_any test (phases_at address at phases) ≡ true
 at_take test address at zero phases some = cc
 at_take test address at (suc number) [] some = cc
 at_take test address at (suc number) (phase ∷ phases) some =
@@ -65,15 +65,15 @@ at_take test address at (suc number) (phase ∷ phases) some =
     (sym (list_any-append test first (phases_at address (at + 4) (take number phases))) ∙ some)
 
 -- what lands at the address is one of the phases there
-record LandsOne (o : OpId) (phases : List Phase) (landing : Landing) : Type 0 where
-  is_of : landing.op ≡ o
-  is_one : IsOne landing.phase phases
+pub record LandsOne (o : OpId) (phases : List Phase) (landing : Landing) : Type 0 where
+  pub is_of : landing.op ≡ o
+  pub is_one : IsOne landing.phase phases
 
-more_phases : (o : OpId) (xs ys : List Phase) → ((test : Phase → Bool) → list_any test xs ≡ true → list_any test ys ≡ true) → (landings : List Landing) → AllByRecursion (LandsOne o xs) landings → AllByRecursion (LandsOne o ys) landings
+pub more_phases : (o : OpId) (xs ys : List Phase) → ((test : Phase → Bool) → list_any test xs ≡ true → list_any test ys ≡ true) → (landings : List Landing) → AllByRecursion (LandsOne o xs) landings → AllByRecursion (LandsOne o ys) landings
 more_phases o xs ys more landings each =
     Each-weaker (LandsOne o xs) (LandsOne o ys) (λ landing one. record { is_of = one.is_of; is_one = λ test passes. more test (one.is_one test passes) }) landings each
 
-at_one : (o : OpId) (address at : ℕ) (phases : List Phase) → AllByRecursion (LandsOne o (phases_at address at phases)) (landings_at o address at phases)
+pub at_one : (o : OpId) (address at : ℕ) (phases : List Phase) → AllByRecursion (LandsOne o (phases_at address at phases)) (landings_at o address at phases)
 at_one o address at [] = tt
 at_one o address at (phase ∷ phases) =
     let rest : List Phase = phases_at address (at + 4) phases in
@@ -87,7 +87,7 @@ at_one o address at (phase ∷ phases) =
     ]
 
 -- what a step brings of what is left is of the whole
-brings_of : (test : Phase → Bool) (address at : ℕ) (step : Step) (phases : List Phase) → list_any test (phases_at address at (brings step phases)) ≡ true → list_any test (phases_at address at phases) ≡ true
+pub brings_of : (test : Phase → Bool) (address at : ℕ) (step : Step) (phases : List Phase) → list_any test (phases_at address at (brings step phases)) ≡ true → list_any test (phases_at address at phases) ≡ true
 brings_of test address at Land phases some = some
 brings_of test address at (Part number) phases some = at_take test address at number phases some
 brings_of test address at (Read value) phases some = cc
@@ -98,7 +98,7 @@ brings_of test address at Stall phases some = cc
 brings_of test address at MasterAbort phases some = cc
 brings_of test address at TargetAbort phases some = cc
 
-nothing_brought : (step : Step) (phases : List Phase) → is_taken step ≡ false → brings step phases ≡ []
+pub nothing_brought : (step : Step) (phases : List Phase) → is_taken step ≡ false → brings step phases ≡ []
 nothing_brought Land phases none = cc
 nothing_brought (Part number) phases none = cc
 nothing_brought (Read value) phases none = refl
@@ -236,14 +236,14 @@ module _ (board : Board) (target address : ℕ) where
 
 -- Of the writes of a clear flag.
 
-all_not_any : {X : Type 0} (test : X → Bool) (xs : List X) → list_all test xs ≡ true → list_any (λ x. not (test x)) xs ≡ false
+pub all_not_any : {X : Type 0} (test : X → Bool) (xs : List X) → list_all test xs ≡ true → list_any (λ x. not (test x)) xs ≡ false
 all_not_any test [] all = refl
 all_not_any test (x ∷ xs) all =
     let parts = and_parts (test x) (list_all test xs) all in
     let P : Bool → Type 0 = λ b. b ≡ true → (not b || list_any (λ y. not (test y)) xs) ≡ false in
     (elim (test x) as P [ true ↦ λ _. all_not_any test xs parts.1 | false ↦ λ e. cc ]) parts.0
 
-one_whole : (phase : Phase) (phases : List Phase) → IsOne phase phases → list_all is_whole phases ≡ true → is_whole phase ≡ true
+pub one_whole : (phase : Phase) (phases : List Phase) → IsOne phase phases → list_all is_whole phases ≡ true → is_whole phase ≡ true
 one_whole phase phases one all =
     let P : Bool → Type 0 = λ b. is_whole phase ≡ b → b ≡ true in
     (elim (is_whole phase) as P [

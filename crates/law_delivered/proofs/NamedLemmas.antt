@@ -48,7 +48,7 @@ use Rattle.law_delivered.proofs.WholeLemmas.{taken_at, Comes, Always, whole_land
 
 -- Where a delayed request is presented and no bridge claims it, its way ends.
 
-ending_on : (board : Board) (op : Op) (tree : IsTree board) (k : BridgeLane) (lanes : List BridgeLane) (on : ℕ) → lanes ≡ way board op on → list_any (same_lane k) lanes ≡ true
+pub ending_on : (board : Board) (op : Op) (tree : IsTree board) (k : BridgeLane) (lanes : List BridgeLane) (on : ℕ) → lanes ≡ way board op on → list_any (same_lane k) lanes ≡ true
     → ending (route_of board op on) ≡ ending (route_of board op (end_of board k))
 ending_on board op tree k [] on is any = cc
 ending_on board op tree k (first ∷ lanes) on is any =
@@ -60,7 +60,7 @@ ending_on board op tree k (first ∷ lanes) on is any =
       | false ↦ λ _ later. onward ∙ ending_on board op tree k lanes (end_of board first) goes.later later
     ]) refl any
 
-ending_there : (board : Board) (valid : IsValid board) (h : List Event) (run : Run board h) (o : OpId) (op : Op) (master : MasterAgent) → op_of board o ≡ Some op → slice_get board.masters o.master ≡ Some master
+pub ending_there : (board : Board) (valid : IsValid board) (h : List Event) (run : Run board h) (o : OpId) (op : Op) (master : MasterAgent) → op_of board o ≡ Some op → slice_get board.masters o.master ≡ Some master
     → (on : ℕ) (by : By) (place : ℕ) → same_command (command_of op) MemWrite ≡ false → wants board h on by o ≡ true → claim board on (request_on op on) ≡ Target place
     → ending (route_of board op master.bus) ≡ (on, Target place)
 ending_there board valid h run o op master is_op is_master on Master place delayed wanted claims =
@@ -129,18 +129,18 @@ named_by board request (Header bus) word is = each_contains (λ (d : Dword). Nam
 named_by board request (Lane lane) word is = each_contains (λ (d : Dword). Named request (Lane lane) word) [] word tt is.0 is.1 is.2
 named_by board request Nobody word is = each_contains (λ (d : Dword). Named request Nobody word) [] word tt is.0 is.1 is.2
 
-abbrev target_or : ℕ → Place → ℕ
+abbrev pub target_or : ℕ → Place → ℕ
 target_or other (Target target) = target
 target_or other (Header bus) = other
 target_or other (Lane lane) = other
 target_or other Nobody = other
 
-based_in : (space : Space) (address gone : ℕ) → space ≡ Mem → address_in space (address + 4 * gone) ≡ address_in space address + 4 * gone
+pub based_in : (space : Space) (address gone : ℕ) → space ≡ Mem → address_in space (address + 4 * gone) ≡ address_in space address + 4 * gone
 based_in Mem address gone is = refl
 based_in Io address gone is = refl
 based_in Cfg address gone is = cc
 
-based_none : (space : Space) (address gone : ℕ) → gone ≡ 0 → address_in space (address + 4 * gone) ≡ address_in space address + 4 * gone
+pub based_none : (space : Space) (address gone : ℕ) → gone ≡ 0 → address_in space (address + 4 * gone) ≡ address_in space address + 4 * gone
 based_none space address gone none =
     let F : ℕ → Type 0 = λ g. address_in space (address + 4 * g) ≡ address_in space address + 4 * g in
     let whole_address : address + 4 * 0 ≡ address = omega arith in

@@ -41,7 +41,7 @@ use Rattle.law_fresh.proofs.Laws.{write_op, own_ended}
 
 -- A write of one data phase does not land in parts.
 
-no_landing : (o n : OpId) (address at : ℕ) (phases : List Phase) → same_op o n ≡ false → list_any (is_landing_of n) (landings_at o address at phases) ≡ false
+pub no_landing : (o n : OpId) (address at : ℕ) (phases : List Phase) → same_op o n ≡ false → list_any (is_landing_of n) (landings_at o address at phases) ≡ false
 no_landing o n address at [] other = refl
 no_landing o n address at (phase ∷ phases) other =
     let later = no_landing o n address (at + 4) phases other in
@@ -49,7 +49,7 @@ no_landing o n address at (phase ∷ phases) other =
     elim (eqb at address) as P [ true ↦ (rw (other, later) refl) | false ↦ later ]
 
 -- no landing of it, of another operation or of no data phases
-request_none : (o n : OpId) (step : Step) (gone : ℕ) (word : Dword) (found : Option Request) → ((phases : List Phase) → (same_op o n ≡ false) ⊎ (brings step phases ≡ [])) → list_any (is_landing_of n) (landings_of o step gone word found) ≡ false
+pub request_none : (o n : OpId) (step : Step) (gone : ℕ) (word : Dword) (found : Option Request) → ((phases : List Phase) → (same_op o n ≡ false) ⊎ (brings step phases ≡ [])) → list_any (is_landing_of n) (landings_of o step gone word found) ≡ false
 request_none o n step gone word None none = refl
 request_none o n step gone word (Some request) none =
     let space = space_of request.command in
@@ -63,7 +63,7 @@ request_none o n step gone word (Some request) none =
       | false ↦ refl
     ]
 
-place_none : (board : Board) (h : List Event) (on : ℕ) (o n : OpId) (step : Step) (word : Dword) (place : Place) → ((phases : List Phase) → (same_op o n ≡ false) ⊎ (brings step phases ≡ [])) → list_any (is_landing_of n) (landings_by board h on o step word place) ≡ false
+pub place_none : (board : Board) (h : List Event) (on : ℕ) (o n : OpId) (step : Step) (word : Dword) (place : Place) → ((phases : List Phase) → (same_op o n ≡ false) ⊎ (brings step phases ≡ [])) → list_any (is_landing_of n) (landings_by board h on o step word place) ≡ false
 place_none board h on o n step word (Target target) none =
     let P : Bool → Type 0 = λ b. list_any (is_landing_of n) (cond b (landings_of o step (through h o) word (request_of board o on)) []) ≡ false in
     elim (eqb target word.target) as P [ true ↦ request_none o n step (through h o) word (request_of board o on) none | false ↦ refl ]

@@ -1,5 +1,5 @@
 -- A poll that was met by the value of a clear flag has read the flag after it was raised.
-use Rattle.std.proofs.Common.{◌≡◌, ◌≢◌, ℕ, zero, suc, ◌+◌, ◌≤◌, Bool, true, false, ◌&&◌, ◌||◌, not, ◌==◌, eqb, cond, filter, nat_lt, List, [], ◌∷◌, length, Option, Some, None, is_some, refl, sym, ap, subst, ◌∙◌, arith, slice_get}
+use Rattle.std.proofs.Common.{◌≡◌, ◌≢◌, ℕ, zero, suc, ◌+◌, ◌≤◌, Bool, true, false, ◌&&◌, ◌||◌, not, ◌==◌, eqb, cond, filter, List, [], ◌∷◌, length, Option, Some, None, is_some, refl, sym, ap, subst, ◌∙◌, arith, slice_get}
 use Rattle.std.specs.List.{list_any, position_from}
 use Rattle.std.proofs.lemmas.Bool.Decides.{nat_tests}
 use Rattle.pci_command.specs.declared.command.Command.TheVariants.{MemWrite}
@@ -7,8 +7,7 @@ use Rattle.pci_command.specs.declared.command.Space.TheVariants.{Mem}
 use Rattle.pci_command.specs.declared.request.Request.{Request}
 use Rattle.pci_command.specs.declared.op_id.OpId.{OpId}
 use Rattle.pci_command.specs.declared.op_id.Outcome.{Outcome}
-use Rattle.pci_command.specs.Command.{is_read, space_of}
-use Rattle.pci_command.specs.Same.{same_op}
+use Rattle.pci_command.specs.Command.{is_read}
 use Rattle.board_model.specs.declared.agents.Master.{Master as MasterAgent}
 use Rattle.board_model.specs.declared.agents.Target.{Target as TargetAgent}
 use Rattle.board_model.specs.declared.bridge.Lane.{Lane as BridgeLane}
@@ -17,29 +16,22 @@ use Rattle.board_model.specs.declared.bridge.Place.TheVariants.{Target, Header, 
 use Rattle.board_model.specs.declared.op.Op.{Op}
 use Rattle.board_model.specs.declared.op.Op.TheVariants.{Write, Poll}
 use Rattle.board_model.specs.declared.board.Board.{Board}
-use Rattle.board_model.specs.Requests.{op_of, reads, reads_in, request_on, request_of}
-use Rattle.board_model.specs.Claims.{range_holds, claim_by_address, claim_in_space, claim}
-use Rattle.board_model.specs.Ways.{Dword, Route, route_by, route_within, route_of, end_of, address_in, aborts_at, words_at, words_by, dwords_of}
+use Rattle.board_model.specs.Requests.{op_of, command_of, reads, reads_in, request_on}
+use Rattle.board_model.specs.Claims.{range_holds, claim_by_address, claim_in_space}
+use Rattle.board_model.specs.Ways.{Dword, Route, route_by, route_within, route_of, end_of, words_at, words_by, dwords_of}
 use Rattle.board_model.specs.Valid.{is_bus, IsValid}
-use Rattle.history_model.specs.declared.event.By.{By}
-use Rattle.history_model.specs.declared.event.Step.{Step}
-use Rattle.history_model.specs.declared.event.Step.TheVariants.{Land, Part, Read, Accept, Latch, Take, Stall, MasterAbort, TargetAbort}
 use Rattle.history_model.specs.declared.event.Event.{Event}
-use Rattle.history_model.specs.declared.event.Event.TheVariants.{Act, Arrive}
-use Rattle.history_model.specs.declared.item.Answer.TheVariants.{Gives}
-use Rattle.history_model.specs.World.{world_of}
-use Rattle.history_model.specs.Answers.{stalls_used, target_step, target_answer, answer_by, answer_to}
-use Rattle.history_model.specs.Words.{through, without, opens_in, value_of}
-use Rattle.history_model.specs.Knowledge.{value_of_ending, ends_as, has_ended, or_else, given_value, up_to_end, Reading, reading_of, reading_by, reading_in, got, words_on, words_named}
+use Rattle.history_model.specs.Words.{opens_in, value_of}
+use Rattle.history_model.specs.Knowledge.{value_of_ending, ends_as, has_ended, or_else, given_value, up_to_end, Reading, reading_in, got, words_on, words_named}
 use Rattle.history_model.specs.Runs.{Run}
 use Rattle.std.proofs.lemmas.Bool.{and_parts, not-true}
-use Rattle.history_model.proofs.facts.RequestLemmas.{same_op_true}
-use Rattle.law_lanes.proofs.Laws.{delayed-not_parted, WellFormed-single}
 use Rattle.law_fresh.proofs.reads.Laws.{master_there, returned_got, always_got}
-use Rattle.law_fresh.proofs.Laws.{whole, At, found_at, target_on, answers_claim, Front, front_run, front_front, front_end, read_by}
+use Rattle.law_fresh.proofs.Laws.{At, found_at, target_on, Front, front_run, front_front, front_end, read_by}
 use Rattle.law_delivered.specs.Clear.{is_value, holds, opens_otherwise}
 use Rattle.law_delivered.specs.Delivered.{is_met}
 use Rattle.law_delivered.proofs.EndLemmas.{ending, one_end, target_bus, master_bus_there}
+use Rattle.law_delivered.proofs.NamedLemmas.{target_or}
+use Rattle.law_delivered.proofs.left.HeldLemmas.{reading_held}
 
 -- The poll has the way of a write to its address.
 
@@ -182,29 +174,6 @@ owner_of board address value valid is =
       opens = one.opens;
     }
 
--- A read says the value of its dword.
-
-read_value : (board : Board) (h : List Event) (place : ℕ) (request : Request) (target : TargetAgent) (value : ℕ) → target_step board h place request target ≡ Read value
-    → value ≡ value_of board h (record { target = place; space = space_of request.command; address = address_in (space_of request.command) request.address })
-read_value board h place request target value is =
-    let held : ℕ = value_of board h (record { target = place; space = space_of request.command; address = address_in (space_of request.command) request.address }) in
-    let last : Step = cond (nat_lt target.burst (length request.phases)) (Part target.burst) Land in
-    let A : Bool → Type 0 = λ b. cond b (Part target.burst) Land ≡ Read value → value ≡ held in
-    let a : A (nat_lt target.burst (length request.phases)) = elim (nat_lt target.burst (length request.phases)) as A [ true ↦ λ e. cc | false ↦ λ e. cc ] in
-    let B : Bool → Type 0 = λ b. cond b (Read held) last ≡ Read value → value ≡ held in
-    let b : B (is_read request.command) = elim (is_read request.command) as B [ true ↦ λ e. let same : held ≡ value = cc in sym same | false ↦ a ] in
-    let C : Bool → Type 0 = λ c. cond c TargetAbort (cond (is_read request.command) (Read held) last) ≡ Read value → value ≡ held in
-    let c : C (aborts_at target request) = elim (aborts_at target request) as C [ true ↦ λ e. cc | false ↦ b ] in
-    let D : Bool → Type 0 = λ d. cond d Stall (cond (aborts_at target request) TargetAbort (cond (is_read request.command) (Read held) last)) ≡ Read value → value ≡ held in
-    (elim (nat_lt (stalls_used h place) target.stalls) as D [ true ↦ λ e. cc | false ↦ c ]) is
-
-answer_value : (board : Board) (h : List Event) (place : ℕ) (request : Request) (found : Option TargetAgent) (value : ℕ) (at : Place) → target_answer board h place request found ≡ Gives (Read value) at
-    → value ≡ value_of board h (record { target = place; space = space_of request.command; address = address_in (space_of request.command) request.address })
-answer_value board h place request None value at gives = cc
-answer_value board h place request (Some target) value at gives =
-    let steps : target_step board h place request target ≡ Read value = cc in
-    read_value board h place request target value steps
-
 -- what a value in the end says of its operation
 given_ended : (h : List Event) (r : OpId) (value : ℕ) → given_value h r ≡ Some value → has_ended h r ≡ true
 given_ended [] r value is = cc
@@ -252,60 +221,20 @@ module _ (board : Board) (valid : IsValid board) (p : OpId) (address value tries
     pub word : reading.word ≡ flag
     pub held : reading.value ≡ value_of board reading.before flag
 
-  module _ (before : List Event) (on : ℕ) (by : By) where
-    read_shown : (given : ℕ) (place : ℕ) (reading : Reading) → Run board (Act on by p (Read given) (Target place) ∷ before) → reading_of place given before (request_of board p on) ≡ Some reading → Shown reading
-    read_shown given place reading run is =
-        let request : Request = request_on op on in
-        let requested : request_of board p on ≡ Some request = rw is_op refl in
-        let R : Option Request → Type 0 = λ found. reading_of place given before found ≡ Some reading in
-        let made : reading ≡ record { word = record { target = place; space = Mem; address = address }; value = given; before = before } = let e : R (Some request) = subst R requested is in cc in
-        let gone : through before p ≡ 0 = delayed-not_parted board before p on request (WellFormed-single board valid.well_formed) run.1 requested refl in
-        let rest : without (through before p) request ≡ request = whole (through before p) request gone in
-        let claims : claim board on request ≡ Target place = ap (claim board on) (sym rest) ∙ answers_claim board before on by p request (Read given) place requested run.0.1 in
-        let agent = target_on board on request place claims in
-        let bus_there : is_bus board on ≡ true = subst (λ n. is_bus board n ≡ true) agent.2 (target_bus board valid place agent.0 agent.1) in
-        let ends = poll_end board address value tries valid on master.0.bus place bus_there (master_bus_there board valid p.master master.0 master.1) claims in
-        let pairs : (on, Target place) ≡ (owner.agent.bus, Target owner.place) = sym ends ∙ route_ends in
-        let places : Target place ≡ Target owner.place = ap (λ (pair : ℕ × Place). pair.1) pairs in
-        let one : place ≡ owner.place = cc in
-        let A : Option Request → Type 0 = λ found. answer_to board (world_of board before) before on by p found ≡ Gives (Read given) (Target place) in
-        let answered : A (Some request) = subst A requested run.0.1 in
-        let B : Request → Type 0 = λ r. answer_by board (world_of board before) before on by p r (claim board on r) ≡ Gives (Read given) (Target place) in
-        let by_whole : B request = subst B rest answered in
-        let C : Place → Type 0 = λ claimant. answer_by board (world_of board before) before on by p request claimant ≡ Gives (Read given) (Target place) in
-        let by_target : C (Target place) = subst C claims by_whole in
-        let held : given ≡ value_of board before (record { target = place; space = Mem; address = address }) = answer_value board before place request (slice_get board.targets place) given (Target place) by_target in
-        let word_at : ℕ → Dword = λ n. record { target = n; space = Mem; address = address } in
-        let S : Reading → Type 0 = Shown in
-        let shown : S (record { word = word_at place; value = given; before = before }) = record { word = ap word_at one; held = held ∙ ap (λ n. value_of board before (word_at n)) one } in
-        subst S (sym made) shown
-
-    step_shown : (step : Step) (place : Place) (reading : Reading) → Run board (Act on by p step place ∷ before) → reading_by board before on p step place ≡ Some reading → Shown reading
-    step_shown Land place reading run is = cc
-    step_shown (Part phases) place reading run is = cc
-    step_shown (Read given) (Target place) reading run is = read_shown given place reading run is
-    step_shown (Read given) (Header bus) reading run is = cc
-    step_shown (Read given) (Lane lane) reading run is = cc
-    step_shown (Read given) Nobody reading run is = cc
-    step_shown Accept place reading run is = cc
-    step_shown Latch place reading run is = cc
-    step_shown (Take outcome) place reading run is = cc
-    step_shown Stall place reading run is = cc
-    step_shown MasterAbort place reading run is = cc
-    step_shown TargetAbort place reading run is = cc
-
   event_shown : (before : List Event) (e : Event) (reading : Reading) → Run board (e ∷ before) → reading_in board before p e ≡ Some reading → Shown reading
-  event_shown before (Act on by o step place) reading run is =
-      let P : Bool → Type 0 = λ b. same_op o p ≡ b → cond b (reading_by board before on o step place) None ≡ Some reading → Shown reading in
-      (elim (same_op o p) as P [
-        | true ↦ λ same f.
-            let one : o ≡ p = same_op_true o p same in
-            let F : OpId → Type 0 = λ q. Run board (Act on by q step place ∷ before) in
-            let G : OpId → Type 0 = λ q. reading_by board before on q step place ≡ Some reading in
-            step_shown before on by step place reading (subst F one run) (subst G one f)
-        | false ↦ λ _ f. cc
-      ]) refl is
-  event_shown before (Arrive lane mark) reading run is = cc
+  event_shown before e reading run is =
+      let read : is_read (command_of op) ≡ true = refl in
+      let some = reading_held board valid p op is_op read before e reading run is in
+      let request : Request = request_on op some.on in
+      let agent = target_on board some.on request some.place some.here.claims in
+      let bus_there : is_bus board some.on ≡ true = subst (λ n. is_bus board n ≡ true) agent.2 (target_bus board valid some.place agent.0 agent.1) in
+      let ends = poll_end board address value tries valid some.on master.0.bus some.place bus_there (master_bus_there board valid p.master master.0 master.1) some.here.claims in
+      let pairs : (some.on, Target some.place) ≡ (owner.agent.bus, Target owner.place) = sym ends ∙ route_ends in
+      let places : Target some.place ≡ Target owner.place = ap (λ (pair : ℕ × Place). pair.1) pairs in
+      let one : some.place ≡ owner.place = ap (target_or 0) places in
+      let word_at : ℕ → Dword = λ n. record { target = n; space = Mem; address = address } in
+      let word : reading.word ≡ flag = some.here.word ∙ ap word_at one in
+      record { word = word; held = some.here.held ∙ ap (value_of board reading.before) word }
 
   -- what the poll that was met got: the flag, with the value
   pub record Met (h : List Event) : Type 0 where

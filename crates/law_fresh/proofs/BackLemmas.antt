@@ -70,7 +70,7 @@ landings_there board (e ∷ h) word = Each-append (IsThere board) (landed board 
 ends_once_more : (o : OpId) (e : Event) (h : List Event) → is_some (ends_as o e) ≡ true → 1 ≤ times (ends_at_master o) (e ∷ h)
 ends_once_more o e h is = rw is (omega arith)
 
-times_later : (o : OpId) (later h : List Event) → 1 ≤ times (ends_at_master o) h → 1 ≤ times (ends_at_master o) (later ++ h)
+pub times_later : (o : OpId) (later h : List Event) → 1 ≤ times (ends_at_master o) h → 1 ≤ times (ends_at_master o) (later ++ h)
 times_later o [] h some = some
 times_later o (e ∷ later) h some = omega (arith, times_later o later h some)
 
@@ -110,7 +110,7 @@ ended_later : (o : OpId) (later g : List Event) → has_ended g o ≡ true → h
 ended_later o [] g is = is
 ended_later o (e ∷ later) g is = or_right (is_some (ends_as o e)) (has_ended (later ++ g) o) (ended_later o later g is)
 
-ended_front : (o : OpId) (g h : List Event) → Front g h → has_ended g o ≡ true → has_ended h o ≡ true
+pub ended_front : (o : OpId) (g h : List Event) → Front g h → has_ended g o ≡ true → has_ended h o ≡ true
 ended_front o g h front is = subst (λ k. has_ended k o ≡ true) front.is (ended_later o front.later g is)
 
 module _ (board : Board) (valid : IsValid board) (w : OpId) (h : List Event) (run : Run board h) where

@@ -52,7 +52,7 @@ use Rattle.law_fresh.proofs.reads.Laws.{no_reading, master_there, returned_got, 
 
 -- The words of a write are at one target, on the bus where its way ends.
 
-route_claims : (n : ℕ) (board : Board) (op : Op) (on : ℕ) → let route = route_within n board op on in claim board route.bus (request_on op route.bus) ≡ route.owner
+pub route_claims : (n : ℕ) (board : Board) (op : Op) (on : ℕ) → let route = route_within n board op on in claim board route.bus (request_on op route.bus) ≡ route.owner
 route_claims zero board op on = refl
 route_claims (suc n) board op on =
     let onwards : BridgeLane → Route = λ lane. route_within n board op (end_of board lane) in
@@ -65,17 +65,17 @@ route_claims (suc n) board op on =
       | Nobody ↦ λ is. is
     ]) refl
 
-dwords_at : (place : ℕ) (space : Space) (address : ℕ) (phases : List Phase) → AllByRecursion (λ (d : Dword). d.target ≡ place) (dwords_from place space address phases)
+pub dwords_at : (place : ℕ) (space : Space) (address : ℕ) (phases : List Phase) → AllByRecursion (λ (d : Dword). d.target ≡ place) (dwords_from place space address phases)
 dwords_at place space address [] = tt
 dwords_at place space address (phase ∷ phases) = (refl, dwords_at place space (address + 4) phases)
 
-words_target : (place : ℕ) (request : Request) (found : Option TargetAgent) → AllByRecursion (λ (d : Dword). d.target ≡ place) (words_at place request found)
+pub words_target : (place : ℕ) (request : Request) (found : Option TargetAgent) → AllByRecursion (λ (d : Dword). d.target ≡ place) (words_at place request found)
 words_target place request None = tt
 words_target place request (Some target) =
     let P : Bool → Type 0 = λ b. AllByRecursion (λ (d : Dword). d.target ≡ place) (cond b [] (dwords_of place request)) in
     elim (aborts_at target request) as P [ true ↦ tt | false ↦ dwords_at place (space_of request.command) (address_in (space_of request.command) request.address) request.phases ]
 
-word_owner : (board : Board) (request : Request) (owner : Place) (word : Dword) → Contains (words_by board request owner) word → owner ≡ Target word.target
+pub word_owner : (board : Board) (request : Request) (owner : Place) (word : Dword) → Contains (words_by board request owner) word → owner ≡ Target word.target
 word_owner board request (Target place) word is =
     ap Target (sym (each_contains (λ (d : Dword). d.target ≡ place) (words_at place request (slice_get board.targets place)) word (words_target place request (slice_get board.targets place)) is.0 is.1 is.2))
 word_owner board request (Header bus) word is = each_contains (λ (d : Dword). Header bus ≡ Target d.target) [] word tt is.0 is.1 is.2
@@ -130,7 +130,7 @@ reads_on board before (Arrive lane mark) r reading run is = cc
 
 module _ (board : Board) (valid : IsValid board) (w : OpId) (op : Op) (covers : Covers board w op) (writes : reads board w ≡ false) (on : ℕ) where
   -- where its target claims the write, it is covered only where it has landed
-  landed_there : (h : List Event) (target : ℕ) → claim board on (request_on op on) ≡ Target target → covered board w op h on ≡ true → has_landed h w ≡ true
+  pub landed_there : (h : List Event) (target : ℕ) → claim board on (request_on op on) ≡ Target target → covered board w op h on ≡ true → has_landed h w ≡ true
   landed_there h target claims is =
       let ends : IsTarget (claim board on (request_on op on)) = subst IsTarget (sym claims) tt in
       let empty = empty_way board op on (IsTree-valid board valid) ends in
@@ -186,7 +186,7 @@ module _ (board : Board) (valid : IsValid board) (w : OpId) (op : Op) (covers : 
       known
 
 -- a write with a word is covered
-write_covers : (board : Board) (valid : IsValid board) (w : OpId) (op : Op) (master : MasterAgent) → op_of board w ≡ Some op → slice_get board.masters w.master ≡ Some master → reads board w ≡ false → word_of board op master.bus ≡ true → Covers board w op
+pub write_covers : (board : Board) (valid : IsValid board) (w : OpId) (op : Op) (master : MasterAgent) → op_of board w ≡ Some op → slice_get board.masters w.master ≡ Some master → reads board w ≡ false → word_of board op master.bus ≡ true → Covers board w op
 write_covers board valid w op master is_op is_master writes word =
     let P : Bool → Type 0 = λ b. is_posted_op board w ≡ b → Covers board w op in
     (elim (is_posted_op board w) as P [
@@ -198,7 +198,7 @@ write_covers board valid w op master is_op is_master writes word =
     ]) refl
 
 -- what is contained in a list is in no empty one
-some_words : (board : Board) (op : Op) (on : ℕ) (word : Dword) → Contains (words_of board op on) word → word_of board op on ≡ true
+pub some_words : (board : Board) (op : Op) (on : ℕ) (word : Dword) → Contains (words_of board op on) word → word_of board op on ≡ true
 some_words board op on word is =
     let P : Bool → Type 0 = λ b. word_of board op on ≡ b → b ≡ true in
     (elim (word_of board op on) as P [

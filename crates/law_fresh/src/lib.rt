@@ -2,9 +2,8 @@
 //! then sets a flag; a consumer that has read the flag as it was set, and each one that it tells in
 //! turn by writes of its own, reads the data after the producer's write has landed, over any number
 //! of bridges, flags and masters. It holds as neither a read's completion nor a request passes an
-//! older posted write: word of a write never comes to a bus before the write that it tells of. And
-//! all that holds of every run, in one law. Each law is the contract of a function that does nothing,
-//! or that only calls the laws which it rests on.
+//! older posted write: word of a write never comes to a bus before the write that it tells of. Each
+//! law is the contract of a function that does nothing.
 #![tactic(auto)]
 
 ghost use Rattle.std.specs.Prelude.{◌≡◌, List, true};
@@ -15,12 +14,9 @@ ghost use Rattle.history_model.specs.declared.event.Event.{Event};
 ghost use Rattle.history_model.specs.Runs.{Run};
 ghost use Rattle.history_model.specs.Knowledge.{Fresh, Told};
 ghost use Rattle.law_fresh.specs.Told.{was_told};
-ghost use Rattle.law_fresh.specs.Laws.{LawsOfRun};
 
 pub mod reads;
 
-use law_bound::runs_end;
-use law_lanes::{matched, runs_go_on, well_formed_boards};
 pub use reads::reads_return;
 
 /// Every run of every valid board is fresh: every read that was told of a write, and reads a word of
@@ -38,15 +34,3 @@ pub fn told_is_known()
     ensures told { (board : Board) (h : List Event) (w : OpId) (r : OpId) → IsValid board →
         Run board h → was_told board h w r ≡ true → Told board h w r }
 {}
-
-/// What holds of every run of every valid board: it is matched and fresh, it is no longer than the
-/// board's bound, it goes on where it is not complete, and each event lowers what is left.
-pub fn laws_of_runs()
-    ensures { (board : Board) (h : List Event) → IsValid board → Run board h → LawsOfRun board h }
-{
-    matched();
-    well_formed_boards();
-    runs_end();
-    runs_go_on();
-    runs_are_fresh();
-}

@@ -23,9 +23,7 @@ ghost use Rattle.law_untagged.specs.Worked.{taken_board, taken_events};
 pub mod clocks;
 
 pub use clocks::{landed_starts_stay, told_by_clocks};
-use law_bound::runs_end;
-use law_fresh::runs_are_fresh;
-use law_lanes::matched;
+use law_delivered::laws_of_runs;
 
 /// On a board on which masters are apart, bridges that keep no local master have the very same runs.
 pub fn apart_runs_are_alike()
@@ -33,14 +31,14 @@ pub fn apart_runs_are_alike()
         UntaggedRun board h ↔ Run board h }
 {}
 
-/// So each such run is fresh and matched, has at most as many events as the board's bound, and no stale read.
+/// So what holds of every run holds of each such run: it is fresh and matched, reads return their
+/// words as what they were told of, or what landed later, left them, it has at most as many events
+/// as the board's bound, and no stale read.
 pub fn apart_runs_are_sound()
     ensures { (board : Board) (h : List Event) → IsValid board → Apart board →
         UntaggedRun board h → SoundRun board h }
 {
-    runs_end();
-    runs_are_fresh();
-    matched();
+    laws_of_runs();
 }
 
 /// Masters are apart on a valid board exactly where no two operations of two of them meet.

@@ -10,6 +10,7 @@ pub mod Wide
 pub mod Stealing
 pub mod Wrong
 pub mod Relay
+pub mod left
 pub mod Passing
 pub mod Crossing
 pub mod Audited

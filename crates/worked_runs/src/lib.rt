@@ -26,9 +26,11 @@ ghost use Rattle.worked_runs.specs.Passing.{passing_board, passing_events, behin
 ghost use Rattle.worked_runs.specs.Crossing.{crossing_board, crossing_events, crossing_posted_board, crossing_posted_events};
 ghost use Rattle.worked_runs.specs.Stealing.{stealing_board, stealing_events, held_back_events};
 
+mod left;
 mod premises;
 mod safe;
 
+pub use left::{relay_left, untold_reads_may_come_first};
 pub use premises::{
     answers_need_what_was_sent, bridges_carry, flags_that_open_set_do_not_deliver,
     later_writes_need_not_be_known, masters_that_meet_have_other_runs, only_runs_are_fresh,

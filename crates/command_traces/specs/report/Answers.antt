@@ -5,16 +5,19 @@ use Rattle.board_model.specs.Valid.{IsValid}
 use Rattle.history_model.specs.declared.event.Event.{Event}
 use Rattle.history_model.specs.Runs.{Run, Complete, history_of}
 use Rattle.history_model.specs.Knowledge.{Fresh}
+use Rattle.law_delivered.specs.left.Left.{ReturnsAsLeft, ReturnsAsHeld}
 use Rattle.run_report.specs.Report.{report_of}
 use Rattle.run_report.specs.way_counts.Plain.{IsSteady}
 use Rattle.run_report.specs.way_counts.WayCounts.{way_report}
 use Rattle.program_input.specs.Traces.{ReadsTrace}
 
--- a run of a board, which is fresh: each read that was told of a write reads its words after it has landed; and the
--- text of its report
+-- a run of a board, which is fresh: each read that was told of a write reads its words after it has landed, and returns
+-- them as that write, or what landed later, left them; each read returns what its word held; and the text of its report
 pub record Reports (board : Board) (events : List Event) (text : List ℕ) : Type 0 where
   pub run : Run board (history_of events)
   pub fresh : Fresh board (history_of events)
+  pub as_left : ReturnsAsLeft board (history_of events)
+  pub as_held : ReturnsAsHeld board (history_of events)
   pub written : text ≡ report_of board (history_of events)
   -- of a complete run of a board without stalls, bursts in parts, polls, discards and drops, whoever made it, these
   -- are the way counts of the board

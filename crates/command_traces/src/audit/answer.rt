@@ -6,6 +6,7 @@ ghost use Rattle.command_traces.specs.audit.Answers.{AnswersAudit, Audits};
 use audit_text::audit_text;
 use board_tree::Tree;
 use history_model::Event;
+use law_delivered::reads_return_what_was_left;
 use law_fresh::runs_are_fresh;
 use pci_command::{List, NoMemory};
 use program_input::{TreeTrace, read_run};
@@ -31,7 +32,8 @@ fn text_of_run(alloc: Global, tree: &Tree, events: &[Event]) -> Result<List<u8>,
     ensures { IfOk result (Audits tree.now events.now) }
 {
     runs_are_fresh();
-    // The board of a tree is valid, so that its runs are fresh.
+    reads_return_what_was_left();
+    // The board of a tree is valid, so that these laws speak of its runs.
     let _valid = tree.board();
     audit_text(alloc, tree, events)
 }

@@ -5,6 +5,7 @@ ghost use Rattle.command_traces.specs.report.Answers.{AnswersReport, Reports};
 
 use board_tree::Tree;
 use history_model::Event;
+use law_delivered::reads_return_what_was_left;
 use law_fresh::runs_are_fresh;
 use pci_command::{List, NoMemory};
 use program_input::{TreeTrace, read_run};
@@ -31,6 +32,7 @@ fn text_of_run(alloc: Global, tree: &Tree, events: &[Event]) -> Result<List<u8>,
     ensures { IfOk result (Reports tree.now events.now) }
 {
     runs_are_fresh();
+    reads_return_what_was_left();
     complete_runs_have_the_way_counts();
     // The board of a tree is valid.
     let _valid = tree.board();

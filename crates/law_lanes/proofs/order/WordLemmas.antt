@@ -68,7 +68,7 @@ word_answers board h on by o request step at posted word gives =
     (target_takes board h word.place request word.target (write_not_read request.command posted).0 word.no_abort)
 
 -- a part is taken only where there is a word
-part_no_abort : (board : Board) (h : List Event) (place : ℕ) (request : Request) (target : TargetAgent) (phases : ℕ) → target_step board h place request target ≡ Part phases → aborts_at target request ≡ false
+pub part_no_abort : (board : Board) (h : List Event) (place : ℕ) (request : Request) (target : TargetAgent) (phases : ℕ) → target_step board h place request target ≡ Part phases → aborts_at target request ≡ false
 part_no_abort board h place request target phases is =
     let rest : Step = cond (is_read request.command) (Read (value_of board h (record { target = place; space = space_of request.command; address = address_in (space_of request.command) request.address })))
     (cond (nat_lt target.burst (length request.phases)) (Part target.burst) Land) in

@@ -4,7 +4,7 @@ use Rattle.board_model.specs.declared.board.Board.{Board}
 use Rattle.board_model.specs.Ways.{bound_of}
 use Rattle.history_model.specs.declared.event.Event.{Event}
 use Rattle.history_model.specs.Runs.{Complete, history_of}
-use Rattle.law_fresh.specs.Laws.{LawsOfRun}
+use Rattle.law_delivered.specs.Laws.{LawsOfRun}
 use Rattle.judge_check.proofs.LeftLemmas.{some_left}
 use Rattle.judge_check.proofs.judging.verdict_of_run.Goals as goal
 
@@ -19,6 +19,8 @@ returns-then-is_complete c = λ events stands.
       complete = (c.is_complete.ensures h stands).0 c.if-is_complete.true;
       matched = laws.matched;
       fresh = laws.fresh;
+      as_left = laws.as_left;
+      as_held = laws.as_held;
       bound = subst (λ n. n ≤ bound_of board) (length-reverse events) laws.bounded;
     }
 
@@ -35,6 +37,8 @@ returns-else-is_complete c = λ events stands.
       incomplete = incomplete;
       matched = laws.matched;
       fresh = laws.fresh;
+      as_left = laws.as_left;
+      as_held = laws.as_held;
       bound = subst (λ n. n ≤ bound_of board) (length-reverse events) laws.bounded;
       left_is = left_is;
       goes_on = some_left board h c.left.result laws stands.run incomplete left_is;

@@ -1,5 +1,5 @@
 use Rattle.board_model.specs.declared.board.Board.{Board}
-use Rattle.law_fresh.specs.Laws.{LawsOfRun}
+use Rattle.law_delivered.specs.Laws.{LawsOfRun}
 use Rattle.judge_finish.proofs.GoingLemmas.{goes_on_by}
 use Rattle.judge_finish.proofs.finishing.go_on.Goals as goal
 

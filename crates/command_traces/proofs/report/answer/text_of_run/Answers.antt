@@ -1,10 +1,18 @@
+use Rattle.std.proofs.Common.{List}
 use Rattle.std.proofs.lemmas.Result.{IfOk-weaker}
+use Rattle.board_model.specs.declared.board.Board.{Board}
+use Rattle.history_model.specs.declared.event.Event.{Event}
 use Rattle.history_model.specs.Runs.{history_of}
 use Rattle.command_traces.proofs.report.CountLemmas.{reports_run}
 use Rattle.command_traces.proofs.report.answer.text_of_run.Goals as goal
 
 pub returns : goal.returns
 returns c =
-    IfOk-weaker _ _ _
-    (λ text is. reports_run c.args.tree.now c.args.events.now text c.board-valid.ensures.valid c.requires (c.runs_are_fresh.ensures c.args.tree.now (history_of c.args.events.now) c.board-valid.ensures.valid c.requires) is)
-    c.report.ensures
+    let board : Board = c.args.tree.now in
+    let events : List Event = c.args.events.now in
+    let h : List Event = history_of events in
+    let valid = c.board-valid.ensures.valid in
+    let fresh = c.runs_are_fresh.ensures board h valid c.requires in
+    let left = c.reads_return_what_was_left.ensures.left board h valid c.requires in
+    let held = c.reads_return_what_was_left.ensures.held board h valid c.requires in
+    IfOk-weaker _ _ _ (λ text is. reports_run board events text valid c.requires fresh left held is) c.report.ensures

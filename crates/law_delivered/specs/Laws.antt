@@ -8,6 +8,7 @@ use Rattle.history_model.specs.Local.{Matched}
 use Rattle.history_model.specs.Knowledge.{Fresh}
 use Rattle.history_model.specs.Left.{left_of}
 use Rattle.law_lanes.specs.progress.Next.{Next}
+use Rattle.law_delivered.specs.left.Left.{ReturnsAsLeft, ReturnsAsHeld}
 
 -- of one run
 pub record LawsOfRun (board : Board) (h : List Event) : Type 0 where
@@ -15,6 +16,10 @@ pub record LawsOfRun (board : Board) (h : List Event) : Type 0 where
   pub matched : Matched board h
   -- each read that was told of a write reads its words after it has landed
   pub fresh : Fresh board h
+  -- and returns the word as that write, or what landed later, left it
+  pub as_left : ReturnsAsLeft board h
+  -- each read returns what its word held
+  pub as_held : ReturnsAsHeld board h
   -- it has at most as many events as the board's bound
   pub bounded : length h ≤ bound_of board
   -- where it is not complete, some event is allowed
