@@ -1,5 +1,5 @@
 -- A write that comes before a read was told to it, and a read that comes before a write does not read it.
-use Rattle.std.proofs.Common.{◌≡◌, ℕ, ◌+◌, ◌<◌, ◌≤◌, Bool, true, false, ◌&&◌, ◌||◌, not, eqb, cond, List, [], ◌∷◌, ◌++◌, Option, Some, None, is_some, refl, sym, ap, subst, ◌∙◌, arith, ◌⊎◌, ⊎_elim, slice_get}
+use Rattle.std.proofs.Common.{◌≡◌, ℕ, ◌<◌, Bool, true, false, ◌&&◌, ◌||◌, not, eqb, cond, List, [], ◌∷◌, ◌++◌, Option, Some, None, is_some, refl, sym, ap, subst, ◌∙◌, arith, ◌⊎◌, ⊎_elim, slice_get}
 use Rattle.std.specs.List.{list_any}
 use Rattle.std.proofs.lemmas.Bool.Decides.{nat_tests}
 use Rattle.pci_command.specs.declared.op_id.OpId.{OpId}
@@ -18,7 +18,7 @@ use Rattle.history_model.specs.Answers.{wants}
 use Rattle.history_model.specs.Words.{landed}
 use Rattle.history_model.specs.Knowledge.{Reading, value_of_ending, ends_as, ends_with, has_ended, up_to_end, got, has_landed, is_landing_of, stands_after, is_write, Told}
 use Rattle.history_model.specs.Runs.{Run}
-use Rattle.law_lanes.specs.order.One.{times, ends_at_master}
+use Rattle.law_lanes.specs.order.One.{ends_at_master}
 use Rattle.law_lanes.proofs.order.Laws.{turn_not_ended}
 use Rattle.std.proofs.lemmas.Bool.{and_parts, or_left, or_right}
 use Rattle.list_facts.proofs.AnyLemmas.{any_some, found_any}

@@ -1,9 +1,8 @@
 -- What landed in a dword are the data phases that writes of the board bring to it.
-use Rattle.std.proofs.Common.{◌≡◌, ℕ, zero, suc, ◌+◌, ◌*◌, Bool, true, false, ◌&&◌, eqb, cond, nat_lt, List, [], ◌∷◌, ◌++◌, length, take, drop, Option, Some, None, is_some, refl, sym, ap, subst, ◌∙◌, arith, slice_get}
+use Rattle.std.proofs.Common.{◌≡◌, ℕ, zero, suc, ◌+◌, ◌*◌, Bool, true, false, ◌&&◌, eqb, cond, nat_lt, List, [], ◌∷◌, ◌++◌, length, drop, Option, Some, None, is_some, refl, sym, ap, subst, ◌∙◌, arith, slice_get}
 use Rattle.std.specs.List.{list_any, AllByRecursion}
 use Rattle.pci_command.specs.declared.command.Command.TheVariants.{MemWrite}
 use Rattle.pci_command.specs.declared.command.Space.{Space}
-use Rattle.pci_command.specs.declared.command.Space.TheVariants.{Mem, Io, Cfg}
 use Rattle.pci_command.specs.declared.phases.Phase.{Phase}
 use Rattle.pci_command.specs.declared.request.Request.{Request}
 use Rattle.pci_command.specs.declared.op_id.OpId.{OpId}
@@ -21,7 +20,7 @@ use Rattle.board_model.specs.Ways.{Dword, address_in, aborts_at, words_at, dword
 use Rattle.board_model.specs.Valid.{is_bus, IsValid}
 use Rattle.history_model.specs.declared.event.By.{By}
 use Rattle.history_model.specs.declared.event.Step.{Step}
-use Rattle.history_model.specs.declared.event.Step.TheVariants.{Land, Part, Read, Accept, Latch, Take, Stall, MasterAbort, TargetAbort}
+use Rattle.history_model.specs.declared.event.Step.TheVariants.{Land, Part, Read, Stall, TargetAbort}
 use Rattle.history_model.specs.declared.event.Event.{Event}
 use Rattle.history_model.specs.declared.event.Event.TheVariants.{Act, Arrive}
 use Rattle.history_model.specs.declared.item.Answer.TheVariants.{Gives}
@@ -31,15 +30,13 @@ use Rattle.history_model.specs.Words.{through, without, brings, Landing, landing
 use Rattle.history_model.specs.Knowledge.{is_write, words_named}
 use Rattle.history_model.specs.Runs.{Run}
 use Rattle.law_lanes.specs.order.Order.{is_posted_in, is_posted_op}
-use Rattle.std.proofs.lemmas.Bool.{or_left, or_right}
-use Rattle.std.proofs.lemmas.List.Folds.{list_any-append}
 use Rattle.list_facts.proofs.EachLemmas.{Each-append, Each-weaker}
 use Rattle.history_model.proofs.facts.PostedLemmas.{write_not_read}
 use Rattle.history_model.proofs.facts.RequestLemmas.{request_is_of}
 use Rattle.law_lanes.proofs.Laws.{delayed-not_parted, WellFormed-single}
 use Rattle.law_lanes.proofs.order.Laws.{OneClaimant-formed, AbortWhole-formed, rest_claimed, Short-run}
 use Rattle.law_fresh.proofs.reads.Laws.{master_there}
-use Rattle.law_fresh.proofs.Laws.{or_either, whole, target_on}
+use Rattle.law_fresh.proofs.Laws.{whole, target_on}
 use Rattle.law_delivered.specs.Clear.{phases_at}
 use Rattle.law_delivered.proofs.EndLemmas.{ending, one_end, target_bus, master_bus_there}
 use Rattle.law_delivered.proofs.WholeLemmas.{is_taken, taken_at}

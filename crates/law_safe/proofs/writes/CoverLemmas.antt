@@ -1,53 +1,39 @@
 -- A write that is told to another has landed where the other lands in a word of it.
-use Rattle.std.proofs.Common.{◌≡◌, ℕ, zero, suc, ◌+◌, Bool, true, false, ◌||◌, eqb, eqb-true, cond, List, [], ◌∷◌, ◌++◌, append_assoc, length, Option, Some, None, Contains, refl, sym, ap, subst, ◌∙◌, slice_get}
-use Rattle.std.specs.List.{list_any, AllByRecursion}
-use Rattle.pci_command.specs.declared.command.Command.TheVariants.{MemWrite}
-use Rattle.pci_command.specs.declared.command.Space.{Space}
-use Rattle.pci_command.specs.declared.phases.Phase.{Phase}
-use Rattle.pci_command.specs.declared.request.Request.{Request}
+use Rattle.std.proofs.Common.{◌≡◌, ℕ, Bool, true, false, eqb, eqb-true, cond, List, [], ◌∷◌, ◌++◌, append_assoc, length, Option, Some, Contains, refl, sym, ap, subst, ◌∙◌, slice_get}
+use Rattle.std.specs.List.{list_any}
 use Rattle.pci_command.specs.declared.op_id.OpId.{OpId}
-use Rattle.pci_command.specs.Command.{space_of, is_read}
-use Rattle.pci_command.specs.Same.{same_op, same_command}
+use Rattle.pci_command.specs.Same.{same_op}
 use Rattle.board_model.specs.declared.agents.Master.{Master as MasterAgent}
 use Rattle.board_model.specs.declared.agents.Target.{Target as TargetAgent}
-use Rattle.board_model.specs.declared.bridge.Lane.{Lane as BridgeLane}
 use Rattle.board_model.specs.declared.bridge.Place.{Place}
 use Rattle.board_model.specs.declared.bridge.Place.TheVariants.{Target, Header, Lane, Nobody}
 use Rattle.board_model.specs.declared.op.Op.{Op}
 use Rattle.board_model.specs.declared.board.Board.{Board}
-use Rattle.board_model.specs.Requests.{op_of, command_of, request_on, request_of, reads, reads_in}
+use Rattle.board_model.specs.Requests.{request_on, request_of, reads, reads_in}
 use Rattle.board_model.specs.Claims.{claim}
-use Rattle.board_model.specs.Ways.{Dword, Route, address_in, end_of, route_by, route_within, route_of, dwords_from, dwords_of, words_at, words_by, words_of, aborts_at}
+use Rattle.board_model.specs.Ways.{Dword, Route, route_of, words_of}
 use Rattle.board_model.specs.Valid.{IsValid}
 use Rattle.history_model.specs.declared.event.By.{By}
 use Rattle.history_model.specs.declared.event.Step.{Step}
 use Rattle.history_model.specs.declared.event.Event.{Event}
 use Rattle.history_model.specs.declared.event.Event.TheVariants.{Act, Arrive}
-use Rattle.history_model.specs.World.{world_of}
 use Rattle.history_model.specs.Words.{through, landings_of, landings_by, brought}
 use Rattle.history_model.specs.Knowledge.{up_to_end, has_landed, is_landing_of, is_write, Told, words_on, words_named}
 use Rattle.history_model.specs.Runs.{Run}
-use Rattle.law_lanes.specs.order.Order.{is_posted_in, is_posted_op}
-use Rattle.std.proofs.Math.Bool.{or-false}
 use Rattle.law_fresh.specs.Aware.{knows, aware_of}
-use Rattle.law_fresh.specs.Cover.{is_on_lane, covered}
+use Rattle.law_fresh.specs.Cover.{covered}
 use Rattle.law_fresh.proofs.SourceLemmas.{Covers, source}
 use Rattle.law_fresh.proofs.BegunLemmas.{Begun-wanted}
 use Rattle.law_fresh.proofs.FreshLemmas.{route_claims, word_owner, landed_there, write_covers, some_words}
 use Rattle.law_fresh.proofs.TargetLemmas.{target_on, answers_on}
 use Rattle.law_fresh.proofs.InformedLemmas.{Informed-run}
-use Rattle.law_fresh.proofs.PostedLemmas.{posted_covers}
-use Rattle.law_fresh.proofs.DelayedLemmas.{delayed_covers}
 use Rattle.law_fresh.proofs.ToldLemmas.{taught_reads, told_knows}
-use Rattle.law_fresh.proofs.Laws.{Front, front_run, front_end, knew_before, or_either, each_contains, IsOf, brought_of}
-use Rattle.board_model.proofs.form_laws.Laws.{IsTree-valid}
+use Rattle.law_fresh.proofs.Laws.{Front, front_run, front_end, knew_before, or_either, IsOf, brought_of}
 use Rattle.history_model.proofs.facts.RequestLemmas.{same_op_true}
-use Rattle.history_model.proofs.facts.PostedLemmas.{IsTarget}
-use Rattle.law_lanes.proofs.order.Laws.{empty_way}
 use Rattle.list_facts.proofs.AnyLemmas.{any_some}
 use Rattle.list_facts.proofs.EachLemmas.{Each-find}
 use Rattle.list_facts.proofs.FindLemmas.{find_passes}
-use Rattle.law_fresh.proofs.reads.Laws.{master_there, word_of, no_words}
+use Rattle.law_fresh.proofs.reads.Laws.{master_there}
 use Rattle.law_fresh.proofs.Laws.{WriteOp, write_op}
 
 -- what an event brings is of the operation that it names
