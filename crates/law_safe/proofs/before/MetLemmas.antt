@@ -1,6 +1,6 @@
 -- Where a firm poll is met, what landed last in its word is of a raiser, that had landed whole before its reading.
-use Rattle.std.proofs.Common.{◌≡◌, ℕ, zero, suc, ◌+◌, ◌*◌, ◌<◌, ◌≤◌, Bool, true, false, ◌&&◌, not, eqb, cond, List, [], ◌∷◌, ◌++◌, length, take, drop, Option, Some, refl, sym, ap, subst, ◌∙◌, arith, ◌⊎◌, inl, inr, ⊎_elim, bit_and, eqb-true}
-use Rattle.std.specs.List.{list_any, list_all, AllByRecursion}
+use Rattle.std.proofs.Common.{◌≡◌, ℕ, zero, suc, ◌+◌, ◌*◌, ◌<◌, ◌≤◌, Bool, true, false, eqb, cond, List, [], ◌∷◌, ◌++◌, length, take, drop, Option, Some, refl, sym, ap, subst, ◌∙◌, arith, ◌⊎◌, inl, inr, ⊎_elim, bit_and, eqb-true}
+use Rattle.std.specs.List.{list_any, AllByRecursion}
 use Rattle.std.proofs.lemmas.Bool.Decides.{nat_tests}
 use Rattle.std.proofs.lemmas.List.{length-drop}
 use Rattle.pci_command.specs.declared.command.Space.{Space}
@@ -19,23 +19,20 @@ use Rattle.board_model.specs.Ways.{Dword, address_in, dwords_from}
 use Rattle.board_model.specs.Valid.{IsValid}
 use Rattle.board_headers.specs.device.Registers.{enabled_bits, merge_of}
 use Rattle.history_model.specs.declared.event.By.{By}
-use Rattle.history_model.specs.declared.event.Step.{Step}
-use Rattle.history_model.specs.declared.event.Step.TheVariants.{Land, Part, Read, Accept, Latch, Take, Stall, MasterAbort, TargetAbort}
+use Rattle.history_model.specs.declared.event.Step.TheVariants.{Part}
 use Rattle.history_model.specs.declared.event.Event.{Event}
-use Rattle.history_model.specs.declared.event.Event.TheVariants.{Act, Arrive}
-use Rattle.history_model.specs.Words.{through, Landing, landings_at, landings_of, landings_by, brought, landed, mask_in, merged, opens_as, value_of}
-use Rattle.history_model.specs.Knowledge.{is_land_step, is_land_of, has_landed, is_landing_of, is_write, words_named}
+use Rattle.history_model.specs.declared.event.Event.TheVariants.{Act}
+use Rattle.history_model.specs.Words.{through, Landing, landings_at, landings_of, landings_by, landed, mask_in, merged, opens_as, value_of}
+use Rattle.history_model.specs.Knowledge.{has_landed, is_landing_of, is_write, words_named}
 use Rattle.history_model.specs.Runs.{Run}
 use Rattle.std.proofs.lemmas.Bool.{or_left, or_right}
-use Rattle.std.proofs.lemmas.List.Folds.{list_any-append}
 use Rattle.list_facts.proofs.EachLemmas.{Each-weaker}
-use Rattle.history_model.proofs.facts.RequestLemmas.{same_op_true, same_op_self}
+use Rattle.history_model.proofs.facts.RequestLemmas.{same_op_self}
 use Rattle.law_lanes.proofs.Laws.{delayed-not_parted, WellFormed-single}
 use Rattle.law_lanes.proofs.order.Laws.{write_lands}
-use Rattle.law_fresh.proofs.Laws.{or_either}
 use Rattle.law_fresh.proofs.Laws.{write_op}
-use Rattle.law_delivered.proofs.FlagLemmas.{IsOne, all_not_any}
-use Rattle.law_delivered.proofs.RaisedLemmas.{place_none}
+use Rattle.law_delivered.proofs.FlagLemmas.{one_passes}
+use Rattle.law_delivered.proofs.RaisedLemmas.{PartsBringNothing, whole_landed}
 use Rattle.safe_model.specs.Raisers.{phases_to, is_met_by, is_whole, brings_met, is_plain, Firm, Raises}
 use Rattle.law_safe.proofs.before.MergeLemmas.{merge_under}
 use Rattle.law_safe.proofs.before.WrittenLemmas.{taken_there, Written, written}
@@ -109,9 +106,6 @@ last_from place space at (phase ∷ phases) (first ∷ earlier) word is =
     (suc later.0, omega (arith, long), omega (arith, address))
 
 module _ (board : Board) (valid : IsValid board) (n : OpId) (op : Op) (is_op : op_of board n ≡ Some op) (word : Dword) (earlier : List Dword) (named : words_named board n ≡ earlier ++ word ∷ []) where
-  not_both : (X : Type 0) (b : Bool) → b ≡ true → b ≡ false → X
-  not_both X b is none = let e : true ≡ false = sym is ∙ none in cc
-
   -- a part ends before the last data phase
   part_short : (h : List Event) (on : ℕ) (by : By) (number : ℕ) (at : Place) → Run board (Act on by n (Part number) at ∷ h) → (k : ℕ) → length (phases_of op) ≡ suc k → through h n + number ≤ k
   part_short h on by number at run k count =
@@ -155,41 +149,15 @@ module _ (board : Board) (valid : IsValid board) (n : OpId) (op : Op) (is_op : o
       let of_request : F (Some request) = elim (eqb place word.target) as P [ true ↦ (elim (same_space space word.space) as Q [ true ↦ none | false ↦ refl ]) | false ↦ refl ] in
       subst F (sym requested) of_request
 
-  step_landed : (h : List Event) (on : ℕ) (by : By) (step : Step) (at : Place) → Run board (Act on by n step at ∷ h) → list_any (is_landing_of n) (landings_by board h on n step word at) ≡ true → is_land_step step ≡ true
-  step_landed h on by Land at run some = refl
-  step_landed h on by (Part number) (Target place) run some = not_both _ _ some (part_none h on by number place run)
-  step_landed h on by (Part number) (Header bus) run some = cc
-  step_landed h on by (Part number) (Lane lane) run some = cc
-  step_landed h on by (Part number) Nobody run some = cc
-  step_landed h on by (Read value) at run some = not_both _ _ some (place_none board h on n n (Read value) word at (λ phases. inr refl))
-  step_landed h on by Accept at run some = not_both _ _ some (place_none board h on n n Accept word at (λ phases. inr refl))
-  step_landed h on by Latch at run some = not_both _ _ some (place_none board h on n n Latch word at (λ phases. inr refl))
-  step_landed h on by (Take outcome) at run some = not_both _ _ some (place_none board h on n n (Take outcome) word at (λ phases. inr refl))
-  step_landed h on by Stall at run some = not_both _ _ some (place_none board h on n n Stall word at (λ phases. inr refl))
-  step_landed h on by MasterAbort at run some = not_both _ _ some (place_none board h on n n MasterAbort word at (λ phases. inr refl))
-  step_landed h on by TargetAbort at run some = not_both _ _ some (place_none board h on n n TargetAbort word at (λ phases. inr refl))
-
-  event_landed : (h : List Event) (e : Event) → Run board (e ∷ h) → list_any (is_landing_of n) (brought board h word e) ≡ true → is_land_of n e ≡ true
-  event_landed h (Act on by o step at) run some =
-      let P : Bool → Type 0 = λ b. same_op o n ≡ b → (b && is_land_step step) ≡ true in
-      (elim (same_op o n) as P [
-        | true ↦ λ same.
-            let one : o ≡ n = same_op_true o n same in
-            let R : OpId → Type 0 = λ q. Run board (Act on by q step at ∷ h) in
-            let S : OpId → Type 0 = λ q. list_any (is_landing_of n) (landings_by board h on q step word at) ≡ true in
-            step_landed h on by step at (subst R one run) (subst S one some)
-        | false ↦ λ other. not_both _ _ some (place_none board h on o n step word at (λ phases. inl other))
-      ]) refl
-  event_landed h (Arrive lane mark) run some = cc
+  parts_none : PartsBringNothing board n word
+  parts_none h on by number (Target place) run = part_none h on by number place run
+  parts_none h on by number (Header bus) run = refl
+  parts_none h on by number (Lane lane) run = refl
+  parts_none h on by number Nobody run = refl
 
   -- where its last data phase landed, it landed whole
   pub last_landed : (h : List Event) → Run board h → list_any (is_landing_of n) (landed board h word) ≡ true → has_landed h n ≡ true
-  last_landed [] run some = cc
-  last_landed (e ∷ h) run some =
-      or_either (has_landed (e ∷ h) n ≡ true) (list_any (is_landing_of n) (landed board h word)) (list_any (is_landing_of n) (brought board h word e))
-      (λ old. or_right (is_land_of n e) (has_landed h n) (last_landed h run.1 old))
-      (λ new. or_left (is_land_of n e) (has_landed h n) (event_landed h e run new))
-      (sym (list_any-append (is_landing_of n) (landed board h word) (brought board h word e)) ∙ some)
+  last_landed h run some = whole_landed board n word parts_none h run some
 
 -- The raiser.
 
@@ -200,17 +168,6 @@ each_last P (x ∷ xs) last each = each_last P xs last each.1
 any_last : (test : Landing → Bool) (xs : List Landing) (last : Landing) → test last ≡ true → list_any test (xs ++ last ∷ []) ≡ true
 any_last test [] last is = or_left (test last) false is
 any_last test (x ∷ xs) last is = or_right (test x) (list_any test (xs ++ last ∷ [])) (any_last test xs last is)
-
-one_whole : (mask : ℕ) (phase : Phase) (phases : List Phase) → IsOne phase phases → list_all (is_whole mask) phases ≡ true → is_whole mask phase ≡ true
-one_whole mask phase phases one all =
-    let P : Bool → Type 0 = λ b. is_whole mask phase ≡ b → b ≡ true in
-    (elim (is_whole mask phase) as P [
-      | true ↦ λ _. refl
-      | false ↦ λ none.
-          let fails : not (is_whole mask phase) ≡ true = rw none refl in
-          let e : true ≡ false = sym (one (λ p. not (is_whole mask p)) fails) ∙ all_not_any (is_whole mask) phases all in
-          cc
-    ]) refl
 
 -- what landed last in the word is of a write that raises the flag of a poll, and that has landed whole
 pub record Raised (board : Board) (before : List Event) (mask wanted : ℕ) (word : Dword) : Type 0 where
@@ -228,7 +185,7 @@ pub raised_by : (board : Board) (before : List Event) (p : OpId) (mask wanted : 
 raised_by board before p mask wanted word valid run firm is =
     let landings : List Landing = landed board before word in
     let each = written board valid word before run in
-    let whole : AllByRecursion (LandsWhole mask) landings = Each-weaker (Written board word) (LandsWhole mask) (λ landing one. one_whole mask landing.phase (phases_to board word landing.op) one.is_one (firm.whole landing.op)) landings each in
+    let whole : AllByRecursion (LandsWhole mask) landings = Each-weaker (Written board word) (LandsWhole mask) (λ landing one. one_passes (is_whole mask) landing.phase (phases_to board word landing.op) one.is_one (firm.whole landing.op)) landings each in
     ⊎_elim {C = Raised board before mask wanted word ⊎ ((landings ≡ []) × (is_met_by mask wanted (opens_as board word) ≡ true))}
     (λ (met : LastMet mask wanted landings).
     let last : Landing = met.last in

@@ -22,15 +22,15 @@ use Rattle.history_model.specs.declared.event.By.{By}
 use Rattle.history_model.specs.declared.event.Step.{Step}
 use Rattle.history_model.specs.declared.event.Step.TheVariants.{Land, Part, Read, Stall, TargetAbort}
 use Rattle.history_model.specs.declared.event.Event.{Event}
-use Rattle.history_model.specs.declared.event.Event.TheVariants.{Act, Arrive}
+use Rattle.history_model.specs.declared.event.Event.TheVariants.{Act}
 use Rattle.history_model.specs.declared.item.Answer.TheVariants.{Gives}
 use Rattle.history_model.specs.World.{world_of}
 use Rattle.history_model.specs.Answers.{stalls_used, target_step, target_answer, answer_by, answer_to}
-use Rattle.history_model.specs.Words.{through, without, brings, Landing, landings_at, landings_of, landings_by, landed, value_of}
+use Rattle.history_model.specs.Words.{through, without, brings, Landing, landings_at, landings_of, landed, value_of}
 use Rattle.history_model.specs.Knowledge.{is_write, words_named}
 use Rattle.history_model.specs.Runs.{Run}
 use Rattle.law_lanes.specs.order.Order.{is_posted_in, is_posted_op}
-use Rattle.list_facts.proofs.EachLemmas.{Each-append, Each-weaker}
+use Rattle.list_facts.proofs.EachLemmas.{Each-weaker}
 use Rattle.history_model.proofs.facts.PostedLemmas.{write_not_read}
 use Rattle.history_model.proofs.facts.RequestLemmas.{request_is_of}
 use Rattle.law_lanes.proofs.Laws.{delayed-not_parted, WellFormed-single}
@@ -40,7 +40,7 @@ use Rattle.law_fresh.proofs.Laws.{whole, target_on}
 use Rattle.law_delivered.specs.Clear.{phases_at}
 use Rattle.law_delivered.proofs.EndLemmas.{ending, one_end, target_bus, master_bus_there}
 use Rattle.law_delivered.proofs.WholeLemmas.{is_taken, taken_at}
-use Rattle.law_delivered.proofs.FlagLemmas.{IsOne, at_drop, LandsOne, at_one, brings_of, nothing_brought}
+use Rattle.law_delivered.proofs.FlagLemmas.{IsOne, at_drop, LandsOne, at_one, brings_of, landed_each}
 use Rattle.law_delivered.proofs.NamedLemmas.{ending_there, based_in, based_none}
 use Rattle.law_delivered.proofs.left.Laws.{words_end}
 use Rattle.safe_model.specs.Raisers.{phases_for, phases_in, phases_to}
@@ -213,34 +213,6 @@ module _ (board : Board) (valid : IsValid board) (word : Dword) where
       ]) refl in
       subst R (sym mine.is_request) of_op
 
-  -- nothing lands in a step that takes no data phases
-  at_none : (o : OpId) (start : ℕ) (phases : List Phase) → phases ≡ [] → AllByRecursion (Written board word) (landings_at o word.address start phases)
-  at_none o start phases none = let F : List Phase → Type 0 = λ ps. AllByRecursion (Written board word) (landings_at o word.address start ps) in let there : F [] = tt in subst F (sym none) there
-
-  of_none : (o : OpId) (step : Step) (parted : ℕ) (found : Option Request) → is_taken step ≡ false → AllByRecursion (Written board word) (landings_of o step parted word found)
-  of_none o step parted None none = tt
-  of_none o step parted (Some request) none =
-      let space : Space = space_of request.command in
-      let left : List Phase = brings step (drop parted request.phases) in
-      let start : ℕ = address_in space (request.address + 4 * parted) in
-      let P : Bool → Type 0 = λ b. AllByRecursion (Written board word) (cond b (landings_at o word.address start left) []) in
-      elim (same_space space word.space) as P [ true ↦ at_none o start left (nothing_brought step (drop parted request.phases) none) | false ↦ tt ]
-
-  place_written : (h : List Event) (on : ℕ) (by : By) (o : OpId) (step : Step) (at : Place) → Run board (Act on by o step at ∷ h) → AllByRecursion (Written board word) (landings_by board h on o step word at)
-  place_written h on by o step (Target place) run =
-      let found : Option Request = request_of board o on in
-      let P : Bool → Type 0 = λ b. eqb place word.target ≡ b → AllByRecursion (Written board word) (cond b (landings_of o step (through h o) word found) []) in
-      let Q : Bool → Type 0 = λ b. is_taken step ≡ b → eqb place word.target ≡ true → AllByRecursion (Written board word) (landings_of o step (through h o) word found) in
-      (elim (eqb place word.target) as P [
-        | true ↦ λ targets. (elim (is_taken step) as Q [ true ↦ λ taken same. request_written h on by o step place run same found refl taken | false ↦ λ none _. of_none o step (through h o) found none ]) refl targets
-        | false ↦ λ _. tt
-      ]) refl
-  place_written h on by o step (Header bus) run = tt
-  place_written h on by o step (Lane lane) run = tt
-  place_written h on by o step Nobody run = tt
-
   -- all that landed there
   pub written : (h : List Event) → Run board h → AllByRecursion (Written board word) (landed board h word)
-  written [] run = tt
-  written (Act on by o step at ∷ h) run = Each-append (Written board word) (landed board h word) (landings_by board h on o step word at) (written h run.1) (place_written h on by o step at run)
-  written (Arrive lane mark ∷ h) run = Each-append (Written board word) (landed board h word) [] (written h run.1) tt
+  written h run = landed_each board word (Written board word) request_written h run
