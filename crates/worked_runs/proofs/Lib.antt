@@ -1,3 +1,3 @@
+pub mod SafeLemmas
 pub mod RelayLemmas
 pub mod FlagLemmas
-pub mod SafeLemmas
