@@ -1,10 +1,12 @@
-//! What reads of the relay return: one that was told of a write what that write left, and one that
-//! was not told less than that.
+//! What reads of the relay return: one that was told of a write what that write left. And why the
+//! law that says so has its premises.
 
-ghost use Rattle.std.specs.Prelude.{◌≡◌, Some, Contains};
-ghost use Rattle.history_model.specs.Knowledge.{got, given_value, words_named};
-ghost use Rattle.history_model.specs.Runs.{Run};
-ghost use Rattle.law_delivered.specs.left.Left.{ReturnsWhatWasLeft};
+ghost use Rattle.std.specs.Prelude.{◌≡◌, Some, Contains, reverse};
+ghost use Rattle.board_model.specs.Valid.{IsValid};
+ghost use Rattle.history_model.specs.Knowledge.{got, given_value, words_named, Told};
+ghost use Rattle.history_model.specs.Runs.{Run, history_of};
+ghost use Rattle.law_delivered.specs.left.Left.{ReturnsWhatWasLeft, ReturnsAsLeft, ReturnsAsHeld};
+ghost use Rattle.worked_runs.specs.OneBus.{one_word_board, one_word_events};
 ghost use Rattle.worked_runs.specs.Premises.{relay_history};
 ghost use Rattle.worked_runs.specs.Relay.{relay_board, first_write, first_flag, last_read};
 ghost use Rattle.worked_runs.specs.left.Readings.{data_reading, early_look, early_reading};
@@ -24,12 +26,23 @@ pub fn relay_left()
     reads_return_what_was_left();
 }
 
-/// A read that was not told of a write, and reads a word of it, may come before the write: what it
-/// returns is not what the write left.
-pub fn untold_reads_may_come_first()
+/// A read that was not told of a write, and reads a word of it, may come before the write. And one
+/// that was told may read another word. What they return is not what the write left.
+pub fn other_reads_need_not_return_it()
     ensures run { Run relay_board relay_history }
     ensures read { got relay_board relay_history early_look ≡ Some early_reading }
     ensures names { Contains (words_named relay_board first_flag) early_reading.word }
-    ensures not_left { ¬ ReturnsWhatWasLeft relay_board relay_history first_flag early_look
+    ensures untold { ¬ ReturnsWhatWasLeft relay_board relay_history first_flag early_look
         early_reading }
+    ensures told { Told relay_board relay_history first_flag last_read }
+    ensures other_word { ¬ ReturnsWhatWasLeft relay_board relay_history first_flag last_read
+        data_reading }
+{}
+
+/// In a history that is no run reads need not return what was left, nor what their words hold: here
+/// the read comes before the write of its own master, and gives what that writes.
+pub fn only_runs_return_what_was_left()
+    ensures valid { IsValid one_word_board }
+    ensures not_left { ¬ ReturnsAsLeft one_word_board (history_of (reverse one_word_events)) }
+    ensures not_held { ¬ ReturnsAsHeld one_word_board (history_of (reverse one_word_events)) }
 {}
