@@ -109,6 +109,40 @@ nothing_brought Stall phases none = refl
 nothing_brought MasterAbort phases none = refl
 nothing_brought TargetAbort phases none = refl
 
+-- what holds of all that is taken at the target of a word holds of all that landed there
+module _ (board : Board) (word : Dword) (W : Landing → Type 0)
+    (taken_each : (h : List Event) (on : ℕ) (by : By) (o : OpId) (step : Step) (place : ℕ) → Run board (Act on by o step (Target place) ∷ h) → eqb place word.target ≡ true → (found : Option Request) → request_of board o on ≡ found → is_taken step ≡ true → AllByRecursion W (landings_of o step (through h o) word found)) where
+  -- nothing lands in a step that takes no data phases
+  at_none : (o : OpId) (start : ℕ) (phases : List Phase) → phases ≡ [] → AllByRecursion W (landings_at o word.address start phases)
+  at_none o start phases none = let F : List Phase → Type 0 = λ ps. AllByRecursion W (landings_at o word.address start ps) in let there : F [] = tt in subst F (sym none) there
+
+  of_none : (o : OpId) (step : Step) (gone : ℕ) (found : Option Request) → is_taken step ≡ false → AllByRecursion W (landings_of o step gone word found)
+  of_none o step gone None none = tt
+  of_none o step gone (Some request) none =
+      let space : Space = space_of request.command in
+      let left : List Phase = brings step (drop gone request.phases) in
+      let start : ℕ = address_in space (request.address + 4 * gone) in
+      let P : Bool → Type 0 = λ b. AllByRecursion W (cond b (landings_at o word.address start left) []) in
+      elim (same_space space word.space) as P [ true ↦ at_none o start left (nothing_brought step (drop gone request.phases) none) | false ↦ tt ]
+
+  place_each : (h : List Event) (on : ℕ) (by : By) (o : OpId) (step : Step) (at : Place) → Run board (Act on by o step at ∷ h) → AllByRecursion W (landings_by board h on o step word at)
+  place_each h on by o step (Target place) run =
+      let found : Option Request = request_of board o on in
+      let P : Bool → Type 0 = λ b. eqb place word.target ≡ b → AllByRecursion W (cond b (landings_of o step (through h o) word found) []) in
+      let Q : Bool → Type 0 = λ b. is_taken step ≡ b → eqb place word.target ≡ true → AllByRecursion W (landings_of o step (through h o) word found) in
+      (elim (eqb place word.target) as P [
+        | true ↦ λ targets. (elim (is_taken step) as Q [ true ↦ λ taken same. taken_each h on by o step place run same found refl taken | false ↦ λ none _. of_none o step (through h o) found none ]) refl targets
+        | false ↦ λ _. tt
+      ]) refl
+  place_each h on by o step (Header bus) run = tt
+  place_each h on by o step (Lane lane) run = tt
+  place_each h on by o step Nobody run = tt
+
+  pub landed_each : (h : List Event) → Run board h → AllByRecursion W (landed board h word)
+  landed_each [] run = tt
+  landed_each (Act on by o step at ∷ h) run = Each-append W (landed board h word) (landings_by board h on o step word at) (landed_each h run.1) (place_each h on by o step at run)
+  landed_each (Arrive lane mark ∷ h) run = Each-append W (landed board h word) [] (landed_each h run.1) tt
+
 -- what writes in memory is a memory write, whose address is the same on every bus
 plain_writes : (command : Command) → is_read (plain_of command) ≡ false → space_of (plain_of command) ≡ Mem → same_command (plain_of command) MemWrite ≡ true
 plain_writes IoRead writes memory = cc
@@ -202,37 +236,9 @@ module _ (board : Board) (target address : ℕ) where
       ]) refl in
       subst R (sym mine.is_request) of_op
 
-  -- nothing lands in a step that takes no data phases
-  at_none : (o : OpId) (start : ℕ) (phases : List Phase) → phases ≡ [] → AllByRecursion Written (landings_at o address start phases)
-  at_none o start phases none = let F : List Phase → Type 0 = λ ps. AllByRecursion Written (landings_at o address start ps) in let there : F [] = tt in subst F (sym none) there
-
-  of_none : (o : OpId) (step : Step) (gone : ℕ) (found : Option Request) → is_taken step ≡ false → AllByRecursion Written (landings_of o step gone flag found)
-  of_none o step gone None none = tt
-  of_none o step gone (Some request) none =
-      let space : Space = space_of request.command in
-      let left : List Phase = brings step (drop gone request.phases) in
-      let start : ℕ = address_in space (request.address + 4 * gone) in
-      let P : Bool → Type 0 = λ b. AllByRecursion Written (cond b (landings_at o address start left) []) in
-      elim (same_space space Mem) as P [ true ↦ at_none o start left (nothing_brought step (drop gone request.phases) none) | false ↦ tt ]
-
-  place_written : (h : List Event) (on : ℕ) (by : By) (o : OpId) (step : Step) (at : Place) → Run board (Act on by o step at ∷ h) → (place : Place) → AllByRecursion Written (landings_by board h on o step flag place)
-  place_written h on by o step at run (Target place) =
-      let found : Option Request = request_of board o on in
-      let P : Bool → Type 0 = λ b. AllByRecursion Written (cond b (landings_of o step (through h o) flag found) []) in
-      let Q : Bool → Type 0 = λ b. is_taken step ≡ b → AllByRecursion Written (landings_of o step (through h o) flag found) in
-      elim (place == target) as P [
-        | true ↦ (elim (is_taken step) as Q [ true ↦ λ taken. request_written h on by o step at run found refl taken | false ↦ λ none. of_none o step (through h o) found none ]) refl
-        | false ↦ tt
-      ]
-  place_written h on by o step at run (Header bus) = tt
-  place_written h on by o step at run (Lane lane) = tt
-  place_written h on by o step at run Nobody = tt
-
   -- all that landed there
   pub written : (h : List Event) → Run board h → AllByRecursion Written (landed board h flag)
-  written [] run = tt
-  written (Act on by o step at ∷ h) run = Each-append Written (landed board h flag) (landings_by board h on o step flag at) (written h run.1) (place_written h on by o step at run at)
-  written (Arrive lane mark ∷ h) run = Each-append Written (landed board h flag) [] (written h run.1) tt
+  written h run = landed_each board flag Written (λ g on by o step place run_e _ found is taken. request_written g on by o step (Target place) run_e found is taken) h run
 
 -- Of the writes of a clear flag.
 
@@ -243,14 +249,15 @@ all_not_any test (x ∷ xs) all =
     let P : Bool → Type 0 = λ b. b ≡ true → (not b || list_any (λ y. not (test y)) xs) ≡ false in
     (elim (test x) as P [ true ↦ λ _. all_not_any test xs parts.1 | false ↦ λ e. cc ]) parts.0
 
-pub one_whole : (phase : Phase) (phases : List Phase) → IsOne phase phases → list_all is_whole phases ≡ true → is_whole phase ≡ true
-one_whole phase phases one all =
-    let P : Bool → Type 0 = λ b. is_whole phase ≡ b → b ≡ true in
-    (elim (is_whole phase) as P [
+-- where all pass, it passes
+pub one_passes : (test : Phase → Bool) (phase : Phase) (phases : List Phase) → IsOne phase phases → list_all test phases ≡ true → test phase ≡ true
+one_passes test phase phases one all =
+    let P : Bool → Type 0 = λ b. test phase ≡ b → b ≡ true in
+    (elim (test phase) as P [
       | true ↦ λ _. refl
       | false ↦ λ none.
-          let fails : not (is_whole phase) ≡ true = rw none refl in
-          let e : true ≡ false = sym (one (λ p. not (is_whole p)) fails) ∙ all_not_any is_whole phases all in
+          let fails : not (test phase) ≡ true = rw none refl in
+          let e : true ≡ false = sym (one (λ p. not (test p)) fails) ∙ all_not_any test phases all in
           cc
     ]) refl
 
@@ -275,7 +282,7 @@ module _ (board : Board) (address value : ℕ) (whole : list_all (λ (m : Master
   pub written_whole : (target : ℕ) (landing : Landing) → Written board target address landing → LandsWhole landing
   written_whole target landing one =
       let parts = and_parts _ _ (op_whole landing.op one.op one.is_op) in
-      one_whole landing.phase (written_at address one.op) one.is_one parts.0
+      one_passes is_whole landing.phase (written_at address one.op) one.is_one parts.0
 
   -- a landing of the value is of an operation that raises the flag
   pub written_rings : (target : ℕ) (landing : Landing) → (one : Written board target address landing) → lands_value value landing ≡ true → 1 ≤ rings address value one.op

@@ -39,7 +39,7 @@ use Rattle.law_lanes.proofs.order.Laws.{write_lands, standing_owned, posts-less_
 use Rattle.law_fresh.proofs.Laws.{ends_turn, or_either, ends_as_ended}
 use Rattle.law_fresh.proofs.Laws.{write_op, own_ended}
 
--- A write of one data phase does not land in parts.
+-- What is brought of other operations, or of no data phases.
 
 pub no_landing : (o n : OpId) (address at : ℕ) (phases : List Phase) → same_op o n ≡ false → list_any (is_landing_of n) (landings_at o address at phases) ≡ false
 no_landing o n address at [] other = refl
@@ -71,51 +71,66 @@ place_none board h on o n step word (Header bus) none = refl
 place_none board h on o n step word (Lane lane) none = refl
 place_none board h on o n step word Nobody none = refl
 
-module _ (board : Board) (n : OpId) (op : Op) (is_op : op_of board n ≡ Some op) (posted : is_posted_op board n ≡ true) (alone : length (phases_of op) ≡ 1) where
+-- a part of it brings nothing to the word
+abbrev pub PartsBringNothing : Board → OpId → Dword → Type 0
+PartsBringNothing board n word =
+    (h : List Event) (on : ℕ) (by : By) (number : ℕ) (at : Place) → Run board (Act on by n (Part number) at ∷ h) → list_any (is_landing_of n) (landings_by board h on n (Part number) word at) ≡ false
+
+module _ (board : Board) (n : OpId) (word : Dword) (parts : PartsBringNothing board n word) where
   not_both : (X : Type 0) (b : Bool) → b ≡ true → b ≡ false → X
   not_both X b is none = let e : true ≡ false = sym is ∙ none in cc
 
-  step_landed : (h : List Event) (on : ℕ) (by : By) (step : Step) (at : Place) (word : Dword) → Run board (Act on by n step at ∷ h) → list_any (is_landing_of n) (landings_by board h on n step word at) ≡ true → is_land_step step ≡ true
-  step_landed h on by Land at word run some = refl
-  step_landed h on by (Part number) at word run some =
-      let request : Request = request_on op on in
-      let requested : request_of board n on ≡ Some request = rw is_op refl in
-      let write : is_posted request ≡ true = sym (ap is_posted_in is_op) ∙ posted in
-      let lands = write_lands board h on by n request (Part number) at requested write run.0.1 in
-      let long = length-drop (through h n) (phases_of op) in
-      let none : number ≡ 0 = omega (arith, lands.1, long, alone) in
-      let F : ℕ → Type 0 = λ k. list_any (is_landing_of n) (landings_by board h on n (Part k) word at) ≡ true in
-      let in_none : F 0 = subst F none some in
-      not_both _ _ in_none (place_none board h on n n (Part 0) word at (λ phases. inr refl))
-  step_landed h on by (Read value) at word run some = not_both _ _ some (place_none board h on n n (Read value) word at (λ phases. inr refl))
-  step_landed h on by Accept at word run some = not_both _ _ some (place_none board h on n n Accept word at (λ phases. inr refl))
-  step_landed h on by Latch at word run some = not_both _ _ some (place_none board h on n n Latch word at (λ phases. inr refl))
-  step_landed h on by (Take outcome) at word run some = not_both _ _ some (place_none board h on n n (Take outcome) word at (λ phases. inr refl))
-  step_landed h on by Stall at word run some = not_both _ _ some (place_none board h on n n Stall word at (λ phases. inr refl))
-  step_landed h on by MasterAbort at word run some = not_both _ _ some (place_none board h on n n MasterAbort word at (λ phases. inr refl))
-  step_landed h on by TargetAbort at word run some = not_both _ _ some (place_none board h on n n TargetAbort word at (λ phases. inr refl))
+  step_landed : (h : List Event) (on : ℕ) (by : By) (step : Step) (at : Place) → Run board (Act on by n step at ∷ h) → list_any (is_landing_of n) (landings_by board h on n step word at) ≡ true → is_land_step step ≡ true
+  step_landed h on by Land at run some = refl
+  step_landed h on by (Part number) at run some = not_both _ _ some (parts h on by number at run)
+  step_landed h on by (Read value) at run some = not_both _ _ some (place_none board h on n n (Read value) word at (λ phases. inr refl))
+  step_landed h on by Accept at run some = not_both _ _ some (place_none board h on n n Accept word at (λ phases. inr refl))
+  step_landed h on by Latch at run some = not_both _ _ some (place_none board h on n n Latch word at (λ phases. inr refl))
+  step_landed h on by (Take outcome) at run some = not_both _ _ some (place_none board h on n n (Take outcome) word at (λ phases. inr refl))
+  step_landed h on by Stall at run some = not_both _ _ some (place_none board h on n n Stall word at (λ phases. inr refl))
+  step_landed h on by MasterAbort at run some = not_both _ _ some (place_none board h on n n MasterAbort word at (λ phases. inr refl))
+  step_landed h on by TargetAbort at run some = not_both _ _ some (place_none board h on n n TargetAbort word at (λ phases. inr refl))
 
-  event_landed : (h : List Event) (e : Event) (word : Dword) → Run board (e ∷ h) → list_any (is_landing_of n) (brought board h word e) ≡ true → is_land_of n e ≡ true
-  event_landed h (Act on by o step at) word run some =
+  event_landed : (h : List Event) (e : Event) → Run board (e ∷ h) → list_any (is_landing_of n) (brought board h word e) ≡ true → is_land_of n e ≡ true
+  event_landed h (Act on by o step at) run some =
       let P : Bool → Type 0 = λ b. same_op o n ≡ b → (b && is_land_step step) ≡ true in
       (elim (same_op o n) as P [
         | true ↦ λ same.
             let one : o ≡ n = same_op_true o n same in
             let R : OpId → Type 0 = λ q. Run board (Act on by q step at ∷ h) in
             let S : OpId → Type 0 = λ q. list_any (is_landing_of n) (landings_by board h on q step word at) ≡ true in
-            step_landed h on by step at word (subst R one run) (subst S one some)
+            step_landed h on by step at (subst R one run) (subst S one some)
         | false ↦ λ other. not_both _ _ some (place_none board h on o n step word at (λ phases. inl other))
       ]) refl
-  event_landed h (Arrive lane mark) word run some = cc
+  event_landed h (Arrive lane mark) run some = cc
 
-  -- where a data phase of it landed, it landed whole
-  pub alone_landed : (h : List Event) (word : Dword) → Run board h → list_any (is_landing_of n) (landed board h word) ≡ true → has_landed h n ≡ true
-  alone_landed [] word run some = cc
-  alone_landed (e ∷ h) word run some =
+  -- so where a data phase of it landed there, it landed whole
+  pub whole_landed : (h : List Event) → Run board h → list_any (is_landing_of n) (landed board h word) ≡ true → has_landed h n ≡ true
+  whole_landed [] run some = cc
+  whole_landed (e ∷ h) run some =
       or_either (has_landed (e ∷ h) n ≡ true) (list_any (is_landing_of n) (landed board h word)) (list_any (is_landing_of n) (brought board h word e))
-      (λ old. or_right (is_land_of n e) (has_landed h n) (alone_landed h word run.1 old))
-      (λ new. or_left (is_land_of n e) (has_landed h n) (event_landed h e word run new))
+      (λ old. or_right (is_land_of n e) (has_landed h n) (whole_landed h run.1 old))
+      (λ new. or_left (is_land_of n e) (has_landed h n) (event_landed h e run new))
       (sym (list_any-append (is_landing_of n) (landed board h word) (brought board h word e)) ∙ some)
+
+-- A write of one data phase does not land in parts.
+
+module _ (board : Board) (n : OpId) (op : Op) (is_op : op_of board n ≡ Some op) (posted : is_posted_op board n ≡ true) (alone : length (phases_of op) ≡ 1) where
+  alone_parts : (word : Dword) → PartsBringNothing board n word
+  alone_parts word h on by number at run =
+      let request : Request = request_on op on in
+      let requested : request_of board n on ≡ Some request = rw is_op refl in
+      let write : is_posted request ≡ true = sym (ap is_posted_in is_op) ∙ posted in
+      let lands = write_lands board h on by n request (Part number) at requested write run.0.1 in
+      let long = length-drop (through h n) (phases_of op) in
+      let none : number ≡ 0 = omega (arith, lands.1, long, alone) in
+      let F : ℕ → Type 0 = λ k. list_any (is_landing_of n) (landings_by board h on n (Part k) word at) ≡ false in
+      let in_none : F 0 = place_none board h on n n (Part 0) word at (λ phases. inr refl) in
+      subst F (sym none) in_none
+
+  -- so where a data phase of it landed, it landed whole
+  pub alone_landed : (h : List Event) (word : Dword) → Run board h → list_any (is_landing_of n) (landed board h word) ≡ true → has_landed h n ≡ true
+  alone_landed h word run some = whole_landed board n word (alone_parts word) h run some
 
 -- A posted write that landed ended at its master.
 

@@ -1,3 +1,4 @@
+pub mod SafeLemmas
 pub mod RelayLemmas
 pub mod FlagLemmas
 pub mod FoundLemmas

@@ -15,3 +15,4 @@ pub mod Passing
 pub mod Crossing
 pub mod Audited
 pub mod Premises
+pub mod Safe

@@ -29,6 +29,7 @@ ghost use Rattle.worked_runs.specs.Stealing.{stealing_board, stealing_events, he
 
 mod left;
 mod premises;
+mod safe;
 
 pub use left::{only_runs_return_what_was_left, other_reads_need_not_return_it, relay_left};
 pub use premises::{
@@ -38,6 +39,7 @@ pub use premises::{
     runs_need_not_be_complete, sides_need_the_depths, writes_are_settled_as_they_land,
     writes_are_told_one_way, wrong_parts_make_no_run,
 };
+pub use safe::data_behind_a_flag;
 
 /// A write, and a read of what it wrote, by one master: what its audit says.
 pub fn one_word()

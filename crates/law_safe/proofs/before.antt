@@ -1,0 +1,11 @@
+pub mod MergeLemmas
+pub mod WrittenLemmas
+pub mod MetLemmas
+pub mod HeldLemmas
+pub mod OrderLemmas
+pub mod BeforeLemmas
+pub mod EndedLemmas
+pub mod ProgramLemmas
+pub mod LastLemmas
+pub mod SoundLemmas
+pub mod Laws

@@ -1,0 +1,3 @@
+pub mod FoldLemmas
+pub mod SafeLemmas
+pub mod Laws

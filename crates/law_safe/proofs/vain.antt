@@ -1,0 +1,2 @@
+pub mod VainLemmas
+pub mod Laws

@@ -1,0 +1,4 @@
+pub mod CoverLemmas
+pub mod OnceLemmas
+pub mod InOrderLemmas
+pub mod Laws

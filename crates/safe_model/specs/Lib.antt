@@ -1,0 +1,4 @@
+pub mod Raisers
+pub mod Clocks
+pub mod Safe
+pub mod Vain
