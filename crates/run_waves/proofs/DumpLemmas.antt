@@ -67,7 +67,7 @@ all_written board events signals old t1 t5 new signals_are head first rest =
     ∙ ap (λ (t : List ℕ). old ++ t) (sym (text_of-append (head_lines board) body))
 
 -- the first events of a run are a run
-first_run : (board : Board) (events : List Event) (i : ℕ) → Run board (history_of events) → Run board (history_of (take i events))
+pub first_run : (board : Board) (events : List Event) (i : ℕ) → Run board (history_of events) → Run board (history_of (take i events))
 first_run board events i run =
     let turned : history_of events ≡ reverse (drop i events) ++ history_of (take i events) =
     ap (λ (xs : List Event). reverse xs) (sym (take-append-drop i events)) ∙ reverse-append (take i events) (drop i events) in

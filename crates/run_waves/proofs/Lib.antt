@@ -5,3 +5,8 @@ pub mod WatchLemmas
 pub mod ReadLemmas
 pub mod ChangeLemmas
 pub mod DumpLemmas
+pub mod CodeLemmas
+pub mod LastLemmas
+pub mod ToldLemmas
+pub mod CountLemmas
+pub mod WidthLemmas

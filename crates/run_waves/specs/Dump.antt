@@ -24,7 +24,7 @@ abbrev pub code_within : ℕ → ℕ → List ℕ
 code_within zero k = []
 code_within (suc more) k = (33 + k % 94) ∷ (if nat_lt k 94 then [] else code_within more (k / 94))
 
--- no board has as many signals as have four digits
+-- no valid board has as many signals as have four digits: no two of its signals have one code (`codes_are_apart`)
 abbrev pub code_of : ℕ → List ℕ
 code_of k = code_within 3 k
 

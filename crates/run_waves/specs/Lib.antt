@@ -1,4 +1,6 @@
 pub mod Signals
 pub mod Shown
 pub mod Dump
+pub mod Told
+pub mod Widths
 pub mod Scenes

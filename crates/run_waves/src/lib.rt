@@ -5,6 +5,7 @@
 mod code;
 mod dump;
 mod head;
+mod laws;
 mod lines;
 mod reading;
 mod scene;
@@ -13,3 +14,4 @@ mod signals;
 mod watch;
 
 pub use dump::waves;
+pub use laws::{codes_are_apart, dumps_are_lines, dumps_tell, widths_fit};

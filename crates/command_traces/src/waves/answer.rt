@@ -4,7 +4,7 @@ ghost use Rattle.command_traces.specs.waves.Answers.{AnswersWaves};
 
 use program_input::{TreeTrace, read_run};
 use program_status::Status;
-use run_waves::waves;
+use run_waves::{dumps_are_lines, dumps_tell, waves, widths_fit};
 use std::alloc::Global;
 
 /// The value change dump of a run, complete or not, for its trace text.
@@ -14,6 +14,9 @@ pub fn answer_waves(alloc: Global, input: &[u8]) -> Result<Vec<u8>, Status>
     ensures err { IfErr result (RefusesRun input.now) }
 {
     let TreeTrace { tree, events } = read_run(alloc, input)?;
+    dumps_are_lines();
+    dumps_tell();
+    widths_fit();
     match waves(alloc, &tree, events.as_slice()) {
         Ok(text) => Ok(text.into_vec()),
         Err(_) => Err(Status::NoMemory),
