@@ -1,4 +1,5 @@
-//! What a board says of all its runs: a table of clocks that is consistent, and a read that is safe.
+//! What a board says of all its runs: a table of clocks that is consistent, and a read that is safe;
+//! and why the law of safe reads has its premises.
 
 ghost use Rattle.std.specs.Prelude.{◌≡◌, List, Some, true};
 ghost use Rattle.board_model.specs.Valid.{IsValid};
@@ -8,6 +9,7 @@ ghost use Rattle.history_model.specs.Runs.{Run};
 ghost use Rattle.safe_model.specs.Clocks.{at_place, IsConsistent};
 ghost use Rattle.safe_model.specs.Safe.{IsSafe};
 ghost use Rattle.worked_runs.specs.Flags.{flag_board};
+ghost use Rattle.worked_runs.specs.Premises.{flagged_board, data_read, early_history};
 ghost use Rattle.worked_runs.specs.Safe.{flag_table};
 
 use law_safe::safe_reads_return;
@@ -23,3 +25,20 @@ pub fn data_behind_a_flag()
 {
     safe_reads_return();
 }
+
+/// A table that says more than is known shows nothing: where the flag opens set, the poll is met at
+/// once, and the read returns what was there before.
+pub fn tables_must_be_consistent()
+    ensures valid { IsValid (flagged_board 1) }
+    ensures safe { IsSafe (flagged_board 1) flag_table data_read 5 }
+    ensures run { Run (flagged_board 1) early_history }
+    ensures other { given_value early_history data_read ≡ Some 0 }
+{}
+
+/// Nor does a history that is no run show what a safe read returns.
+pub fn only_runs_return_what_is_safe()
+    ensures valid { IsValid (flagged_board 2) }
+    ensures consistent { IsConsistent (flagged_board 2) flag_table }
+    ensures safe { IsSafe (flagged_board 2) flag_table data_read 5 }
+    ensures other { given_value early_history data_read ≡ Some 0 }
+{}
