@@ -41,13 +41,15 @@ again_board =
           } ∷ [];
     }
 
--- the write over the bridge, that of who saw it, and the read behind that
+-- the write over the bridge
 abbrev pub far_write : OpId
 far_write = op 0 0 0
 
+-- the write of who saw it
 abbrev pub near_write : OpId
 near_write = op 1 1 0
 
+-- and the read behind that
 abbrev pub near_read : OpId
 near_read = op 1 2 0
 
