@@ -39,7 +39,10 @@ pub use premises::{
     runs_need_not_be_complete, sides_need_the_depths, writes_are_settled_as_they_land,
     writes_are_told_one_way, wrong_parts_make_no_run,
 };
-pub use safe::data_behind_a_flag;
+pub use safe::{
+    data_behind_a_flag, only_runs_return_what_is_safe, tables_must_be_consistent,
+    told_writes_may_land_again,
+};
 
 /// A write, and a read of what it wrote, by one master: what its audit says.
 pub fn one_word()
