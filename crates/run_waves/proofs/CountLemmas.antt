@@ -97,13 +97,19 @@ few_on board bus few =
     omega
     (arith, length-append lanes (masters ++ targets), length-append masters targets, few_lanes bus, of_masters, of_targets, few_masters board bus few, few_targets board bus few)
 
-few_buses : (board : Board) → length (buses_of board) ≤ 256
-few_buses board =
-    omega (arith, length-filter (is_bus board) (range_with_len 0 256), count_by-le-length (is_bus board) (range_with_len 0 256), length-range_with_len 0 256)
+few_below : (test : ℕ → Bool) (n : ℕ) → length (filter test (range_with_len 0 n)) ≤ n
+few_below test n = omega (arith, length-filter test (range_with_len 0 n), count_by-le-length test (range_with_len 0 n), length-range_with_len 0 n)
 
--- so there are fewer than numbers of three digits
+few_buses : (board : Board) → length (buses_of board) ≤ 256
+few_buses board = few_below (is_bus board) 256
+
+three_digits : (buses signals : ℕ) → signals ≤ buses * 49 → buses ≤ 256 → signals ≤ 94 ^ 3
+three_digits buses signals each few = omega arith
+
+-- so there are no more than numbers of three digits
 pub few_signals : (board : Board) → IsValid board → length (signals_of board) ≤ 94 ^ 3
 unfolding signals_of
 few_signals board valid =
     let few : AreFew board = (WellFormed-parts board valid.well_formed).few in
-    omega (arith, flat_few (signals_on board) 49 (λ bus. few_on board bus few) (buses_of board), few_buses board)
+    three_digits (length (buses_of board)) (length (flat_map (signals_on board) (buses_of board)))
+    (flat_few (signals_on board) 49 (λ bus. few_on board bus few) (buses_of board)) (few_buses board)

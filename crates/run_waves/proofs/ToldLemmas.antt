@@ -1,5 +1,5 @@
 -- The lines of a dump, moment by moment, and what they tell of each signal.
-use Rattle.std.proofs.Common.{◌≡◌, ℕ, zero, suc, ◌+◌, ◌^◌, ◌<◌, ◌≤◌, Bool, true, false, not, cond, codes, ◌||◌, List, [], ◌∷◌, ◌++◌, length, drop, reverse, Option, Some, None, slice_get, refl, sym, ap, ◌∙◌, arith, append_assoc}
+use Rattle.std.proofs.Common.{◌≡◌, ℕ, zero, suc, ◌+◌, ◌^◌, ◌<◌, ◌≤◌, Bool, true, false, not, cond, codes, List, [], ◌∷◌, ◌++◌, length, drop, reverse, Option, Some, None, slice_get, refl, sym, ap, ◌∙◌, arith, append_assoc}
 use Rattle.std.specs.List.{find}
 use Rattle.std.specs.Option.{option_or}
 use Rattle.std.proofs.Math.Seq.{drop-append_seam}
@@ -84,7 +84,6 @@ dumped board events =
     ap (λ (lines : List Line). head_lines board ++ (time_line 0 ∷ (codes "$dumpvars" ∷ []) ∷ (values ++ ((codes "$end" ∷ []) ∷ lines)))) (sym same)
 
 -- What is given last.
-
 
 values_pieces : (board : Board) (m : Moment) (k : ℕ) (signals : List Signal) → value_lines board m k signals ≡ pieces (λ j signal. value_line j (shown board m signal) ∷ []) k signals
 values_pieces board m k [] = refl

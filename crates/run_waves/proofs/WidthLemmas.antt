@@ -1,5 +1,6 @@
 -- A number that is shown of a lane, a master or a target has no more bits than its signal is declared with.
-use Rattle.std.proofs.Common.{◌≡◌, ℕ, zero, suc, ◌+◌, ◌-◌, ◌*◌, ◌^◌, ◌<◌, ◌≤◌, lit<, Bool, true, false, cond, count_by, List, [], ◌∷◌, ◌++◌, length, take, reverse, Option, Some, None, is_some, slice_get, refl, sym, ap, subst, ◌∙◌, arith, append_assoc, append-nil}
+use Rattle.std.proofs.Common.{◌≡◌, ℕ, zero, suc, ◌+◌, ◌-◌, ◌<◌, ◌≤◌, lit<, true, cond, count_by, List, [], ◌∷◌, ◌++◌, length, take, reverse, Option, Some, None, is_some, slice_get, refl, sym, ap, subst, ◌∙◌, arith, append_assoc, append-nil}
+use Rattle.std.specs.Fmt.{digits}
 use Rattle.std.specs.Option.{option_map_or}
 use Rattle.std.proofs.lemmas.Grind.{reverse_onto}
 use Rattle.std.proofs.lemmas.List.Recursion.{is_count_by}
@@ -20,7 +21,7 @@ use Rattle.board_model.proofs.Laws.{WellFormed-parts, Master-parts, Target-parts
 use Rattle.history_model.specs.declared.event.Event.{Event}
 use Rattle.history_model.specs.declared.item.Carried.{Carried}
 use Rattle.history_model.specs.declared.item.Carried.TheVariants.{Post, Ask, Done, Room, Gone}
-use Rattle.history_model.specs.Lanes.{LaneState, is_post}
+use Rattle.history_model.specs.Lanes.{is_post}
 use Rattle.history_model.specs.World.{both, world_of}
 use Rattle.history_model.specs.Program.{turn_of}
 use Rattle.history_model.specs.Answers.{is_turn, stalls_used}
@@ -28,9 +29,9 @@ use Rattle.history_model.specs.Runs.{Run, history_of}
 use Rattle.history_model.proofs.facts.BridgeLemmas.{lane_back_back}
 use Rattle.history_model.proofs.facts.RequestLemmas.{same_op_self}
 use Rattle.history_model.proofs.facts.TurnLemmas.{turn_is_there}
-use Rattle.law_lanes.specs.Credits.{Credits, post_count}
+use Rattle.law_lanes.specs.Credits.{post_count}
 use Rattle.law_lanes.specs.Depths.{Within}
-use Rattle.law_lanes.specs.Slots.{Slots, slot_weight, ask_weight, done_weight, places}
+use Rattle.law_lanes.specs.Slots.{slot_weight, ask_weight, done_weight, places}
 use Rattle.law_lanes.proofs.Laws.{Within-eight, Slots-run, Credits-run, WellFormed-depths}
 use Rattle.law_bound.proofs.changes.Laws.{turn_master}
 use Rattle.run_waves.specs.declared.signal.LaneCount.{LaneCount}
@@ -100,6 +101,7 @@ module _ (board : Board) (valid : IsValid board) (h : List Event) (run : Run boa
       subst P (lane_back_back lane) few
 
   lane_fits : (lane : BridgeLane) (count : LaneCount) → FitsIn (Lane lane count) (count_on count (world_of board h lane))
+  unfolding digits
   lane_fits lane Owed = let most = (little lane).owed in record { bits = 4; declared = refl; fits = omega (arith, most) }
   lane_fits lane Held = let most = (little lane).held in record { bits = 4; declared = refl; fits = omega (arith, most) }
   lane_fits lane Flight = let most = (little lane).flight in record { bits = 6; declared = refl; fits = omega (arith, most) }
@@ -126,6 +128,7 @@ module _ (board : Board) (valid : IsValid board) (h : List Event) (run : Run boa
       ]) refl
 
   index_fits : (master : ℕ) → FitsIn (Index master) (index_of (ops_of board master) (turn_of board h master))
+  unfolding digits
   index_fits master =
       let P : Option OpId → Type 0 = λ turn. turn_of board h master ≡ turn → FitsIn (Index master) (index_of (ops_of board master) turn) in
       (elim (turn_of board h master) as P [
@@ -134,6 +137,7 @@ module _ (board : Board) (valid : IsValid board) (h : List Event) (run : Run boa
       ]) refl
 
   try_fits : (master : ℕ) → FitsIn (Try master) (try_of (turn_of board h master))
+  unfolding digits
   try_fits master =
       let P : Option OpId → Type 0 = λ turn. turn_of board h master ≡ turn → FitsIn (Try master) (try_of turn) in
       (elim (turn_of board h master) as P [
@@ -153,6 +157,7 @@ module _ (board : Board) (valid : IsValid board) (h : List Event) (run : Run boa
       ]) refl
 
   stall_fits : (target : ℕ) → FitsIn (Stall target) (stalls_of board target - stalls_used h target)
+  unfolding digits
   stall_fits target = record { bits = 20; declared = refl; fits = omega (arith, few_tokens target) }
 
 -- All that is kept.
