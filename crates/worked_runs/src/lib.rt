@@ -3,6 +3,7 @@
 
 ghost use Rattle.std.specs.Prelude.{◌≡◌, ℕ, false, IsTrue, Some, None, [], ◌∷◌, ◌++◌, map, take, reverse};
 ghost use Rattle.board_model.specs.Ways.{bound_of};
+ghost use Rattle.board_model.specs.Valid.{IsValid};
 ghost use Rattle.history_model.specs.declared.event.Step.TheVariants.{Land, Read, Accept, Latch};
 ghost use Rattle.history_model.specs.Runs.{Run, Complete, history_of};
 ghost use Rattle.history_model.specs.Local.{Matched};
@@ -22,6 +23,7 @@ ghost use Rattle.worked_runs.specs.Credits.{credits_board, credits_events};
 ghost use Rattle.worked_runs.specs.Unclaimed.{unclaimed_board, unclaimed_events, aborted_board, aborted_events};
 ghost use Rattle.worked_runs.specs.Discards.{discarded_board, discarded_events, landed_twice_board, landed_twice_events, dropped_board, dropped_events};
 ghost use Rattle.worked_runs.specs.Registers.{registers_board, registers_events};
+ghost use Rattle.worked_runs.specs.Registers.{written_board, written_events};
 ghost use Rattle.worked_runs.specs.Wide.{wide_board, wide_events};
 ghost use Rattle.worked_runs.specs.Passing.{passing_board, passing_events, behind_board, behind_events, read_behind, io_write_behind, write_behind};
 ghost use Rattle.worked_runs.specs.Crossing.{crossing_board, crossing_events, crossing_posted_board, crossing_posted_events};
@@ -84,6 +86,7 @@ pub fn between()
 
 /// Data and flag on two buses, the consumer on a third.
 pub fn flag()
+    ensures valid { IsValid flag_board }
     ensures run { Run flag_board (history_of flag_events) }
     ensures complete { Complete flag_board (history_of flag_events) }
 {}
@@ -128,6 +131,12 @@ pub fn dropped()
 pub fn registers()
     ensures run { Run registers_board (history_of registers_events) }
     ensures complete { Complete registers_board (history_of registers_events) }
+{}
+
+/// Configuration writes: the bits that can be written, in the bytes that are enabled.
+pub fn written()
+    ensures run { Run written_board (history_of written_events) }
+    ensures complete { Complete written_board (history_of written_events) }
 {}
 
 /// A write and a read above 2^32, through a prefetchable window.
@@ -212,6 +221,7 @@ pub fn wrong_arrivals()
 
 /// A write reaches a third master by two flags: its chain, and the line of the last read.
 pub fn relay()
+    ensures valid { IsValid relay_board }
     ensures run { Run relay_board (history_of relay_events) }
     ensures complete { Complete relay_board (history_of relay_events) }
     ensures told { Told relay_board (history_of relay_events) first_write last_read }

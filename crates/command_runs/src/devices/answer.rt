@@ -35,10 +35,7 @@ fn read_devices(alloc: Global, input: &[u8]) -> Result<Tree, Status>
     ensures err { IfErr result (RefusesDevices input.now) }
 {
     match make(alloc, input) {
-        Ok(board) => match tree_of(board) {
-            Ok(tree) => Ok(tree),
-            Err(status) => Err(status),
-        },
+        Ok(board) => tree_of(board),
         Err(MakeFault::Board { line, fault }) => Err(Status::BadBoard {
             line,
             fault: BoardFault::Line(fault),

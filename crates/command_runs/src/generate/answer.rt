@@ -2,7 +2,7 @@ ghost use Rattle.std.specs.Prelude.{◌≡◌, IfOk, IfErr, IsTrue};
 ghost use Rattle.command_runs.specs.generate.Answers.{names_rounds, AnswersGenerate, GeneratesTo, RefusesGenerate};
 
 use crate::generate::rounds_of;
-use judge_finish::finish;
+use judge_finish::{Unfinished, finish};
 use pci_command::{List, NoMemory};
 use program_status::Status;
 use run_report::report;
@@ -28,8 +28,9 @@ fn report_of(alloc: Global, rounds: &Rounds) -> Result<List<u8>, NoMemory>
     generated_boards_are_valid();
     let tree = generate(alloc, rounds)?;
     let _board = tree.board();
-    let Ok(events) = finish(alloc, &tree, List::from_vec(Vec::new(alloc))) else {
-        return Err(NoMemory);
-    };
-    report(alloc, &tree, events.as_slice())
+    match finish(alloc, &tree, List::from_vec(Vec::new(alloc))) {
+        Ok(events) => report(alloc, &tree, events.as_slice()),
+        Err(Unfinished::NoMemory) => Err(NoMemory),
+        Err(Unfinished::NotRun { .. }) => unreachable!(),
+    }
 }

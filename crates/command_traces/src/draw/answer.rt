@@ -8,6 +8,7 @@ use crate::draw::rows::Rows;
 use board_tree::Tree;
 use draw_page::page_of;
 use history_model::Event;
+use law_bound::runs_end;
 use pci_command::{List, NoMemory};
 use program_input::{TreeTrace, read_run};
 use program_status::Status;
@@ -70,10 +71,9 @@ fn page_of_rows(
     requires { Run tree.now (history_of events.now) }
     ensures { IfOk result (λ page. page ≡ page_of tree.now events.now (first_row rows) (last_row rows (length events.now))) }
 {
+    // The board of a tree is valid, so that a run of it has at most 500,000 events.
+    runs_end();
+    let _valid = tree.board();
     let last = last_row(rows, events);
-    // So many events have no room in an input.
-    if events.len() >= 0x8000_0000 {
-        return Err(NoMemory);
-    }
     page_of(alloc, tree, events, first_row(rows), last as u32)
 }
