@@ -1,12 +1,11 @@
 -- The finding of the relay is so, by the definitions alone.
-use Rattle.std.proofs.Common.{◌≡◌, ℕ, List, [], ◌∷◌, Some, drop, refl, arith, inr}
+use Rattle.std.proofs.Common.{ℕ, List, [], drop, refl, arith, inr}
 use Rattle.pci_command.specs.declared.command.Space.TheVariants.{Mem}
 use Rattle.pci_command.specs.declared.op_id.OpId.{OpId}
 use Rattle.history_model.specs.declared.event.Event.{Event}
 use Rattle.history_model.specs.Knowledge.{Told, one, more}
 use Rattle.history_model.specs.Runs.{history_of}
 use Rattle.law_fresh.proofs.Laws.{each_contains}
-use Rattle.law_audit.specs.Audit.{Finding}
 use Rattle.law_audit.specs.Sound.{Knew, IsFound, AreSound}
 use Rattle.worked_runs.specs.Audited.{relay_chain, relay_findings}
 use Rattle.worked_runs.specs.Relay.{relay_board, relay_events, first_write, last_read}
