@@ -93,8 +93,8 @@ fn unclear(board: &Board, waits: &[Waiting]) -> Option<Waiting>
 {
     waits
         .iter()
-        .find(|wait| is_unclear(board, wait.flag))
         .copied()
+        .find(|wait| is_unclear(board, wait.flag))
 }
 
 fn is_unclear(board: &Board, flag: Flag) -> bool

@@ -186,7 +186,8 @@ fn find_places(
 }
 
 fn add_place(found: &mut Vec<OpPlace>, place: OpPlace, is_one: bool) -> Result<(), NoMemory>
-    ensures { OnOk result (found.new.items ≡ found.old.items ++ (if is_one then place ∷ [] else [])) }
+    ensures { OnOk result (found.new.items ≡
+        found.old.items ++ (if is_one then place ∷ [] else [])) }
 {
     if is_one {
         found.push(place)?;

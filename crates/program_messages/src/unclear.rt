@@ -147,10 +147,8 @@ fn line_of(input: &[u8], kind: Kind, owner: usize, index: usize) -> Option<(u32,
             count = 0;
         }
         count = count.saturating_add(count_in(kind, line));
-        if owners > owner {
-            if count > index {
-                return Some((number, line));
-            }
+        if owners > owner && count > index {
+            return Some((number, line));
         }
         number = number.saturating_add(1);
     }
@@ -190,7 +188,8 @@ fn writes_of_put(words: &mut Words) -> usize {
         return 0;
     };
     let first = address as usize;
-    (first + length as usize + 31) / 32 - first / 32
+    let end = first.saturating_add(length as usize).saturating_add(31);
+    (end / 32).saturating_sub(first / 32)
 }
 
 /// The name of the target of this number.
