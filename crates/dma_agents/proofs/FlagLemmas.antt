@@ -23,7 +23,7 @@ use Rattle.dma_agents.specs.declared.line.DeviceLine.{DeviceLine}
 use Rattle.dma_agents.specs.declared.line.DeviceLine.TheVariants.{Device, Handler, Puts, Gets, Sends, Looks, Waits, Writes}
 use Rattle.dma_agents.specs.declared.making.Making.{Making}
 use Rattle.dma_agents.specs.declared.put.Put.{Put}
-use Rattle.dma_agents.specs.Put.{writes_from, blocks_of, cut}
+use Rattle.dma_agents.specs.Put.{writes_from, blocks_of}
 use Rattle.dma_agents.specs.Adding.{line_added}
 use Rattle.dma_agents.specs.Made.{flag_of, waits_behind, with_draft}
 use Rattle.dma_agents.proofs.StepLemmas.{OnDraft, Keeps, line_may, line_keeps, OnMaking, LinesKeep}
