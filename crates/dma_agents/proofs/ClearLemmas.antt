@@ -93,6 +93,12 @@ write_rings address value op is = ap (total (brings value)) (written address op 
 pub no_write_rings : (address value : ℕ) (op : Op) → same_command (command_of op) MemWrite ≡ false → rings address value op ≡ 0
 no_write_rings address value op is = ap (total (brings value)) (written address op false is)
 
+pub write_is_whole : (address : ℕ) (op : Op) → same_command (command_of op) MemWrite ≡ true → list_all is_whole (written_at address op) ≡ list_all is_whole (phases_at address (address_on op 0) (phases_of op))
+write_is_whole address op is = ap (list_all is_whole) (written address op true is)
+
+pub no_write_is_whole : (address : ℕ) (op : Op) → same_command (command_of op) MemWrite ≡ false → list_all is_whole (written_at address op) ≡ true
+no_write_is_whole address op is = ap (list_all is_whole) (written address op false is)
+
 pub write_rings_whole : (address value : ℕ) (op : Op) → same_command (command_of op) MemWrite ≡ true
     → rings_whole address value op ≡ (list_all is_whole (phases_at address (address_on op 0) (phases_of op)) && (total (brings value) (phases_at address (address_on op 0) (phases_of op)) == 0 || length (phases_of op) == 1))
 write_rings_whole address value op is =

@@ -1,21 +1,16 @@
 -- A board that is made is well formed.
-use Rattle.std.proofs.Common.{◌≡◌, ℕ, ◌+◌, Bool, true, false, ◌&&◌, cond, not, nat_le, nat_lt, List, [], ◌∷◌, length, drop, Option, Some, None, Result, Ok, Err, refl, subst, codes}
+use Rattle.std.proofs.Common.{◌≡◌, ℕ, ◌+◌, Bool, true, false, cond, nat_le, List, [], ◌∷◌, length, Option, Some, None, Result, Ok, Err, refl, subst, codes}
 use Rattle.std.specs.Str.{bytes_eq}
-use Rattle.std.specs.List.{list_all}
 use Rattle.std.proofs.lemmas.Bool.{and_parts}
 use Rattle.board_model.specs.declared.board.Board.{Board}
-use Rattle.board_model.specs.declared.op.Op.{Op}
 use Rattle.board_model.specs.WellFormed.{is_within, is_well_formed}
-use Rattle.board_text.specs.Lines.{lines_of, line_fault}
-use Rattle.board_text.specs.Tokens.{words_of}
+use Rattle.board_text.specs.Lines.{lines_of}
 use Rattle.board_statements.specs.declared.fault.LineFault.{LineFault}
 use Rattle.board_statements.specs.declared.statement.Statement.TheVariants.{Does, NewMaster}
 use Rattle.board_statements.specs.Words.{Reader, one_word, hex, decimal, fixed, decimal_of}
 use Rattle.board_parser.specs.declared.draft.draft.Draft.{Draft}
 use Rattle.board_parser.specs.draft.Drafts.{board_of}
 use Rattle.board_parser.specs.draft.Formed.{is_formed_op}
-use Rattle.board_parser.specs.draft.Masters.{add_master, does}
-use Rattle.board_parser.specs.draft.Targets.{is_name_used}
 use Rattle.board_parser.proofs.draft.SoundLemmas.{well_formed_by}
 use Rattle.board_parser.proofs.draft.DraftLemmas.{IsDraftSound, closed_sound, add_sound}
 use Rattle.board_parser.specs.Boards.{read_lines}
@@ -24,20 +19,20 @@ use Rattle.board_parser.proofs.WordKindLemmas.{decimal-within}
 use Rattle.board_parser.proofs.ReadingLemmas.{SomeSound, lines-sound}
 use Rattle.dma_agents.specs.messages.Message.{message_of}
 use Rattle.text_faults.specs.declared.DeviceFault.{DeviceFault}
-use Rattle.text_faults.specs.declared.DeviceFault.TheVariants.{Misshapen, Misplaced, NameUsed}
+use Rattle.text_faults.specs.declared.DeviceFault.TheVariants.{Misshapen}
 use Rattle.dma_agents.specs.declared.fault.MakeFault.{MakeFault}
 use Rattle.dma_agents.specs.declared.fault.MakeFault.TheVariants.{Device as OfLine}
 use Rattle.dma_agents.specs.declared.line.Flag.{Flag}
+use Rattle.dma_agents.specs.declared.line.Waiting.{Waiting}
 use Rattle.dma_agents.specs.declared.line.DeviceLine.{DeviceLine}
-use Rattle.dma_agents.specs.declared.line.DeviceLine.TheVariants.{Device, Handler, Puts, Gets, Sends, Looks}
-use Rattle.dma_agents.specs.declared.line.Owner.{Owner}
+use Rattle.dma_agents.specs.declared.line.DeviceLine.TheVariants.{Device, Handler, Puts, Gets, Sends, Looks, Waits, Writes}
 use Rattle.dma_agents.specs.declared.line.Owner.TheVariants.{Nobody}
 use Rattle.dma_agents.specs.declared.making.Making.{Making}
-use Rattle.dma_agents.specs.Put.{cut}
-use Rattle.dma_agents.specs.DeviceLines.{name_in, flag_form, device_form, handler_form, seeded, put_form, get_form, look_form, sent, send_form, form_behind, device_line}
-use Rattle.dma_agents.specs.Adding.{stands, is_placed, poll_of, read_of, message_to, limited, then_adds, add_one, add_ops, begins_on, begins, bus_of, bus_there, added, line_added}
-use Rattle.dma_agents.specs.Made.{is_faultless, is_line, is_blank, with_draft, by_form, line_read, fault_behind, behind_end, then_lines, lines_read, unclear, Made, by_flags, by_lines, by_board, until_devices, by_parts, by_first, made_read, board_in}
+use Rattle.dma_agents.specs.DeviceLines.{name_in, flag_form, device_form, handler_form, seeded, put_form, get_form, look_form, sent, send_form, wait_form, word_form, form_behind, device_line}
+use Rattle.dma_agents.specs.Adding.{line_added}
+use Rattle.dma_agents.specs.Made.{is_line, with_draft, lines_read, unclear, Made, by_flags, by_lines, by_board, until_devices, by_parts, by_first, made_read, board_in}
 use Rattle.dma_agents.proofs.PutLemmas.{cut_formed}
+use Rattle.dma_agents.proofs.StepLemmas.{OnDraft, Keeps, line_may, line_keeps, OnMaking, LinesKeep, all_keep}
 
 -- What a line gives.
 
@@ -49,6 +44,8 @@ is_formed_line (Puts put) = nat_le 1 put.length
 is_formed_line (Gets address) = true
 is_formed_line (Sends address message) = true
 is_formed_line (Looks address) = true
+is_formed_line (Waits flag) = is_within 1 65536 flag.tries
+is_formed_line (Writes address value) = true
 
 abbrev IsFormedLine : DeviceLine → Type 0
 IsFormedLine line = is_formed_line line ≡ true
@@ -124,6 +121,17 @@ send_yields =
     yields-bind (decimal 0 31) _ Any IsFormedLine (yields-any (decimal 0 31)) (λ number _.
     record { at = λ words read h. sent_ok address (message_of low vectors number) words read h }))))
 
+wait_yields : Yields wait_form IsFormedLine
+unfolding wait_form is_formed_line
+wait_yields = yields-bind flag_form _ HasTries IsFormedLine flag_yields (λ flag tries. yields-give (Waits flag) IsFormedLine tries)
+
+word_yields : Yields word_form IsFormedLine
+unfolding word_form is_formed_line
+word_yields =
+    yields-bind (hex 8) _ Any IsFormedLine (yields-any (hex 8)) (λ address _.
+    yields-bind (hex 8) _ Any IsFormedLine (yields-any (hex 8)) (λ value _.
+    yields-give (Writes address value) IsFormedLine refl))
+
 -- one of two readers
 either_yields : (test : Bool) (first second : Reader DeviceLine) → Yields first IsFormedLine → Yields second IsFormedLine → (words : List (List ℕ)) (read : DeviceLine × List (List ℕ)) → cond test (first words) (second words) ≡ Ok read → IsFormedLine read.0
 either_yields true first second one other words read h = one.at words read h
@@ -146,7 +154,9 @@ behind_yields word =
     chosen (bytes_eq word (codes "put")) put_form _ put_yields (
     chosen (bytes_eq word (codes "get")) get_form _ get_yields (
     chosen (bytes_eq word (codes "send")) send_form _ send_yields (
-    chosen (bytes_eq word (codes "look")) look_form _ look_yields (refused LineFault.WrongWord))))))
+    chosen (bytes_eq word (codes "look")) look_form _ look_yields (
+    chosen (bytes_eq word (codes "wait")) wait_form _ wait_yields (
+    chosen (bytes_eq word (codes "word")) word_form _ word_yields (refused LineFault.WrongWord))))))))
 
 line_formed : (words : List (List ℕ)) (line : DeviceLine) → device_line words ≡ Ok line → IsFormedLine line
 unfolding device_line
@@ -156,93 +166,36 @@ line_formed words line h =
 
 -- What it adds keeps the draft sound.
 
-abbrev IsSoundStep : Result Draft DeviceFault → Type 0
-IsSoundStep (Ok draft) = IsDraftSound draft
-IsSoundStep (Err fault) = Unit {0}
-
-limited_sound : (step : Result Draft LineFault) → ((draft : Draft) → step ≡ Ok draft → IsDraftSound draft) → IsSoundStep (limited step)
-limited_sound (Ok draft) each = each draft refl
-limited_sound (Err fault) each = tt
-
-then_sound : (step : Result Draft DeviceFault) (later : Draft → Result Draft DeviceFault) → IsSoundStep step → ((draft : Draft) → IsDraftSound draft → IsSoundStep (later draft)) → IsSoundStep (then_adds step later)
-then_sound (Ok draft) later sound each = each draft sound
-then_sound (Err fault) later sound each = tt
-
-one_sound : (draft : Draft) (op : Op) → is_formed_op op ≡ true → IsDraftSound draft → IsSoundStep (add_one draft op)
-one_sound draft op formed sound = limited_sound (does draft op false) (λ next is. add_sound draft (Does op false) next formed sound is)
-
-ops_sound : (draft : Draft) (ops : List Op) → list_all is_formed_op ops ≡ true → IsDraftSound draft → IsSoundStep (add_ops draft ops)
-ops_sound draft [] formed sound = sound
-ops_sound draft (op ∷ ops) formed sound =
-    let parts = and_parts (is_formed_op op) (list_all is_formed_op ops) formed in
-    then_sound (add_one draft op) (λ next. add_ops next ops) (one_sound draft op parts.0 sound) (λ next still. ops_sound next ops parts.1 still)
-
-on_sound : (draft : Draft) (name : List ℕ) (bus : Option ℕ) (flag : Flag) → HasTries flag → IsDraftSound draft → IsSoundStep (begins_on draft name bus (poll_of flag))
-on_sound draft name None flag tries sound = tt
-on_sound draft name (Some bus) flag tries sound =
-    then_sound (limited (add_master draft.wide (board_of draft) name bus)) (λ next. add_one next (poll_of flag))
-    (limited_sound (add_master draft.wide (board_of draft) name bus) (λ next is. add_sound draft (NewMaster name bus) next refl sound is))
-    (λ next still. one_sound next (poll_of flag) tries still)
-
-begins_sound : (draft : Draft) (name : Option (List ℕ)) (bus : Option ℕ) (flag : Flag) → HasTries flag → IsDraftSound draft → IsSoundStep (begins draft name bus (poll_of flag))
-begins_sound draft None bus flag tries sound = tt
-begins_sound draft (Some name) bus flag tries sound =
-    let P : Bool → Type 0 = λ b. IsSoundStep (cond b (Err NameUsed) (begins_on draft name bus (poll_of flag))) in
-    elim (is_name_used (board_of draft) name) as P [ true ↦ tt | false ↦ on_sound draft name bus flag tries sound ]
-
-added_sound : (draft : Draft) (line : DeviceLine) → IsFormedLine line → IsDraftSound draft → IsSoundStep (added draft line)
+line_ops : (line : DeviceLine) → IsFormedLine line → line_may is_formed_op line ≡ true
 unfolding is_formed_line
-added_sound draft (Device name target bell) formed sound = begins_sound draft name (bus_of (board_of draft) target) bell formed sound
-added_sound draft (Handler name bus wait) formed sound = begins_sound draft name (bus_there (board_of draft) bus) wait formed sound
-added_sound draft (Puts put) formed sound = ops_sound draft (cut put) (cut_formed put formed) sound
-added_sound draft (Gets address) formed sound = one_sound draft (read_of address) refl sound
-added_sound draft (Sends address message) formed sound = one_sound draft (message_to address message) refl sound
-added_sound draft (Looks address) formed sound = one_sound draft (read_of address) refl sound
+line_ops (Device name target bell) formed = formed
+line_ops (Handler name bus wait) formed = formed
+line_ops (Puts put) formed = cut_formed put formed
+line_ops (Gets address) formed = refl
+line_ops (Sends address message) formed = refl
+line_ops (Looks address) formed = refl
+line_ops (Waits flag) formed = formed
+line_ops (Writes address value) formed = refl
 
-line_sound : (owner : Owner) (draft : Draft) (line : DeviceLine) → IsFormedLine line → IsDraftSound draft → IsSoundStep (line_added owner draft line)
-line_sound owner draft line formed sound =
-    let P : Bool → Type 0 = λ b. IsSoundStep (cond b (Err Misplaced) (added draft line)) in
-    let placed : P (not (is_placed line)) = elim (not (is_placed line)) as P [ true ↦ tt | false ↦ added_sound draft line formed sound ] in
-    let Q : Bool → Type 0 = λ b. IsSoundStep (cond b (Err Misshapen) (cond (not (is_placed line)) (Err Misplaced) (added draft line))) in
-    elim (not (stands owner line)) as Q [ true ↦ tt | false ↦ placed ]
+sound_kept : Keeps IsDraftSound is_formed_op
+sound_kept = record {
+  op = λ draft next op formed sound is. add_sound draft (Does op false) next formed sound is;
+  master = λ draft next name bus sound is. add_sound draft (NewMaster name bus) next refl sound is;
+}
 
--- All lines.
+abbrev IsSoundMaking : Making → Type 0
+IsSoundMaking making = IsDraftSound making.sheet
 
-abbrev IsSoundMaking : {F : Type 0} → Result Making F → Type 0
-IsSoundMaking (Ok making) = IsDraftSound making.sheet
-IsSoundMaking (Err fault) = Unit {0}
+with_sound : (making : Making) (number : ℕ) (line : DeviceLine) (step : Result Draft DeviceFault) → OnDraft IsDraftSound step → OnMaking IsSoundMaking (with_draft making number line step)
+with_sound making number line (Ok draft) sound = sound
+with_sound making number line (Err fault) sound = tt
 
-draft_sound : (making : Making) (number : ℕ) (line : DeviceLine) (step : Result Draft DeviceFault) → IsSoundStep step → IsSoundMaking (with_draft making number line step)
-draft_sound making number line (Ok draft) sound = sound
-draft_sound making number line (Err fault) sound = tt
-
-form_sound : (making : Making) (number : ℕ) (words : List (List ℕ)) (said : Result DeviceLine LineFault) → device_line words ≡ said → IsDraftSound making.sheet → IsSoundMaking (by_form making number said)
-form_sound making number words (Ok line) is sound = draft_sound making number line _ (line_sound making.owner making.sheet line (line_formed words line is) sound)
-form_sound making number words (Err fault) is sound = tt
-
-read_sound : (making : Making) (number : ℕ) (line : List ℕ) → IsDraftSound making.sheet → IsSoundMaking (line_read making number line)
-read_sound making number line sound =
-    let words : List (List ℕ) = words_of line in
-    let P : Bool → Type 0 = λ b. IsSoundMaking (cond b (by_form making number (device_line words)) (Ok making)) in
-    let by_words : (b : Bool) → P b = λ b. elim b as P [ true ↦ form_sound making number words (device_line words) refl sound | false ↦ sound ] in
-    let Q : Bool → Type 0 = λ b. IsSoundMaking (cond b (cond (nat_lt 0 (length words)) (by_form making number (device_line words)) (Ok making)) (Err Misshapen)) in
-    elim (is_faultless (line_fault line)) as Q [ true ↦ by_words (nat_lt 0 (length words)) | false ↦ tt ]
-
-end_sound : (making : Making) (found : Option ℕ) → IsDraftSound making.sheet → IsSoundMaking (behind_end making found)
-end_sound making None sound = sound
-end_sound making (Some number) sound = tt
-
-step_sound : (step : Result Making DeviceFault) (number : ℕ) (later : Making → Result Making MakeFault) → IsSoundMaking step → ((making : Making) → IsDraftSound making.sheet → IsSoundMaking (later making)) → IsSoundMaking (then_lines step number later)
-step_sound (Ok making) number later sound each = each making sound
-step_sound (Err fault) number later sound each = tt
-
-all_sound : (making : Making) (number : ℕ) (lines : List (List ℕ)) → IsDraftSound making.sheet → IsSoundMaking (lines_read making number lines)
-all_sound making number [] sound = tt
-all_sound making number (line ∷ lines) sound =
-    let more : Result Making MakeFault = then_lines (line_read making number line) number (λ next. lines_read next (number + 1) lines) in
-    let rest : IsSoundMaking more = step_sound (line_read making number line) number (λ next. lines_read next (number + 1) lines) (read_sound making number line sound) (λ next still. all_sound next (number + 1) lines still) in
-    let P : Bool → Type 0 = λ b. IsSoundMaking (cond b (behind_end making (fault_behind (number + 1) lines)) more) in
-    elim (is_line (codes "end" ∷ []) line && list_all is_blank lines) as P [ true ↦ end_sound making (fault_behind (number + 1) lines) sound | false ↦ rest ]
+lines_sound : LinesKeep IsSoundMaking
+lines_sound = record {
+  line = λ making number words line is sound.
+      with_sound making number line (line_added making.owner making.sheet line)
+      (line_keeps IsDraftSound is_formed_op sound_kept making.owner making.sheet line (line_ops line (line_formed words line is)) sound);
+}
 
 -- The whole text.
 
@@ -250,21 +203,21 @@ abbrev IsFormedMade : Result Made MakeFault → Type 0
 IsFormedMade (Ok made) = is_well_formed made.board ≡ true
 IsFormedMade (Err fault) = Unit {0}
 
-flags_formed : (board : Board) (first : ℕ) (found : Option ℕ) → is_well_formed board ≡ true → IsFormedMade (by_flags board first found)
+flags_formed : (board : Board) (first : ℕ) (found : Option Waiting) → is_well_formed board ≡ true → IsFormedMade (by_flags board first found)
 flags_formed board first None formed = formed
-flags_formed board first (Some line) formed = tt
+flags_formed board first (Some wait) formed = tt
 
-lines_formed : (first : ℕ) (making : Result Making MakeFault) → IsSoundMaking making → IsFormedMade (by_lines first making)
+lines_formed : (first : ℕ) (making : Result Making MakeFault) → OnMaking IsSoundMaking making → IsFormedMade (by_lines first making)
 lines_formed first (Ok making) sound =
-    flags_formed (board_of making.sheet) first (unclear (board_of making.sheet) (drop first (board_of making.sheet).masters) making.lines)
+    flags_formed (board_of making.sheet) first (unclear (board_of making.sheet) making.waits)
     (well_formed_by (board_of making.sheet) (closed_sound making.sheet sound))
 lines_formed first (Err fault) sound = tt
 
 board_formed : (number : ℕ) (lines : List (List ℕ)) (reading : Result (Option Draft) (ℕ × LineFault)) → ((end : Option Draft) → reading ≡ Ok end → SomeSound end) → IsFormedMade (by_board number lines reading)
 board_formed number lines (Ok None) each = tt
 board_formed number lines (Ok (Some draft)) each =
-    lines_formed (length (board_of draft).masters) (lines_read (record { sheet = draft; owner = Nobody; lines = [] }) number lines)
-    (all_sound (record { sheet = draft; owner = Nobody; lines = [] }) number lines (each (Some draft) refl))
+    lines_formed (length (board_of draft).masters) (lines_read (record { sheet = draft; owner = Nobody; waits = [] }) number lines)
+    (all_keep IsSoundMaking lines_sound (record { sheet = draft; owner = Nobody; waits = [] }) number lines (each (Some draft) refl))
 board_formed number lines (Err fault) each = tt
 
 parts_formed : (past : ℕ) (parts : Option (List (List ℕ) × List (List ℕ))) → IsFormedMade (by_parts past parts)

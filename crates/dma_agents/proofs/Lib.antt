@@ -6,3 +6,6 @@ pub mod CutLemmas
 pub mod ClearLemmas
 pub mod MakeLemmas
 pub mod SaidLemmas
+pub mod StepLemmas
+pub mod FlagLemmas
+pub mod UnclearLemmas

@@ -1,9 +1,10 @@
 -- The flags of a made board are clear, so they deliver.
-use Rattle.std.proofs.Common.{◌≡◌, ℕ, zero, suc, ◌+◌, ◌-◌, ◌≤◌, Bool, true, false, cond, nat_lt, List, [], ◌∷◌, length, drop, Option, Some, None, Result, Ok, Err, refl, sym, ap, subst, ◌∙◌, arith, slice_get, codes}
+use Rattle.std.proofs.Common.{◌≡◌, ℕ, zero, suc, ◌+◌, ◌-◌, ◌≤◌, Bool, true, false, cond, nat_lt, List, [], ◌∷◌, length, drop, Option, Some, None, Result, Ok, Err, refl, ap, subst, ◌∙◌, arith, slice_get, codes}
 use Rattle.pci_command.specs.declared.command.Space.TheVariants.{Mem}
 use Rattle.pci_command.specs.declared.op_id.OpId.{OpId}
 use Rattle.board_model.specs.declared.agents.Master.{Master}
 use Rattle.board_model.specs.declared.board.Board.{Board}
+use Rattle.list_facts.proofs.TestLemmas.{list_all-get}
 use Rattle.board_model.specs.declared.op.Op.{Op}
 use Rattle.board_model.specs.declared.op.Op.TheVariants.{Poll}
 use Rattle.std.specs.Option.{option_and_then}
@@ -22,29 +23,32 @@ use Rattle.dma_agents.specs.declared.fault.MakeFault.{MakeFault}
 use Rattle.dma_agents.specs.declared.making.Making.{Making}
 use Rattle.dma_agents.specs.declared.fault.MakeFault.TheVariants.{Device as OfLine}
 use Rattle.text_faults.specs.declared.DeviceFault.TheVariants.{Misshapen}
-use Rattle.dma_agents.specs.Made.{flag_is_clear, unclear, line_at, Made, by_flags, by_lines, by_board, until_devices, by_parts, is_line, by_first, made_read}
+use Rattle.dma_agents.specs.declared.line.Owner.TheVariants.{Nobody}
+use Rattle.dma_agents.specs.declared.line.Waiting.{Waiting}
+use Rattle.dma_agents.specs.Made.{unclear, Made, by_flags, by_lines, by_board, until_devices, by_parts, is_line, by_first, made_read}
+use Rattle.dma_agents.proofs.StepLemmas.{OnMaking, all_keep}
+use Rattle.dma_agents.proofs.FlagLemmas.{polls_clear, master_clear, Clear, Listed, lines_listed, none_begun, none_unclear}
 
--- no master from one on has a flag that is not clear
-abbrev Clear : Board → ℕ → Type 0
-Clear board first = (lines : List ℕ) × (unclear board (drop first board.masters) lines ≡ None)
-
+-- each poll of the masters of devices is for a flag that is clear
 abbrev ClearMade : Result Made MakeFault → Type 0
-ClearMade (Ok made) = Clear made.board made.first
+ClearMade (Ok made) = Clear (is_clear made.board) made.first made.board
 ClearMade (Err fault) = Unit {0}
 
-flags_clear : (board : Board) (first : ℕ) (lines : List ℕ) → ClearMade (by_flags board first (unclear board (drop first board.masters) lines))
-flags_clear board first lines =
-    let found : Option ℕ = unclear board (drop first board.masters) lines in
-    let P : Option ℕ → Type 0 = λ x. found ≡ x → ClearMade (by_flags board first x) in
-    (elim found as P [ None ↦ λ none. (lines, none) | Some line ↦ λ _. tt ]) refl
+flags_clear : (board : Board) (first : ℕ) (found : Option Waiting) → (found ≡ None → Clear (is_clear board) first board) → ClearMade (by_flags board first found)
+flags_clear board first None each = each refl
+flags_clear board first (Some wait) each = tt
 
-making_clear : (first : ℕ) (making : Result Making MakeFault) → ClearMade (by_lines first making)
-making_clear first (Ok making) = flags_clear (board_of making.sheet) first making.lines
-making_clear first (Err fault) = tt
+making_clear : (first : ℕ) (making : Result Making MakeFault) → ((clear : ℕ → ℕ → Bool) → OnMaking (Listed clear first) making) → ClearMade (by_lines first making)
+making_clear first (Ok making) each =
+    let board : Board = board_of making.sheet in
+    flags_clear board first (unclear board making.waits) (λ none. each (is_clear board) (none_unclear (is_clear board) making.waits none))
+making_clear first (Err fault) each = tt
 
 draft_clear : (number : ℕ) (lines : List (List ℕ)) (draft : Result (Option Draft) (ℕ × LineFault)) → ClearMade (by_board number lines draft)
 draft_clear number lines (Ok None) = tt
-draft_clear number lines (Ok (Some draft)) = making_clear (length (board_of draft).masters) _
+draft_clear number lines (Ok (Some draft)) =
+    let first : ℕ = length (board_of draft).masters in
+    making_clear first _ (λ clear. all_keep (Listed clear first) (lines_listed clear first) (record { sheet = draft; owner = Nobody; waits = [] }) number lines (λ _. none_begun clear (board_of draft)))
 draft_clear number lines (Err fault) = tt
 
 parts_clear : (past : ℕ) (parts : Option (List (List ℕ) × List (List ℕ))) → ClearMade (by_parts past parts)
@@ -57,17 +61,6 @@ first_clear (line ∷ lines) =
     let P : Bool → Type 0 = λ b. ClearMade (cond b (by_parts (length lines + 2) (until_devices lines)) (Err (OfLine 1 Misshapen))) in
     elim (is_line (codes "pcidevices" ∷ codes "1" ∷ []) line) as P [ true ↦ parts_clear (length lines + 2) (until_devices lines) | false ↦ tt ]
 
--- the flag of each such master
-clear_at : (board : Board) (masters : List Master) (lines : List ℕ) (place : ℕ) (master : Master) → unclear board masters lines ≡ None → slice_get masters place ≡ Some master → flag_is_clear board master.ops ≡ true
-clear_at board [] lines place master none is = cc
-clear_at board (first ∷ masters) lines zero master none is =
-    let one : first ≡ master = cc in
-    let P : Bool → Type 0 = λ b. cond b (unclear board masters (drop 1 lines)) (Some (line_at lines)) ≡ None → b ≡ true in
-    ap (λ (m : Master). flag_is_clear board m.ops) (sym one) ∙ (elim (flag_is_clear board first.ops) as P [ true ↦ λ _. refl | false ↦ λ e. cc ]) none
-clear_at board (first ∷ masters) lines (suc place) master none is =
-    let P : Bool → Type 0 = λ b. cond b (unclear board masters (drop 1 lines)) (Some (line_at lines)) ≡ None → unclear board masters (drop 1 lines) ≡ None in
-    clear_at board masters (drop 1 lines) place master ((elim (flag_is_clear board first.ops) as P [ true ↦ λ e. e | false ↦ λ e. cc ]) none) is
-
 behind_drop : {X : Type 0} (xs : List X) (first place : ℕ) (x : X) → first ≤ place → slice_get xs place ≡ Some x → slice_get (drop first xs) (place - first) ≡ Some x
 behind_drop xs zero place x least is = let same : place - 0 ≡ place = omega arith in ap (slice_get xs) same ∙ is
 behind_drop [] (suc first) place x least is = cc
@@ -75,12 +68,6 @@ behind_drop (y ∷ ys) (suc first) zero x least is = absurd (omega (arith, least
 behind_drop (y ∷ ys) (suc first) (suc place) x least is =
     let same : suc place - suc first ≡ place - first = omega arith in
     ap (slice_get (drop first ys)) same ∙ behind_drop ys first place x (omega (arith, least)) is
-
-first_op : (board : Board) (ops : List Op) (address value tries : ℕ) → slice_get ops 0 ≡ Some (Poll Mem address 0xffff_ffff value tries) → flag_is_clear board ops ≡ true → is_clear board address value ≡ true
-first_op board [] address value tries is clear = cc
-first_op board (op ∷ ops) address value tries is clear =
-    let one : op ≡ Poll Mem address 0xffff_ffff value tries = cc in
-    subst (λ o. flag_is_clear board (o ∷ ops) ≡ true) one clear
 
 -- where an operation stands
 record Stands (board : Board) (o : OpId) (op : Op) : Type 0 where
@@ -112,12 +99,12 @@ abbrev pub Law : Type 0
 Law = (board : Board) (h : List Event) (p : OpId) (address : ℕ) (value : ℕ) → IsValid board → Run board h → is_clear board address value ≡ true → Awaits board p address value → Delivers board h p address value
 
 pub made_delivers : Law → (text : List ℕ) (made : Made) (h : List Event) → made_read text ≡ Ok made → IsValid made.board → Run made.board h → Delivered made.board made.first h
-made_delivers law text made h is valid run p address value least index awaits =
+made_delivers law text made h is valid run p address value least awaits =
     let board : Board = made.board in
-    let clear : Clear board made.first = subst ClearMade is (first_clear (lines_of text)) in
     let op : Op = Poll Mem address 0xffff_ffff value awaits.0 in
     let stands = stands_at board p op awaits.1 in
-    let at_first : slice_get stands.master.ops 0 ≡ Some op = subst (λ i. slice_get stands.master.ops i ≡ Some op) index stands.there in
+    let all : ClearMade (Ok made) = subst ClearMade is (first_clear (lines_of text)) in
     let behind = behind_drop board.masters made.first p.master stands.master least stands.is_master in
-    let mine = clear_at board (drop made.first board.masters) clear.0 (p.master - made.first) stands.master clear.1 behind in
-    law board h p address value valid run (first_op board stands.master.ops address value awaits.0 at_first mine) awaits
+    let own = list_all-get (master_clear (is_clear board)) (drop made.first board.masters) (p.master - made.first) stands.master all behind in
+    let clear : is_clear board address value ≡ true = list_all-get (polls_clear (is_clear board)) stands.master.ops p.index op own stands.there in
+    law board h p address value valid run clear awaits

@@ -10,6 +10,7 @@ use Rattle.text_faults.specs.declared.DeviceFault.TheVariants.{Misshapen}
 use Rattle.dma_agents.specs.declared.fault.MakeFault.{MakeFault}
 use Rattle.dma_agents.specs.declared.fault.MakeFault.TheVariants.{Board as OfBoard, Device as OfLine}
 use Rattle.dma_agents.specs.declared.line.Owner.TheVariants.{Nobody}
+use Rattle.dma_agents.specs.declared.line.Waiting.{Waiting}
 use Rattle.dma_agents.specs.declared.making.Making.{Making}
 use Rattle.dma_agents.specs.declared.parts.DevicesLine.{DevicesLine}
 use Rattle.dma_agents.specs.Made.{Made, by_lines, by_board, until_devices, by_parts, by_first, lines_read, made_read}
@@ -51,28 +52,28 @@ sheet_refused number lines part at line fault is numbers =
     refused_by number lines (read_lines None 1 (lines_of part)) at fault is ∙ ap (λ n. Err (OfBoard n fault)) (sym numbers)
 
 given_by : (number : ℕ) (lines : List (List ℕ)) (reading : Result (Option Draft) (ℕ × LineFault)) (draft : Draft) → sheet_ended reading ≡ Ok draft
-    → by_board number lines reading ≡ by_lines (length (board_of draft).masters) (lines_read (record { sheet = draft; owner = Nobody; lines = [] }) number lines)
+    → by_board number lines reading ≡ by_lines (length (board_of draft).masters) (lines_read (record { sheet = draft; owner = Nobody; waits = [] }) number lines)
 given_by number lines (Ok None) draft is = cc
 given_by number lines (Ok (Some given)) draft is =
     let same : given ≡ draft = cc in
-    ap (λ (d : Draft). by_lines (length (board_of d).masters) (lines_read (record { sheet = d; owner = Nobody; lines = [] }) number lines)) same
+    ap (λ (d : Draft). by_lines (length (board_of d).masters) (lines_read (record { sheet = d; owner = Nobody; waits = [] }) number lines)) same
 given_by number lines (Err refused) draft is = cc
 
 -- a board part without a fault
 pub sheet_given : (number : ℕ) (lines : List (List ℕ)) (part : List ℕ) (draft : Draft) → sheet_read part ≡ Ok draft
-    → by_board number lines (read_lines None 1 (lines_of part)) ≡ by_lines (length (board_of draft).masters) (lines_read (record { sheet = draft; owner = Nobody; lines = [] }) number lines)
+    → by_board number lines (read_lines None 1 (lines_of part)) ≡ by_lines (length (board_of draft).masters) (lines_read (record { sheet = draft; owner = Nobody; waits = [] }) number lines)
 sheet_given number lines part draft is = given_by number lines (read_lines None 1 (lines_of part)) draft is
 
 -- what is made behind the lines of devices
-pub whole_text : (text : List ℕ) (at : ℕ) (found : DevicesLine) (sheet : Draft) (first : ℕ) (lines : List ℕ) (making : Making) → StartsBehind text at → Finds text at found
-    → sheet_read (slice_range text at found.start) ≡ Ok sheet → first ≡ length (board_of sheet).masters → lines ≡ []
-    → lines_read (record { sheet = sheet; owner = Nobody; lines = lines }) found.number (lines_of (drop found.behind text)) ≡ Ok making
+pub whole_text : (text : List ℕ) (at : ℕ) (found : DevicesLine) (sheet : Draft) (first : ℕ) (waits : List Waiting) (making : Making) → StartsBehind text at → Finds text at found
+    → sheet_read (slice_range text at found.start) ≡ Ok sheet → first ≡ length (board_of sheet).masters → waits ≡ []
+    → lines_read (record { sheet = sheet; owner = Nobody; waits = waits }) found.number (lines_of (drop found.behind text)) ≡ Ok making
     → made_read text ≡ by_lines first (Ok making)
-whole_text text at found sheet first lines making starts finds read count none all =
+whole_text text at found sheet first waits making starts finds read count none all =
     let rest : List (List ℕ) = lines_of (drop found.behind text) in
-    let begun : List ℕ → Making = λ ls. record { sheet = sheet; owner = Nobody; lines = ls } in
+    let begun : List Waiting → Making = λ ws. record { sheet = sheet; owner = Nobody; waits = ws } in
     by_parts_found text at found starts finds
     ∙ sheet_given found.number rest (slice_range text at found.start) sheet read
     ∙ ap (λ n. by_lines n (lines_read (begun []) found.number rest)) (sym count)
-    ∙ ap (λ ls. by_lines first (lines_read (begun ls) found.number rest)) (sym none)
+    ∙ ap (λ ws. by_lines first (lines_read (begun ws) found.number rest)) (sym none)
     ∙ ap (by_lines first) all

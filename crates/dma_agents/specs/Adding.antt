@@ -15,7 +15,7 @@ use Rattle.text_faults.specs.declared.DeviceFault.{DeviceFault}
 use Rattle.text_faults.specs.declared.DeviceFault.TheVariants.{Misshapen, Misplaced, NameUsed, NotThere, OverLimit}
 use Rattle.dma_agents.specs.declared.line.Flag.{Flag}
 use Rattle.dma_agents.specs.declared.line.DeviceLine.{DeviceLine}
-use Rattle.dma_agents.specs.declared.line.DeviceLine.TheVariants.{Device, Handler, Puts, Gets, Sends, Looks}
+use Rattle.dma_agents.specs.declared.line.DeviceLine.TheVariants.{Device, Handler, Puts, Gets, Sends, Looks, Waits, Writes}
 use Rattle.dma_agents.specs.declared.line.Owner.{Owner}
 use Rattle.dma_agents.specs.declared.line.Owner.TheVariants.{Nobody, Device as OfDevice, Handler as OfHandler}
 use Rattle.dma_agents.specs.declared.add.LineError.{LineError}
@@ -38,6 +38,12 @@ stands OfHandler (Sends address message) = false
 stands Nobody (Looks address) = false
 stands OfDevice (Looks address) = false
 stands OfHandler (Looks address) = true
+stands Nobody (Waits flag) = false
+stands OfDevice (Waits flag) = true
+stands OfHandler (Waits flag) = true
+stands Nobody (Writes address value) = false
+stands OfDevice (Writes address value) = true
+stands OfHandler (Writes address value) = true
 
 -- an address of a dword is a multiple of 4, and a put does not pass the last address of 32 bits
 abbrev pub is_placed : DeviceLine → Bool
@@ -47,16 +53,18 @@ is_placed (Puts put) = nat_le (put.address + put.length) (2 ^ 32)
 is_placed (Gets address) = address % 4 == 0
 is_placed (Sends address message) = address % 4 == 0
 is_placed (Looks address) = address % 4 == 0
+is_placed (Waits flag) = flag.address % 4 == 0
+is_placed (Writes address value) = address % 4 == 0
 
--- the operations: a poll of all bits for the flag, a read of a dword, a write of a message
+-- the operations: a poll of all bits for the flag, a read of a dword, a write of a whole dword
 abbrev pub poll_of : Flag → Op
 poll_of flag = Poll Mem flag.address 0xffff_ffff flag.value flag.tries
 
 abbrev pub read_of : ℕ → Op
 read_of address = Read MemRead address
 
-abbrev pub message_to : ℕ → ℕ → Op
-message_to address message = Write MemWrite address (record { value = message; enables = 15 } ∷ [])
+abbrev pub write_of : ℕ → ℕ → Op
+write_of address value = Write MemWrite address (record { value = value; enables = 15 } ∷ [])
 
 -- what the line stands for passes a limit of the board, the only fault that is left for it
 abbrev pub limited : Result Draft LineFault → Result Draft DeviceFault
@@ -102,8 +110,10 @@ added draft (Device name target bell) = begins draft name (bus_of (board_of draf
 added draft (Handler name bus wait) = begins draft name (bus_there (board_of draft) bus) (poll_of wait)
 added draft (Puts put) = add_ops draft (cut put)
 added draft (Gets address) = add_one draft (read_of address)
-added draft (Sends address message) = add_one draft (message_to address message)
+added draft (Sends address message) = add_one draft (write_of address message)
 added draft (Looks address) = add_one draft (read_of address)
+added draft (Waits flag) = add_one draft (poll_of flag)
+added draft (Writes address value) = add_one draft (write_of address value)
 
 -- the board behind a line, or the first fault of the line
 abbrev pub line_added : Owner → Draft → DeviceLine → Result Draft DeviceFault

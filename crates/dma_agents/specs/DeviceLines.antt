@@ -8,7 +8,7 @@ use Rattle.board_statements.specs.Words.{◌>>=◌, ◌>>◌, Reader, give, one_
 use Rattle.dma_agents.specs.messages.Message.{message_of}
 use Rattle.dma_agents.specs.declared.line.Flag.{Flag}
 use Rattle.dma_agents.specs.declared.line.DeviceLine.{DeviceLine}
-use Rattle.dma_agents.specs.declared.line.DeviceLine.TheVariants.{Device, Handler, Puts, Gets, Sends, Looks}
+use Rattle.dma_agents.specs.declared.line.DeviceLine.TheVariants.{Device, Handler, Puts, Gets, Sends, Looks, Waits, Writes}
 
 -- a word that may be a name
 abbrev pub name_in : List ℕ → Result (Option (List ℕ)) LineFault
@@ -80,6 +80,19 @@ send_form = do
   number ← decimal 0 31
   sent address (message_of low vectors number)
 
+-- `wait ADDR VALUE TRIES`
+unfoldable pub wait_form : Reader DeviceLine
+wait_form = do
+  flag ← flag_form
+  give (Waits flag)
+
+-- `word ADDR VALUE`
+unfoldable pub word_form : Reader DeviceLine
+word_form = do
+  address ← hex 8
+  value ← hex 8
+  give (Writes address value)
+
 -- what stands behind the first word of a line
 unfoldable pub form_behind : List ℕ → Reader DeviceLine
 form_behind word words =
@@ -89,6 +102,8 @@ form_behind word words =
     else if bytes_eq word (codes "get") then get_form words
     else if bytes_eq word (codes "send") then send_form words
     else if bytes_eq word (codes "look") then look_form words
+    else if bytes_eq word (codes "wait") then wait_form words
+    else if bytes_eq word (codes "word") then word_form words
     else Err WrongWord
 
 -- what the words of a line say; which fault they have, where they say nothing, is not told

@@ -1,11 +1,8 @@
 -- The board of a device text, or its first fault.
-use Rattle.std.specs.Prelude.{◌≡◌, ℕ, Bool, true, false, ◌+◌, List, [], ◌∷◌, ◌++◌, length, drop, Option, Some, None, Result, Ok, Err, codes, ◌&&◌, ◌==◌, nat_lt, if◌then◌else◌}
-use Rattle.std.specs.List.{list_all}
+use Rattle.std.specs.Prelude.{◌≡◌, ℕ, Bool, true, false, ◌+◌, List, [], ◌∷◌, ◌++◌, length, Option, Some, None, Result, Ok, Err, codes, not, ◌&&◌, ◌==◌, nat_lt, if◌then◌else◌}
+use Rattle.std.specs.List.{list_all, find}
 use Rattle.std.specs.Str.{bytes_eq}
-use Rattle.board_model.specs.declared.agents.Master.{Master}
 use Rattle.board_model.specs.declared.board.Board.{Board}
-use Rattle.board_model.specs.declared.op.Op.{Op}
-use Rattle.board_model.specs.declared.op.Op.TheVariants.{Read, Write, CfgRead, CfgWrite, Poll}
 use Rattle.board_text.specs.declared.reader.BadLine.{BadLine}
 use Rattle.board_text.specs.Lines.{lines_of, line_fault}
 use Rattle.board_text.specs.Tokens.{words_of}
@@ -16,16 +13,19 @@ use Rattle.board_parser.specs.draft.Drafts.{board_of}
 use Rattle.board_parser.specs.Boards.{read_lines}
 use Rattle.law_delivered.specs.Clear.{is_clear}
 use Rattle.text_faults.specs.declared.DeviceFault.{DeviceFault}
-use Rattle.text_faults.specs.declared.DeviceFault.TheVariants.{Misshapen, NotClear}
+use Rattle.text_faults.specs.declared.DeviceFault.TheVariants.{Misshapen}
+use Rattle.dma_agents.specs.declared.line.Flag.{Flag}
+use Rattle.dma_agents.specs.declared.line.Waiting.{Waiting}
 use Rattle.dma_agents.specs.declared.line.DeviceLine.{DeviceLine}
-use Rattle.dma_agents.specs.declared.line.DeviceLine.TheVariants.{Device, Handler, Puts, Gets, Sends, Looks}
+use Rattle.dma_agents.specs.declared.line.DeviceLine.TheVariants.{Device, Handler, Puts, Gets, Sends, Looks, Waits, Writes}
 use Rattle.dma_agents.specs.declared.line.Owner.{Owner}
 use Rattle.dma_agents.specs.declared.line.Owner.TheVariants.{Nobody, Device as OfDevice, Handler as OfHandler}
 use Rattle.dma_agents.specs.declared.making.Making.{Making}
 use Rattle.dma_agents.specs.declared.fault.MakeFault.{MakeFault}
-use Rattle.dma_agents.specs.declared.fault.MakeFault.TheVariants.{Board as OfBoard, Device as OfLine, NoMemory}
+use Rattle.dma_agents.specs.declared.fault.MakeFault.TheVariants.{Board as OfBoard, Device as OfLine, NotClear, NoMemory}
 use Rattle.dma_agents.specs.DeviceLines.{device_line}
 use Rattle.dma_agents.specs.Adding.{line_added}
+use Rattle.dma_agents.specs.Unclear.{why_unclear}
 
 -- The marks of a text.
 
@@ -53,19 +53,28 @@ owner_behind owner (Puts put) = owner
 owner_behind owner (Gets address) = owner
 owner_behind owner (Sends address message) = owner
 owner_behind owner (Looks address) = owner
+owner_behind owner (Waits flag) = owner
+owner_behind owner (Writes address value) = owner
 
--- the lines at which a master began, behind a line of this number
-abbrev pub lines_behind : List ℕ → ℕ → DeviceLine → List ℕ
-lines_behind lines number (Device name target bell) = lines ++ number ∷ []
-lines_behind lines number (Handler name bus wait) = lines ++ number ∷ []
-lines_behind lines number (Puts put) = lines
-lines_behind lines number (Gets address) = lines
-lines_behind lines number (Sends address message) = lines
-lines_behind lines number (Looks address) = lines
+-- the flag that a line waits for
+abbrev pub flag_of : DeviceLine → Option Flag
+flag_of (Device name target bell) = Some bell
+flag_of (Handler name bus wait) = Some wait
+flag_of (Puts put) = None
+flag_of (Gets address) = None
+flag_of (Sends address message) = None
+flag_of (Looks address) = None
+flag_of (Waits flag) = Some flag
+flag_of (Writes address value) = None
+
+-- the flags that are waited for with their lines, behind a line of this number
+abbrev pub waits_behind : List Waiting → ℕ → Option Flag → List Waiting
+waits_behind waits number None = waits
+waits_behind waits number (Some flag) = waits ++ record { line = number; flag = flag } ∷ []
 
 abbrev pub with_draft : Making → ℕ → DeviceLine → Result Draft DeviceFault → Result Making DeviceFault
 with_draft making number line (Ok draft) =
-    Ok (record { sheet = draft; owner = owner_behind making.owner line; lines = lines_behind making.lines number line })
+    Ok (record { sheet = draft; owner = owner_behind making.owner line; waits = waits_behind making.waits number (flag_of line) })
 with_draft making number line (Err fault) = Err fault
 
 abbrev pub by_form : Making → ℕ → Result DeviceLine LineFault → Result Making DeviceFault
@@ -120,28 +129,14 @@ abbrev pub TellsMaking : Result Making MakeFault → Result Making MakeFault →
 TellsMaking (Ok making) reading = reading ≡ Ok making
 TellsMaking (Err (OfBoard line fault)) reading = reading ≡ Err (OfBoard line fault)
 TellsMaking (Err (OfLine line fault)) reading = reading ≡ Err (OfLine line fault)
+TellsMaking (Err (NotClear line flag why)) reading = reading ≡ Err (NotClear line flag why)
 TellsMaking (Err NoMemory) reading = Unit {0}
 
 -- The flags, on the whole board.
 
--- a master of devices waits first, for a flag that is clear
-abbrev pub flag_is_clear : Board → List Op → Bool
-flag_is_clear board [] = false
-flag_is_clear board (Read command address ∷ ops) = false
-flag_is_clear board (Write command address phases ∷ ops) = false
-flag_is_clear board (CfgRead bus device register ∷ ops) = false
-flag_is_clear board (CfgWrite bus device register phase ∷ ops) = false
-flag_is_clear board (Poll space address mask value tries ∷ ops) = is_clear board address value
-
-abbrev pub line_at : List ℕ → ℕ
-line_at [] = 0
-line_at (line ∷ lines) = line
-
--- the line of the first of these masters whose flag is not clear, beside the lines at which they began
-abbrev pub unclear : Board → List Master → List ℕ → Option ℕ
-unclear board [] lines = None
-unclear board (master ∷ masters) lines =
-    if flag_is_clear board master.ops then unclear board masters (drop 1 lines) else Some (line_at lines)
+-- the first of the flags that are waited for that is not clear
+abbrev pub unclear : Board → List Waiting → Option Waiting
+unclear board waits = find (λ wait. not (is_clear board wait.flag.address wait.flag.value)) waits
 
 -- The whole text.
 
@@ -150,13 +145,13 @@ pub record Made : Type 0 where
   pub board : Board
   pub first : ℕ
 
-abbrev pub by_flags : Board → ℕ → Option ℕ → Result Made MakeFault
+abbrev pub by_flags : Board → ℕ → Option Waiting → Result Made MakeFault
 by_flags board first None = Ok (record { board = board; first = first })
-by_flags board first (Some line) = Err (OfLine line NotClear)
+by_flags board first (Some wait) = Err (NotClear wait.line wait.flag (why_unclear board wait.flag))
 
 abbrev pub by_lines : ℕ → Result Making MakeFault → Result Made MakeFault
 by_lines first (Ok making) =
-    let board = board_of making.sheet in by_flags board first (unclear board (drop first board.masters) making.lines)
+    let board = board_of making.sheet in by_flags board first (unclear board making.waits)
 by_lines first (Err fault) = Err fault
 
 -- the lines of devices, the first of which has this number, behind a board that was read; a fault of the board is told
@@ -164,7 +159,7 @@ by_lines first (Err fault) = Err fault
 abbrev pub by_board : ℕ → List (List ℕ) → Result (Option Draft) (ℕ × LineFault) → Result Made MakeFault
 by_board number lines (Ok None) = Err (OfBoard 2 NoFirstLine)
 by_board number lines (Ok (Some draft)) =
-    by_lines (length (board_of draft).masters) (lines_read (record { sheet = draft; owner = Nobody; lines = [] }) number lines)
+    by_lines (length (board_of draft).masters) (lines_read (record { sheet = draft; owner = Nobody; waits = [] }) number lines)
 by_board number lines (Err fault) = Err (OfBoard (fault.0 + 1) fault.1)
 
 -- the lines before the first line `devices`, and those behind it
@@ -203,6 +198,7 @@ abbrev pub Tells : Result Board MakeFault → Result Made MakeFault → Type 0
 Tells (Ok board) reading = board_in reading ≡ Ok board
 Tells (Err (OfBoard line fault)) reading = reading ≡ Err (OfBoard line fault)
 Tells (Err (OfLine line fault)) reading = reading ≡ Err (OfLine line fault)
+Tells (Err (NotClear line flag why)) reading = reading ≡ Err (NotClear line flag why)
 Tells (Err NoMemory) reading = Unit {0}
 
 -- a board is that of the text, and the number of its first master of devices

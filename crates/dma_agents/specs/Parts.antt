@@ -5,7 +5,7 @@ use Rattle.board_text.specs.Lines.{lines_of}
 use Rattle.board_statements.specs.declared.fault.LineFault.{LineFault}
 use Rattle.board_parser.specs.declared.draft.draft.Draft.{Draft}
 use Rattle.dma_agents.specs.declared.fault.MakeFault.{MakeFault}
-use Rattle.dma_agents.specs.declared.fault.MakeFault.TheVariants.{Board as OfBoard, Device as OfLine, NoMemory}
+use Rattle.dma_agents.specs.declared.fault.MakeFault.TheVariants.{Board as OfBoard, Device as OfLine, NotClear, NoMemory}
 use Rattle.dma_agents.specs.declared.parts.DevicesLine.{DevicesLine}
 use Rattle.dma_agents.specs.Made.{is_line, until_devices}
 
@@ -34,4 +34,5 @@ abbrev pub TellsSheet : Result Draft MakeFault → Result Draft (ℕ × LineFaul
 TellsSheet (Ok draft) reading = reading ≡ Ok draft
 TellsSheet (Err (OfBoard line fault)) reading = (at : ℕ) × (reading ≡ Err (at, fault)) × (line ≡ at + 1)
 TellsSheet (Err (OfLine line fault)) reading = ⊥
+TellsSheet (Err (NotClear line flag why)) reading = ⊥
 TellsSheet (Err NoMemory) reading = Unit {0}

@@ -8,7 +8,7 @@ ghost use Rattle.board_parser.specs.draft.Steps.{Answers};
 ghost use Rattle.board_statements.specs.declared.fault.LineFault.{LineFault};
 ghost use Rattle.text_faults.specs.declared.DeviceFault.TheVariants.{Misplaced};
 ghost use Rattle.dma_agents.specs.Put.{cut};
-ghost use Rattle.dma_agents.specs.Adding.{Adds, stands, is_placed, poll_of, read_of, message_to, limited, add_one, add_ops, begins, begins_on, bus_of, bus_there, added, line_added};
+ghost use Rattle.dma_agents.specs.Adding.{Adds, stands, is_placed, poll_of, read_of, write_of, limited, add_one, add_ops, begins, begins_on, bus_of, bus_there, added, line_added};
 
 use crate::{DeviceLine, Flag, Owner, Put, cut};
 use board_model::{Name, Op};
@@ -73,6 +73,7 @@ fn stands(owner: Owner, line: &DeviceLine) -> bool
             matches!(owner, Owner::Device)
         }
         DeviceLine::Looks(_) => matches!(owner, Owner::Handler),
+        DeviceLine::Waits(_) | DeviceLine::Writes { .. } => !matches!(owner, Owner::Nobody),
     }
 }
 
@@ -83,9 +84,10 @@ fn is_placed(line: &DeviceLine) -> bool
         DeviceLine::Device { bell: flag, .. } | DeviceLine::Handler { wait: flag, .. } => {
             flag.address % 4 == 0
         }
+        DeviceLine::Waits(flag) => flag.address % 4 == 0,
         DeviceLine::Puts(put) => { u64::from(put.address) + u64::from(put.length) <= 0x1_0000_0000 }
         DeviceLine::Gets(address) | DeviceLine::Looks(address) => *address % 4 == 0,
-        DeviceLine::Sends { address, .. } => *address % 4 == 0,
+        DeviceLine::Sends { address, .. } | DeviceLine::Writes { address, .. } => *address % 4 == 0,
     }
 }
 
@@ -106,8 +108,10 @@ fn added(alloc: Global, sheet: Sheet, line: DeviceLine) -> Result<Sheet, LineErr
             add_one(alloc, sheet, read_of(address))
         }
         DeviceLine::Sends { address, message } => {
-            add_one(alloc, sheet, message_to(address, message))
+            add_one(alloc, sheet, write_of(address, message))
         }
+        DeviceLine::Waits(flag) => add_one(alloc, sheet, poll_of(flag)),
+        DeviceLine::Writes { address, value } => add_one(alloc, sheet, write_of(address, value)),
     }
 }
 
@@ -251,14 +255,11 @@ fn read_of(address: u32) -> Op
     }
 }
 
-fn message_to(address: u32, message: u32) -> Op
-    ensures { result ≡ message_to address message }
+fn write_of(address: u32, value: u32) -> Op
+    ensures { result ≡ write_of address value }
 {
     let mut phases = Phases::new();
-    phases.push(Phase {
-        value: message,
-        enables: 15,
-    });
+    phases.push(Phase { value, enables: 15 });
     Op::Write {
         command: Command::MemWrite,
         address: u64::from(address),

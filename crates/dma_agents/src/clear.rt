@@ -7,7 +7,7 @@ ghost use Rattle.pci_command.specs.declared.command.Space.TheVariants.{Mem};
 ghost use Rattle.pci_command.specs.declared.phases.Phase.{Phase as DataPhase};
 ghost use Rattle.board_model.specs.declared.agents.Master.{Master as MasterAgent};
 ghost use Rattle.history_model.specs.Words.{opens_in, opening_word};
-ghost use Rattle.law_delivered.specs.Clear.{is_value, phases_at, brings_value, rings, is_whole, rings_whole, holds, opens_otherwise, is_clear};
+ghost use Rattle.law_delivered.specs.Clear.{is_value, phases_at, written_at, brings_value, rings, is_whole, rings_whole, holds, opens_otherwise, is_clear};
 
 use board_model::{Board, Master, Op, Opening, Target, is_in_ranges, request_on};
 use pci_command::{Command, Phase, Space};
@@ -24,13 +24,13 @@ pub(crate) fn is_clear(board: &Board, address: u64, value: u32) -> bool
         && rings_up_to_two(masters, address, value) == 1
 }
 
-fn holds(target: &Target, address: u64) -> bool
+pub(crate) fn holds(target: &Target, address: u64) -> bool
     ensures { result ≡ holds address target.now }
 {
     is_in_ranges(target.ranges.as_slice(), Space::Mem, u128::from(address))
 }
 
-fn some_holds(targets: &[Target], address: u64) -> bool
+pub(crate) fn some_holds(targets: &[Target], address: u64) -> bool
     ensures { result ≡ list_any (holds address) targets.now }
 {
     targets.iter().any(|target| holds(target, address))
@@ -64,7 +64,7 @@ fn opens_with_another(target: &Target, address: u64, value: u32) -> bool
 }
 
 // The last of the opening words for the address, or 0.
-fn opens_with(openings: &[Opening], address: u64) -> u32
+pub(crate) fn opens_with(openings: &[Opening], address: u64) -> u32
     ensures { result ≡ opening_word Mem address 0 openings.now }
 {
     let mut value = 0;
@@ -77,7 +77,7 @@ fn opens_with(openings: &[Opening], address: u64) -> u32
 }
 
 #[tactic(auto, using(crate::proofs::ClearLemmas::all_bits))]
-fn is_value(word: u32, value: u32) -> bool
+pub(crate) fn is_value(word: u32, value: u32) -> bool
     ensures { result ≡ is_value value word }
 {
     word == value
@@ -112,9 +112,22 @@ fn rings_whole(op: &Op, address: u64, value: u32) -> bool
         && (rings_in(phases, at, address, value) == 0 || phases.len() == 1)
 }
 
+// Whether an operation writes at the address, and not all bytes.
+#[tactic(auto, using(crate::proofs::ClearLemmas::no_write_is_whole, crate::proofs::ClearLemmas::write_is_whole))]
+pub(crate) fn writes_part(op: &Op, address: u64) -> bool
+    ensures { result ≡ not (list_all is_whole (written_at address op.now)) }
+{
+    let request = request_on(op, 0);
+    if request.command != Command::MemWrite {
+        return false;
+    }
+    let at = u128::from(request.address);
+    !are_dwords_whole(request.phases.as_slice(), at, address)
+}
+
 // How often an operation brings the value to the address.
 #[tactic(auto, using(crate::proofs::ClearLemmas::no_write_rings, crate::proofs::ClearLemmas::write_rings))]
-fn rings(op: &Op, address: u64, value: u32) -> u64
+pub(crate) fn rings(op: &Op, address: u64, value: u32) -> u64
     ensures count { result ≡ rings address value op.now }
     ensures few { result ≤ 8 }
 {

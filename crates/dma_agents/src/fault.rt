@@ -1,3 +1,4 @@
+use crate::{Flag, Unclear};
 use board_statements::LineFault;
 use text_faults::DeviceFault;
 use thiserror::Error;
@@ -8,9 +9,12 @@ pub enum MakeFault {
     /// The first fault of the board.
     #[error("line {line}: {fault}")]
     Board { line: u32, fault: LineFault },
-    /// The first fault of the lines of devices, or of the text as a whole.
+    /// The first other fault of the lines of devices, or of the text as a whole.
     #[error("line {line}: {fault}")]
     Device { line: u32, fault: DeviceFault },
+    /// The first flag that is not clear, by the line that waits for it, and why it is not.
+    #[error("line {line}: a flag that is not clear")]
+    NotClear { line: u32, flag: Flag, why: Unclear },
     #[error("no memory")]
     NoMemory,
 }

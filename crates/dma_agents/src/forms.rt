@@ -3,7 +3,7 @@
 ghost use Rattle.std.specs.Prelude.{◌≡◌, Ok};
 ghost use Rattle.board_text.specs.Tokens.{words_of};
 ghost use Rattle.board_statements.specs.Words.{Gives, one_word};
-ghost use Rattle.dma_agents.specs.DeviceLines.{name_in, flag_form, device_form, handler_form, put_form, get_form, look_form, send_form, form_behind, device_line};
+ghost use Rattle.dma_agents.specs.DeviceLines.{name_in, flag_form, device_form, handler_form, put_form, get_form, look_form, send_form, wait_form, word_form, form_behind, device_line};
 
 use crate::messages::message;
 use crate::{DeviceLine, Flag, Put};
@@ -41,6 +41,10 @@ fn behind_word(words: &mut Words, word: &[u8]) -> Result<DeviceLine, LineFault>
         send(words)
     } else if is_word(word, b"look") {
         look(words)
+    } else if is_word(word, b"wait") {
+        wait(words)
+    } else if is_word(word, b"word") {
+        write(words)
     } else {
         Err(LineFault::WrongWord)
     }
@@ -121,6 +125,25 @@ fn send(words: &mut Words) -> Result<DeviceLine, LineFault>
         None => Err(LineFault::IllFormed),
         Some(message) => Ok(DeviceLine::Sends { address, message }),
     }
+}
+
+// `wait ADDR VALUE TRIES`
+#[tactic(auto, unfolding(crate::specs::DeviceLines::wait_form))]
+fn wait(words: &mut Words) -> Result<DeviceLine, LineFault>
+    ensures { Gives result words.new (wait_form words.old) }
+{
+    let flag = flag(words)?;
+    Ok(DeviceLine::Waits(flag))
+}
+
+// `word ADDR VALUE`
+#[tactic(auto, unfolding(crate::specs::DeviceLines::word_form))]
+fn write(words: &mut Words) -> Result<DeviceLine, LineFault>
+    ensures { Gives result words.new (word_form words.old) }
+{
+    let address = words.hex()?;
+    let value = words.hex()?;
+    Ok(DeviceLine::Writes { address, value })
 }
 
 // `ADDR VALUE TRIES`

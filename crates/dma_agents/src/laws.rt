@@ -10,13 +10,11 @@ ghost use Rattle.board_model.specs.Valid.{IsValid};
 ghost use Rattle.history_model.specs.declared.event.Event.{Event};
 ghost use Rattle.history_model.specs.Runs.{Run, Complete, history_of};
 ghost use Rattle.law_delivered.specs.Delivered.{Delivered};
-ghost use Rattle.dma_agents.specs.Worked.{worked_text, twice_text, worked_made, worked_board, worked_events};
-ghost use Rattle.text_faults.specs.declared.DeviceFault.TheVariants.{NotClear};
+ghost use Rattle.dma_agents.specs.Worked.{worked_text, twice_text, twice_fault, worked_made, worked_board, worked_events};
 ghost use Rattle.dma_agents.specs.Made.{Made, board_in, made_read};
 ghost use Rattle.dma_agents.specs.declared.put.Put.{Put};
 ghost use Rattle.dma_agents.specs.Put.{cut, bytes_of, bytes_put};
 
-use crate::MakeFault;
 use law_delivered::clear_flags_deliver;
 
 /// The enabled bytes of the writes of a put are its bytes, each once and in order; and each of the
@@ -48,5 +46,5 @@ pub fn worked_devices()
     ensures made { made_read worked_text ≡ Ok worked_made }
     ensures run { Run worked_board (history_of worked_events) }
     ensures complete { Complete worked_board (history_of worked_events) }
-    ensures twice { made_read twice_text ≡ Err (MakeFault.Device 11 NotClear) }
+    ensures twice { made_read twice_text ≡ Err twice_fault }
 {}

@@ -15,12 +15,15 @@ mod messages;
 mod parts;
 mod put;
 mod text;
+mod unclear;
 
 pub use delivery::delivered;
 pub use fault::MakeFault;
 pub(crate) use laws::made_boards_deliver;
 pub use laws::{made_boards_are_well_formed, put_is_written_once, worked, worked_devices};
-pub(crate) use line::{DeviceLine, Flag, Owner};
+pub use line::Flag;
+pub(crate) use line::{DeviceLine, Owner, Waiting};
 pub use messages::message;
 pub(crate) use put::{Put, cut};
 pub use text::make;
+pub use unclear::{OpPlace, Unclear};

@@ -4,12 +4,12 @@ ghost use Rattle.std.specs.Prelude.{◌≡◌, ◌+◌, ◌<◌, ◌≤◌, ◌^
 ghost use Rattle.std.specs.List.{list_all};
 ghost use Rattle.board_text.specs.Lines.{lines_of};
 ghost use Rattle.dma_agents.specs.Adding.{Adds, line_added};
-ghost use Rattle.dma_agents.specs.Made.{TellsMaking, owner_behind, lines_behind, is_line, is_blank, fault_behind, behind_end, said_by, with_draft, line_read, lines_read};
+ghost use Rattle.dma_agents.specs.Made.{TellsMaking, owner_behind, flag_of, waits_behind, is_line, is_blank, fault_behind, behind_end, said_by, with_draft, line_read, lines_read};
 
 use crate::add::{LineError, line_added};
 use crate::forms::device_line;
 use crate::marks::{is_faultless, is_one_word};
-use crate::{DeviceLine, MakeFault, Owner};
+use crate::{DeviceLine, Flag, MakeFault, Owner, Waiting};
 use board_parser::Sheet;
 use board_statements::has_words;
 use board_text::next_line;
@@ -23,8 +23,8 @@ pub struct Making {
     pub sheet: Sheet,
     /// Whose operations may follow.
     pub owner: Owner,
-    /// The lines at which masters began.
-    pub lines: List<u32>,
+    /// The flags that are waited for, in the order of their lines.
+    pub waits: List<Waiting>,
 }
 
 /// What is made behind all lines from this place on, the first of which has this number.
@@ -123,15 +123,15 @@ fn with_line(
     let Making {
         sheet,
         owner,
-        lines,
+        waits,
     } = making;
     let behind = owner_behind(owner, &line);
-    let lines = lines_behind(lines, number, &line)?;
+    let waits = waits_behind(waits, number, &line)?;
     let sheet = line_added(alloc, owner, sheet, line)?;
     Ok(Making {
         sheet,
         owner: behind,
-        lines,
+        waits,
     })
 }
 
@@ -145,16 +145,31 @@ fn owner_behind(owner: Owner, line: &DeviceLine) -> Owner
     }
 }
 
-fn lines_behind(lines: List<u32>, number: u32, line: &DeviceLine) -> Result<List<u32>, NoMemory>
-    ensures { IfOk result (λ behind. behind ≡ lines_behind lines number line.now) }
+fn waits_behind(
+    waits: List<Waiting>,
+    number: u32,
+    line: &DeviceLine,
+) -> Result<List<Waiting>, NoMemory>
+    ensures { IfOk result (λ behind. behind ≡ waits_behind waits number (flag_of line.now)) }
 {
-    match line {
-        DeviceLine::Device { .. } | DeviceLine::Handler { .. } => {
-            let mut items = lines.into_vec();
-            items.push(number)?;
+    match flag_of(line) {
+        None => Ok(waits),
+        Some(flag) => {
+            let mut items = waits.into_vec();
+            items.push(Waiting { line: number, flag })?;
             Ok(List::from_vec(items))
         }
-        _ => Ok(lines),
+    }
+}
+
+fn flag_of(line: &DeviceLine) -> Option<Flag>
+    ensures { result ≡ flag_of line.now }
+{
+    match line {
+        DeviceLine::Device { bell: flag, .. }
+        | DeviceLine::Handler { wait: flag, .. }
+        | DeviceLine::Waits(flag) => Some(*flag),
+        _ => None,
     }
 }
 

@@ -1,9 +1,9 @@
-ghost use Rattle.std.specs.Prelude.{◌≡◌, ◌<◌, ◌≤◌, ◌^◌, [], length, drop, IfOk, IsTrue};
-ghost use Rattle.board_model.specs.declared.agents.Master.{Master as MasterAgent};
+ghost use Rattle.std.specs.Prelude.{◌≡◌, ◌<◌, ◌≤◌, ◌^◌, [], length, not, IfOk, IsTrue};
 ghost use Rattle.board_model.specs.WellFormed.{is_well_formed};
 ghost use Rattle.board_parser.specs.draft.Drafts.{board_of};
 ghost use Rattle.board_parser.specs.Boards.{sheet_read};
-ghost use Rattle.dma_agents.specs.Made.{made_read, by_lines, flag_is_clear, line_at, unclear, Tells};
+ghost use Rattle.law_delivered.specs.Clear.{is_clear};
+ghost use Rattle.dma_agents.specs.Made.{made_read, by_lines, unclear, Tells};
 ghost use Rattle.dma_agents.specs.Parts.{TellsSheet};
 ghost use Rattle.std.specs.Prelude.{Ok};
 
@@ -11,12 +11,12 @@ use crate::clear::is_clear;
 use crate::laws::made_boards_are_well_formed;
 use crate::making::{Making, lines_read, misshapen};
 use crate::parts::{behind_first_line, find_devices};
-use crate::{MakeFault, Owner};
-use board_model::{Board, Master, Op};
+use crate::unclear::why_unclear;
+use crate::{Flag, MakeFault, Owner, Waiting};
+use board_model::Board;
 use board_parser::{ParseFault, Sheet, parse_sheet};
 use pci_command::List;
 use std::alloc::Global;
-use text_faults::DeviceFault;
 
 /// The board of a device text: that of its board part, with the masters of its devices and handlers;
 /// or the first fault of the text. A text has fewer than 2^31 bytes.
@@ -46,7 +46,7 @@ fn read_made(alloc: Global, bytes: &[u8]) -> Result<Board, MakeFault>
     let making = Making {
         sheet,
         owner: Owner::Nobody,
-        lines: List::from_vec(Vec::new(alloc)),
+        waits: List::from_vec(Vec::new(alloc)),
     };
     let making = lines_read(alloc, making, bytes, found.behind, found.number)?;
     with_clear_flags(alloc, making, first)
@@ -67,73 +67,38 @@ fn read_sheet(alloc: Global, part: &[u8]) -> Result<Sheet, MakeFault>
     }
 }
 
-/// The board, where the flags of its masters from this one on are clear.
+/// The board, where all flags that are waited for are clear.
 fn with_clear_flags(alloc: Global, making: Making, first: usize) -> Result<Board, MakeFault>
     ensures { Tells result (by_lines first (Ok making)) }
 {
     let Making {
         sheet,
         owner: _,
-        lines,
+        waits,
     } = making;
+    let _first = first;
     let board = sheet.into_board(alloc)?;
-    match first_unclear(&board, first, lines.as_slice()) {
+    match unclear(&board, waits.as_slice()) {
         None => Ok(board),
-        Some(line) => Err(MakeFault::Device {
-            line,
-            fault: DeviceFault::NotClear,
+        Some(wait) => Err(MakeFault::NotClear {
+            line: wait.line,
+            flag: wait.flag,
+            why: why_unclear(alloc, &board, wait.flag)?,
         }),
     }
 }
 
-fn first_unclear(board: &Board, first: usize, lines: &[u32]) -> Option<u32>
-    ensures { result ≡ unclear board.now (drop first board.now.masters) lines.now }
+fn unclear(board: &Board, waits: &[Waiting]) -> Option<Waiting>
+    ensures { result ≡ unclear board.now waits.now }
 {
-    let masters = board.masters.as_slice();
-    if first > masters.len() {
-        return None;
-    }
-    unclear(board, &masters[first..], lines)
+    waits
+        .iter()
+        .copied()
+        .find(|wait| is_unclear(board, wait.flag))
 }
 
-fn unclear(board: &Board, masters: &[Master], lines: &[u32]) -> Option<u32>
-    ensures { result ≡ unclear board.now masters.now lines.now }
+fn is_unclear(board: &Board, flag: Flag) -> bool
+    ensures { result ≡ not (is_clear board.now flag.address flag.value) }
 {
-    match masters {
-        [] => None,
-        [master, rest @ ..] => {
-            if flag_is_clear(board, master.ops.as_slice()) {
-                unclear(board, rest, behind_first(lines))
-            } else {
-                Some(line_at(lines))
-            }
-        }
-    }
-}
-
-fn behind_first(lines: &[u32]) -> &[u32]
-    ensures { result.now ≡ drop 1 lines.now }
-{
-    match lines {
-        [] => lines,
-        [_, rest @ ..] => rest,
-    }
-}
-
-fn line_at(lines: &[u32]) -> u32
-    ensures { result ≡ line_at lines.now }
-{
-    match lines {
-        [] => 0,
-        [line, ..] => *line,
-    }
-}
-
-fn flag_is_clear(board: &Board, ops: &[Op]) -> bool
-    ensures { result ≡ flag_is_clear board.now ops.now }
-{
-    match ops {
-        [Op::Poll { address, value, .. }, ..] => is_clear(board, *address, *value),
-        _ => false,
-    }
+    !is_clear(board, u64::from(flag.address), flag.value)
 }

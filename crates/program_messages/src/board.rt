@@ -3,6 +3,7 @@ ghost use Rattle.std.specs.Prelude.{◌<◌, ◌≤◌, ◌^◌, length};
 use crate::refused::{
     Spot, TOO_LONG, board_part, line_at, named_spot, place_of, smallest, word_at_fault,
 };
+use crate::unclear::tell_unclear;
 use board_statements::LineFault;
 use pci_command::NoMemory;
 use program_pages::{Fault, Teller};
@@ -70,7 +71,10 @@ fn tell_device(
         DeviceFault::Misplaced | DeviceFault::NotClear => word_of_address(line),
     };
     let at = place_of(teller.alloc(), line, Spot::Word(word))?;
-    teller.point(number, line, at, sentence)
+    match fault {
+        DeviceFault::NotClear => tell_unclear(teller, input, number, at, sentence),
+        _ => teller.point(number, line, at, sentence),
+    }
 }
 
 /// Which word of a line of devices is its address: behind `bell` or `wait`, or else the second.

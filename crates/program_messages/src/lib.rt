@@ -8,6 +8,7 @@ mod machine;
 mod refused;
 mod telling;
 mod trace;
+mod unclear;
 
 pub(crate) use refused::behind;
 pub use refused::{Spot, named_spot, place_of, smallest, word_at_fault};

@@ -8,8 +8,8 @@ pub static DEVICE_PAGES: [Page; 6] = [
         fault: Fault::Device(DeviceFault::Misshapen),
         rule: "A device text is the line `pcidevices 1`, a board text, the line `devices`, the lines of\n\
             devices, and `end` as the last line with words. A `put`, `get` or `send` stands behind a\n\
-            `device` line, a `look` behind a `handler` line, and each line has just the words of its\n\
-            form, with numbers in their ranges.",
+            `device` line, a `look` behind a `handler` line, a `wait` or `word` behind either, and each\n\
+            line has just the words of its form, with numbers in their ranges.",
         example: "pcidevices 1\n\
             pciboard 1\n\
             target box on 0 dev 1\n\
@@ -24,8 +24,8 @@ pub static DEVICE_PAGES: [Page; 6] = [
     Page {
         code: "Q2",
         fault: Fault::Device(DeviceFault::Misplaced),
-        rule: "The address of a flag, a read or a message is a multiple of 4. The bytes of a `put` may\n\
-            begin anywhere, and end at ffffffff at the latest.",
+        rule: "The address of a flag, a read, a message or a word is a multiple of 4. The bytes of a `put`\n\
+            may begin anywhere, and end at ffffffff at the latest.",
         example: "pcidevices 1\n\
             pciboard 1\n\
             target box on 0 dev 1\n\
@@ -85,10 +85,10 @@ pub static DEVICE_PAGES: [Page; 6] = [
     Page {
         code: "Q6",
         fault: Fault::Device(DeviceFault::NotClear),
-        rule: "A flag is clear where a poll for it can be met only by the one write that raises it: its\n\
-            address lies in a memory range of just one target, which does not abort there and does not\n\
-            open with the value; every data phase written there has all bytes enabled; and just one has\n\
-            the value, the only one of its write.",
+        rule: "Each `bell` and `wait` names a flag. It is clear where a poll for it can be met only by the\n\
+            one write that raises it: its address lies in a memory range of just one target, which does\n\
+            not abort there and does not open with the value; every data phase written there has all\n\
+            bytes enabled; and just one has the value, the only one of its write.",
         example: "pcidevices 1\n\
             pciboard 1\n\
             target box on 0 dev 1\n\

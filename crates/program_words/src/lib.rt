@@ -193,8 +193,9 @@ const DEVICES: Row = Row {
     limit: BOARD,
     line: "runs a board with devices that wait, write and interrupt",
     more: "Each device is a master that waits for its doorbell and then puts bytes, reads and sends messages\n\
-        (PCI Local Bus 2.2, section 6.8, from memory); each handler waits for a message. What is written is\n\
-        the trace of the run, as `run` writes it.",
+        (PCI Local Bus 2.2, section 6.8, from memory); each handler waits for a message. Both may\n\
+        wait again (`wait ADDR VALUE TRIES`) and write a dword (`word ADDR VALUE`). What is written\n\
+        is the trace of the run, as `run` writes it.",
 };
 
 const IMPORT: Row = Row {

@@ -15,8 +15,8 @@ pub record ReadsDevices (input : List ℕ) (board : Board) : Type 0 where
   pub made : IsMade board (made_read input)
   pub valid : IsValid board
 
--- a trace of a complete run of the board, which is read as this run of it; the first operation of each of its devices
--- and handlers delivers: where it was met, what was written before the flag was raised is read
+-- a trace of a complete run of the board, which is read as this run of it; each poll of its devices and handlers, at their
+-- heads and in their `wait` lines, delivers: where it was met, what was written before the flag was raised is read
 pub record DeliversTo (input : List ℕ) (board : Board) (trace : List ℕ) : Type 0 where
   pub events : List Event
   pub runs : CompleteRun board events

@@ -4,6 +4,7 @@ use Rattle.std.specs.Option.{option_map}
 use Rattle.dma_agents.specs.declared.fault.MakeFault.{MakeFault}
 use Rattle.dma_agents.specs.declared.fault.MakeFault.TheVariants as faults
 use Rattle.dma_agents.specs.Made.{Made, made_read}
+use Rattle.text_faults.specs.declared.DeviceFault.TheVariants.{NotClear}
 use Rattle.program_status.specs.declared.status.Status.{Status}
 use Rattle.program_status.specs.declared.status.Status.TheVariants.{BadBoard}
 use Rattle.program_status.specs.declared.status.BoardFault.TheVariants.{Line, Device}
@@ -13,6 +14,7 @@ use Rattle.program_input.specs.Refusals.{tree_fault, RefusesBy}
 abbrev pub making_refusal : Result Made MakeFault → Option Status
 making_refusal (Err (faults.Board line fault)) = Some (BadBoard line (Line fault))
 making_refusal (Err (faults.Device line fault)) = Some (BadBoard line (Device fault))
+making_refusal (Err (faults.NotClear line flag why)) = Some (BadBoard line (Device NotClear))
 making_refusal (Err faults.NoMemory) = None
 making_refusal (Ok made) = option_map (BadBoard 0) (tree_fault made.board)
 

@@ -10,6 +10,7 @@ use pci_command::{List, NoMemory};
 use program_input::tree_of;
 use program_status::{BoardFault, Status};
 use std::alloc::Global;
+use text_faults::DeviceFault;
 use trace_roundtrip::{printed_trace_is_read, run_has_lines};
 use trace_text::print_trace;
 
@@ -21,10 +22,8 @@ pub fn answer_devices(alloc: Global, input: &[u8]) -> Result<Vec<u8>, Status>
     ensures err { IfErr result (RefusesDevices input.now) }
 {
     let tree = read_devices(alloc, input)?;
-    match trace_of(alloc, input, &tree) {
-        Ok(trace) => Ok(trace.into_vec()),
-        Err(_) => Err(Status::NoMemory),
-    }
+    let trace = trace_of(alloc, input, &tree).map_err(|_| Status::NoMemory)?;
+    Ok(trace.into_vec())
 }
 
 /// The valid board of these devices.
@@ -43,6 +42,10 @@ fn read_devices(alloc: Global, input: &[u8]) -> Result<Tree, Status>
         Err(MakeFault::Device { line, fault }) => Err(Status::BadBoard {
             line,
             fault: BoardFault::Device(fault),
+        }),
+        Err(MakeFault::NotClear { line, .. }) => Err(Status::BadBoard {
+            line,
+            fault: BoardFault::Device(DeviceFault::NotClear),
         }),
         Err(MakeFault::NoMemory) => Err(Status::NoMemory),
     }
