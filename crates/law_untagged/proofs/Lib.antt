@@ -11,6 +11,7 @@ pub mod UntaggedOrderLemmas
 pub mod CarryLemmas
 pub mod ReturnLemmas
 pub mod StaleLemmas
+pub mod ListedLemmas
 pub mod LastLemmas
 pub mod ApartTestLemmas
 pub mod Laws

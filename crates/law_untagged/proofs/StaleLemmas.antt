@@ -6,6 +6,7 @@ use Rattle.std.specs.Cmp.{IsEquivalence}
 use Rattle.std.proofs.lemmas.Cmp.{nat_eq_equiv, on_equiv, and_equiv}
 use Rattle.std.proofs.lemmas.Bool.Decides.{nat_tests}
 use Rattle.std.proofs.lemmas.Map.Views.{list_any-from_Contains, Contains-from_any}
+use Rattle.list_facts.proofs.AnyLemmas.{any_some}
 use Rattle.list_facts.proofs.FindLemmas.{find_passes}
 use Rattle.pci_command.specs.declared.command.Space.{Space}
 use Rattle.pci_command.specs.declared.command.Space.TheVariants.{Mem, Io, Cfg}
@@ -21,7 +22,7 @@ use Rattle.board_model.specs.Ways.{Dword}
 use Rattle.history_model.specs.declared.event.Event.{Event}
 use Rattle.history_model.specs.Program.{Ending, ended}
 use Rattle.history_model.specs.Knowledge.{ends_as, Reading, has_landed, words_named, is_write}
-use Rattle.std.proofs.lemmas.Bool.{and_parts}
+use Rattle.std.proofs.lemmas.Bool.{and_parts, or_left, or_right}
 use Rattle.history_model.proofs.facts.RequestLemmas.{same_op_true, same_op_self}
 use Rattle.law_untagged.specs.Untagged.{UntaggedRun}
 use Rattle.law_untagged.specs.Origins.{ending_reading, untagged_got, UntaggedTold, UntaggedFresh}
@@ -209,42 +210,31 @@ module _ (board : Board) (h : List Event) (run : UntaggedRun board h) where
       let there : F (Some it.reading) = rw (of_word, landed_not, told) refl in
       subst F (sym it.got) there
 
+  -- A read that breaks freshness has its line.
+
+  -- where it does for a write that is among these operations, it does for one of them
+  any_breaks : (r w : OpId) (ops : List OpId) → breaks board h w r ≡ true → list_any (same_op w) ops ≡ true → list_any (λ v. breaks board h v r) ops ≡ true
+  any_breaks r w [] is listed = cc
+  any_breaks r w (v ∷ ops) is listed =
+      let rest : Bool = list_any (λ u. breaks board h u r) ops in
+      let P : Bool → Type 0 = λ b. same_op w v ≡ b → (b || list_any (same_op w) ops) ≡ true → (breaks board h v r || rest) ≡ true in
+      (elim (same_op w v) as P [
+        | true ↦ λ same _. or_left (breaks board h v r) rest (subst (λ u. breaks board h u r ≡ true) (same_op_true w v same) is)
+        | false ↦ λ _ later. or_right (breaks board h v r) rest (any_breaks r w ops is later)
+      ]) refl listed
+
+  -- as its master ended it, it has the line of the first of them
+  pub one_stale : (r : OpId) (reading : Reading) (w : OpId) → untagged_got board h r ≡ Some reading → breaks board h w r ≡ true
+      → (v : OpId) × (stale_at board h r ≡ record { read = r; write = v; event = length reading.before + 1 } ∷ [])
+  one_stale r reading w got is =
+      let ops : List OpId = ops_by 0 board.masters in
+      let first = any_some (λ v. breaks board h v r) ops (any_breaks r w ops is (write_listed board w (breaks_so w r is).told.0)) in
+      (first.0, ap (λ found. stale_by r found (untagged_got board h r)) first.1 ∙ ap (stale_by r (Some first.0)) got)
+
   -- Nothing is listed where nothing breaks freshness.
 
   none_stale : (r : OpId) (reading : Reading) (w : OpId) → untagged_got board h r ≡ Some reading → breaks board h w r ≡ true → stale_at board h r ≡ [] → ⊥
-  none_stale r reading w got is none =
-      let ops : List OpId = ops_by 0 board.masters in
-      let test : OpId → Bool = λ v. breaks board h v r in
-      let written : is_write board w ≡ true = (breaks_so w r is).told.0 in
-      let listed : list_any (same_op w) ops ≡ true = write_listed board w written in
-      let P : Option OpId → Option Reading → Type 0 = λ first found. find test ops ≡ first → untagged_got board h r ≡ found → stale_by r first found ≡ [] → ⊥ in
-      let any : list_any test ops ≡ true = any_by w ops listed (λ v same. subst (λ u. breaks board h u r ≡ true) same is) in
-      let Q : Option OpId → Type 0 = λ first. find test ops ≡ first → stale_by r first (untagged_got board h r) ≡ [] → ⊥ in
-      (elim (find test ops) as Q [
-        | None ↦ λ not_found _. no_find test ops any not_found
-        | Some v ↦ λ _ e.
-            let G : Option Reading → Type 0 = λ found. stale_by r (Some v) found ≡ [] in
-            let f : G (Some reading) = subst G got e in
-            cc
-      ]) refl none
-    where
-      any_by : (w : OpId) (ops : List OpId) → list_any (same_op w) ops ≡ true → ((v : OpId) → w ≡ v → breaks board h v r ≡ true) → list_any (λ v. breaks board h v r) ops ≡ true
-      any_by w [] listed holds = cc
-      any_by w (v ∷ ops) listed holds =
-          let S : Bool → Type 0 = λ b. same_op w v ≡ b → (b || list_any (same_op w) ops) ≡ true → (breaks board h v r || list_any (λ u. breaks board h u r) ops) ≡ true in
-          (elim (same_op w v) as S [
-            | true ↦ λ same _. let here = holds v (same_op_true w v same) in rw here refl
-            | false ↦ λ _ later.
-                let rest = any_by w ops later holds in
-                let T : Bool → Type 0 = λ b. (b || list_any (λ u. breaks board h u r) ops) ≡ true in
-                elim (breaks board h v r) as T [ true ↦ refl | false ↦ rest ]
-          ]) refl listed
-
-      no_find : {X : Type 0} (test : X → Bool) (xs : List X) → list_any test xs ≡ true → find test xs ≡ None → ⊥
-      no_find test [] is none = cc
-      no_find test (x ∷ xs) is none =
-          let U : Bool → Type 0 = λ b. (b || list_any test xs) ≡ true → cond b (Some x) (find test xs) ≡ None → ⊥ in
-          (elim (test x) as U [ true ↦ λ _ f. cc | false ↦ λ later f. no_find test xs later f ]) is none
+  none_stale r reading w got is none = let line = (one_stale r reading w got is).1 in cc
 
   -- a list joined of two is empty where both are
   joined_empty : {X : Type 0} (xs ys : List X) → (xs ++ ys) ≡ [] → (xs ≡ []) × (ys ≡ [])

@@ -1,5 +1,5 @@
 -- The reads that break freshness, in the order in which their masters ended them.
-use Rattle.std.specs.Prelude.{◌≡◌, ℕ, Bool, true, false, Contains, ◌+◌, List, [], ◌∷◌, ◌++◌, length, Option, Some, None, not, ◌&&◌, ◌==◌, if◌then◌else◌}
+use Rattle.std.specs.Prelude.{◌≡◌, ℕ, Bool, true, false, Contains, ◌+◌, List, [], ◌∷◌, ◌++◌, length, map, Option, Some, None, not, ◌&&◌, ◌==◌, if◌then◌else◌}
 use Rattle.std.specs.List.{find, list_any}
 use Rattle.pci_command.specs.declared.op_id.OpId.{OpId}
 use Rattle.pci_command.specs.Same.{same_space}
@@ -66,3 +66,7 @@ stale_in board h (e ∷ g) = stale_in board h g ++ stale_ending board h (ended e
 
 abbrev pub stale_of : Board → List Event → List StaleRead
 stale_of board h = stale_in board h h
+
+-- the reads in the list
+abbrev pub reads_listed : Board → List Event → List OpId
+reads_listed board h = map (λ (one : StaleRead). one.read) (stale_of board h)

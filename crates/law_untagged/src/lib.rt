@@ -5,7 +5,8 @@
 //! that only calls the laws which it rests on.
 #![tactic(auto)]
 
-ghost use Rattle.std.specs.Prelude.{◌≡◌, ◌↔◌, List, ℕ, Some, None, take, length, false, true, [], ◌∷◌};
+ghost use Rattle.std.specs.Prelude.{◌≡◌, ◌↔◌, ◌∷◌, [], List, ℕ, Some, None, Contains};
+ghost use Rattle.std.specs.Prelude.{take, length, false, true};
 ghost use Rattle.pci_command.specs.declared.op_id.OpId.{OpId};
 ghost use Rattle.board_model.specs.declared.board.Board.{Board};
 ghost use Rattle.board_model.specs.Valid.{IsValid};
@@ -16,7 +17,7 @@ ghost use Rattle.law_untagged.specs.Apart.{Apart};
 ghost use Rattle.law_untagged.specs.ApartTest.{is_apart};
 ghost use Rattle.law_untagged.specs.Origins.{UntaggedTold, UntaggedFresh};
 ghost use Rattle.law_untagged.specs.Heard.{untagged_was_told};
-ghost use Rattle.law_untagged.specs.Stale.{StaleRead, Breaks, breaks, stale_of};
+ghost use Rattle.law_untagged.specs.Stale.{StaleRead, Breaks, breaks, stale_of, reads_listed};
 ghost use Rattle.law_untagged.specs.Sound.{SoundRun};
 ghost use Rattle.law_untagged.specs.Worked.{taken_board, taken_events};
 
@@ -52,13 +53,20 @@ pub fn told_is_known()
         UntaggedTold board h w r ↔ (untagged_was_told board h w r ≡ true) }
 {}
 
-/// The list of stale reads is exact: a read is in it where it breaks freshness, which is where it was told of a write
-/// and got a word of it from a reading before the write had landed; and it is empty exactly of a fresh run.
+/// A read breaks freshness for a write, by the test that makes the list of stale reads, exactly
+/// where it was told of the write and got a word of it from a reading before the write had landed;
+/// and the list is empty exactly of a fresh run.
 pub fn stale_reads_break_freshness()
     ensures each { (board : Board) (h : List Event) (w r : OpId) → UntaggedRun board h →
         (breaks board h w r ≡ true) ↔ Breaks board h w r }
     ensures all { (board : Board) (h : List Event) → UntaggedRun board h →
         UntaggedFresh board h ↔ (stale_of board h ≡ []) }
+{}
+
+/// The list is exact: a read is in it exactly where it breaks freshness for some write.
+pub fn stale_reads_are_listed()
+    ensures { (board : Board) (h : List Event) (r : OpId) → UntaggedRun board h →
+        Contains (reads_listed board h) r ↔ ((w : OpId) × Breaks board h w r) }
 {}
 
 /// The read that was given what another master's request had read before: it was told of the write.

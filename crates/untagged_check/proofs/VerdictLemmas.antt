@@ -1,5 +1,5 @@
 -- All that holds of the judgement.
-use Rattle.std.proofs.Common.{◌≡◌, ◌↔◌, ℕ, true, List, [], sym, ap, ◌∙◌}
+use Rattle.std.proofs.Common.{◌≡◌, ◌↔◌, ℕ, true, Contains, List, [], sym, ap, ◌∙◌}
 use Rattle.pci_command.specs.declared.op_id.OpId.{OpId}
 use Rattle.board_model.specs.declared.board.Board.{Board}
 use Rattle.history_model.specs.declared.event.Event.{Event}
@@ -9,7 +9,7 @@ use Rattle.history_model.specs.Runs.{RunBy, Run, history_of}
 use Rattle.law_untagged.specs.Untagged.{UntaggedRun}
 use Rattle.law_untagged.specs.Apart.{Apart}
 use Rattle.law_untagged.specs.Origins.{UntaggedFresh}
-use Rattle.law_untagged.specs.Stale.{Breaks, breaks, stale_of}
+use Rattle.law_untagged.specs.Stale.{Breaks, breaks, stale_of, reads_listed}
 use Rattle.law_untagged.specs.Sound.{SoundRun}
 use Rattle.judge_state.specs.Refused.{FirstRefusedBy}
 use Rattle.judge_state.proofs.RefusedLemmas.{no_refused_by}
@@ -19,13 +19,15 @@ use Rattle.untagged_check.proofs.ListLemmas.{reads_none}
 
 pub verdict_of_run : (board : Board) (events : List Event) (stale : List Stale) → RunBy Untagged board (history_of events) → reads_of stale ≡ stale_of board (history_of events)
     → (UntaggedFresh board (history_of events) ↔ (stale_of board (history_of events) ≡ [])) → ((w r : OpId) → (breaks board (history_of events) w r ≡ true) ↔ Breaks board (history_of events) w r)
+    → ((r : OpId) → Contains (reads_listed board (history_of events)) r ↔ ((w : OpId) × Breaks board (history_of events) w r))
     → (Apart board → SoundRun board (history_of events)) → UntaggedVerdict board events stale
-verdict_of_run board events stale run are fresh each sound =
+verdict_of_run board events stale run are fresh each listed sound =
     record {
       run = run;
       stale_are = are;
       fresh = (λ is. reads_none stale (are ∙ fresh.0 is), λ none. fresh.1 (sym are ∙ ap reads_of none));
       each = each;
+      listed = listed;
       apart = λ apart. (sound apart, reads_none stale (are ∙ (sound apart).none_stale));
     }
 

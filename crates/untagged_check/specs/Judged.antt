@@ -1,5 +1,5 @@
 -- What a list of events is on bridges that keep no local master, the first event first.
-use Rattle.std.specs.Prelude.{◌≡◌, ◌↔◌, ℕ, true, List, [], ◌∷◌, map, Option, Some, None}
+use Rattle.std.specs.Prelude.{◌≡◌, ◌↔◌, ℕ, true, Contains, List, [], ◌∷◌, map, Option, Some, None}
 use Rattle.pci_command.specs.declared.op_id.OpId.{OpId}
 use Rattle.board_model.specs.declared.board.Board.{Board}
 use Rattle.history_model.specs.declared.event.Event.{Event}
@@ -8,7 +8,7 @@ use Rattle.history_model.specs.declared.rule.Rule.TheVariants.{Untagged}
 use Rattle.history_model.specs.Runs.{RunBy, Run, history_of}
 use Rattle.law_untagged.specs.Apart.{Apart}
 use Rattle.law_untagged.specs.Origins.{UntaggedFresh}
-use Rattle.law_untagged.specs.Stale.{StaleRead, Breaks, breaks, stale_of}
+use Rattle.law_untagged.specs.Stale.{StaleRead, Breaks, breaks, stale_of, reads_listed}
 use Rattle.law_untagged.specs.Sound.{SoundRun}
 use Rattle.judge_state.specs.Refused.{FirstRefusedBy}
 use Rattle.untagged_check.specs.declared.verdict.Stale.{Stale}
@@ -31,6 +31,8 @@ pub record UntaggedVerdict (board : Board) (events : List Event) (stale : List S
   pub fresh : UntaggedFresh board (history_of events) ↔ (stale ≡ [])
   -- a read breaks freshness for a write where it was told of it, and got a word of it from a reading before it had landed
   pub each : (w r : OpId) → (breaks board (history_of events) w r ≡ true) ↔ Breaks board (history_of events) w r
+  -- the reads of the list are exactly those that do so for some write
+  pub listed : (r : OpId) → Contains (reads_listed board (history_of events)) r ↔ ((w : OpId) × Breaks board (history_of events) w r)
   -- where masters are apart it is a run on bridges that keep the local master too, all that holds of those holds of it,
   -- and no read is listed
   pub apart : Apart board → SoundRun board (history_of events) × (stale ≡ [])

@@ -13,7 +13,9 @@ mod verdict;
 
 use board_tree::Tree;
 use history_model::Event;
-use law_untagged::{apart_runs_are_alike, apart_runs_are_sound, stale_reads_break_freshness};
+use law_untagged::{
+    apart_runs_are_alike, apart_runs_are_sound, stale_reads_are_listed, stale_reads_break_freshness,
+};
 pub use masters::apart;
 use pci_command::{List, NoMemory};
 use stale::stale_reads;
@@ -32,6 +34,7 @@ pub fn check_untagged(alloc: Global, tree: &Tree, events: &[Event]) -> Result<Un
     apart_runs_are_alike();
     apart_runs_are_sound();
     stale_reads_break_freshness();
+    stale_reads_are_listed();
     // The board of a tree is valid, so that all of this holds of its runs.
     let _valid = tree.board();
     match follow(alloc, tree, events)? {

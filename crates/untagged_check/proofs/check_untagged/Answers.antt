@@ -23,4 +23,5 @@ returns-in_ok-stale-in-Run c =
     let are : reads_of c.from_vec.result ≡ stale_of board (history_of events) = ap (λ (s : List Stale). reads_of s) c.from_vec.ensures ∙ c.in_ok-stale-in-Run.ensures in
     verdict_of_run board events c.from_vec.result follows.0 are (c.stale_reads_break_freshness.ensures.all board (history_of events) follows.0)
     (λ w r. c.stale_reads_break_freshness.ensures.each board (history_of events) w r follows.0)
+    (λ r. c.stale_reads_are_listed.ensures board (history_of events) r follows.0)
     (λ apart. c.apart_runs_are_sound.ensures board (history_of events) c.board-valid.ensures.valid apart follows.0)
