@@ -81,16 +81,16 @@ impl<L: LaneEnd + Drop> Segment<L> {
         self.stamp = self.stamp.max(stamp);
     }
 
-    /// Takes memory for 512 more events, which is more than a turn can make.
+    /// Takes memory for 8,192 more events: those of many turns.
     pub fn reserve(&mut self) -> Result<(), NoMemory>
-        ensures spare { IfOk result (λ _. 512 ≤ vec_capacity self.new.events - vec_len self.new.events) }
+        ensures spare { IfOk result (λ _. 8192 ≤ vec_capacity self.new.events - vec_len self.new.events) }
         ensures bus { self.new.bus ≡ self.old.bus }
         ensures ends { self.new.ends.items ≡ self.old.ends.items }
         ensures stamp { self.new.stamp ≡ self.old.stamp }
         ensures stopped { self.new.stopped ≡ self.old.stopped }
         ensures events { self.new.events.items ≡ self.old.events.items }
     {
-        self.events.reserve(512)?;
+        self.events.reserve(8_192)?;
         Ok(())
     }
 

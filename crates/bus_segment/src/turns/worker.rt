@@ -97,9 +97,9 @@ impl<L: LaneEnd + Drop> Worker<L> {
         self.segment.begin(stamp);
     }
 
-    /// Takes memory for the events of one more turn.
+    /// Takes memory for 8,192 more events: those of many turns.
     pub fn reserve(&mut self) -> Result<(), NoMemory>
-        ensures spare { IfOk result (λ _. 512 ≤ vec_capacity self.new.segment.events - vec_len self.new.segment.events) }
+        ensures spare { IfOk result (λ _. 8192 ≤ vec_capacity self.new.segment.events - vec_len self.new.segment.events) }
         ensures bus { self.new.segment.bus ≡ self.old.segment.bus }
         ensures ends { self.new.segment.ends.items ≡ self.old.segment.ends.items }
         ensures stamp { self.new.segment.stamp ≡ self.old.segment.stamp }
