@@ -1,10 +1,19 @@
+use Rattle.std.proofs.Common.{List, subst}
 use Rattle.std.proofs.lemmas.Result.{IfOk-weaker}
+use Rattle.board_model.specs.declared.board.Board.{Board}
+use Rattle.board_model.specs.Fits.{BusesFit}
+use Rattle.board_model.specs.Valid.{IsValid}
+use Rattle.history_model.specs.declared.event.Event.{Event}
 use Rattle.history_model.specs.Runs.{history_of}
 use Rattle.command_traces.proofs.report.CountLemmas.{reports_run}
 use Rattle.command_traces.proofs.report.answer.text_of_run.Goals as goal
 
 pub returns : goal.returns
 returns c =
+    let board : Board = c.args.tree.now in
+    let events : List Event = c.args.events.now in
+    let valid : IsValid board = c.board-board.ensures.valid in
+    let fits : BusesFit board = subst BusesFit c.board-board.ensures.value c.board_fits.ensures in
     IfOk-weaker _ _ _
-    (λ text is. reports_run c.args.tree.now c.args.events.now text c.board-valid.ensures.valid c.requires (c.runs_are_fresh.ensures c.args.tree.now (history_of c.args.events.now) c.board-valid.ensures.valid c.requires) is)
+    (λ text is. reports_run board events text valid c.requires (c.runs_are_fresh.ensures board (history_of events) valid c.requires) is (c.counts_add_up.ensures board (history_of events) valid fits c.requires))
     c.report.ensures
