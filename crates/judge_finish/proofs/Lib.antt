@@ -1,1 +1,2 @@
 pub mod GoingLemmas
+pub mod StayLemmas

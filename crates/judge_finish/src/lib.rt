@@ -3,7 +3,9 @@
 #![tactic(auto)]
 
 mod finishing;
+mod staying;
 mod unfinished;
 
 pub use finishing::finish;
+pub use staying::finished_runs_stay;
 pub use unfinished::Unfinished;

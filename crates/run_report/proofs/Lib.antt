@@ -1,3 +1,4 @@
 pub mod TallyLemmas
 pub mod LineLemmas
 pub mod OperationLemmas
+pub mod AddingLemmas

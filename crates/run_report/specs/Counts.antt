@@ -1,5 +1,5 @@
 -- What a report counts: the events of each kind on each bus.
-use Rattle.std.specs.Prelude.{ℕ, Bool, ◌+◌, List, count_by, ◌&&◌, ◌==◌}
+use Rattle.std.specs.Prelude.{ℕ, Bool, ◌+◌, List, [], ◌∷◌, count_by, ◌&&◌, ◌==◌}
 use Rattle.board_model.specs.declared.board.Board.{Board}
 use Rattle.history_model.specs.declared.event.Step.{Step}
 use Rattle.history_model.specs.declared.event.Step.TheVariants as steps
@@ -37,6 +37,10 @@ column Stall = 5
 column MasterAbort = 6
 column TargetAbort = 7
 column Arrive = 8
+
+-- all kinds, in the order of a line
+abbrev pub kinds : List Kind
+kinds = Land ∷ Read ∷ Accept ∷ Latch ∷ Take ∷ Stall ∷ MasterAbort ∷ TargetAbort ∷ Arrive ∷ []
 
 -- the event is of the kind and on the bus; an arrival is on the bus where its lane ends
 abbrev pub is_counted : Board → ℕ → Kind → Event → Bool

@@ -4,9 +4,11 @@
 
 mod lines;
 mod sizes;
+mod sums;
 mod tallies;
 mod text;
 pub mod way_counts;
 
+pub use sums::counts_add_up;
 pub use text::report;
 pub use way_counts::{complete_runs_have_the_way_counts, complete_runs_weigh_their_ways};

@@ -3,6 +3,7 @@ ghost use Rattle.history_model.specs.Runs.{Run, history_of};
 ghost use Rattle.program_input.specs.Traces.{RefusesRun};
 ghost use Rattle.command_traces.specs.report.Answers.{AnswersReport, Reports};
 
+use board_model::board_fits;
 use board_tree::Tree;
 use history_model::Event;
 use law_delivered::reads_return_what_was_left;
@@ -10,7 +11,7 @@ use law_fresh::runs_are_fresh;
 use pci_command::{List, NoMemory};
 use program_input::{TreeTrace, read_run};
 use program_status::Status;
-use run_report::{complete_runs_have_the_way_counts, report};
+use run_report::{complete_runs_have_the_way_counts, counts_add_up, report};
 use std::alloc::Global;
 
 /// The report of a run, complete or not, for its trace text.
@@ -34,7 +35,9 @@ fn text_of_run(alloc: Global, tree: &Tree, events: &[Event]) -> Result<List<u8>,
     runs_are_fresh();
     reads_return_what_was_left();
     complete_runs_have_the_way_counts();
-    // The board of a tree is valid.
-    let _valid = tree.board();
+    counts_add_up();
+    // The board of a tree is valid, and its bus numbers are bytes.
+    let board = tree.board();
+    board_fits(board);
     report(alloc, tree, events)
 }

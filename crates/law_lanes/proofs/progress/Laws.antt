@@ -4,7 +4,7 @@
 pub use Rattle.law_lanes.proofs.progress.GoOnLemmas.{goes_on, runs_go_on}
 -- the next event in the fixed order is allowed, and there is none where the run is complete
 pub use Rattle.law_lanes.proofs.progress.NextSoundLemmas.{next_allowed}
-pub use Rattle.law_lanes.proofs.progress.NextStopLemmas.{next_complete}
+pub use Rattle.law_lanes.proofs.progress.NextStopLemmas.{complete_none, next_complete}
 -- facts on the definitions of this crate
 
 -- nothing is on a lane of no bridge

@@ -69,7 +69,7 @@ module _ (board : Board) (h : List Event) (run : Run board h) where
       (goes_on board h run (Sound-valid board valid))
 
   -- there is no next event where the run is complete
-  complete_none : Complete board h → next_of board h ≡ None
+  pub complete_none : Complete board h → next_of board h ≡ None
   complete_none complete =
       let P : Option Event → Type 0 = λ some. IfSome some (Allowed board h) → some ≡ None in
       (elim (next_of board h) as P [ None ↦ λ _. refl | Some e ↦ λ is. absurd (complete_stops complete e is) ]) (next_allowed board h)

@@ -1,6 +1,8 @@
-use Rattle.std.proofs.Common.{List}
+use Rattle.std.proofs.Common.{List, subst}
 use Rattle.std.proofs.lemmas.Result.{IfOk-weaker}
 use Rattle.board_model.specs.declared.board.Board.{Board}
+use Rattle.board_model.specs.Fits.{BusesFit}
+use Rattle.board_model.specs.Valid.{IsValid}
 use Rattle.history_model.specs.declared.event.Event.{Event}
 use Rattle.history_model.specs.Runs.{history_of}
 use Rattle.command_traces.proofs.report.CountLemmas.{reports_run}
@@ -11,8 +13,9 @@ returns c =
     let board : Board = c.args.tree.now in
     let events : List Event = c.args.events.now in
     let h : List Event = history_of events in
-    let valid = c.board-valid.ensures.valid in
+    let valid : IsValid board = c.board-board.ensures.valid in
+    let fits : BusesFit board = subst BusesFit c.board-board.ensures.value c.board_fits.ensures in
     let fresh = c.runs_are_fresh.ensures board h valid c.requires in
     let left = c.reads_return_what_was_left.ensures.left board h valid c.requires in
     let held = c.reads_return_what_was_left.ensures.held board h valid c.requires in
-    IfOk-weaker _ _ _ (λ text is. reports_run board events text valid c.requires fresh left held is) c.report.ensures
+    IfOk-weaker _ _ _ (λ text is. reports_run board events text valid c.requires fresh left held is (c.counts_add_up.ensures board h valid fits c.requires)) c.report.ensures
