@@ -16,9 +16,9 @@ use Rattle.history_model.specs.declared.event.Event.{Event}
 use Rattle.history_model.specs.declared.event.Event.TheVariants.{Act, Arrive}
 use Rattle.history_model.specs.Program.{Ending, ended}
 use Rattle.history_model.specs.Words.{landed}
-use Rattle.history_model.specs.Knowledge.{Reading as WordReading, value_in, outcome_in, value_of_ending, ends_with, up_to_end, reading_of, reading_by, reading_in, reading_or, last_reading, got}
+use Rattle.history_model.specs.Knowledge.{Reading as WordReading, value_in, outcome_in, value_of_ending, up_to_end, reading_of, reading_by, reading_in, reading_or, last_reading, got}
 use Rattle.history_model.proofs.facts.RequestLemmas.{same_op_true}
-use Rattle.law_fresh.proofs.Laws.{Front, before_in}
+use Rattle.law_fresh.proofs.Laws.{before_in}
 use Rattle.law_audit.specs.Clocks.{Clocks, clocks_of, taught_by, word_tells}
 use Rattle.board_model.specs.declared.word.Word.{Word}
 use Rattle.audit_clocks.specs.Rows.{number}
