@@ -18,6 +18,8 @@ returns c =
     record {
       run = c.requires;
       fresh = c.runs_are_fresh.ensures board h valid c.requires;
+      as_left = c.reads_return_what_was_left.ensures.left board h valid c.requires;
+      as_held = c.reads_return_what_was_left.ensures.held board h valid c.requires;
       written = written;
       sound = c.findings_are_so.ensures board h valid c.requires;
       complete = c.reads_that_knew_are_found.ensures board h valid c.requires;
