@@ -184,7 +184,10 @@ fn count_in(kind: Kind, line: &[u8]) -> usize {
 
 /// The blocks of 32 bytes that a put touches.
 fn writes_of_put(words: &mut Words) -> usize {
-    let (Ok(address), Ok(length)) = (words.hex(), words.decimal(1, 4096)) else {
+    let Ok(address) = words.hex() else {
+        return 0;
+    };
+    let Ok(length) = words.decimal(1, 4096) else {
         return 0;
     };
     let first = address as usize;
@@ -208,7 +211,10 @@ fn name_of_target(input: &[u8], number: usize) -> &str {
 
 fn second_word(line: &[u8]) -> &str {
     let mut words = Words::new(line);
-    let (Ok(_), Ok(word)) = (words.take(), words.take()) else {
+    if words.take().is_err() {
+        return "the target";
+    }
+    let Ok(word) = words.take() else {
         return "the target";
     };
     from_utf8(word).unwrap_or("the target")
