@@ -1,1 +1,3 @@
+pub mod largest
+pub mod said
 pub mod writes

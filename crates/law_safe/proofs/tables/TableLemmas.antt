@@ -24,7 +24,7 @@ greater_second a b =
     let P : Bool → Type 0 = λ t. nat_lt a b ≡ t → b ≤ cond t b a in
     (elim (nat_lt a b) as P [ true ↦ λ _. omega arith | false ↦ λ none. let most : b ≤ a = grind (arith, nat_tests) in most ]) refl
 
-greater_least : (a b c : ℕ) → a ≤ c → b ≤ c → greater a b ≤ c
+pub greater_least : (a b c : ℕ) → a ≤ c → b ≤ c → greater a b ≤ c
 greater_least a b c first second =
     let P : Bool → Type 0 = λ t. cond t b a ≤ c in
     elim (nat_lt a b) as P [ true ↦ second | false ↦ first ]
@@ -62,10 +62,10 @@ module _ (board : Board) (s t : Table) (more : AtMost s t) where
   writes_more : (p : OpId) (word : Dword) (x : OpId) → WritesBefore board s p word x → WritesBefore board t p word x
   writes_more p word x is = record { writes = is.writes; brings = is.brings; before = before_more x p is.before }
 
-  left_more : (p : OpId) (word : Dword) (f : OpId) → LeftOut board s p word f → LeftOut board t p word f
+  pub left_more : (p : OpId) (word : Dword) (f : OpId) → LeftOut board s p word f → LeftOut board t p word f
   left_more p word f is = record { x = is.x; earlier = writes_more p word is.x is.earlier; other = is.other; no_more = no_more_more f is.x is.no_more }
 
-  opens_more : (p : OpId) (mask wanted : ℕ) (word : Dword) → OpensOut board s p mask wanted word → OpensOut board t p mask wanted word
+  pub opens_more : (p : OpId) (mask wanted : ℕ) (word : Dword) → OpensOut board s p mask wanted word → OpensOut board t p mask wanted word
   opens_more p mask wanted word is =
       ⊎_elim {C = OpensOut board t p mask wanted word}
       (λ (none : is_met_by mask wanted (opens_as board word) ≡ false). inl none)

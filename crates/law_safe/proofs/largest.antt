@@ -1,0 +1,4 @@
+pub mod TestLemmas
+pub mod ConsistentLemmas
+pub mod RiseLemmas
+pub mod Laws

@@ -1,0 +1,4 @@
+pub mod ApartLemmas
+pub mod OrderedLemmas
+pub mod SaidLemmas
+pub mod Laws
