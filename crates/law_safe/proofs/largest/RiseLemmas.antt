@@ -14,7 +14,7 @@ use Rattle.safe_model.specs.Clocks.{Clock, Table, is_poll, at_place, known_by, g
 use Rattle.law_safe.specs.largest.Tests.{program_of}
 use Rattle.law_safe.specs.largest.Largest.{IsWithin, IsLargest}
 use Rattle.law_safe.proofs.tables.TableLemmas.{AtMost, greater_first, greater_second, greater_least, clock_more, left_more, opens_more, is_known_more}
-use Rattle.law_safe.proofs.largest.ConsistentLemmas.{poll_awaits}
+use Rattle.law_safe.proofs.largest.ConsistentLemmas.{first_try}
 
 -- Numbers of a raised clock.
 
@@ -62,17 +62,7 @@ raised_most clock master count other most below counts =
       | false ↦ λ _. below
     ]) refl
 
--- A poll is one by each of its tries.
-
-pub first_try : (board : Board) (p : OpId) → is_poll (op_of board p) ≡ true → is_poll (op_of board (at_place p.master p.index)) ≡ true
-first_try board p is =
-    let awaits = poll_awaits board p is in
-    let there = op_there board p (Poll awaits.2.0 awaits.2.1 awaits.0 awaits.1 awaits.2.2) awaits.2.3 in
-    let tried = there.tried in
-    let some : nat_lt 0 awaits.2.2 ≡ true = grind (arith, nat_tests) in
-    let is_master : slice_get board.masters p.master ≡ Some there.master = there.is_master in
-    let is_op : slice_get there.master.ops p.index ≡ Some (Poll awaits.2.0 awaits.2.1 awaits.0 awaits.1 awaits.2.2) = there.is_op in
-    rw (is_master, is_op, some) refl
+-- Operations that are there.
 
 -- an operation that is there stands in the program of its master
 pub op_within : (board : Board) (o : OpId) (op : Op) → op_of board o ≡ Some op → o.index < program_of board o.master
@@ -111,8 +101,8 @@ module _ (board : Board) (table : Table) (is_largest : IsLargest board table) wh
   abbrev pub Risen : Table
   Risen = greater_of table Known
 
-  risen_more : AtMost table Risen
-  risen_more master index other = greater_first (table master index other) (Known master index other)
+  risen_more : AtMost board table Risen
+  risen_more master index is other = greater_first (table master index other) (Known master index other)
 
   risen_consistent : IsConsistent board Risen
   risen_consistent p mask wanted awaits other =
@@ -187,8 +177,8 @@ module _ (board : Board) (table : Table) (is_largest : IsLargest board table) (t
   abbrev pub Changed : Table
   Changed = λ master index other. cond (nat_lt place (table master index to)) (greater (table master index other) (most other)) (table master index other)
 
-  pub changed_more : AtMost table Changed
-  changed_more master index other =
+  pub changed_more : AtMost board table Changed
+  changed_more master index is other =
       let P : Bool → Type 0 = λ b. table master index other ≤ cond b (greater (table master index other) (most other)) (table master index other) in
       elim (nat_lt place (table master index to)) as P [ true ↦ greater_first (table master index other) (most other) | false ↦ omega arith ]
 
