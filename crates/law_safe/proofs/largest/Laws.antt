@@ -7,6 +7,8 @@ pub use Rattle.law_safe.proofs.largest.ConsistentLemmas.{most_known_grows, stays
 -- the tests are the relations
 pub use Rattle.law_safe.proofs.largest.TestLemmas.{before_is, is_before_so, no_more_is, is_no_more, left_is, is_left, opens_is, is_opens, firm_is, is_firm_so}
 -- by the largest table what is known rises along a program, and who counts an operation counts all that it comes after
-pub use Rattle.law_safe.proofs.largest.RiseLemmas.{rows_rise, clock_rises, largest_is_closed, clocks_closed, knows_all}
+pub use Rattle.law_safe.proofs.largest.RiseLemmas.{Rises, rows_rise, clock_rises, largest_rises, largest_is_closed, clocks_closed, knows_all}
+-- a fall from the top keeps a table rising along programs
+pub use Rattle.law_safe.proofs.largest.RiseLemmas.{top_rises, lowered_rises}
 -- what lands no more once another does that lands no more once a third does, lands no more once that does
 pub use Rattle.law_safe.proofs.largest.RiseLemmas.{no_more_through}

@@ -39,7 +39,7 @@ raised_more s t master count other more =
     ]
 
 module _ (board : Board) (s t : Table) (more : AtMost board s t) where
-  known_more : (master index other : ℕ) → known_by board s master index other ≤ known_by board t master index other
+  pub known_more : (master index other : ℕ) → known_by board s master index other ≤ known_by board t master index other
   known_more master zero other = omega arith
   known_more master (suc index) other =
       let P : Bool → Type 0 = λ b. is_poll (op_of board (at_place master index)) ≡ b → cond b (s master index) (known_by board s master index) other ≤ cond b (t master index) (known_by board t master index) other in
