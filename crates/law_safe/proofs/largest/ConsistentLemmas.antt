@@ -1,5 +1,5 @@
 -- Which tables are consistent, by tests: each poll has at most what they say may be known behind it.
-use Rattle.std.proofs.Common.{◌≡◌, ℕ, ◌<◌, ◌≤◌, Bool, true, false, not, ◌&&◌, ◌||◌, cond, nat_lt, List, [], ◌∷◌, map, Option, Some, None, refl, sym, ap, subst, ◌∙◌, arith, ◌⊎◌, inl, inr, ⊎_elim}
+use Rattle.std.proofs.Common.{◌≡◌, ℕ, ◌<◌, ◌≤◌, Bool, true, false, not, ◌&&◌, ◌||◌, cond, nat_lt, List, [], ◌∷◌, map, Option, Some, None, refl, sym, ap, subst, ◌∙◌, arith, slice_get, ◌⊎◌, inl, inr, ⊎_elim}
 use Rattle.std.specs.List.{filter, list_any}
 use Rattle.std.proofs.lemmas.Bool.{and_parts}
 use Rattle.std.proofs.lemmas.Bool.Decides.{nat_tests}
@@ -12,10 +12,11 @@ use Rattle.board_model.specs.Requests.{op_of}
 use Rattle.board_model.specs.Ways.{Dword}
 use Rattle.history_model.specs.Knowledge.{words_named}
 use Rattle.history_model.proofs.facts.RequestLemmas.{same_op_true, same_op_self}
+use Rattle.board_model.proofs.Laws.{op_there}
 use Rattle.safe_model.specs.Raisers.{Raises}
-use Rattle.safe_model.specs.Clocks.{Table, is_poll, greater, clock_of, clock_with, LeftOut, RaiserKnows, RaisersKnow, IsKnown, Awaits, IsConsistent}
+use Rattle.safe_model.specs.Clocks.{Table, is_poll, at_place, greater, clock_of, clock_with, LeftOut, RaiserKnows, RaisersKnow, IsKnown, Awaits, IsConsistent}
 use Rattle.law_safe.specs.largest.Tests.{writes_of, Wish, wish_in, wish_of, raises, is_firm, opens_out, is_left_out, raisers, least, program_of, known_by_all, told_to, most_known}
-use Rattle.law_safe.specs.largest.Largest.{IsWithin}
+use Rattle.law_safe.specs.largest.Largest.{IsWithin, IsLargest}
 use Rattle.law_safe.proofs.tables.TableLemmas.{AtMost, greater_first, greater_second, greater_least, clock_more, with_more, left_more, opens_more}
 use Rattle.law_safe.proofs.largest.TestLemmas.{either_way, not_both, not_false, any_both, some_write, left_is, is_left, opens_is, is_opens, raises_brings, firm_is, is_firm_so}
 
@@ -195,6 +196,18 @@ poll_awaits board p is = by_op (op_of board p) refl is
     by_op (Some (CfgWrite bus device register phase)) is_op e = cc
     by_op (Some (Poll space address mask wanted tries)) is_op e = (mask, wanted, (space, address, tries, is_op))
 
+-- A poll is one by each of its tries.
+
+pub first_try : (board : Board) (p : OpId) → is_poll (op_of board p) ≡ true → is_poll (op_of board (at_place p.master p.index)) ≡ true
+first_try board p is =
+    let awaits = poll_awaits board p is in
+    let there = op_there board p (Poll awaits.2.0 awaits.2.1 awaits.0 awaits.1 awaits.2.2) awaits.2.3 in
+    let tried = there.tried in
+    let some : nat_lt 0 awaits.2.2 ≡ true = grind (arith, nat_tests) in
+    let is_master : slice_get board.masters p.master ≡ Some there.master = there.is_master in
+    let is_op : slice_get there.master.ops p.index ≡ Some (Poll awaits.2.0 awaits.2.1 awaits.0 awaits.1 awaits.2.2) = there.is_op in
+    rw (is_master, is_op, some) refl
+
 split_greater : (x a b : ℕ) → x ≤ greater a b → (x ≤ a) ⊎ (x ≤ b)
 split_greater x a b is =
     let P : Bool → Type 0 = λ t. x ≤ cond t b a → (x ≤ a) ⊎ (x ≤ b) in
@@ -228,7 +241,7 @@ passes_consistent board table passes p mask wanted awaits other =
 
 -- By a greater table more may be known.
 
-told_grows : (board : Board) (s t : Table) → AtMost s t → (p : OpId) (found : Option Wish) (other : ℕ) → told_to board s p found other ≤ told_to board t p found other
+told_grows : (board : Board) (s t : Table) → AtMost board s t → (p : OpId) (found : Option Wish) (other : ℕ) → told_to board s p found other ≤ told_to board t p found other
 told_grows board s t more p None other = omega arith
 told_grows board s t more p (Some wish) other =
     let P : Bool → Type 0 = λ b. (is_firm board wish && opens_out board s p wish) ≡ b → cond b (known_by_all board s (raisers board s p wish) other) 0 ≤ told_to board t p (Some wish) other in
@@ -249,7 +262,7 @@ told_grows board s t more p (Some wish) other =
       | false ↦ λ _. omega arith
     ]) refl
 
-pub most_known_grows : (board : Board) (s t : Table) → AtMost s t → (p : OpId) (other : ℕ) → most_known board s p other ≤ most_known board t p other
+pub most_known_grows : (board : Board) (s t : Table) → AtMost board s t → (p : OpId) (other : ℕ) → most_known board s p other ≤ most_known board t p other
 most_known_grows board s t more p other =
     let clock : ℕ = clock_of board t p other in
     let told : ℕ = told_to board t p (wish_of board p) other in
@@ -258,3 +271,21 @@ most_known_grows board s t more p other =
     let one = greater_first clock told in
     let two = greater_second clock told in
     greater_least (clock_of board s p other) (told_to board s p (wish_of board p) other) (greater clock told) (omega (arith, first, one)) (omega (arith, second, two))
+
+-- From the top.
+
+-- where a table is above all that are consistent, so is what the tests say that may be known at most
+pub stays_above : (board : Board) (s t : Table) → IsConsistent board s → IsWithin board s → AtMost board s t → (p : OpId) → is_poll (op_of board p) ≡ true → (other : ℕ) → s p.master p.index other ≤ most_known board t p other
+stays_above board s t consistent within more p is other =
+    let here = consistent_passes board s within consistent p is other in
+    let there = most_known_grows board s t more p other in
+    omega (arith, here, there)
+
+-- so one that is above all, and passes the tests, is the largest
+pub passes_largest : (board : Board) (table : Table) → IsWithin board table → PassesTests board table → ((t : Table) → IsConsistent board t → IsWithin board t → AtMost board t table) → IsLargest board table
+passes_largest board table within passes above =
+    record {
+      consistent = passes_consistent board table passes;
+      within = within;
+      largest = λ t consistent of_t p is other. above t consistent of_t p.master p.index (first_try board p is) other;
+    }

@@ -1,20 +1,19 @@
 -- By the largest table what is known rises along a program, and who counts an operation counts all that it comes after.
-use Rattle.std.proofs.Common.{◌≡◌, ℕ, zero, suc, ◌+◌, ◌<◌, ◌≤◌, Bool, true, false, eqb, eqb-true, eq-eqb, cond, nat_lt, length, Option, Some, refl, sym, subst, ◌∙◌, arith, slice_get, ◌⊎◌, inl, inr, ⊎_elim}
+use Rattle.std.proofs.Common.{◌≡◌, ℕ, zero, suc, ◌+◌, ◌<◌, ◌≤◌, Bool, true, false, eqb, eqb-true, eq-eqb, cond, nat_lt, length, Option, Some, refl, sym, subst, ◌∙◌, arith, ◌⊎◌, inl, inr, ⊎_elim}
 use Rattle.std.specs.Option.{option_map_or}
 use Rattle.std.proofs.lemmas.Bool.Decides.{nat_tests}
 use Rattle.std.proofs.lemmas.Option.{slice_get_within}
 use Rattle.pci_command.specs.declared.op_id.OpId.{OpId}
 use Rattle.board_model.specs.declared.agents.Master.{Master}
 use Rattle.board_model.specs.declared.op.Op.{Op}
-use Rattle.board_model.specs.declared.op.Op.TheVariants.{Poll}
 use Rattle.board_model.specs.declared.board.Board.{Board}
 use Rattle.board_model.specs.Requests.{op_of}
 use Rattle.board_model.proofs.Laws.{op_there}
 use Rattle.safe_model.specs.Clocks.{Clock, Table, is_poll, at_place, known_by, greater, raised, clock_of, clock_with, IsBefore, LandsNoMore, lands_once, stands_before, had_ended, LeftOut, RaiserKnows, RaisersKnow, IsKnown, Awaits, IsConsistent, greater_of}
-use Rattle.law_safe.specs.largest.Tests.{program_of}
+use Rattle.law_safe.specs.largest.Tests.{program_of, wish_of, told_to, most_known}
 use Rattle.law_safe.specs.largest.Largest.{IsWithin, IsLargest}
-use Rattle.law_safe.proofs.tables.TableLemmas.{AtMost, greater_first, greater_second, greater_least, clock_more, left_more, opens_more, is_known_more}
-use Rattle.law_safe.proofs.largest.ConsistentLemmas.{poll_awaits}
+use Rattle.law_safe.proofs.tables.TableLemmas.{AtMost, greater_first, greater_second, greater_least, known_more, clock_more, left_more, opens_more, is_known_more}
+use Rattle.law_safe.proofs.largest.ConsistentLemmas.{first_try}
 
 -- Numbers of a raised clock.
 
@@ -62,17 +61,7 @@ raised_most clock master count other most below counts =
       | false ↦ λ _. below
     ]) refl
 
--- A poll is one by each of its tries.
-
-pub first_try : (board : Board) (p : OpId) → is_poll (op_of board p) ≡ true → is_poll (op_of board (at_place p.master p.index)) ≡ true
-first_try board p is =
-    let awaits = poll_awaits board p is in
-    let there = op_there board p (Poll awaits.2.0 awaits.2.1 awaits.0 awaits.1 awaits.2.2) awaits.2.3 in
-    let tried = there.tried in
-    let some : nat_lt 0 awaits.2.2 ≡ true = grind (arith, nat_tests) in
-    let is_master : slice_get board.masters p.master ≡ Some there.master = there.is_master in
-    let is_op : slice_get there.master.ops p.index ≡ Some (Poll awaits.2.0 awaits.2.1 awaits.0 awaits.1 awaits.2.2) = there.is_op in
-    rw (is_master, is_op, some) refl
+-- Operations that are there.
 
 -- an operation that is there stands in the program of its master
 pub op_within : (board : Board) (o : OpId) (op : Op) → op_of board o ≡ Some op → o.index < program_of board o.master
@@ -103,44 +92,15 @@ module _ (board : Board) (s t : Table) (to place : ℕ) (most : Clock) (rows : (
 
 -- Along a program.
 
-module _ (board : Board) (table : Table) (is_largest : IsLargest board table) where
-  abbrev pub Known : Table
-  Known = λ master index other. known_by board table master index other
+-- each poll has what is known before it
+abbrev pub Rises : Board → Table → Type 0
+Rises board table = (master index : ℕ) → is_poll (op_of board (at_place master index)) ≡ true → (other : ℕ) → known_by board table master index other ≤ table master index other
 
-  -- each row, or what is known before it
-  abbrev pub Risen : Table
-  Risen = greater_of table Known
-
-  risen_more : AtMost table Risen
-  risen_more master index other = greater_first (table master index other) (Known master index other)
-
-  risen_consistent : IsConsistent board Risen
-  risen_consistent p mask wanted awaits other =
-      let here : ℕ = table p.master p.index other in
-      let there : ℕ = Known p.master p.index other in
-      let P : Bool → Type 0 = λ t. cond t there here ≡ greater here there → IsKnown board Risen p mask wanted other in
-      (elim (nat_lt here there) as P [
-        | true ↦ λ is.
-            let first = raised_least (known_by board table p.master p.index) p.master p.index other in
-            let second = clock_more board table Risen risen_more p other in
-            inl (omega (arith, is, first, second))
-        | false ↦ λ is. is_known_more board table Risen risen_more p mask wanted other (omega (arith, is)) (is_largest.consistent p mask wanted awaits other)
-      ]) refl
-
-  risen_within : IsWithin board Risen
-  risen_within master index other = greater_least (table master index other) (Known master index other) (program_of board other) (is_largest.within master index other) (known_within board table is_largest.within master index other)
-
-  -- so each poll has what is known before it
-  row_rises : (p : OpId) → is_poll (op_of board p) ≡ true → (other : ℕ) → known_by board table p.master p.index other ≤ table p.master p.index other
-  row_rises p is other =
-      let most = is_largest.largest Risen risen_consistent risen_within p is other in
-      let more = greater_second (table p.master p.index other) (Known p.master p.index other) in
-      omega (arith, most, more)
-
+module _ (board : Board) (table : Table) (rises : Rises board table) where
   known_step : (master index other : ℕ) → known_by board table master index other ≤ known_by board table master (suc index) other
   known_step master index other =
       let Q : Bool → Type 0 = λ b. is_poll (op_of board (at_place master index)) ≡ b → known_by board table master index other ≤ cond b (table master index) (known_by board table master index) other in
-      (elim (is_poll (op_of board (at_place master index))) as Q [ true ↦ λ is. row_rises (at_place master index) is other | false ↦ λ _. omega arith ]) refl
+      (elim (is_poll (op_of board (at_place master index))) as Q [ true ↦ λ is. rises master index is other | false ↦ λ _. omega arith ]) refl
 
   pub known_rises : (master few many other : ℕ) → few ≤ many → known_by board table master few other ≤ known_by board table master many other
   known_rises master few zero other most =
@@ -171,7 +131,7 @@ module _ (board : Board) (table : Table) (is_largest : IsLargest board table) wh
       let later = known_rises p.master (suc p.index) q.index other (omega (arith, below)) in
       let all : table p.master p.index other ≤ known_by board table p.master q.index other = omega (arith, behind_it, later) in
       let moved : table p.master p.index other ≤ known_by board table q.master q.index other = subst (λ m. table p.master p.index other ≤ known_by board table m q.index other) masters all in
-      let last = row_rises q is_q other in
+      let last = rises q.master q.index (first_try board q is_q) other in
       omega (arith, moved, last)
 
   -- and so do clocks
@@ -180,6 +140,57 @@ module _ (board : Board) (table : Table) (is_largest : IsLargest board table) wh
       let here = raised_rises (known_by board table p.master p.index) (known_by board table p.master q.index) p.master p.index q.index other most (known_rises p.master p.index q.index other most) in
       subst (λ m. clock_of board table p other ≤ raised (known_by board table m q.index) m q.index other) masters here
 
+-- the greatest table rises, and so does one in which a number falls to what may be known at most
+pub top_rises : (board : Board) → Rises board (λ master index other. program_of board other)
+top_rises board master index is other = known_within board (λ m i o. program_of board o) (λ m i o. omega arith) master index other
+
+pub lowered_rises : (board : Board) (s t : Table) → Rises board s → AtMost board t s
+    → ((master index : ℕ) → is_poll (op_of board (at_place master index)) ≡ true → (other : ℕ) → (s master index other ≤ t master index other) ⊎ (most_known board s (at_place master index) other ≤ t master index other)) → Rises board t
+lowered_rises board s t rises less lowered master index is other =
+    let below = known_more board t s less master index other in
+    ⊎_elim {C = known_by board t master index other ≤ t master index other}
+    (λ (kept : s master index other ≤ t master index other). let here = rises master index is other in omega (arith, below, kept, here))
+    (λ (most : most_known board s (at_place master index) other ≤ t master index other).
+    let o : OpId = at_place master index in
+    let first : known_by board s master index other ≤ clock_of board s o other = raised_least (known_by board s master index) master index other in
+    let second : clock_of board s o other ≤ most_known board s o other = greater_first (clock_of board s o other) (told_to board s o (wish_of board o) other) in
+    omega (arith, below, most, first, second))
+    (lowered master index is other)
+
+module _ (board : Board) (table : Table) (is_largest : IsLargest board table) where
+  abbrev pub Known : Table
+  Known = λ master index other. known_by board table master index other
+
+  -- each row, or what is known before it
+  abbrev pub Risen : Table
+  Risen = greater_of table Known
+
+  risen_more : AtMost board table Risen
+  risen_more master index is other = greater_first (table master index other) (Known master index other)
+
+  risen_consistent : IsConsistent board Risen
+  risen_consistent p mask wanted awaits other =
+      let here : ℕ = table p.master p.index other in
+      let there : ℕ = Known p.master p.index other in
+      let P : Bool → Type 0 = λ t. cond t there here ≡ greater here there → IsKnown board Risen p mask wanted other in
+      (elim (nat_lt here there) as P [
+        | true ↦ λ is.
+            let first = raised_least (known_by board table p.master p.index) p.master p.index other in
+            let second = clock_more board table Risen risen_more p other in
+            inl (omega (arith, is, first, second))
+        | false ↦ λ is. is_known_more board table Risen risen_more p mask wanted other (omega (arith, is)) (is_largest.consistent p mask wanted awaits other)
+      ]) refl
+
+  risen_within : IsWithin board Risen
+  risen_within master index other = greater_least (table master index other) (Known master index other) (program_of board other) (is_largest.within master index other) (known_within board table is_largest.within master index other)
+
+  -- so the largest table rises
+  pub largest_rises : Rises board table
+  largest_rises master index is other =
+      let most = is_largest.largest Risen risen_consistent risen_within (at_place master index) is other in
+      let more = greater_second (table master index other) (Known master index other) in
+      omega (arith, most, more)
+
 -- What is counted with an operation.
 
 -- a table in which each row that counts a place of a master has so much besides
@@ -187,8 +198,8 @@ module _ (board : Board) (table : Table) (is_largest : IsLargest board table) (t
   abbrev pub Changed : Table
   Changed = λ master index other. cond (nat_lt place (table master index to)) (greater (table master index other) (most other)) (table master index other)
 
-  pub changed_more : AtMost table Changed
-  changed_more master index other =
+  pub changed_more : AtMost board table Changed
+  changed_more master index is other =
       let P : Bool → Type 0 = λ b. table master index other ≤ cond b (greater (table master index other) (most other)) (table master index other) in
       elim (nat_lt place (table master index to)) as P [ true ↦ greater_first (table master index other) (most other) | false ↦ omega arith ]
 
@@ -289,7 +300,7 @@ module _ (board : Board) (table : Table) (is_largest : IsLargest board table) (q
   own_clock : (index : ℕ) → q.index ≤ index → (other : ℕ) → clock_of board table q other ≤ raised (known_by board (Changed board table is_largest q.master q.index (clock_of board table q)) q.master index) q.master index other
   own_clock index most other =
       let o : OpId = at_place q.master index in
-      let first = clock_rises board table is_largest q o refl most other in
+      let first = clock_rises board table (largest_rises board table is_largest) q o refl most other in
       let second = clock_more board table (Changed board table is_largest q.master q.index (clock_of board table q)) (changed_more board table is_largest q.master q.index (clock_of board table q)) o other in
       omega (arith, first, second)
 
@@ -318,7 +329,7 @@ module _ (board : Board) (table : Table) (is_largest : IsLargest board table) (q
       let here = known_spreads board table table q.master q.index (clock_of board table q) (λ master index is counts o. largest_is_closed (at_place master index) is counts o) c.master c.index known other in
       let more = raised_least (known_by board table c.master c.index) c.master c.index other in
       omega (arith, here, more))
-      (λ (own : (q.master ≡ c.master) × (q.index < c.index)). let less = own.1 in clock_rises board table is_largest q c own.0 (omega (arith, less)) other)
+      (λ (own : (q.master ≡ c.master) × (q.index < c.index)). let less = own.1 in clock_rises board table (largest_rises board table is_largest) q c own.0 (omega (arith, less)) other)
       (raised_cases (known_by board table c.master c.index) c.master c.index q.master q.index below)
 
 -- An operation that comes before itself.
@@ -338,7 +349,7 @@ module _ (board : Board) (table : Table) (is_largest : IsLargest board table) (q
   known_later : (index : ℕ) → q.index ≤ index → q.index < known_by board table q.master index q.master
   known_later index most =
       let first = known_own in
-      let more = known_rises board table is_largest q.master q.index index q.master most in
+      let more = known_rises board table (largest_rises board table is_largest) q.master q.index index q.master most in
       omega (arith, first, more)
 
   own_all : (index count : ℕ) → q.index ≤ index → (other : ℕ) → program_of board other ≤ raised (known_by board All q.master index) q.master count other
@@ -370,7 +381,7 @@ no_more_through board table is_largest a b c first second = by_first first
       where
         by_second : LandsNoMore board table b c → clock_of board table b master ≤ clock_of board table c master
         by_second (lands_once posted is) = clocks_closed board table is_largest b c is master
-        by_second (stands_before masters below) = clock_rises board table is_largest b c masters (omega (arith, below)) master
+        by_second (stands_before masters below) = clock_rises board table (largest_rises board table is_largest) b c masters (omega (arith, below)) master
         by_second (had_ended is) = let less : b.index + 1 < clock_of board table c b.master = is in let below : b.index < clock_of board table c b.master = omega (arith, less) in clocks_closed board table is_largest b c below master
 
     -- a operation that stands before b in its program comes with the one behind it before what comes after b

@@ -10,9 +10,9 @@ use Rattle.safe_model.specs.Raisers.{is_met_by, Firm, Raises}
 use Rattle.safe_model.specs.Clocks.{Table, is_poll, at_place, known_by, greater, raised, clock_of, clock_with, IsBefore, LandsNoMore, lands_once, stands_before, had_ended, WritesBefore, LeftOut, OpensOut, IsKnown, IsConsistent}
 use Rattle.safe_model.specs.Clocks.{greater_of}
 
--- a table says at most what the other says
-abbrev pub AtMost : Table → Table → Type 0
-AtMost s t = (master index other : ℕ) → s master index other ≤ t master index other
+-- a table says of each poll at most what the other says
+abbrev pub AtMost : Board → Table → Table → Type 0
+AtMost board s t = (master index : ℕ) → is_poll (op_of board (at_place master index)) ≡ true → (other : ℕ) → s master index other ≤ t master index other
 
 pub greater_first : (a b : ℕ) → a ≤ greater a b
 greater_first a b =
@@ -38,12 +38,12 @@ raised_more s t master count other more =
       | false ↦ more
     ]
 
-module _ (board : Board) (s t : Table) (more : AtMost s t) where
-  known_more : (master index other : ℕ) → known_by board s master index other ≤ known_by board t master index other
+module _ (board : Board) (s t : Table) (more : AtMost board s t) where
+  pub known_more : (master index other : ℕ) → known_by board s master index other ≤ known_by board t master index other
   known_more master zero other = omega arith
   known_more master (suc index) other =
-      let P : Bool → Type 0 = λ b. cond b (s master index) (known_by board s master index) other ≤ cond b (t master index) (known_by board t master index) other in
-      elim (is_poll (op_of board (at_place master index))) as P [ true ↦ more master index other | false ↦ known_more master index other ]
+      let P : Bool → Type 0 = λ b. is_poll (op_of board (at_place master index)) ≡ b → cond b (s master index) (known_by board s master index) other ≤ cond b (t master index) (known_by board t master index) other in
+      (elim (is_poll (op_of board (at_place master index))) as P [ true ↦ λ is. more master index is other | false ↦ λ _. known_more master index other ]) refl
 
   pub clock_more : (o : OpId) (other : ℕ) → clock_of board s o other ≤ clock_of board t o other
   clock_more o other = raised_more (known_by board s o.master o.index) (known_by board t o.master o.index) o.master o.index other (known_more o.master o.index other)
@@ -95,6 +95,6 @@ greater_consistent board a b of_a of_b p mask wanted awaits other =
     let there : ℕ = b p.master p.index other in
     let P : Bool → Type 0 = λ t. nat_lt here there ≡ t → cond t there here ≡ greater here there → IsKnown board (greater_of a b) p mask wanted other in
     (elim (nat_lt here there) as P [
-      | true ↦ λ _ is. is_known_more board b (greater_of a b) (λ m i o. greater_second (a m i o) (b m i o)) p mask wanted other (omega (arith, is)) (of_b p mask wanted awaits other)
-      | false ↦ λ _ is. is_known_more board a (greater_of a b) (λ m i o. greater_first (a m i o) (b m i o)) p mask wanted other (omega (arith, is)) (of_a p mask wanted awaits other)
+      | true ↦ λ _ is. is_known_more board b (greater_of a b) (λ m i _ o. greater_second (a m i o) (b m i o)) p mask wanted other (omega (arith, is)) (of_b p mask wanted awaits other)
+      | false ↦ λ _ is. is_known_more board a (greater_of a b) (λ m i _ o. greater_first (a m i o) (b m i o)) p mask wanted other (omega (arith, is)) (of_a p mask wanted awaits other)
     ]) refl refl
