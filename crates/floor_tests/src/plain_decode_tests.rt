@@ -1,17 +1,10 @@
-ghost use Rattle.std.specs.Prelude.{◌≡◌, ℕ, IsTrue};
-ghost use Rattle.board_model.specs.declared.op.Op.{Op as Operation};
+ghost use Rattle.std.specs.Prelude.{IsTrue};
 ghost use Rattle.board_model.specs.WellFormed.{is_well_formed_bridge};
 ghost use Rattle.board_model.specs.Valid.{is_numbered};
-ghost use Rattle.board_model.specs.form_laws.Claimants.{OneClaimant, claimants, one_of};
-ghost use Rattle.board_model.specs.form_laws.WayEnds.{WayEnds};
-ghost use Rattle.plain_decode.specs.Hops.{hop_of};
 
-use crate::worked_read_tests as worked;
-use board_model::{Bridge, Window, one_claimant, op_of, ways_end};
-use board_tree::Tree;
-use pci_command::{Command, OpId, Request, Space};
-use plain_decode::{CfgRoute, Hop, claim_down, claim_up, convert_cfg, next_hop, way_length};
-use std::test::Fail;
+use board_model::{Bridge, Window};
+use pci_command::Space;
+use plain_decode::{CfgRoute, claim_down, claim_up, convert_cfg};
 
 /// The bridge to bus 1 on bus 0, with bus 2 behind it and a memory window of 1 MiB.
 fn bridge() -> Bridge
@@ -56,58 +49,4 @@ fn a_bridge_decodes(rt: HostRuntime) {
         assert_eq!(rt; claim_down(&bridge, space, address), down, "{address:08x}");
         assert_eq!(rt; claim_up(&bridge, space, address), up, "{address:08x}");
     }
-}
-
-/// What a caller knows by a tree alone: its board is valid, so that at most one claims a request
-/// on a bus, who is the one that decodes it, and every way ends.
-fn next_of(tree: &Tree, bus: u8, request: &Request) -> Hop
-    ensures hop { result ≡ hop_of (one_of (claimants tree.now bus request.now)) }
-    ensures one { OneClaimant tree.now bus request.now }
-    ensures ends { (op : Operation) (on : ℕ) → WayEnds tree.now op on }
-{
-    one_claimant();
-    ways_end();
-    let _board = tree.board();
-    next_hop(tree, bus, request)
-}
-
-#[test]
-fn requests_go_on(rt: HostRuntime) -> Result<(), Fail> {
-    let alloc = rt.alloc();
-    let window = Window {
-        base: 0x8000_0000,
-        limit: 0x800f_ffff,
-    };
-    let bridges = vec![in alloc;
-        worked::bridge(0, 1, 1, 2, Some(window)),
-        worked::bridge(1, 2, 1, 2, Some(window)),
-    ]?;
-    let ram = worked::target(alloc, 2, 0x8000_0000)?;
-    let ops = vec![in alloc; worked::read(0x8000_0000)]?;
-    let tree = worked::tree(&rt, worked::board(alloc, bridges, ram, 0, ops)?)?;
-    let op = OpId::default();
-    let there = op_of(tree.board(), op).is_some();
-    assert!(rt; there);
-    assert_eq!(rt; way_length(&tree, op), 2);
-    for (bus, command, address, hop) in [
-        (0, Command::MemRead, 0x8000_0020, Hop::Down(1)),
-        (1, Command::MemRead, 0x8000_0020, Hop::Down(2)),
-        (2, Command::MemRead, 0x8000_0020, Hop::Target(0)),
-        (2, Command::MemRead, 0x1000_0000, Hop::Up),
-        (0, Command::MemRead, 0x1000_0000, Hop::Nobody),
-        (0, Command::CfgRead, 0x0000_0800, Hop::Header(1)),
-        (1, Command::CfgRead, 0x0002_0801, Hop::Down(2)),
-    ] {
-        let request = Request {
-            command,
-            address,
-            ..Request::default()
-        };
-        assert_eq!(rt;
-            next_of(&tree, bus, &request),
-            hop,
-            "{address:08x} on {bus}"
-        );
-    }
-    Ok(())
 }

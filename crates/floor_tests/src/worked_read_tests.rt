@@ -98,7 +98,7 @@ fn left_after(tree: &Tree, events: &[Event], first: u64) -> Option<u64> {
     Some(left(tree, events))
 }
 
-pub(crate) fn bridge(parent: u8, bus: u8, device: u8, last: u8, mem: Option<Window>) -> Bridge {
+fn bridge(parent: u8, bus: u8, device: u8, last: u8, mem: Option<Window>) -> Bridge {
     Bridge {
         bus,
         parent,
@@ -113,7 +113,7 @@ pub(crate) fn bridge(parent: u8, bus: u8, device: u8, last: u8, mem: Option<Wind
     }
 }
 
-pub(crate) fn target(alloc: Global, bus: u8, base: u64) -> Result<Target, Fail> {
+fn target(alloc: Global, bus: u8, base: u64) -> Result<Target, Fail> {
     let range = Range {
         space: Space::Mem,
         base,
@@ -133,7 +133,7 @@ pub(crate) fn target(alloc: Global, bus: u8, base: u64) -> Result<Target, Fail> 
     })
 }
 
-pub(crate) fn read(address: u64) -> Op {
+fn read(address: u64) -> Op {
     Op::Read {
         command: Command::MemRead,
         address,
@@ -150,7 +150,7 @@ fn write(address: u64, value: u32) -> Op {
     }
 }
 
-pub(crate) fn board(
+fn board(
     alloc: Global,
     bridges: Vec<Bridge>,
     target: Target,
@@ -171,7 +171,7 @@ pub(crate) fn board(
     })
 }
 
-pub(crate) fn tree(rt: &impl Abort, board: Board) -> Result<Tree, Fail> {
+fn tree(rt: &impl Abort, board: Board) -> Result<Tree, Fail> {
     assert!(rt; well_formed(&board));
     match validate(board) {
         Ok(tree) => Ok(tree),
@@ -196,7 +196,7 @@ fn three_bridges(rt: &impl Abort, alloc: Global) -> Result<Tree, Fail> {
 }
 
 /// One bus, and a master that writes a word and reads it.
-pub(crate) fn one_bus(rt: &impl Abort, alloc: Global) -> Result<Tree, Fail> {
+fn one_bus(rt: &impl Abort, alloc: Global) -> Result<Tree, Fail> {
     let ops = vec![in alloc; write(0x0010_0040, 0x2a), read(0x0010_0040)]?;
     let ram = target(alloc, 0, 0x0010_0000)?;
     tree(rt, board(alloc, Vec::new(alloc), ram, 0, ops)?)
