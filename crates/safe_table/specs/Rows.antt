@@ -1,0 +1,103 @@
+-- A table of clocks as rows of numbers, and what each operation comes after by them.
+use Rattle.std.specs.Prelude.{◌≡◌, ℕ, Bool, false, zero, suc, List, [], map, length, get_or, slice_get, nat_lt, ◌==◌, Option, Some, if◌then◌else◌}
+use Rattle.std.specs.Option.{option_map_or}
+use Rattle.pci_command.specs.declared.op_id.OpId.{OpId}
+use Rattle.board_model.specs.declared.op.Op.{Op}
+use Rattle.board_model.specs.declared.agents.Master.{Master}
+use Rattle.board_model.specs.declared.board.Board.{Board}
+use Rattle.board_model.specs.Requests.{op_of, tries_of}
+use Rattle.safe_model.specs.Clocks.{Table, is_poll, at_place, greater}
+
+-- that of a master; 0 where there is none
+abbrev pub number : List ℕ → ℕ → ℕ
+number numbers master = get_or numbers master 0
+
+-- what is kept of a program
+pub record ProgramRows : Type 0 where
+  -- by each operation: where it is a poll, of each master how many operations are known behind it; else nothing
+  pub rows : List (List ℕ)
+  -- by each operation: up to and with the last poll before it, how many operations there are; 0 where there is none
+  pub lasts : List ℕ
+  -- the same behind the last operation
+  pub end : ℕ
+
+-- of a master that is not there
+abbrev pub no_rows : ProgramRows
+no_rows = record { rows = []; lasts = []; end = 0 }
+
+abbrev pub rows_of : List ProgramRows → ℕ → ProgramRows
+rows_of programs master = get_or programs master no_rows
+
+-- the table that the rows are
+abbrev pub table_of : List ProgramRows → Table
+table_of programs master index other = number (get_or (rows_of programs master).rows index []) other
+
+-- of a program's first so many operations, how many there are up to and with the last poll, as it is kept
+abbrev pub last_in : ProgramRows → ℕ → ℕ
+last_in program index = get_or program.lasts index program.end
+
+-- what is known behind the last of so many operations
+abbrev pub known_at : ProgramRows → ℕ → ℕ → ℕ
+known_at program zero other = 0
+known_at program (suc place) other = number (get_or program.rows place []) other
+
+-- what is known behind the last poll before an operation, as it is kept
+abbrev pub known_in : List ProgramRows → ℕ → ℕ → ℕ → ℕ
+known_in programs master index other = known_at (rows_of programs master) (last_in (rows_of programs master) index) other
+
+-- of a program's first so many operations, how many there are up to and with the last poll
+abbrev pub last_of : Board → ℕ → ℕ → ℕ
+last_of board master zero = 0
+last_of board master (suc index) = if is_poll (op_of board (at_place master index)) then suc index else last_of board master index
+
+-- what an operation comes after, of this known behind the last poll before it
+abbrev pub raised_at : ℕ → OpId → ℕ → ℕ
+raised_at known o other = if other == o.master then greater known o.index else known
+
+-- the last poll before each operation is kept
+pub record KeepsPolls (board : Board) (programs : List ProgramRows) : Type 0 where
+  pub last_is : (master index : ℕ) → last_in (rows_of programs master) index ≡ last_of board master index
+
+-- To begin with.
+
+-- how many operations the program of each master has
+abbrev pub everything : Board → List ℕ
+everything board = map (λ (master : Master). length master.ops) board.masters
+
+-- behind each poll everything is known
+pub record KnowsAll (board : Board) (programs : List ProgramRows) : Type 0 where
+  pub polls : KeepsPolls board programs
+  pub all : (master index other : ℕ) → table_of programs master index other
+      ≡ (if is_poll (op_of board (at_place master index)) then number (everything board) other else 0)
+
+-- How it is made.
+
+-- the program of a master; none where it is not there
+abbrev pub ops_at : Board → ℕ → List Op
+ops_at board master = option_map_or (λ (agent : Master). agent.ops) (slice_get board.masters master) []
+
+-- a poll that is tried at least once
+abbrev pub is_tried : Op → Bool
+is_tried op = if nat_lt 0 (tries_of op) then is_poll (Some op) else false
+
+-- the same of an operation that was found
+abbrev pub is_tried_at : Option Op → Bool
+is_tried_at found = option_map_or is_tried found false
+
+-- behind a poll everything is known; of another operation nothing is kept
+abbrev pub row_behind : List ℕ → Bool → List ℕ
+row_behind all is_poll = if is_poll then all else []
+
+-- of the first so many of these operations, how many there are up to and with the last poll
+abbrev pub last_among : List Op → ℕ → ℕ
+last_among ops zero = 0
+last_among ops (suc index) = if is_tried_at (slice_get ops index) then suc index else last_among ops index
+
+-- what is kept of a program to begin with
+pub record Started (all : List ℕ) (ops : List Op) (program : ProgramRows) : Type 0 where
+  pub row_is : (index : ℕ) → get_or program.rows index [] ≡ row_behind all (is_tried_at (slice_get ops index))
+  pub last_is : (index : ℕ) → last_in program index ≡ last_among ops index
+
+-- and of all programs
+pub record Starts (board : Board) (programs : List ProgramRows) : Type 0 where
+  pub each : (master : ℕ) → Started (everything board) (ops_at board master) (rows_of programs master)

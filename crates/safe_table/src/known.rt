@@ -1,0 +1,85 @@
+ghost use Rattle.std.specs.Prelude.{◌≡◌, nat_lt};
+ghost use Rattle.safe_model.specs.Clocks.{clock_of, greater};
+ghost use Rattle.safe_table.specs.Rows.{known_in, table_of, raised_at, KeepsPolls};
+
+use crate::program::Program;
+use crate::start::start_all;
+use board_tree::Tree;
+use pci_command::{NoMemory, OpId};
+use std::alloc::Global;
+use std::marker::Model;
+
+/// A table of clocks of a board: of each poll and each master, how many operations of its program
+/// are known behind the poll. No word of the program calls it.
+#[derive(Debug, Drop)]
+pub struct ClockTable {
+    programs: Vec<Program>,
+}
+
+impl Model for ClockTable {
+    ghost use Rattle.std.specs.Prelude.{List};
+    ghost use Rattle.safe_table.specs.Rows.{ProgramRows};
+
+    ghost Value = { List ProgramRows };
+
+    ghost view = { λ k. k.programs.items };
+}
+
+impl ClockTable {
+    ghost use Rattle.std.specs.Prelude.{IfOk};
+    ghost use Rattle.board_model.specs.declared.board.Board.{Board};
+    ghost use Rattle.safe_table.specs.Rows.{KnowsAll};
+
+    /// Everything is known behind each poll.
+    #[tactic(auto, using(crate::proofs::StartLemmas::starts_know_all))]
+    pub fn start(alloc: Global, tree: &Tree) -> Result<ClockTable, NoMemory>
+        ensures { IfOk result (KnowsAll tree.now) }
+    {
+        let programs = start_all(alloc, tree.board())?;
+        Ok(ClockTable { programs })
+    }
+
+    /// How many operations of a master an operation comes after. It takes two looks.
+    #[tactic(auto, using(crate::proofs::KnownLemmas::clock_is))]
+    pub fn clock(&self, op: OpId, other: u16) -> usize
+        ensures { (board : Board) → KeepsPolls board self.now →
+            result ≡ clock_of board (table_of self.now) op other }
+    {
+        raised(self.known(op, other), op, other)
+    }
+
+    /// Whether one operation comes before another in every run.
+    pub fn is_before(&self, first: OpId, then: OpId) -> bool
+        ensures { (board : Board) → KeepsPolls board self.now →
+            result ≡ nat_lt first.index (clock_of board (table_of self.now) then first.master) }
+    {
+        usize::from(first.index) < self.clock(then, first.master)
+    }
+
+    /// How many operations of a master are known behind the last poll before an operation.
+    fn known(&self, op: OpId, other: u16) -> usize
+        ensures { result ≡ known_in self.now op.master op.index other }
+    {
+        match self.programs.as_slice().get(usize::from(op.master)) {
+            Some(program) => program.known(op.index, other),
+            None => 0,
+        }
+    }
+}
+
+/// What is known behind a poll before an operation, and what stands before it in its program.
+fn raised(known: usize, op: OpId, other: u16) -> usize
+    ensures { result ≡ raised_at known op other }
+{
+    if other == op.master {
+        greater(known, usize::from(op.index))
+    } else {
+        known
+    }
+}
+
+fn greater(a: usize, b: usize) -> usize
+    ensures { result ≡ greater a b }
+{
+    if a < b { b } else { a }
+}

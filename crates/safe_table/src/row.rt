@@ -1,0 +1,58 @@
+ghost use Rattle.std.specs.Prelude.{◌≡◌};
+ghost use Rattle.safe_table.specs.Rows.{number};
+
+use pci_command::NoMemory;
+use std::alloc::Global;
+use std::marker::Model;
+
+/// How many operations of each master's program are known, from the first on.
+#[derive(Debug, Drop)]
+pub(crate) struct Row {
+    numbers: Vec<usize>,
+}
+
+impl Model for Row {
+    ghost use Rattle.std.specs.Prelude.{List, ℕ};
+
+    ghost Value = { List ℕ };
+
+    ghost view = { λ row. row.numbers.items };
+}
+
+impl Row {
+    ghost use Rattle.std.specs.Prelude.{[], IfOk};
+
+    /// Of no master.
+    pub(crate) fn empty(alloc: Global) -> Row
+        ensures { result ≡ [] }
+    {
+        Row {
+            numbers: Vec::new(alloc),
+        }
+    }
+
+    /// These.
+    pub(crate) fn of(numbers: Vec<usize>) -> Row
+        ensures { result ≡ numbers.items }
+    {
+        Row { numbers }
+    }
+
+    /// The same again.
+    pub(crate) fn copied(&self, alloc: Global) -> Result<Row, NoMemory>
+        ensures { IfOk result (λ row. row ≡ self.now) }
+    {
+        let numbers = self.numbers.iter().copied().collect(alloc)?;
+        Ok(Row { numbers })
+    }
+
+    /// That of the master; 0 where there is none.
+    pub(crate) fn number(&self, master: u16) -> usize
+        ensures { result ≡ number self.now master }
+    {
+        match self.numbers.as_slice().get(usize::from(master)) {
+            Some(number) => *number,
+            None => 0,
+        }
+    }
+}
