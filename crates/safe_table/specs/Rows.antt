@@ -1,6 +1,7 @@
 -- A table of clocks as rows of numbers, and what each operation comes after by them.
-use Rattle.std.specs.Prelude.{◌≡◌, ℕ, Bool, false, zero, suc, List, [], map, length, get_or, slice_get, nat_lt, ◌==◌, Option, Some, if◌then◌else◌}
+use Rattle.std.specs.Prelude.{◌≡◌, ℕ, Bool, false, zero, suc, List, [], map, length, get_or, slice_get, nat_lt, ◌==◌, ◌&&◌, Option, Some, if◌then◌else◌}
 use Rattle.std.specs.Option.{option_map_or}
+use Rattle.std.proofs.Math.ListN.{set}
 use Rattle.pci_command.specs.declared.op_id.OpId.{OpId}
 use Rattle.board_model.specs.declared.op.Op.{Op}
 use Rattle.board_model.specs.declared.agents.Master.{Master}
@@ -69,6 +70,28 @@ pub record KnowsAll (board : Board) (programs : List ProgramRows) : Type 0 where
   pub polls : KeepsPolls board programs
   pub all : (master index other : ℕ) → table_of programs master index other
       ≡ (if is_poll (op_of board (at_place master index)) then number (everything board) other else 0)
+
+-- Numbers that fall.
+
+-- the lesser of two numbers
+abbrev pub lesser : ℕ → ℕ → ℕ
+lesser a b = if nat_lt b a then b else a
+
+-- a row of which the number of a master is at most this
+abbrev pub lowered : List ℕ → ℕ → ℕ → List ℕ
+lowered numbers master most = set numbers master (lesser (number numbers master) most)
+
+-- rows of a program with one that is lowered
+abbrev pub lowered_in : ProgramRows → ℕ → ℕ → ℕ → ProgramRows
+lowered_in program index other most =
+    record program { rows = set program.rows index (lowered (get_or program.rows index []) other most) }
+
+-- of one operation and one master the number is at most this, and all else is the same
+pub record LowersAt (o : OpId) (other most : ℕ) (old new : List ProgramRows) : Type 0 where
+  pub here : table_of new o.master o.index other ≡ lesser (table_of old o.master o.index other) most
+  pub elsewhere : (master index author : ℕ) → (master == o.master && index == o.index && author == other) ≡ false
+      → table_of new master index author ≡ table_of old master index author
+  pub lasts : (master index : ℕ) → last_in (rows_of new master) index ≡ last_in (rows_of old master) index
 
 -- How it is made.
 

@@ -28,7 +28,7 @@ impl Model for ClockTable {
 impl ClockTable {
     ghost use Rattle.std.specs.Prelude.{IfOk};
     ghost use Rattle.board_model.specs.declared.board.Board.{Board};
-    ghost use Rattle.safe_table.specs.Rows.{KnowsAll};
+    ghost use Rattle.safe_table.specs.Rows.{KnowsAll, LowersAt};
 
     /// Everything is known behind each poll.
     #[tactic(auto, using(crate::proofs::StartLemmas::starts_know_all))]
@@ -54,6 +54,17 @@ impl ClockTable {
             result ≡ nat_lt first.index (clock_of board (table_of self.now) then first.master) }
     {
         usize::from(first.index) < self.clock(then, first.master)
+    }
+
+    /// Behind an operation so many operations of a master are known at most, from now on.
+    #[tactic(auto, using(crate::proofs::LowerLemmas::lowers_inside, crate::proofs::LowerLemmas::lowers_outside))]
+    pub fn lower(&mut self, op: OpId, other: u16, most: usize)
+        ensures { LowersAt op other most self.old self.new }
+    {
+        let master = usize::from(op.master);
+        if master < self.programs.len() {
+            self.programs[master].lower(usize::from(op.index), usize::from(other), most);
+        }
     }
 
     /// How many operations of a master are known behind the last poll before an operation.

@@ -1,5 +1,5 @@
 ghost use Rattle.std.specs.Prelude.{◌≡◌};
-ghost use Rattle.safe_table.specs.Rows.{known_at, last_in};
+ghost use Rattle.safe_table.specs.Rows.{known_at, last_in, lowered_in};
 
 use crate::row::Row;
 use std::marker::Model;
@@ -52,6 +52,16 @@ impl Program {
         match self.rows.as_slice().get(count - 1) {
             Some(row) => row.number(other),
             None => 0,
+        }
+    }
+
+    /// Behind the operation at a place so many operations of a master are known at most.
+    #[tactic(auto, using(crate::proofs::LowerLemmas::program_past))]
+    pub(crate) fn lower(&mut self, index: usize, other: usize, most: usize)
+        ensures { self.new ≡ lowered_in self.old index other most }
+    {
+        if index < self.rows.len() {
+            self.rows[index].lower(other, most);
         }
     }
 }

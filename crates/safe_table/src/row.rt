@@ -1,5 +1,5 @@
 ghost use Rattle.std.specs.Prelude.{◌≡◌};
-ghost use Rattle.safe_table.specs.Rows.{number};
+ghost use Rattle.safe_table.specs.Rows.{lowered, number};
 
 use pci_command::NoMemory;
 use std::alloc::Global;
@@ -53,6 +53,16 @@ impl Row {
         match self.numbers.as_slice().get(usize::from(master)) {
             Some(number) => *number,
             None => 0,
+        }
+    }
+
+    /// That of the master is at most this from now on.
+    #[tactic(auto, using(crate::proofs::LowerLemmas::row_kept, crate::proofs::LowerLemmas::row_past, crate::proofs::LowerLemmas::row_lower))]
+    pub(crate) fn lower(&mut self, master: usize, most: usize)
+        ensures { self.new ≡ lowered self.old master most }
+    {
+        if master < self.numbers.len() && most < self.numbers[master] {
+            self.numbers[master] = most;
         }
     }
 }
