@@ -1,3 +1,1 @@
-pub mod ReadLemmas
-pub mod ServedLemmas
 pub mod WrittenLemmas

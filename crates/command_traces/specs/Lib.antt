@@ -4,3 +4,4 @@ pub mod report
 pub mod untagged
 pub mod waves
 pub mod draw
+pub mod fill

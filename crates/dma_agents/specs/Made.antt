@@ -176,6 +176,15 @@ abbrev pub by_parts : ℕ → Option (List (List ℕ) × List (List ℕ)) → Re
 by_parts past None = Err (OfLine past Misshapen)
 by_parts past (Some parts) = by_board (length parts.0 + 3) parts.1 (read_lines None 1 parts.0)
 
+-- the first of these lines is `pcidevices 1`
+abbrev pub is_first_devices : List (List ℕ) → Bool
+is_first_devices [] = false
+is_first_devices (line ∷ lines) = is_line (codes "pcidevices" ∷ codes "1" ∷ []) line
+
+-- a text is one of devices, by its first line
+abbrev pub begins_devices : List ℕ → Bool
+begins_devices text = is_first_devices (lines_of text)
+
 -- the first line is `pcidevices 1`
 abbrev pub by_first : List (List ℕ) → Result Made MakeFault
 by_first [] = Err (OfLine 1 Misshapen)

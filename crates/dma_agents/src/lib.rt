@@ -24,6 +24,7 @@ pub use laws::{made_boards_are_well_formed, put_is_written_once, worked, worked_
 pub use line::Flag;
 pub(crate) use line::{DeviceLine, Owner, Waiting};
 pub use messages::message;
+pub use parts::begins_devices;
 pub(crate) use put::{Put, cut};
 pub use text::make;
 pub use unclear::{OpPlace, Unclear};

@@ -1,7 +1,7 @@
 ghost use Rattle.std.specs.Prelude.{◌≡◌, ◌+◌, ◌<◌, ◌≤◌, ◌^◌, ◌∷◌, [], length, drop, codes, IfOk, IfErr, IfSome, IfNone, Err};
 ghost use Rattle.dma_agents.specs.declared.fault.MakeFault.{MakeFault as Fault};
 ghost use Rattle.text_faults.specs.declared.DeviceFault.TheVariants.{Misshapen};
-ghost use Rattle.dma_agents.specs.Made.{is_line, made_read};
+ghost use Rattle.dma_agents.specs.Made.{is_line, begins_devices, made_read};
 ghost use Rattle.dma_agents.specs.Parts.{StartsBehind, Finds, IsWithout};
 
 use crate::marks::{is_one_word, is_two_words};
@@ -21,6 +21,16 @@ fn is_first(line: &[u8]) -> bool
     ensures { result ≡ is_line (codes "pcidevices" ∷ codes "1" ∷ []) line.now }
 {
     is_two_words(line, b"pcidevices", b"1")
+}
+
+/// Whether the first line of a text is that of a device text, `pcidevices 1`.
+pub fn begins_devices(bytes: &[u8]) -> bool
+    ensures { result ≡ begins_devices bytes.now }
+{
+    match next_line(bytes, 0) {
+        Some((line, _)) => is_first(line),
+        None => false,
+    }
 }
 
 /// The place behind the first line, where that is `pcidevices 1`.

@@ -76,8 +76,33 @@ impl<R: Read> Source for ReadPort<R> {
     }
 }
 
-/// One read of the reader, if there is one. Where it fails, the reason is the system's.
+/// A reader, if there is one, is asked so often at most for one read that signals interrupt.
+const TRIES: u32 = u32::MAX;
+
+/// One read of the reader, if there is one; again where a signal interrupts it. Where it fails, the
+/// reason is the system's.
 fn read_from<R: Read>(
+    inner: &mut Option<R>,
+    reason: &mut Option<ErrorKind>,
+    buf: &mut [u8],
+) -> Result<usize, Failed>
+    ensures bound { ReadsAtMost result buf.new }
+    ensures bytes { ReadConsumes (option_and_then R.remaining inner.old)
+        (option_and_then R.remaining inner.new) result buf.new }
+    ensures there { is_some inner.new ≡ is_some inner.old }
+    ensures none { is_some inner.old ≡ false → IsErr result }
+{
+    for _ in 0..TRIES {
+        let answer = read_once(inner, reason, buf);
+        if answer.is_ok() || *reason != Some(ErrorKind::Interrupted) {
+            return answer;
+        }
+    }
+    Err(Failed)
+}
+
+/// One read of the reader, if there is one. Where it fails, the reason is the system's.
+fn read_once<R: Read>(
     inner: &mut Option<R>,
     reason: &mut Option<ErrorKind>,
     buf: &mut [u8],

@@ -6,7 +6,7 @@ ghost use Rattle.io_ports.specs.Port.{TakesSome};
 use crate::counts::one_more;
 use crate::told::Told;
 use crate::{Failed, Sink};
-use std::io::Write;
+use std::io::{ErrorKind, Write};
 use std::marker::Model;
 
 /// A sink over a writer of `std::io`. It tells what it passed on and the writer took. The bytes
@@ -76,15 +76,23 @@ impl<W: Write> Sink for WritePort<W> {
     }
 }
 
-/// One write of the writer, where taking nothing of a piece that is not empty is a failure.
+/// A writer is asked so often at most for one write that signals interrupt.
+const TRIES: u32 = u32::MAX;
+
+/// One write of the writer, where taking nothing of a piece that is not empty is a failure; again
+/// where a signal interrupts it.
 fn write_to<W: Write>(inner: &mut W, piece: &[u8]) -> Result<usize, Failed>
     ensures bound { WritesAtMost result piece.now }
     ensures some { TakesSome result piece.now }
     ensures passed { WriteAppends (W.contents inner.old) (W.contents inner.new) result piece.now }
 {
-    match inner.write(piece) {
-        Ok(0) if !piece.is_empty() => Err(Failed),
-        Ok(count) => Ok(count),
-        Err(_) => Err(Failed),
+    for _ in 0..TRIES {
+        match inner.write(piece) {
+            Ok(0) if !piece.is_empty() => return Err(Failed),
+            Ok(count) => return Ok(count),
+            Err(error) if error.kind() == ErrorKind::Interrupted => {}
+            Err(_) => return Err(Failed),
+        }
     }
+    Err(Failed)
 }

@@ -3,3 +3,5 @@ pub mod RowLemmas
 pub mod SameLemmas
 pub mod StillLemmas
 pub mod CourseLemmas
+pub mod AllowedLemmas
+pub mod EachLineLemmas

@@ -51,7 +51,7 @@ module _ (board : Board) (h : List Event) (k : KeptState) (stands : StandsFor bo
   item_same on lane Room = refl
   item_same on lane (Gone slot) = refl
 
-  lane_same : (on : ℕ) (lane : BridgeLane) → lane_now board k on lane ≡ act_of_lane board h on lane
+  pub lane_same : (on : ℕ) (lane : BridgeLane) → lane_now board k on lane ≡ act_of_lane board h on lane
   lane_same on lane =
       ap (λ (l : LaneState). first_in (item_now board k on lane) l.standing) (look.lane_now board h k lane stands)
       ∙ first_in_same (item_now board k on lane) (act_of_item board h on lane) (item_same on lane) (world_of board h lane).standing
@@ -60,7 +60,7 @@ module _ (board : Board) (h : List Event) (k : KeptState) (stands : StandsFor bo
   turn_same on None = refl
   turn_same on (Some o) = act_same on Master o
 
-  master_same : (on m : ℕ) → master_now board k on m ≡ act_of_turn board h on (turn_of board h m)
+  pub master_same : (on m : ℕ) → master_now board k on m ≡ act_of_turn board h on (turn_of board h m)
   master_same on m = ap (turn_now board k on) (stands.turns m) ∙ turn_same on (turn_of board h m)
 
   pub act_on_same : (bus : ℕ) → act_on_now board k bus ≡ act_on board h bus
@@ -73,9 +73,12 @@ module _ (board : Board) (h : List Event) (k : KeptState) (stands : StandsFor bo
       first_in_same (master_now board k bus) (λ m. act_of_turn board h bus (turn_of board h m)) (master_same bus) masters ∙ first_masters board h bus (length board.masters) in
       ap (λ a. option_or a (first_in (master_now board k bus) masters)) lanes ∙ ap (option_or (first_lane board bus (act_of_lane board h bus))) turns
 
-  -- so the next event is that of the run
+  -- so the first arrival is that of the run
+  pub first_arrival_same : first_bus (arrival_on board k) ≡ first_arrival board h
+  first_arrival_same = first_bus_same (arrival_on board k) (λ bus. first_lane board bus (arrival_at board h)) arrivals_same
+
+  -- and the next event
   pub next_same : option_or (first_bus (arrival_on board k)) (first_bus (act_on_now board k)) ≡ next_of board h
   next_same =
-      let arrivals = first_bus_same (arrival_on board k) (λ bus. first_lane board bus (arrival_at board h)) arrivals_same in
       let acts = first_bus_same (act_on_now board k) (act_on board h) act_on_same in
-      ap (λ a. option_or a (first_bus (act_on_now board k))) arrivals ∙ ap (option_or (first_arrival board h)) acts
+      ap (λ a. option_or a (first_bus (act_on_now board k))) first_arrival_same ∙ ap (option_or (first_arrival board h)) acts

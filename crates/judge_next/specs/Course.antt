@@ -4,6 +4,7 @@ use Rattle.std.specs.Prelude.{◌≡◌, ℕ, Bool, true, List, Some, None, leng
 use Rattle.board_model.specs.declared.board.Board.{Board}
 use Rattle.board_model.specs.Fits.{BusesFit}
 use Rattle.history_model.specs.declared.event.Event.{Event}
+use Rattle.history_model.specs.declared.event.Event.TheVariants.{Act, Arrive}
 use Rattle.judge_state.specs.State.{KeptState}
 use Rattle.judge_state.specs.Stands.{StandsFor}
 use Rattle.judge_next.specs.declared.course.Course.{Course}
@@ -26,3 +27,8 @@ pub record IsCourse (board : Board) (h : List Event) (c : Course) : Type 0 where
 -- for some run of the board
 abbrev pub HasCourse : Board → Course → Type 0
 HasCourse board c = (h : List Event) × IsCourse board h c
+
+-- the event is an arrival
+abbrev pub IsArrival : Event → Type 0
+IsArrival (Act on by o step place) = ⊥
+IsArrival (Arrive lane mark) = Unit {0}

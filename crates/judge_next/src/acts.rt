@@ -37,7 +37,7 @@ pub(crate) fn act_of_lanes(kept: &Kept, board: &Board, bus: u8, lanes: &[Lane]) 
 }
 
 /// The first act of what stands on the lane, the oldest first.
-fn act_of_lane(kept: &Kept, board: &Board, bus: u8, lane: Lane) -> Option<Event>
+pub(crate) fn act_of_lane(kept: &Kept, board: &Board, bus: u8, lane: Lane) -> Option<Event>
     requires { IsTrue (is_well_formed board.now) }
     ensures { result ≡ lane_now board.now kept.now bus lane }
 {
@@ -97,7 +97,8 @@ pub(crate) fn act_of_masters(kept: &Kept, board: &Board, bus: u8, masters: &[u16
     None
 }
 
-fn act_of_master(kept: &Kept, board: &Board, bus: u8, master: u16) -> Option<Event>
+/// The act of the turn of the master.
+pub(crate) fn act_of_master(kept: &Kept, board: &Board, bus: u8, master: u16) -> Option<Event>
     requires { IsTrue (is_well_formed board.now) }
     ensures { result ≡ master_now board.now kept.now bus master }
 {

@@ -7,15 +7,24 @@ ghost use Rattle.history_model.specs.declared.event.Event.{Event};
 ghost use Rattle.history_model.specs.Runs.{Allowed, Complete};
 ghost use Rattle.machine_steps.specs.Verdicts.{Holds, cause_in};
 ghost use Rattle.history_model.specs.Local.{bus_of};
+ghost use Rattle.board_model.specs.declared.bridge.Lane.{Lane as BridgeLane};
+ghost use Rattle.pci_command.specs.declared.op_id.OpId.{OpId};
+ghost use Rattle.board_model.specs.declared.bridge.Place.{Place};
+ghost use Rattle.history_model.specs.declared.event.By.TheVariants.{Master, Lane as ByLane};
+ghost use Rattle.history_model.specs.declared.event.Mark.{Mark};
+ghost use Rattle.history_model.specs.declared.event.Step.{Step};
+ghost use Rattle.history_model.specs.declared.event.Event.TheVariants.{Act, Arrive};
+ghost use Rattle.history_model.specs.Program.{turn_of};
 ghost use Rattle.history_model.specs.Next.{first_bus, first_in, next_of};
+ghost use Rattle.history_model.specs.Next.{first_arrival, act_of_lane, act_of_turn};
 ghost use Rattle.judge_state.specs.Stands.{StandsFor};
 ghost use Rattle.judge_next.specs.Lines.{AreLines};
 ghost use Rattle.judge_next.specs.Now.{arrival_now, arrival_on, lane_now, master_now, act_on_now};
-ghost use Rattle.judge_next.specs.Course.{KnowsQuiet, IsCourse, HasCourse};
+ghost use Rattle.judge_next.specs.Course.{KnowsQuiet, IsCourse, HasCourse, IsArrival};
 
-use crate::acts::{act_of_lanes, act_of_masters, arrival_of_lanes};
+use crate::acts::{act_of_lane, act_of_lanes, act_of_master, act_of_masters, arrival_of_lanes};
 use crate::lines::Lines;
-use board_model::{Board, board_fits};
+use board_model::{Board, Lane, board_fits};
 use board_tree::Tree;
 use history_model::{Event, Why};
 use judge_state::Kept;
@@ -89,6 +98,50 @@ impl Course {
         // it is allowed, so that the run goes on by it
         let _ok = self.step(tree, &event);
         Some(event)
+    }
+
+    /// The first arrival that is allowed, by increasing bus and there by line: none where nothing
+    /// is in flight.
+    pub fn next_arrival(&self, tree: &Tree) -> Option<Event>
+        requires { HasCourse tree.now self.now }
+        ensures first { (h : List Event) → IsCourse tree.now h self.now →
+            result ≡ first_arrival tree.now h }
+        ensures arrives { IfSome result IsArrival }
+        ensures allowed { (h : List Event) → IsCourse tree.now h self.now →
+            IfSome result (Allowed tree.now h) }
+        ensures none { (h : List Event) → IsCourse tree.now h self.now →
+            IfNone result ((lane : BridgeLane) (mark : Mark) →
+            Allowed tree.now h (Arrive lane mark) → ⊥) }
+    {
+        first_arrival(&self.kept, tree.board(), self.lines.as_slice())
+    }
+
+    /// The act on the bus of the first that stands on the lane, the oldest first, and is not
+    /// answered with Retry: none where no act of the lane is allowed there.
+    pub fn act_of_lane(&self, tree: &Tree, bus: u8, lane: Lane) -> Option<Event>
+        ensures act { (h : List Event) → IsCourse tree.now h self.now →
+            result ≡ act_of_lane tree.now h bus lane }
+        ensures allowed { (h : List Event) → IsCourse tree.now h self.now →
+            IfSome result (Allowed tree.now h) }
+        ensures none { (h : List Event) → IsCourse tree.now h self.now →
+            IfNone result ((o : OpId) (step : Step) (place : Place) →
+            Allowed tree.now h (Act bus (ByLane lane) o step place) → ⊥) }
+    {
+        act_of_lane(&self.kept, tree.board(), bus, lane)
+    }
+
+    /// The act on the bus of the turn of the master: none where no act of the master is allowed
+    /// there.
+    pub fn act_of_master(&self, tree: &Tree, bus: u8, master: u16) -> Option<Event>
+        ensures act { (h : List Event) → IsCourse tree.now h self.now →
+            result ≡ act_of_turn tree.now h bus (turn_of tree.now h master) }
+        ensures allowed { (h : List Event) → IsCourse tree.now h self.now →
+            IfSome result (Allowed tree.now h) }
+        ensures none { (h : List Event) → IsCourse tree.now h self.now →
+            IfNone result ((o : OpId) (step : Step) (place : Place) →
+            o.master ≡ master → Allowed tree.now h (Act bus Master o step place) → ⊥) }
+    {
+        act_of_master(&self.kept, tree.board(), bus, master)
     }
 }
 

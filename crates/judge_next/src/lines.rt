@@ -26,7 +26,7 @@ impl Model for Lines {
 
 impl Lines {
     /// The lines of the bus of this number.
-    pub(crate) fn new(alloc: Global, board: &Board, bus: u8) -> Result<Lines, NoMemory>
+    pub fn new(alloc: Global, board: &Board, bus: u8) -> Result<Lines, NoMemory>
         requires { IsTrue (is_well_formed board.now) }
         ensures { IfOk result (λ lines. lines ≡ lines_of board.now bus) }
     {
@@ -36,14 +36,14 @@ impl Lines {
     }
 
     /// The lanes that end there.
-    pub(crate) fn lanes(&self) -> &[Lane]
+    pub fn lanes(&self) -> &[Lane]
         ensures { result.now ≡ self.now.lanes }
     {
         self.lanes.as_slice()
     }
 
     /// Its masters, by place.
-    pub(crate) fn masters(&self) -> &[u16]
+    pub fn masters(&self) -> &[u16]
         ensures { result.now ≡ self.now.masters }
     {
         self.masters.as_slice()

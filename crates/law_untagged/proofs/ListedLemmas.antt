@@ -11,7 +11,8 @@ use Rattle.history_model.specs.Program.{Ending, ended}
 use Rattle.history_model.specs.Knowledge.{ends_as, Reading}
 use Rattle.law_untagged.specs.Untagged.{UntaggedRun}
 use Rattle.law_untagged.specs.Origins.{ending_reading, untagged_got}
-use Rattle.law_untagged.specs.Stale.{StaleRead, breaks, Breaks, ops_by, stale_by, stale_at, stale_ending, stale_in, reads_listed}
+use Rattle.safe_model.specs.Ops.{ops_by}
+use Rattle.law_untagged.specs.Stale.{StaleRead, breaks, Breaks, stale_by, stale_at, stale_ending, stale_in, reads_listed}
 use Rattle.law_untagged.proofs.OrderLemmas.{ends_some}
 use Rattle.law_untagged.proofs.StaleLemmas.{breaks_so, so_breaks, one_stale}
 

@@ -1,15 +1,14 @@
 -- The reads that break freshness, in the order in which their masters ended them.
-use Rattle.std.specs.Prelude.{◌≡◌, ℕ, Bool, true, false, Contains, ◌+◌, List, [], ◌∷◌, ◌++◌, length, map, Option, Some, None, not, ◌&&◌, ◌==◌, if◌then◌else◌}
+use Rattle.std.specs.Prelude.{◌≡◌, ℕ, Bool, true, false, Contains, ◌+◌, List, [], ◌∷◌, ◌++◌, length, map, Option, Some, None, not, ◌&&◌, if◌then◌else◌}
 use Rattle.std.specs.List.{find, list_any}
 use Rattle.pci_command.specs.declared.op_id.OpId.{OpId}
-use Rattle.pci_command.specs.Same.{same_space}
-use Rattle.board_model.specs.declared.op.Op.{Op}
-use Rattle.board_model.specs.declared.agents.Master.{Master}
 use Rattle.board_model.specs.declared.board.Board.{Board}
 use Rattle.board_model.specs.Ways.{Dword}
 use Rattle.history_model.specs.declared.event.Event.{Event}
 use Rattle.history_model.specs.Program.{Ending, ended}
 use Rattle.history_model.specs.Knowledge.{Reading, has_landed, words_named}
+use Rattle.safe_model.specs.Raisers.{same_dword}
+use Rattle.safe_model.specs.Ops.{ops_by}
 use Rattle.law_untagged.specs.Origins.{untagged_got, UntaggedTold}
 use Rattle.law_untagged.specs.Heard.{untagged_was_told}
 
@@ -18,9 +17,6 @@ pub record StaleRead : Type 0 where
   pub read : OpId
   pub write : OpId
   pub event : ℕ
-
-abbrev pub same_dword : Dword → Dword → Bool
-same_dword a b = a.target == b.target && same_space a.space b.space && a.address == b.address
 
 abbrev pub breaks_in : Board → List Event → OpId → OpId → Option Reading → Bool
 breaks_in board h w r None = false
@@ -38,15 +34,6 @@ pub record Breaks (board : Board) (h : List Event) (w r : OpId) : Type 0 where
   pub told : UntaggedTold board h w r
   pub of_word : Contains (words_named board w) reading.word
   pub not_landed : has_landed reading.before w ≡ false
-
--- the operations of a board by master, then index; of a poll the first try
-abbrev pub ops_from : ℕ → ℕ → List Op → List OpId
-ops_from master index [] = []
-ops_from master index (op ∷ ops) = record { master = master; index = index; attempt = 0 } ∷ ops_from master (index + 1) ops
-
-abbrev pub ops_by : ℕ → List Master → List OpId
-ops_by master [] = []
-ops_by master (first ∷ masters) = ops_from master 0 first.ops ++ ops_by (master + 1) masters
 
 abbrev pub stale_by : OpId → Option OpId → Option Reading → List StaleRead
 stale_by r None reading = []

@@ -86,15 +86,15 @@ same_form P known form other words is found holds some =
 pub number_reads : (form : Form) (number : List ℕ) → length number ≤ limit_of form → ReadsInput form (Some number) (Some []) number
 number_reads form number short = record { read = sym (append-nil number); at_end = refl; within = short }
 
-pub number_answers : (form : Form) (words : List (List ℕ)) (number text : List ℕ) → length number ≤ limit_of form → AnswersTo form words number text → AnswersInput form words (Some number) (Some []) text
-number_answers form words number text short answers = record { input = number; reads = number_reads form number short; answers = answers }
+pub number_answers : (form : Form) (words : List (List ℕ)) (number text : List ℕ) (ending : Status) → length number ≤ limit_of form → AnswersTo form words number text ending → AnswersInput form words (Some number) (Some []) text ending
+number_answers form words number text ending short answers = record { input = number; reads = number_reads form number short; answers = answers }
 
 -- What is answered, or refused, of a number among the words, and else of what the source holds.
 
-pub number_answered : (form : Form) (words : List (List ℕ)) (held rest : Option (List ℕ)) (number text : List ℕ) → is_of (parts_of form) [] words ≡ true → number_of form words ≡ Some number → AnswersTo form words number text
-    → AnswersInput form words (given form words held) (left form words rest) text
-number_answered form words held rest number text are found answers =
-    subst (λ n. AnswersInput form words (given_by n held) (left_by n rest) text) (sym found) (number_answers form words number text (number_short form words number are found) answers)
+pub number_answered : (form : Form) (words : List (List ℕ)) (held rest : Option (List ℕ)) (number text : List ℕ) (ending : Status) → is_of (parts_of form) [] words ≡ true → number_of form words ≡ Some number → AnswersTo form words number text ending
+    → AnswersInput form words (given form words held) (left form words rest) text ending
+number_answered form words held rest number text ending are found answers =
+    subst (λ n. AnswersInput form words (given_by n held) (left_by n rest) text ending) (sym found) (number_answers form words number text ending (number_short form words number are found) answers)
 
 pub number_refused : (form : Form) (words : List (List ℕ)) (held rest : Option (List ℕ)) (before now : ℕ) (number : List ℕ) (status : Status) → is_of (parts_of form) [] words ≡ true → number_of form words ≡ Some number → Refuses form words number status
     → StopsAnswering form words (given form words held) (left form words rest) before now status
@@ -102,8 +102,8 @@ number_refused form words held rest before now number status are found refuses =
     subst (λ n. StopsAnswering form words (given_by n held) (left_by n rest) before now status) (sym found)
     (refused_answer form words (Some number) (Some []) before now number status (number_reads form number (number_short form words number are found)) refuses)
 
-pub file_answered : (form : Form) (words : List (List ℕ)) (held rest : Option (List ℕ)) (text : List ℕ) → number_of form words ≡ None → AnswersInput form words held rest text → AnswersInput form words (given form words held) (left form words rest) text
-file_answered form words held rest text none answers = subst (λ n. AnswersInput form words (given_by n held) (left_by n rest) text) (sym none) answers
+pub file_answered : (form : Form) (words : List (List ℕ)) (held rest : Option (List ℕ)) (text : List ℕ) (ending : Status) → number_of form words ≡ None → AnswersInput form words held rest text ending → AnswersInput form words (given form words held) (left form words rest) text ending
+file_answered form words held rest text ending none answers = subst (λ n. AnswersInput form words (given_by n held) (left_by n rest) text ending) (sym none) answers
 
 pub file_refused : (form : Form) (words : List (List ℕ)) (held rest : Option (List ℕ)) (before now : ℕ) (status : Status) → number_of form words ≡ None → StopsAnswering form words held rest before now status
     → StopsAnswering form words (given form words held) (left form words rest) before now status

@@ -4,3 +4,4 @@ pub mod StopLemmas
 pub mod WrittenLemmas
 pub mod SureLemmas
 pub mod GivenLemmas
+pub mod DoneLemmas

@@ -1,10 +1,10 @@
 -- What a status says where a call stopped with it: that nothing was written, and its cause in the input.
-use Rattle.std.proofs.Common.{◌≡◌, ◌≢◌, ◌↔◌, ℕ, ◌<◌, ◌≤◌, List, ◌++◌, append-nil, length, Option, Some, None, IfSome, inl, inr, refl, sym, subst, ap, ◌∙◌, arith}
+use Rattle.std.proofs.Common.{◌≡◌, ◌≢◌, ◌↔◌, ℕ, ◌<◌, ◌≤◌, List, ◌++◌, append-nil, length, Option, Some, None, IfSome, IsSome, inl, inr, refl, sym, subst, ap, ◌∙◌, arith}
 use Rattle.std.specs.Io.KnownBytes.{Consumes, IsAtEnd}
 use Rattle.io_ports.specs.Faults.{Rose}
 use Rattle.program_status.specs.declared.status.Status.{Status}
-use Rattle.program_status.specs.declared.status.Status.TheVariants.{Done, ReadFault, WriteFault}
-use Rattle.program_status.specs.Subjects.{Subject, subject_of, IsUsage, IsRefusal, IsBeforeWriting, Serves}
+use Rattle.program_status.specs.declared.status.Status.TheVariants.{ReadFault, WriteFault}
+use Rattle.program_status.specs.Subjects.{Subject, subject_of, IsSuccess, IsUsage, IsRefusal, IsBeforeWriting, Serves}
 use Rattle.program_status.specs.Subjects.Subject.{Success, Memory, Words, Reading, Writing, Length, Input}
 use Rattle.program_input.specs.Refusals.{IsRefusing}
 use Rattle.program_input.proofs.RefusalLemmas.{board_refusing}
@@ -12,13 +12,16 @@ use Rattle.command_traces.proofs.check.ServedLemmas.{check_refusing}
 use Rattle.command_runs.proofs.finish.ServedLemmas.{finish_refusing}
 use Rattle.program_input.proofs.RunLemmas.{run_refusing}
 use Rattle.command_runs.proofs.generate.ServedLemmas.{generate_refusing}
-use Rattle.command_runs.proofs.devices.ServedLemmas.{devices_refusing}
+use Rattle.program_input.proofs.ProtocolLemmas.{protocol_refusing, devices_refusing}
 use Rattle.command_traces.proofs.draw.ServedLemmas.{draw_refusing}
+use Rattle.command_traces.proofs.fill.ServedLemmas.{fill_refusing}
 use Rattle.command_traces.proofs.untagged.ServedLemmas.{untagged_refusing}
 use Rattle.command_boards.proofs.import.ServedLemmas.{import_refusing}
+use Rattle.command_safe.proofs.safe.EndingLemmas.{safe_succeeds}
+use Rattle.command_safe.proofs.adverse.ServedLemmas.{adverse_refusing}
 use Rattle.program_words.specs.declared.Form.{Form}
 use Rattle.program_words.specs.declared.Form.TheVariants as forms
-use Rattle.pcitree.specs.Words.{command_of, rows_in}
+use Rattle.pcitree.specs.Words.{command_of, rows_in, read_in, write_in}
 use Rattle.pcitree.specs.Answers.{limit_of, AnswersTo, Refuses, IsServed, IsAnswered, CausesBy, Causes}
 use Rattle.pcitree.specs.Given.{given, left}
 use Rattle.pcitree.specs.Ends.{HoldsTooMuch, ReadsInput, AnswersInput, RefusesInput, Finishes, StopsInText}
@@ -33,24 +36,36 @@ all_of (Some bytes) (Some rest) input taken is read end =
     let last : taken ++ rest ≡ taken = ap (λ (l : List ℕ). taken ++ l) end ∙ append-nil taken in
     sym same ∙ read ∙ last
 
+-- an answer ends well
+pub succeeds : (form : Form) (words : List (List ℕ)) (input text : List ℕ) (ending : Status) → AnswersTo form words input text ending → IsSuccess ending
+succeeds forms.Safe words input text ending answers = safe_succeeds input text ending answers
+succeeds form words input text ending answers = ap subject_of answers.1
+
+pub succeeded : (known : Option Form) (words : List (List ℕ)) (held rest before after : Option (List ℕ)) (ending : Status) → IsSome known
+    → IfSome known (λ f. Finishes f words (given f words held) (left f words rest) before after ending) → IsSuccess ending
+succeeded None words held rest before after ending there done = cc
+succeeded (Some form) words held rest before after ending there done = succeeds form words done.answers.input done.text ending done.answers.answers
+
 -- an input that was answered
-pub answered : (form : Form) (words : List (List ℕ)) (held left : Option (List ℕ)) (input text : List ℕ) → held ≡ Some input → AnswersInput form words held left text → IsAnswered form words input
-answered form words held left input text is answers =
+pub answered : (form : Form) (words : List (List ℕ)) (held left : Option (List ℕ)) (input text : List ℕ) (ending : Status) → held ≡ Some input → AnswersInput form words held left text ending → IsAnswered form words input ending
+answered form words held left input text ending is answers =
     let same = all_of held left input answers.input is answers.reads.read answers.reads.at_end in
     record {
       within = subst (λ (l : List ℕ). length l ≤ limit_of form) (sym same) answers.reads.within;
       text = text;
-      answers = subst (λ (l : List ℕ). AnswersTo form words l text) (sym same) answers.answers;
+      answers = subst (λ (l : List ℕ). AnswersTo form words l text ending) (sym same) answers.answers;
     }
 
 -- an input whose answer the sink took
-pub finished : (known : Option Form) (form : Form) (words : List (List ℕ)) (held rest before after : Option (List ℕ)) (input : List ℕ) → known ≡ Some form → given form words held ≡ Some input
-    → IfSome known (λ f. Finishes f words (given f words held) (left f words rest) before after) → IsAnswered form words input
-finished None form words held rest before after input there is done = cc
-finished (Some other) form words held rest before after input there is done =
+pub finished : (known : Option Form) (form : Form) (words : List (List ℕ)) (held rest before after : Option (List ℕ)) (input : List ℕ) (ending : Status) → known ≡ Some form → given form words held ≡ Some input
+    → IfSome known (λ f. Finishes f words (given f words held) (left f words rest) before after ending) → Causes form words input ending
+finished None form words held rest before after input ending there is done = cc
+finished (Some other) form words held rest before after input ending there is done =
     let same : other ≡ form = cc in
     let told : given other words held ≡ Some input = subst (λ (f : Form). given f words held ≡ Some input) (sym same) is in
-    subst (λ (f : Form). IsAnswered f words input) same (answered other words (given other words held) (left other words rest) input done.text told done.answers)
+    let well = succeeds other words done.answers.input done.text ending done.answers.answers in
+    subst (λ (f : Form). Causes f words input ending) same
+    (subst (λ v. CausesBy v other words input ending) (sym well) (answered other words (given other words held) (left other words rest) input done.text ending told done.answers))
 
 -- an input that was refused
 refused : (form : Form) (words : List (List ℕ)) (held left : Option (List ℕ)) (input : List ℕ) (status : Status) → held ≡ Some input → RefusesInput form words held left status → (length input ≤ limit_of form) × Refuses form words input status
@@ -64,11 +79,14 @@ too_much form (Some bytes) input is holds = let same : bytes ≡ input = cc in s
 
 -- what each form owes of its refusals
 refusing : (form : Form) (words : List (List ℕ)) → IsRefusing (command_of form words).Refuses (command_of form words).IsFaultless
+refusing forms.Safe words = protocol_refusing
+refusing forms.Adverse words = adverse_refusing (read_in words) (write_in words)
 refusing forms.Run words = board_refusing
 refusing forms.RunSteady words = board_refusing
 refusing forms.Headers words = board_refusing
 refusing forms.Check words = check_refusing
 refusing forms.Finish words = finish_refusing
+refusing forms.Fill words = fill_refusing
 refusing forms.Audit words = run_refusing
 refusing forms.Report words = run_refusing
 refusing forms.Waves words = run_refusing
@@ -104,8 +122,16 @@ served_as Input form words input status is served cause =
 pub served_by : (form : Form) (words : List (List ℕ)) (input : List ℕ) (status : Status) → IsServed form words input → Causes form words input status → Serves status
 served_by form words input status served cause = served_as (subject_of status) form words input status refl served cause
 
-pub done_serves : Serves Done
-done_serves = (λ e. cc, λ e. cc, λ e. cc)
+-- an answer that ends well does not find the words nor the input wrong, and is none of a part that stopped
+pub success_serves : (status : Status) → IsSuccess status → Serves status
+success_serves status well = (λ e. cc, λ e. cc, λ e. cc)
+
+pub success_usage : (known : Option Form) (status : Status) → IsSome known → IsSuccess status → IsUsage status ↔ (known ≡ None)
+success_usage None status there well = cc
+success_usage (Some form) status there well = (λ usage. cc, λ none. cc)
+
+pub success_only : (P : Type 0) (status : Status) (subject : Subject) → IsSuccess status → subject ≢ Success → subject_of status ≡ subject → P
+success_only P status subject well other is = absurd (other (sym is ∙ well))
 
 -- the cause of an answer, where an input was not read or not answered
 caused_as : (subject : Subject) (form : Form) (words : List (List ℕ)) (held left : Option (List ℕ)) (before now : ℕ) (status : Status) (input : List ℕ) → held ≡ Some input → StopsBy subject form words held left before now status → CausesBy subject form words input status
@@ -134,9 +160,9 @@ module _ (S K : Type 0) (held : S → Option (List ℕ)) (read_faults : S → �
   unwritten None words s t k l status stops before = stops.2
   unwritten (Some form) words s t k l status stops before = elim stops [ inl early ↦ early.1 | inr late ↦ absurd (before.1 late.subject) ]
 
-  pub not_done : (known : Option Form) (words : List (List ℕ)) (s t : S) (k l : K) (status : Status) → Stopped known words s t k l status → status ≡ Done → ⊥
-  not_done None words s t k l status stops is = let words = stops.0 in let success : subject_of status ≡ Success = ap subject_of is in cc
-  not_done (Some form) words s t k l status stops is = stopped_as form Success words s t k l status (ap subject_of is) (λ e. cc) stops
+  pub not_done : (known : Option Form) (words : List (List ℕ)) (s t : S) (k l : K) (status : Status) → Stopped known words s t k l status → IsSuccess status → ⊥
+  not_done None words s t k l status stops well = let words = stops.0 in cc
+  not_done (Some form) words s t k l status stops well = stopped_as form Success words s t k l status well (λ e. cc) stops
 
   no_usage : (form : Form) (words : List (List ℕ)) (s t : S) (k l : K) (status : Status) → Stopped (Some form) words s t k l status → IsUsage status → ⊥
   no_usage form words s t k l status stops usage = stopped_as form Words words s t k l status usage (λ e. cc) stops
@@ -166,7 +192,7 @@ module _ (S K : Type 0) (held : S → Option (List ℕ)) (read_faults : S → �
   caused form words s t k l status input is stops =
       elim stops [
         | inl early ↦ caused_as (subject_of status) form words (given form words (held s)) (left form words (held t)) (read_faults s) (read_faults t) status input is early.0
-        | inr late ↦ subst (λ v. CausesBy v form words input status) (sym late.subject) (answered form words (given form words (held s)) (left form words (held t)) input late.text.text is late.text.answers)
+        | inr late ↦ subst (λ v. CausesBy v form words input status) (sym late.subject) (late.text.ending, answered form words (given form words (held s)) (left form words (held t)) input late.text.text late.text.ending is late.text.answers)
       ]
 
   pub caused_by : (known : Option Form) (form : Form) (words : List (List ℕ)) (s t : S) (k l : K) (status : Status) (input : List ℕ) → known ≡ Some form → given form words (held s) ≡ Some input → Stopped known words s t k l status → Causes form words input status

@@ -10,9 +10,9 @@ use Rattle.program_words.specs.Shapes.{input_limit}
 abbrev pub limit_of : Form → ℕ
 limit_of form = input_limit form
 
--- the text that answers an input
-abbrev pub AnswersTo : Form → List (List ℕ) → List ℕ → List ℕ → Type 0
-AnswersTo form words input text = (command_of form words).Answers input text
+-- the text that answers an input, and the status that it ends with
+abbrev pub AnswersTo : Form → List (List ℕ) → List ℕ → List ℕ → Status → Type 0
+AnswersTo form words input text ending = (command_of form words).Answers input text ending
 
 -- the status that refuses an input
 abbrev pub Refuses : Form → List (List ℕ) → List ℕ → Status → Type 0
@@ -25,19 +25,19 @@ IsFaultless form words input = (command_of form words).IsFaultless input
 abbrev pub IsServed : Form → List (List ℕ) → List ℕ → Type 0
 IsServed form words input = (length input ≤ limit_of form) × IsFaultless form words input
 
--- a text answers the input
-pub record IsAnswered (form : Form) (words : List (List ℕ)) (input : List ℕ) : Type 0 where
+-- a text answers the input, and ends with this status
+pub record IsAnswered (form : Form) (words : List (List ℕ)) (input : List ℕ) (ending : Status) : Type 0 where
   pub within : length input ≤ limit_of form
   pub text : List ℕ
-  pub answers : AnswersTo form words input text
+  pub answers : AnswersTo form words input text ending
 
 -- the cause that an input gives for an answer that speaks of this: memory and ports have their own
 abbrev pub CausesBy : Subject → Form → List (List ℕ) → List ℕ → Status → Type 0
-CausesBy Success form words input status = IsAnswered form words input
+CausesBy Success form words input status = IsAnswered form words input status
 CausesBy Memory form words input status = Unit {0}
 CausesBy Words form words input status = ⊥
 CausesBy Reading form words input status = Unit {0}
-CausesBy Writing form words input status = IsAnswered form words input
+CausesBy Writing form words input status = (ending : Status) × IsAnswered form words input ending
 CausesBy Length form words input status = limit_of form < length input
 CausesBy Input form words input status = (length input ≤ limit_of form) × Refuses form words input status
 

@@ -18,11 +18,11 @@ pub record ReadsInput (form : Form) (held left : Option (List ℕ)) (input : Lis
 abbrev pub HoldsTooMuch : Form → Option (List ℕ) → Type 0
 HoldsTooMuch form held = IfSome held (λ input. limit_of form < length input)
 
--- the source gave an input to its end, and this text answers it
-pub record AnswersInput (form : Form) (words : List (List ℕ)) (held left : Option (List ℕ)) (text : List ℕ) : Type 0 where
+-- the source gave an input to its end, and this text answers it and ends with this status
+pub record AnswersInput (form : Form) (words : List (List ℕ)) (held left : Option (List ℕ)) (text : List ℕ) (ending : Status) : Type 0 where
   pub input : List ℕ
   pub reads : ReadsInput form held left input
-  pub answers : AnswersTo form words input text
+  pub answers : AnswersTo form words input text ending
 
 -- the source gave an input to its end, and this status refuses it
 pub record RefusesInput (form : Form) (words : List (List ℕ)) (held left : Option (List ℕ)) (status : Status) : Type 0 where
@@ -30,16 +30,17 @@ pub record RefusesInput (form : Form) (words : List (List ℕ)) (held left : Opt
   pub reads : ReadsInput form held left input
   pub refuses : Refuses form words input status
 
--- the sink took the whole text that answers the input
-pub record Finishes (form : Form) (words : List (List ℕ)) (held left before after : Option (List ℕ)) : Type 0 where
+-- the sink took the whole text that answers the input, which ends with this status
+pub record Finishes (form : Form) (words : List (List ℕ)) (held left before after : Option (List ℕ)) (ending : Status) : Type 0 where
   pub text : List ℕ
-  pub answers : AnswersInput form words held left text
+  pub answers : AnswersInput form words held left text ending
   pub written : Appends before after text
 
 -- the sink took a front of the text that answers the input
 pub record StopsInText (form : Form) (words : List (List ℕ)) (held left before after : Option (List ℕ)) : Type 0 where
   pub text : List ℕ
-  pub answers : AnswersInput form words held left text
+  pub ending : Status
+  pub answers : AnswersInput form words held left text ending
   pub front : WritesFront before after text
 
 -- the forms that write the trace of a complete run

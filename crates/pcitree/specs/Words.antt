@@ -1,8 +1,9 @@
 -- The words that the program is called with, without its own name.
-use Rattle.std.specs.Prelude.{ℕ, ◌+◌, ◌^◌, ◌==◌, ◌&&◌, not, max, Bool, true, false, List, [], ◌∷◌, Option, Some, None, codes, nat_eq, if◌then◌else◌, find, fold, position, is_some}
+use Rattle.std.specs.Prelude.{◌≡◌, ℕ, ◌+◌, ◌==◌, ◌&&◌, not, max, Bool, true, false, List, [], ◌∷◌, Option, Some, None, nat_eq, if◌then◌else◌, find, fold, position, is_some}
 use Rattle.std.specs.Option.{option_and_then}
 use Rattle.std.specs.Cmp.Lexicographic.{pointwise}
 use Rattle.program_status.specs.declared.status.Status.{Status}
+use Rattle.program_status.specs.declared.status.Status.TheVariants.{Done}
 use Rattle.program_input.specs.Boards.{RefusesBoard, IsBoardText}
 use Rattle.program_input.specs.Traces.{IsCompleteTrace, IsRunTrace, RefusesRun}
 use Rattle.command_runs.specs.run.Answers.{AnswersRun}
@@ -15,119 +16,155 @@ use Rattle.command_traces.specs.waves.Answers.{AnswersWaves}
 use Rattle.command_traces.specs.declared.draw.rows.Rows.{Rows}
 use Rattle.command_traces.specs.draw.Rows.{rows_of, names_event}
 use Rattle.command_traces.specs.draw.Answers.{AnswersDraw, RefusesDraw, IsDrawable}
+use Rattle.command_traces.specs.fill.Answers.{AnswersFill, RefusesFill, HasRun}
 use Rattle.command_traces.specs.untagged.Answers.{AnswersUntagged, RefusesUntagged, IsUntaggedTrace}
 use Rattle.command_boards.specs.combine.Answers.{AnswersCombine}
 use Rattle.command_runs.specs.generate.Answers.{names_rounds, AnswersGenerate, RefusesGenerate, NamesRounds}
 use Rattle.command_runs.specs.devices.Answers.{AnswersDevices}
-use Rattle.command_runs.specs.devices.Refusals.{RefusesDevices, IsDeviceText}
+use Rattle.program_input.specs.Devices.{RefusesDevices, IsDeviceText}
 use Rattle.command_boards.specs.import.Answers.{AnswersImport, RefusesImport, IsMachineText}
+use Rattle.program_input.specs.Protocols.{RefusesProtocol, IsProtocolText}
+use Rattle.command_safe.specs.safe.Answers.{AnswersSafe}
+use Rattle.command_safe.specs.adverse.Operation.{names_operation}
+use Rattle.command_safe.specs.adverse.Answers.{AnswersAdverse, RefusesAdverse, IsShowable}
 use Rattle.program_words.specs.declared.Form.{Form}
 use Rattle.program_words.specs.declared.Form.TheVariants as forms
 use Rattle.program_words.specs.declared.TheConstants.{FORMS}
 use Rattle.program_words.specs.Shapes.{Shape, parts_of, input_limit}
-use Rattle.program_words.specs.Shapes.Shape.{Word, File, Rounds, First, Last}
+use Rattle.program_words.specs.Shapes.Shape.{Word, File, Rounds, First, Last, Operation}
 
 -- the events that the words ask for, by the number of the first and of the last: in words of the form `draw FILE FIRST LAST`
 abbrev pub rows_in : List (List ℕ) → Option Rows
 rows_in (draw ∷ file ∷ first ∷ last ∷ []) = rows_of first last
 rows_in _ = None
 
--- what a form of words owes: the text that answers an input; the status that refuses one; the inputs that have no fault;
--- and whether it writes the trace of a complete run
+-- the operations that the words name: in words of the form `adverse FILE READ WRITE`
+abbrev pub read_in : List (List ℕ) → List ℕ
+read_in (adverse ∷ file ∷ read ∷ write ∷ []) = read
+read_in _ = []
+
+abbrev pub write_in : List (List ℕ) → List ℕ
+write_in (adverse ∷ file ∷ read ∷ write ∷ []) = write
+write_in _ = []
+
+-- a text that answers an input so answers it with the status that all is done
+abbrev pub WithDone : (List ℕ → List ℕ → Type 0) → List ℕ → List ℕ → Status → Type 0
+WithDone Answers input text ending = Answers input text × (ending ≡ Done)
+
+-- what a form of words owes: the text that answers an input, with the status that it ends with; the status that refuses
+-- one; the inputs that have no fault; and whether it writes the trace of a complete run
 pub record Command : Type 1 where
-  pub Answers : List ℕ → List ℕ → Type 0
+  pub Answers : List ℕ → List ℕ → Status → Type 0
   pub Refuses : List ℕ → Status → Type 0
   pub IsFaultless : List ℕ → Type 0
   pub writes_run : Bool
 
 -- of words of each form
 abbrev pub command_of : Form → List (List ℕ) → Command
+command_of forms.Safe words = record {
+  Answers = AnswersSafe;
+  Refuses = RefusesProtocol;
+  IsFaultless = IsProtocolText;
+  writes_run = false;
+}
+command_of forms.Adverse words = record {
+  Answers = WithDone (AnswersAdverse (read_in words) (write_in words));
+  Refuses = RefusesAdverse (read_in words) (write_in words);
+  IsFaultless = IsShowable (read_in words) (write_in words);
+  writes_run = true;
+}
 command_of forms.Run words = record {
-  Answers = AnswersRun;
+  Answers = WithDone AnswersRun;
   Refuses = RefusesBoard;
   IsFaultless = IsBoardText;
   writes_run = true;
 }
 command_of forms.RunSteady words = record {
-  Answers = AnswersRun;
+  Answers = WithDone AnswersRun;
   Refuses = RefusesBoard;
   IsFaultless = IsBoardText;
   writes_run = true;
 }
 command_of forms.Headers words = record {
-  Answers = AnswersHeaders;
+  Answers = WithDone AnswersHeaders;
   Refuses = RefusesBoard;
   IsFaultless = IsBoardText;
   writes_run = false;
 }
 command_of forms.Check words = record {
-  Answers = AnswersCheck;
+  Answers = WithDone AnswersCheck;
   Refuses = RefusesCheck;
   IsFaultless = IsCompleteTrace;
   writes_run = false;
 }
 command_of forms.Finish words = record {
-  Answers = AnswersFinish;
+  Answers = WithDone AnswersFinish;
   Refuses = RefusesFinish;
   IsFaultless = IsRunTrace;
   writes_run = true;
 }
+command_of forms.Fill words = record {
+  Answers = WithDone AnswersFill;
+  Refuses = RefusesFill;
+  IsFaultless = HasRun;
+  writes_run = false;
+}
 command_of forms.Audit words = record {
-  Answers = AnswersAudit;
+  Answers = WithDone AnswersAudit;
   Refuses = RefusesRun;
   IsFaultless = IsRunTrace;
   writes_run = false;
 }
 command_of forms.Report words = record {
-  Answers = AnswersReport;
+  Answers = WithDone AnswersReport;
   Refuses = RefusesRun;
   IsFaultless = IsRunTrace;
   writes_run = false;
 }
 command_of forms.Waves words = record {
-  Answers = AnswersWaves;
+  Answers = WithDone AnswersWaves;
   Refuses = RefusesRun;
   IsFaultless = IsRunTrace;
   writes_run = false;
 }
 command_of forms.Untagged words = record {
-  Answers = AnswersUntagged;
+  Answers = WithDone AnswersUntagged;
   Refuses = RefusesUntagged;
   IsFaultless = IsUntaggedTrace;
   writes_run = false;
 }
 command_of forms.Combine words = record {
-  Answers = AnswersCombine;
+  Answers = WithDone AnswersCombine;
   Refuses = RefusesBoard;
   IsFaultless = IsBoardText;
   writes_run = false;
 }
 command_of forms.Generate words = record {
-  Answers = AnswersGenerate;
+  Answers = WithDone AnswersGenerate;
   Refuses = RefusesGenerate;
   IsFaultless = NamesRounds;
   writes_run = false;
 }
 command_of forms.Devices words = record {
-  Answers = AnswersDevices;
+  Answers = WithDone AnswersDevices;
   Refuses = RefusesDevices;
   IsFaultless = IsDeviceText;
   writes_run = true;
 }
 command_of forms.Draw words = record {
-  Answers = λ input text. AnswersDraw input (rows_in words) text;
+  Answers = WithDone (λ input text. AnswersDraw input (rows_in words) text);
   Refuses = λ input status. RefusesDraw input (rows_in words) status;
   IsFaultless = IsDrawable (rows_in words);
   writes_run = false;
 }
 command_of forms.DrawRows words = record {
-  Answers = λ input text. AnswersDraw input (rows_in words) text;
+  Answers = WithDone (λ input text. AnswersDraw input (rows_in words) text);
   Refuses = λ input status. RefusesDraw input (rows_in words) status;
   IsFaultless = IsDrawable (rows_in words);
   writes_run = false;
 }
 command_of forms.Import words = record {
-  Answers = AnswersImport;
+  Answers = WithDone AnswersImport;
   Refuses = RefusesImport;
   IsFaultless = IsMachineText;
   writes_run = false;
@@ -144,6 +181,7 @@ fits File before word = names_file word
 fits Rounds before word = names_rounds word
 fits First before word = names_event word
 fits Last before word = is_some (rows_of before word)
+fits (Operation name) before word = names_operation word
 
 -- how many words behind another, from the first on, are as the form has them
 abbrev pub fitting : List Shape → List ℕ → List (List ℕ) → ℕ
@@ -169,19 +207,13 @@ misfit words = fold (λ longest form. max longest (fitting (parts_of form) [] wo
 
 -- the word that names the file
 abbrev pub is_file : Shape → Bool
-is_file (Word text) = false
 is_file File = true
-is_file Rounds = false
-is_file First = false
-is_file Last = false
+is_file _ = false
 
 -- the word that is a number to be read
 abbrev pub is_number : Shape → Bool
-is_number (Word text) = false
-is_number File = false
 is_number Rounds = true
-is_number First = false
-is_number Last = false
+is_number _ = false
 
 -- the place of the file, from 0, among the parts of a form
 abbrev pub file_in : List Shape → Option ℕ

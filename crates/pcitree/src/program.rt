@@ -3,13 +3,13 @@ ghost use Rattle.io_ports.specs.Faults.{Rose};
 ghost use Rattle.program_words.specs.declared.Form.{Form as WordForm};
 ghost use Rattle.pcitree.specs.Words.{is_of, form_of, misfit};
 ghost use Rattle.pcitree.specs.Given.{number_of, given, left, IsGiven, reads_file};
-ghost use Rattle.program_status.specs.Subjects.{IsUsage, IsRefusal, IsBeforeWriting, Serves};
+ghost use Rattle.program_status.specs.Subjects.{IsSuccess, IsUsage, IsRefusal, IsBeforeWriting, Serves};
 ghost use Rattle.pcitree.specs.Answers.{IsServed, Causes};
 ghost use Rattle.pcitree.specs.Ends.{ReadsInput, AnswersInput, RefusesInput, Finishes, StopsInText, WritesRun, writes_run};
 ghost use Rattle.pcitree.specs.Stops.{StopsAnswering, StopsServing, StopsRunning};
 ghost use Rattle.program_words.specs.Shapes.{parts_of};
 
-use crate::answering::answer;
+use crate::answering::{Answered, answer};
 use crate::reading::{ReadError, read_all};
 use crate::words::{form_of, misfit, number_of};
 use crate::writing::write_all;
@@ -23,11 +23,9 @@ use std::alloc::Global;
 use std::thread::Threads;
 
 /// Does what the words say: reads the source to its end, or takes the number among the words in its
-/// place, and writes the text that answers it to the sink. The first of these that holds is the answer: `Usage`, `ReadFault`, `TooLong`,
-/// `BadTrace` or `BadBoard`, `NotRun`, `Incomplete`, `WriteFault`; `NoMemory` may come at any
-/// moment.
-///
-/// `run` works each bus in a thread of its own, and the gate is told of the turns of each.
+/// place, and writes the text that answers it to the sink. The first of these that holds is the
+/// answer: `Usage`, `ReadFault`, `TooLong`, a refusal of the input, `WriteFault`; `NoMemory` may come
+/// at any moment. `run` works each bus in a thread of its own, and the gate is told of its turns.
 pub fn pcitree<R: Threads + Sync, S: Source, K: Sink, G: Gate + Sync>(
     rt: &R,
     alloc: Global,
@@ -52,16 +50,16 @@ pub fn pcitree<R: Threads + Sync, S: Source, K: Sink, G: Gate + Sync>(
     ensures write_fault { result ≡ Status.WriteFault
         → Rose (K.faults sink.old) (K.faults sink.new) }
 
-    // What the sink has.
+    // What the sink has: the whole text with `Done`, and with `NotSafe` of `safe`.
     ensures unwritten { IsBeforeWriting result → sink.new ≡ sink.old }
     ensures front { result ≡ Status.WriteFault → IfSome (form_of (map string_bytes words.now)) (λ form.
         StopsInText form (map string_bytes words.now) (given form (map string_bytes words.now) (S.held source.old)) (left form (map string_bytes words.now) (S.held source.new))
         (K.taken sink.old) (K.taken sink.new)) }
-    ensures done { result ≡ Status.Done → IfSome (form_of (map string_bytes words.now)) (λ form.
+    ensures done { IsSuccess result → IfSome (form_of (map string_bytes words.now)) (λ form.
         Finishes form (map string_bytes words.now) (given form (map string_bytes words.now) (S.held source.old)) (left form (map string_bytes words.now) (S.held source.new))
-        (K.taken sink.old) (K.taken sink.new)) }
+        (K.taken sink.old) (K.taken sink.new) result) }
 
-    // What `run`, `finish` or `devices` wrote is the text of a complete run, as `check` wants it.
+    // What `run`, `finish`, `devices` or `adverse` wrote is the text of a complete run, as `check` wants it.
     ensures checked { (form : WordForm) → result ≡ Status.Done → form_of (map string_bytes words.now) ≡ Some form
         → writes_run form ≡ true → WritesRun (K.taken sink.old) (K.taken sink.new) }
 
@@ -80,7 +78,7 @@ pub fn pcitree<R: Threads + Sync, S: Source, K: Sink, G: Gate + Sync>(
     finished_traces_are_complete();
     written_devices_are_complete();
     match run(rt, alloc, words, source, sink, gate) {
-        Ok(()) => Status::Done,
+        Ok(ending) => ending,
         Err(status) => status,
     }
 }
@@ -92,10 +90,10 @@ fn run<R: Threads + Sync, S: Source, K: Sink, G: Gate + Sync>(
     source: &mut S,
     sink: &mut K,
     gate: &G,
-) -> Result<(), Status>
+) -> Result<Status, Status>
     ensures form { OnOk result (IsSome (form_of (map string_bytes words.now))) }
-    ensures done { OnOk result (IfSome (form_of (map string_bytes words.now)) (λ form. Finishes form (map string_bytes words.now)
-        (given form (map string_bytes words.now) (S.held source.old)) (left form (map string_bytes words.now) (S.held source.new)) (K.taken sink.old) (K.taken sink.new))) }
+    ensures done { IfOk result (λ ending. IfSome (form_of (map string_bytes words.now)) (λ form. Finishes form (map string_bytes words.now)
+        (given form (map string_bytes words.now) (S.held source.old)) (left form (map string_bytes words.now) (S.held source.new)) (K.taken sink.old) (K.taken sink.new) ending)) }
     ensures misfit { (word : ℕ) → result ≡ Err (Status.Usage word) → word ≡ misfit (map string_bytes words.now) }
     ensures stopped { IfErr result (StopsRunning S K S.held S.faults K.taken K.faults
         (form_of (map string_bytes words.now)) (map string_bytes words.now) source.old source.new sink.old sink.new) }
@@ -119,32 +117,32 @@ fn serve<R: Threads + Sync, S: Source, K: Sink, G: Gate + Sync>(
     source: &mut S,
     sink: &mut K,
     gate: &G,
-) -> Result<(), Status>
+) -> Result<Status, Status>
     requires { is_of (parts_of form) [] (map string_bytes words.now) ≡ true }
-    ensures done { OnOk result (Finishes form (map string_bytes words.now)
+    ensures done { IfOk result (Finishes form (map string_bytes words.now)
         (given form (map string_bytes words.now) (S.held source.old)) (left form (map string_bytes words.now) (S.held source.new)) (K.taken sink.old) (K.taken sink.new)) }
     ensures stopped { IfErr result (StopsServing S K S.held S.faults K.taken K.faults
         form (map string_bytes words.now) (number_of form (map string_bytes words.now)) source.old source.new sink.old sink.new) }
     ensures unasked { IsSome (number_of form (map string_bytes words.now)) → source.new ≡ source.old }
 {
-    let text = text_of(rt, alloc, form, words, source, gate)?;
+    let Answered { text, ending } = answer_of(rt, alloc, form, words, source, gate)?;
     match write_all(sink, &text) {
-        Ok(()) => Ok(()),
+        Ok(()) => Ok(ending),
         Err(_) => Err(Status::WriteFault),
     }
 }
 
 /// The text that answers the number among the words, or what the source holds.
-fn text_of<R: Threads + Sync, S: Source, G: Gate + Sync>(
+fn answer_of<R: Threads + Sync, S: Source, G: Gate + Sync>(
     rt: &R,
     alloc: Global,
     form: Form,
     words: &[String],
     source: &mut S,
     gate: &G,
-) -> Result<Vec<u8>, Status>
+) -> Result<Answered, Status>
     requires { is_of (parts_of form) [] (map string_bytes words.now) ≡ true }
-    ensures ok { IfOk result (λ text. AnswersInput form (map string_bytes words.now) (given form (map string_bytes words.now) (S.held source.old)) (left form (map string_bytes words.now) (S.held source.new)) text.items) }
+    ensures ok { IfOk result (λ answer. AnswersInput form (map string_bytes words.now) (given form (map string_bytes words.now) (S.held source.old)) (left form (map string_bytes words.now) (S.held source.new)) answer.text.items answer.ending) }
     ensures stopped { IfErr result (StopsAnswering form (map string_bytes words.now) (given form (map string_bytes words.now) (S.held source.old)) (left form (map string_bytes words.now) (S.held source.new)) (S.faults source.old) (S.faults source.new)) }
     ensures unasked { IsSome (number_of form (map string_bytes words.now)) → source.new ≡ source.old }
 {
@@ -162,9 +160,9 @@ fn read_and_answer<R: Threads + Sync, S: Source, G: Gate + Sync>(
     words: &[String],
     source: &mut S,
     gate: &G,
-) -> Result<Vec<u8>, Status>
+) -> Result<Answered, Status>
     requires { reads_file form ≡ true }
-    ensures ok { IfOk result (λ text. AnswersInput form (map string_bytes words.now) (S.held source.old) (S.held source.new) text.items) }
+    ensures ok { IfOk result (λ answer. AnswersInput form (map string_bytes words.now) (S.held source.old) (S.held source.new) answer.text.items answer.ending) }
     ensures stopped { IfErr result (StopsAnswering form (map string_bytes words.now)
         (S.held source.old) (S.held source.new) (S.faults source.old) (S.faults source.new)) }
 {

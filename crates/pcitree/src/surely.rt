@@ -2,7 +2,7 @@ ghost use Rattle.std.specs.Prelude.{◌≡◌, ◌≢◌, ℕ, List, Some, map, 
 ghost use Rattle.program_words.specs.declared.Form.{Form as WordForm};
 ghost use Rattle.pcitree.specs.Words.{form_of};
 ghost use Rattle.pcitree.specs.Given.{given};
-ghost use Rattle.pcitree.specs.Answers.{IsServed, Causes};
+ghost use Rattle.pcitree.specs.Answers.{IsServed, IsAnswered, Causes};
 
 use crate::program::pcitree;
 use command_runs::Gate;
@@ -11,9 +11,8 @@ use program_status::Status;
 use std::alloc::Global;
 use std::thread::Threads;
 
-/// `pcitree` over ports that never fail. What is left of its answers are `Done`, `NoMemory` and
-/// the refusals of the words and of the input, and an input that is served is answered wherever
-/// there is memory.
+/// `pcitree` over ports that never fail: an input that is served is answered wherever there is
+/// memory, and other answers refuse the words or the input.
 pub fn pcitree_surely<R: Threads + Sync, G: Gate + Sync>(
     rt: &R,
     alloc: Global,
@@ -30,7 +29,8 @@ pub fn pcitree_surely<R: Threads + Sync, G: Gate + Sync>(
         → given form (map string_bytes words.now) (Some source.old) ≡ Some input → Causes form (map string_bytes words.now) input result }
     ensures served { (form : WordForm) (input : List ℕ) → form_of (map string_bytes words.now) ≡ Some form
         → given form (map string_bytes words.now) (Some source.old) ≡ Some input
-        → IsServed form (map string_bytes words.now) input → (result ≡ Status.Done) ⊎ (result ≡ Status.NoMemory) }
+        → IsServed form (map string_bytes words.now) input
+        → IsAnswered form (map string_bytes words.now) input result ⊎ (result ≡ Status.NoMemory) }
 {
     pcitree(rt, alloc, words, source, sink, gate)
 }

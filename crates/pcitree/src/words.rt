@@ -1,10 +1,11 @@
 ghost use Rattle.std.specs.Prelude.{◌≡◌, ◌≤◌, ◌<◌, ◌^◌, IfSome, map, length, position, string_bytes};
 ghost use Rattle.std.specs.Option.{option_map};
 ghost use Rattle.program_words.specs.Shapes.{shape_of, input_limit};
-ghost use Rattle.pcitree.specs.Words.{names_file, fits, fitting, is_of, form_of, misfit, is_file, is_number, file_in, file_place, limit_by, rows_in};
+ghost use Rattle.pcitree.specs.Words.{names_file, fits, fitting, is_of, form_of, misfit, is_file, is_number, file_in, file_place, limit_by, rows_in, read_in, write_in};
 ghost use Rattle.pcitree.specs.Given.{number_in, number_of};
 
 use command_runs::names_rounds;
+use command_safe::names_operation;
 use command_traces::{Rows, names_event, rows_of};
 use program_words::{FORMS, Form, Part};
 
@@ -18,6 +19,7 @@ fn fits(part: Part, before: &str, word: &str) -> bool
         Part::Rounds => names_rounds(word.as_bytes()),
         Part::First => names_event(word.as_bytes()),
         Part::Last => rows_of(before.as_bytes(), word.as_bytes()).is_some(),
+        Part::Operation(_) => names_operation(word.as_bytes()),
     }
 }
 
@@ -105,6 +107,17 @@ pub(crate) fn rows_in(words: &[String]) -> Option<Rows>
     match words {
         [_draw, _file, first, last] => rows_of(first.as_bytes(), last.as_bytes()),
         _ => None,
+    }
+}
+
+/// The operations that the words name, in words of the form `adverse FILE READ WRITE`.
+pub(crate) fn operations_in(words: &[String]) -> (&[u8], &[u8])
+    ensures read { result.0.now ≡ read_in (map string_bytes words.now) }
+    ensures write { result.1.now ≡ write_in (map string_bytes words.now) }
+{
+    match words {
+        [_adverse, _file, read, write] => (read.as_bytes(), write.as_bytes()),
+        _ => (&[], &[]),
     }
 }
 

@@ -19,10 +19,10 @@ pub(crate) enum Asked<'a> {
 pub(crate) fn asked_for(words: &[String]) -> Asked<'_> {
     match words {
         [word] => asked_by_one(word.as_str()),
-        [word, other] => asked_by_two(word.as_str(), other.as_str()),
-        [word, other, ..] => match asked_by_two(word.as_str(), other.as_str()) {
+        [word, other, more @ ..] => match asked_by_two(word.as_str(), other.as_str()) {
             Asked::Work => Asked::Work,
             Asked::Misfit(place) => Asked::Misfit(place),
+            asked if more.is_empty() => asked,
             _ => Asked::Misfit(2),
         },
         [] => Asked::Work,

@@ -7,10 +7,9 @@ mod asked;
 mod report;
 
 use asked::{Asked, asked_for, tell};
-use history_model::Rule;
 use io_ports::{HeldSource, ReadPort, WritePort};
 use pcitree::{NoGate, Status, file_word, input_limit, pcitree};
-use report::{report, rule_of};
+use report::report;
 use std::env;
 use std::fs::File;
 use std::io::ErrorKind;
@@ -52,8 +51,8 @@ fn serve<R: Threads + Sync>(rt: &HostRuntime, threads: &R, words: &[String]) -> 
 }
 
 fn misfit(rt: &HostRuntime, word: u32) -> Status {
-    let status = status_only(rt, Status::Usage { word });
-    report(rt, "", b"", status, None, Rule::Tagged);
+    let status = Status::Usage { word };
+    report(rt, &[], "", b"", status, None);
     status
 }
 
@@ -71,18 +70,16 @@ fn run<R: Threads + Sync>(rt: &HostRuntime, threads: &R, words: &[String]) -> St
     let mut sink = WritePort::new(rt.stdout());
     let status = pcitree(threads, rt.alloc(), words, &mut source, &mut sink, &NoGate);
     if status != Status::Done {
-        let _ = eprintln!(rt; "{status}");
-        report(rt, name, source.bytes(), status, reason, rule_of(words));
+        report(rt, words, name, source.bytes(), status, reason);
     }
     status
 }
 
 /// The name of the file to be read, if the words are of a form that reads one.
 fn file_name(words: &[String]) -> &str {
-    match file_word(words).and_then(|place| words.get(place as usize)) {
-        Some(name) => name.as_str(),
-        None => "",
-    }
+    file_word(words)
+        .and_then(|place| words.get(place as usize))
+        .map_or("", |name| name.as_str())
 }
 
 /// The file, or why it was not opened.

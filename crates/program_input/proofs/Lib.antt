@@ -1,4 +1,6 @@
 pub mod RefusalLemmas
 pub mod TraceLemmas
 pub mod TreeLemmas
+pub mod DevicesLemmas
+pub mod ProtocolLemmas
 pub mod RunLemmas

@@ -1,6 +1,6 @@
 -- Of which statuses nothing is said behind the first line.
 use Rattle.program_status.specs.declared.status.Status.{Status}
-use Rattle.program_status.specs.declared.status.Status.TheVariants.{Done, NoMemory, Usage, ReadFault, WriteFault, TooLong, BadBoard, BadTrace, BadMachine, TooManyEvents, NotRun, Incomplete}
+use Rattle.program_status.specs.declared.status.Status.TheVariants.{Done, NoMemory, Usage, ReadFault, WriteFault, TooLong, BadBoard, BadTrace, BadMachine, TooManyEvents, NotRun, Incomplete, NotSafe, NotShown}
 
 abbrev pub IsQuiet : Status → Type 0
 IsQuiet Done = Unit {0}
@@ -15,3 +15,5 @@ IsQuiet (BadMachine _ _) = ⊥
 IsQuiet (TooManyEvents _) = Unit {0}
 IsQuiet (NotRun _ _) = ⊥
 IsQuiet (Incomplete _) = ⊥
+IsQuiet (NotSafe _ _ _) = Unit {0}
+IsQuiet NotShown = Unit {0}

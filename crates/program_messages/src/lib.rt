@@ -9,7 +9,9 @@ mod refused;
 mod telling;
 mod trace;
 mod unclear;
+mod unshown;
 
 pub(crate) use refused::behind;
 pub use refused::{Spot, named_spot, place_of, smallest, word_at_fault};
 pub use telling::{about, message};
+pub use unshown::not_shown;

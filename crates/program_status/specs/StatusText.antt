@@ -10,7 +10,7 @@ use Rattle.history_model.specs.WhyText.{why_text}
 use Rattle.import_text.specs.Faults.{code_of as machine_code_of}
 use Rattle.trace_reader.specs.Faults.{code_of as trace_code_of}
 use Rattle.program_status.specs.declared.status.Status.{Status}
-use Rattle.program_status.specs.declared.status.Status.TheVariants.{Done, NoMemory, Usage, ReadFault, WriteFault, TooLong, BadBoard, BadTrace, BadMachine, TooManyEvents, NotRun, Incomplete}
+use Rattle.program_status.specs.declared.status.Status.TheVariants.{Done, NoMemory, Usage, ReadFault, WriteFault, TooLong, BadBoard, BadTrace, BadMachine, TooManyEvents, NotRun, Incomplete, NotSafe, NotShown}
 use Rattle.program_status.specs.declared.status.BoardFault.{BoardFault}
 use Rattle.program_status.specs.declared.status.BoardFault.TheVariants.{Line, Tree, Bound, Device}
 
@@ -28,6 +28,8 @@ number_of (BadMachine _ _) = 6
 number_of (TooManyEvents _) = 5
 number_of (NotRun _ _) = 8
 number_of (Incomplete _) = 9
+number_of (NotSafe _ _ _) = 10
+number_of NotShown = 11
 
 abbrev pub letter_of : Family → List ℕ
 letter_of L = codes "L"
@@ -56,3 +58,6 @@ status_text (BadMachine line fault) = codes "pcitree: import line " ++ (decimal 
 status_text (TooManyEvents events) = codes "pcitree: " ++ (decimal events ++ codes " events are too many to draw")
 status_text (NotRun event why) = codes "pcitree: event " ++ (decimal event ++ (codes " is not allowed: " ++ why_text why))
 status_text (Incomplete left) = codes "pcitree: incomplete, at most " ++ (decimal left ++ codes " events left")
+status_text (NotSafe unsafe_reads lost vain) =
+    codes "pcitree: " ++ (decimal unsafe_reads ++ (codes " unsafe, " ++ (decimal lost ++ (codes " lost, " ++ (decimal vain ++ codes " vain")))))
+status_text NotShown = codes "pcitree: READ did not read before WRITE landed"

@@ -1,9 +1,9 @@
 -- What each status speaks of.
 use Rattle.std.specs.Prelude.{◌≡◌, ◌≢◌}
 use Rattle.program_status.specs.declared.status.Status.{Status}
-use Rattle.program_status.specs.declared.status.Status.TheVariants.{Done, NoMemory, Usage, ReadFault, WriteFault, TooLong, BadBoard, BadTrace, BadMachine, TooManyEvents, NotRun, Incomplete}
+use Rattle.program_status.specs.declared.status.Status.TheVariants.{Done, NoMemory, Usage, ReadFault, WriteFault, TooLong, BadBoard, BadTrace, BadMachine, TooManyEvents, NotRun, Incomplete, NotSafe, NotShown}
 
--- of nothing that went wrong, of memory, of the words, of a failing source or sink, of the length of the input, or of
+-- of a text that is whole in the sink, of memory, of the words, of a failing source or sink, of the length of the input, or of
 -- what the input says
 pub data Subject : Type 0 where
   Success : Subject
@@ -27,6 +27,8 @@ subject_of (BadMachine line fault) = Input
 subject_of (TooManyEvents events) = Input
 subject_of (NotRun event why) = Input
 subject_of (Incomplete left) = Input
+subject_of (NotSafe unsafe_reads lost vain) = Success
+subject_of NotShown = Input
 
 -- the words are of no form
 abbrev pub IsUsage : Status → Type 0
@@ -35,6 +37,10 @@ IsUsage status = subject_of status ≡ Words
 -- the input is refused for what it says
 abbrev pub IsRefusal : Status → Type 0
 IsRefusal status = subject_of status ≡ Input
+
+-- the text that answers is whole in the sink
+abbrev pub IsSuccess : Status → Type 0
+IsSuccess status = subject_of status ≡ Success
 
 -- nothing was written
 abbrev pub IsBeforeWriting : Status → Type 0

@@ -32,7 +32,9 @@ pub enum Status {
     NoMemory,
     /// The words are of no form: the place, from 0, of the first that fits no form, or the number
     /// of words where one is missing.
-    Usage { word: u32 },
+    Usage {
+        word: u32,
+    },
     /// The source failed.
     ReadFault,
     /// The sink failed: it has a front of the text.
@@ -40,24 +42,49 @@ pub enum Status {
     /// The source held too many bytes.
     TooLong,
     /// The board has a fault, at this line from 1 on, or 0 for the whole of it.
-    BadBoard { line: u32, fault: BoardFault },
+    BadBoard {
+        line: u32,
+        fault: BoardFault,
+    },
     /// The text of the trace has a fault outside its board, at this line from 1 on.
-    BadTrace { line: u32, fault: TraceLineFault },
+    BadTrace {
+        line: u32,
+        fault: TraceLineFault,
+    },
     /// What `lspci` wrote has a fault, at this line from 1 on, or 0 for the whole of it.
-    BadMachine { line: u32, fault: LspciFault },
+    BadMachine {
+        line: u32,
+        fault: LspciFault,
+    },
     /// So many events are to be drawn: more than a page may show.
-    TooManyEvents { events: u64 },
+    TooManyEvents {
+        events: u64,
+    },
     /// This event, from 1 on, is not allowed after those before it.
-    NotRun { event: u32, why: Why },
+    NotRun {
+        event: u32,
+        why: Why,
+    },
     /// The run has not ended: at most so many events are left.
-    Incomplete { left: u64 },
+    Incomplete {
+        left: u64,
+    },
+    /// The text is whole in the sink, and tells of so many reads that are not safe, writes that are
+    /// lost and polls that are met in no run: of one at least.
+    NotSafe {
+        unsafe_reads: u32,
+        lost: u32,
+        vain: u32,
+    },
+    /// The read that was named did not read before the write that was named landed.
+    NotShown,
 }
 
 impl Status {
     ghost use Rattle.std.specs.Prelude.{◌≡◌};
     ghost use Rattle.program_status.specs.StatusText.{number_of};
 
-    /// The number that the process ends with: 0 to 9.
+    /// The number that the process ends with: 0 to 11.
     pub fn number(&self) -> u8
         ensures { result ≡ number_of self.now }
     {
@@ -74,6 +101,8 @@ impl Status {
             Status::TooManyEvents { .. } => 5,
             Status::NotRun { .. } => 8,
             Status::Incomplete { .. } => 9,
+            Status::NotSafe { .. } => 10,
+            Status::NotShown => 11,
         }
     }
 }
@@ -149,6 +178,15 @@ impl fmt::Display for Status {
             Status::Incomplete { left } => {
                 write!(f, "pcitree: incomplete, at most {left} events left")
             }
+            Status::NotSafe {
+                unsafe_reads,
+                lost,
+                vain,
+            } => write!(
+                f,
+                "pcitree: {unsafe_reads} unsafe, {lost} lost, {vain} vain"
+            ),
+            Status::NotShown => write!(f, "pcitree: READ did not read before WRITE landed"),
         }
     }
 }

@@ -21,16 +21,21 @@ pub enum Part {
     First,
     /// The same, and not below the word before it.
     Last,
+    /// An operation, such as `cpu.1`: a master's name and an index. What it is called is shown.
+    Operation(&'static str),
 }
 
 /// What the words ask for.
 #[derive(Clone, Copy, Debug, PartialEq, Eq)]
 pub enum Form {
+    Safe,
+    Adverse,
     Run,
     RunSteady,
     Headers,
     Check,
     Finish,
+    Fill,
     Audit,
     Report,
     Waves,
@@ -66,12 +71,15 @@ const TRACE: usize = 0x400_0000;
 const NUMBER: usize = 10;
 
 /// All forms, in the order in which they are told.
-pub const FORMS: [Form; 15] = [
+pub const FORMS: [Form; 18] = [
+    Form::Safe,
+    Form::Adverse,
     Form::Run,
     Form::RunSteady,
     Form::Headers,
     Form::Check,
     Form::Finish,
+    Form::Fill,
     Form::Audit,
     Form::Report,
     Form::Waves,
@@ -83,6 +91,33 @@ pub const FORMS: [Form; 15] = [
     Form::Devices,
     Form::Import,
 ];
+
+const SAFE: Row = Row {
+    parts: &[Part::Word("safe"), Part::File],
+    limit: BOARD,
+    line: "what each read returns in every run of a board or device text",
+    more: "For each read that a run can reach: `OP safe TARGET SPACE ADDR VALUE`, it returns\n\
+        VALUE in every run in which it ends; or `OP unsafe TARGET SPACE ADDR beside OP`,\n\
+        nothing orders the two. Writes that no target takes are `lost`, polls that nothing\n\
+        meets `vain`, polls that can be met without the write that is meant `loose`. The\n\
+        last line counts; where a count is not 0 the status is 10. `adverse FILE OP OP`\n\
+        writes a run of an unsafe line.",
+};
+
+const ADVERSE: Row = Row {
+    parts: &[
+        Part::Word("adverse"),
+        Part::File,
+        Part::Operation("READ"),
+        Part::Operation("WRITE"),
+    ],
+    limit: BOARD,
+    line: "writes a run in which READ comes before WRITE",
+    more: "READ and WRITE are operations such as cpu.1, mostly those of an `unsafe` line of\n\
+        `safe`. Writes the trace of a complete run in which READ is read before WRITE has\n\
+        landed. Where the schedule that is tried has no such run the status is 11, and\n\
+        nothing is written.",
+};
 
 const RUN: Row = Row {
     parts: &[Part::Word("run"), Part::File],
@@ -122,6 +157,16 @@ const FINISH: Row = Row {
     line: "takes the events of a trace to the end of all programs",
     more: "The trace may have no events: then its board is run. What is written is a complete run, which\n\
         `check` takes.",
+};
+
+const FILL: Row = Row {
+    parts: &[Part::Word("fill"), Part::File],
+    limit: TRACE,
+    line: "puts the arrivals of a trace anew, as early as can be",
+    more: "No monitor on a bus sees an arrival: a trace without them will do, and those that it has are\n\
+        left away. Behind each act all that is in flight arrives, so that what is written is a run of\n\
+        these acts, which `check` takes where it is complete. An act that is refused (8) is in no run\n\
+        behind the acts before it, wherever their arrivals are.",
 };
 
 const AUDIT: Row = Row {
@@ -220,11 +265,14 @@ impl Form {
         ensures more { 0 < length result.more.now }
     {
         match self {
+            Form::Safe => SAFE,
+            Form::Adverse => ADVERSE,
             Form::Run => RUN,
             Form::RunSteady => RUN_STEADY,
             Form::Headers => HEADERS,
             Form::Check => CHECK,
             Form::Finish => FINISH,
+            Form::Fill => FILL,
             Form::Audit => AUDIT,
             Form::Report => REPORT,
             Form::Waves => WAVES,
@@ -250,6 +298,7 @@ impl Part {
             Part::Rounds => "N",
             Part::First => "FIRST",
             Part::Last => "LAST",
+            Part::Operation(name) => name,
         }
     }
 }

@@ -37,7 +37,8 @@ fn print_dump(
     events: &[Event],
 ) -> Result<(), NoMemory>
     requires { Run tree.now (history_of events.now) }
-    ensures { OnOk result (string_bytes text.new ≡ string_bytes text.old ++ text_of (dump_lines tree.now events.now)) }
+    ensures { OnOk result (string_bytes text.new
+        ≡ string_bytes text.old ++ text_of (dump_lines tree.now events.now)) }
 {
     let board = tree.board();
     let signals = print_head(alloc, text, board)?;
@@ -75,7 +76,8 @@ fn print_moments(
     requires signals { signals.now ≡ signals_of tree.now }
     requires at { IsAt tree.now beginning watch.old.kept watch.old.waits.items watch.old.scene }
     requires reads { ReadsFrom tree.now beginning signals.now shown.old.items 0 }
-    ensures { OnOk result (string_bytes text.new ≡ string_bytes text.old ++ text_of (moments tree.now 1 beginning events.now)) }
+    ensures { OnOk result (string_bytes text.new
+        ≡ string_bytes text.old ++ text_of (moments tree.now 1 beginning events.now)) }
 {
     let board = tree.board();
     for (number, event) in events.iter().enumerate() {
@@ -90,7 +92,8 @@ fn print_moments(
 }
 
 fn print_time(text: &mut String, number: usize) -> Result<(), AllocError>
-    ensures { OnOk result (string_bytes text.new ≡ string_bytes text.old ++ line_text (time_line number)) }
+    ensures { OnOk result (string_bytes text.new
+        ≡ string_bytes text.old ++ line_text (time_line number)) }
 {
     writeln!(text, "#{number}")
 }
@@ -103,7 +106,9 @@ fn readings_of(
     signals: &[Signal],
 ) -> Result<Vec<Reading>, AllocError>
     ensures each { IfOk result (λ readings. length readings.items ≡ length signals.now) }
-    ensures reads { IfOk result (λ readings. (m : Moment) → IsAt board.now m watch.now.kept watch.now.waits.items watch.now.scene → ReadsFrom board.now m signals.now readings.items 0) }
+    ensures reads { IfOk result (λ readings. (m : Moment) →
+        IsAt board.now m watch.now.kept watch.now.waits.items watch.now.scene →
+        ReadsFrom board.now m signals.now readings.items 0) }
 {
     let mut readings = Vec::new(alloc);
     for signal in signals {
@@ -152,10 +157,12 @@ fn print_moment(
 ) -> Result<(), AllocError>
     requires { length signals.now ≡ length shown.old.items }
     ensures each { OnOk result (length shown.new.items ≡ length shown.old.items) }
-    ensures text { (before after : Moment) → from ≡ scene_of board.now before → ReadsFrom board.now before signals.now shown.old.items 0
+    ensures text { (before after : Moment) → from ≡ scene_of board.now before →
+        ReadsFrom board.now before signals.now shown.old.items 0
         → IsAt board.now after watch.now.kept watch.now.waits.items watch.now.scene
         → OnOk result (string_bytes text.new ≡ string_bytes text.old ++ text_of (time_line number ∷ change_lines board.now before after 0 signals.now)) }
-    ensures reads { (after : Moment) → IsAt board.now after watch.now.kept watch.now.waits.items watch.now.scene
+    ensures reads { (after : Moment) →
+        IsAt board.now after watch.now.kept watch.now.waits.items watch.now.scene
         → OnOk result (ReadsFrom board.now after signals.now shown.new.items 0) }
 {
     print_time(text, number)?;
@@ -172,10 +179,12 @@ fn print_changes(
     watch: &Watch,
 ) -> Result<(), AllocError>
     requires { length signals.now ≡ length shown.old }
-    ensures text { (before after : Moment) → from ≡ scene_of board.now before → ReadsFrom board.now before signals.now shown.old 0
+    ensures text { (before after : Moment) → from ≡ scene_of board.now before →
+        ReadsFrom board.now before signals.now shown.old 0
         → IsAt board.now after watch.now.kept watch.now.waits.items watch.now.scene
         → OnOk result (string_bytes text.new ≡ string_bytes text.old ++ text_of (change_lines board.now before after 0 signals.now)) }
-    ensures reads { (after : Moment) → IsAt board.now after watch.now.kept watch.now.waits.items watch.now.scene
+    ensures reads { (after : Moment) →
+        IsAt board.now after watch.now.kept watch.now.waits.items watch.now.scene
         → OnOk result (ReadsFrom board.now after signals.now shown.new 0) }
 {
     for number in 0..signals.len() {
@@ -195,10 +204,12 @@ fn print_change(
     from: Option<Scene>,
     watch: &Watch,
 ) -> Result<Reading, AllocError>
-    ensures text { (before after : Moment) → from ≡ scene_of board.now before → Reads board.now before signal old
+    ensures text { (before after : Moment) → from ≡ scene_of board.now before →
+        Reads board.now before signal old
         → IsAt board.now after watch.now.kept watch.now.waits.items watch.now.scene
         → OnOk result (string_bytes text.new ≡ string_bytes text.old ++ text_of (change_line board.now before after number signal)) }
-    ensures reads { (after : Moment) → IsAt board.now after watch.now.kept watch.now.waits.items watch.now.scene
+    ensures reads { (after : Moment) →
+        IsAt board.now after watch.now.kept watch.now.waits.items watch.now.scene
         → IfOk result (λ reading. Reads board.now after signal reading) }
 {
     let reading = watch.reading(board, signal);
@@ -218,7 +229,8 @@ fn print_new(
     old: Reading,
     reading: Reading,
 ) -> Result<(), AllocError>
-    ensures { OnOk result (string_bytes text.new ≡ string_bytes text.old ++ text_of (new_line number (shown_of old) (shown_of reading))) }
+    ensures { OnOk result (string_bytes text.new
+        ≡ string_bytes text.old ++ text_of (new_line number (shown_of old) (shown_of reading))) }
 {
     if is_same(old, reading) {
         return Ok(());
@@ -236,7 +248,8 @@ fn print_bus(
     from: Option<Scene>,
     to: Option<Scene>,
 ) -> Result<(), AllocError>
-    ensures { OnOk result (string_bytes text.new ≡ string_bytes text.old ++ text_of (bus_change board.now number bus part from to)) }
+    ensures { OnOk result (string_bytes text.new
+        ≡ string_bytes text.old ++ text_of (bus_change board.now number bus part from to)) }
 {
     match to {
         Some(scene) => {
@@ -259,7 +272,9 @@ fn print_gone(
     part: BusPart,
     from: Option<Scene>,
 ) -> Result<(), AllocError>
-    ensures { OnOk result (string_bytes text.new ≡ string_bytes text.old ++ text_of (new_line number (shown_on board.now bus part from) (idle_part part))) }
+    ensures { OnOk result (string_bytes text.new
+        ≡ string_bytes text.old ++ text_of (new_line number (shown_on board.now bus part from)
+        (idle_part part))) }
 {
     if has_shown(board, bus, part, from) {
         print_idle(text, number, part)

@@ -18,7 +18,8 @@ pub(crate) fn print_head(
     board: &Board,
 ) -> Result<Vec<Signal>, AllocError>
     requires { IsTrue (is_well_formed board.now) }
-    ensures text { OnOk result (string_bytes text.new ≡ string_bytes text.old ++ text_of (head_lines board.now)) }
+    ensures text { OnOk result (string_bytes text.new
+        ≡ string_bytes text.old ++ text_of (head_lines board.now)) }
     ensures signals { IfOk result (λ signals. signals.items ≡ signals_of board.now) }
 {
     writeln!(text, "$version pcitree $end")?;
@@ -37,7 +38,8 @@ fn print_scopes(
 ) -> Result<(), AllocError>
     requires formed { IsTrue (is_well_formed board.now) }
     requires none { signals.old.items ≡ [] }
-    ensures text { OnOk result (string_bytes text.new ≡ string_bytes text.old ++ text_of (all_scopes board.now)) }
+    ensures text { OnOk result (string_bytes text.new
+        ≡ string_bytes text.old ++ text_of (all_scopes board.now)) }
     ensures signals { OnOk result (signals.new.items ≡ signals_of board.now) }
 {
     for bus in 0..256u16 {
@@ -57,8 +59,10 @@ fn print_scope(
     bus: u8,
 ) -> Result<(), AllocError>
     requires { IsTrue (is_well_formed board.now) }
-    ensures text { OnOk result (string_bytes text.new ≡ string_bytes text.old ++ text_of (scope_lines board.now (length signals.old.items) bus)) }
-    ensures signals { OnOk result (signals.new.items ≡ signals.old.items ++ signals_on board.now bus) }
+    ensures text { OnOk result (string_bytes text.new
+        ≡ string_bytes text.old ++ text_of (scope_lines board.now (length signals.old.items) bus)) }
+    ensures signals { OnOk result (signals.new.items
+        ≡ signals.old.items ++ signals_on board.now bus) }
 {
     let first = signals.len();
     add_bus(signals, board, bus)?;
@@ -68,7 +72,8 @@ fn print_scope(
 }
 
 fn print_title(text: &mut String, bus: u8) -> Result<(), AllocError>
-    ensures { OnOk result (string_bytes text.new ≡ string_bytes text.old ++ line_text (scope_title bus)) }
+    ensures { OnOk result (string_bytes text.new
+        ≡ string_bytes text.old ++ line_text (scope_title bus)) }
 {
     writeln!(text, "$scope module bus{bus} $end")
 }
@@ -81,7 +86,8 @@ fn print_vars(
     first: usize,
 ) -> Result<(), AllocError>
     requires { first ≤ length signals.now }
-    ensures { OnOk result (string_bytes text.new ≡ string_bytes text.old ++ text_of (var_lines board.now first (drop first signals.now))) }
+    ensures { OnOk result (string_bytes text.new
+        ≡ string_bytes text.old ++ text_of (var_lines board.now first (drop first signals.now))) }
 {
     for number in first..signals.len() {
         print_var(text, board, number, signals[number])?;
@@ -95,7 +101,8 @@ fn print_var(
     number: usize,
     signal: Signal,
 ) -> Result<(), AllocError>
-    ensures { OnOk result (string_bytes text.new ≡ string_bytes text.old ++ line_text (var_line board.now number signal)) }
+    ensures { OnOk result (string_bytes text.new
+        ≡ string_bytes text.old ++ line_text (var_line board.now number signal)) }
 {
     write!(text, "$var {} {} ", kind_of(signal), Code(number))?;
     print_name(text, board, signal)?;
@@ -127,7 +134,8 @@ fn kind_of(signal: Signal) -> &'static str
 }
 
 fn print_name(text: &mut String, board: &Board, signal: Signal) -> Result<(), AllocError>
-    ensures { OnOk result (string_bytes text.new ≡ string_bytes text.old ++ name_of board.now signal) }
+    ensures { OnOk result (string_bytes text.new
+        ≡ string_bytes text.old ++ name_of board.now signal) }
 {
     match signal {
         Signal::Bus { bus, part } => write!(text, "bus{bus}_{}", part_word(part)),

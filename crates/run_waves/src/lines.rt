@@ -24,7 +24,8 @@ pub(crate) fn print_reading(
     number: usize,
     reading: Reading,
 ) -> Result<(), AllocError>
-    ensures { OnOk result (string_bytes text.new ≡ string_bytes text.old ++ line_text (value_line number (shown_of reading))) }
+    ensures { OnOk result (string_bytes text.new
+        ≡ string_bytes text.old ++ line_text (value_line number (shown_of reading))) }
 {
     match reading {
         Reading::Level(true) => writeln!(text, "1{}", Code(number)),
@@ -35,7 +36,8 @@ pub(crate) fn print_reading(
 
 /// That nothing happens on its bus.
 pub(crate) fn print_idle(text: &mut String, number: usize, part: BusPart) -> Result<(), AllocError>
-    ensures { OnOk result (string_bytes text.new ≡ string_bytes text.old ++ line_text (value_line number (idle_part part))) }
+    ensures { OnOk result (string_bytes text.new
+        ≡ string_bytes text.old ++ line_text (value_line number (idle_part part))) }
 {
     match part {
         BusPart::Event | BusPart::By | BusPart::Op | BusPart::To => {
@@ -53,7 +55,9 @@ pub(crate) fn print_part(
     part: BusPart,
     scene: &Scene,
 ) -> Result<(), AllocError>
-    ensures { OnOk result (string_bytes text.new ≡ string_bytes text.old ++ line_text (value_line number (scene_part board.now part scene.now))) }
+    ensures { OnOk result (string_bytes text.new
+        ≡ string_bytes text.old ++ line_text (value_line number
+        (scene_part board.now part scene.now))) }
 {
     match part {
         BusPart::Event => writeln!(text, "s{} {}", kind_of(&scene.event), Code(number)),
@@ -66,7 +70,9 @@ pub(crate) fn print_part(
 
 /// Who presents it, or the lane of an arrival.
 fn print_by_line(text: &mut String, number: usize, event: &Event) -> Result<(), AllocError>
-    ensures { OnOk result (string_bytes text.new ≡ string_bytes text.old ++ line_text (value_line number (Text (initiator_word event.now)))) }
+    ensures { OnOk result (string_bytes text.new
+        ≡ string_bytes text.old ++ line_text (value_line number (Text
+        (initiator_word event.now)))) }
 {
     match *event {
         Event::Act { by, .. } => writeln!(text, "s{} {}", ByWord(by), Code(number)),
@@ -81,7 +87,9 @@ fn print_op_line(
     number: usize,
     scene: &Scene,
 ) -> Result<(), AllocError>
-    ensures { OnOk result (string_bytes text.new ≡ string_bytes text.old ++ line_text (value_line number (Text (op_shown board.now scene.now.event scene.now.item)))) }
+    ensures { OnOk result (string_bytes text.new
+        ≡ string_bytes text.old ++ line_text (value_line number (Text
+        (op_shown board.now scene.now.event scene.now.item)))) }
 {
     text.push_str("s")?;
     print_op(text, board, scene)?;
@@ -95,7 +103,9 @@ fn print_to_line(
     number: usize,
     scene: &Scene,
 ) -> Result<(), AllocError>
-    ensures { OnOk result (string_bytes text.new ≡ string_bytes text.old ++ line_text (value_line number (Text (to_shown board.now scene.now.event scene.now.item)))) }
+    ensures { OnOk result (string_bytes text.new
+        ≡ string_bytes text.old ++ line_text (value_line number (Text
+        (to_shown board.now scene.now.event scene.now.item)))) }
 {
     text.push_str("s")?;
     print_to(text, board, scene)?;
@@ -104,7 +114,8 @@ fn print_to_line(
 
 /// The value that is read.
 fn print_value_line(text: &mut String, number: usize, event: &Event) -> Result<(), AllocError>
-    ensures { OnOk result (string_bytes text.new ≡ string_bytes text.old ++ line_text (value_line number (value_shown event.now))) }
+    ensures { OnOk result (string_bytes text.new
+        ≡ string_bytes text.old ++ line_text (value_line number (value_shown event.now))) }
 {
     match value_of(event) {
         Some(value) => writeln!(text, "b{value:b} {}", Code(number)),
@@ -126,7 +137,8 @@ fn kind_of(event: &Event) -> &'static str
 }
 
 fn print_op(text: &mut String, board: &Board, scene: &Scene) -> Result<(), AllocError>
-    ensures { OnOk result (string_bytes text.new ≡ string_bytes text.old ++ op_shown board.now scene.now.event scene.now.item) }
+    ensures { OnOk result (string_bytes text.new
+        ≡ string_bytes text.old ++ op_shown board.now scene.now.event scene.now.item) }
 {
     match scene.event {
         Event::Act { op, .. } => print_operation(text, board, &op),
@@ -140,7 +152,8 @@ fn print_op(text: &mut String, board: &Board, scene: &Scene) -> Result<(), Alloc
 }
 
 fn print_to(text: &mut String, board: &Board, scene: &Scene) -> Result<(), AllocError>
-    ensures { OnOk result (string_bytes text.new ≡ string_bytes text.old ++ to_shown board.now scene.now.event scene.now.item) }
+    ensures { OnOk result (string_bytes text.new
+        ≡ string_bytes text.old ++ to_shown board.now scene.now.event scene.now.item) }
 {
     match scene.event {
         Event::Act { place, .. } => print_place(text, board, place),
@@ -152,7 +165,8 @@ fn print_to(text: &mut String, board: &Board, scene: &Scene) -> Result<(), Alloc
 }
 
 fn print_place(text: &mut String, board: &Board, place: Place) -> Result<(), AllocError>
-    ensures { OnOk result (string_bytes text.new ≡ string_bytes text.old ++ concat (place_words board.now place)) }
+    ensures { OnOk result (string_bytes text.new
+        ≡ string_bytes text.old ++ concat (place_words board.now place)) }
 {
     match place {
         Place::Target(target) => text.push_str(target_name(board, target)),
@@ -200,7 +214,8 @@ pub(crate) fn is_idle(board: &Board, part: BusPart, scene: &Scene) -> bool
 }
 
 fn has_no_op(scene: &Scene) -> bool
-    ensures { (board : Board) → result ≡ same_shown (Text (op_shown board scene.now.event scene.now.item)) (Text []) }
+    ensures { (board : Board) →
+        result ≡ same_shown (Text (op_shown board scene.now.event scene.now.item)) (Text []) }
 {
     match scene.event {
         Event::Act { .. } => false,
@@ -214,7 +229,8 @@ fn has_no_op(scene: &Scene) -> bool
 }
 
 fn goes_nowhere(board: &Board, scene: &Scene) -> bool
-    ensures { result ≡ same_shown (Text (to_shown board.now scene.now.event scene.now.item)) (Text []) }
+    ensures { result ≡ same_shown (Text (to_shown board.now scene.now.event scene.now.item))
+        (Text []) }
 {
     match scene.event {
         Event::Act { place, .. } => match place {

@@ -74,7 +74,8 @@ fn add_lane(signals: &mut Vec<Signal>, lane: Lane) -> Result<(), AllocError>
 
 fn add_masters(signals: &mut Vec<Signal>, board: &Board, bus: u8) -> Result<(), AllocError>
     requires { IsTrue (is_well_formed board.now) }
-    ensures { OnOk result (signals.new.items ≡ signals.old.items ++ flat_map progress (masters_on board.now bus)) }
+    ensures { OnOk result (signals.new.items
+        ≡ signals.old.items ++ flat_map progress (masters_on board.now bus)) }
 {
     for (master, agent) in board.masters.as_slice().iter().enumerate() {
         // It is one of 256 buses, with eight masters at most on each.
@@ -98,7 +99,8 @@ fn add_progress(signals: &mut Vec<Signal>, master: u16) -> Result<(), AllocError
 
 fn add_targets(signals: &mut Vec<Signal>, board: &Board, bus: u8) -> Result<(), AllocError>
     requires { IsTrue (is_well_formed board.now) }
-    ensures { OnOk result (signals.new.items ≡ signals.old.items ++ flat_map tokens_left (targets_on board.now bus)) }
+    ensures { OnOk result (signals.new.items
+        ≡ signals.old.items ++ flat_map tokens_left (targets_on board.now bus)) }
 {
     for (target, agent) in board.targets.as_slice().iter().enumerate() {
         // It is one of 256 buses, with eight targets at most on each.

@@ -36,7 +36,8 @@ impl Watch {
 
     /// Before the first event.
     pub(crate) fn new(alloc: Global, tree: &Tree) -> Result<Watch, NoMemory>
-        ensures { IfOk result (λ watch. IsAt tree.now beginning watch.kept watch.waits.items watch.scene) }
+        ensures { IfOk result
+            (λ watch. IsAt tree.now beginning watch.kept watch.waits.items watch.scene) }
     {
         let mut waits = Vec::new(alloc);
         for _master in tree.board().masters.as_slice() {
@@ -59,7 +60,9 @@ impl Watch {
     /// The event happens, which is allowed next.
     pub(crate) fn happen(&mut self, tree: &Tree, event: &Event)
         requires { Stands tree.now self.old.kept }
-        ensures { (m : Moment) → IsAt tree.now m self.old.kept self.old.waits.items self.old.scene → Allowed tree.now (past m) event.now
+        ensures { (m : Moment) →
+            IsAt tree.now m self.old.kept self.old.waits.items self.old.scene →
+            Allowed tree.now (past m) event.now
             → IsAt tree.now (next m event.now) self.new.kept self.new.waits.items self.new.scene }
     {
         let item = self.arriving(tree.board(), event);
@@ -84,7 +87,8 @@ impl Watch {
 
     /// What arrives by the event.
     fn arriving(&self, board: &Board, event: &Event) -> Option<Carried>
-        ensures { (h : List Event) → StandsFor board.now h self.now.kept → result ≡ item_by board.now h event.now }
+        ensures { (h : List Event) → StandsFor board.now h self.now.kept →
+            result ≡ item_by board.now h event.now }
     {
         match event {
             Event::Act { .. } => None,
@@ -105,7 +109,8 @@ impl Watch {
     /// A master that presented its turn waits, unless that ended.
     fn note(&mut self, event: &Event)
         ensures kept { self.new.kept ≡ self.old.kept }
-        ensures waits { self.new.waits.items ≡ waits_next self.old.kept.turns event.now self.old.waits.items }
+        ensures waits { self.new.waits.items
+            ≡ waits_next self.old.kept.turns event.now self.old.waits.items }
         ensures scene { self.new.scene ≡ self.old.scene }
     {
         if let Event::Act {
@@ -127,7 +132,9 @@ impl Watch {
 
     /// What a signal of a lane, a master or a target reads now; of a bus 0.
     pub(crate) fn reading(&self, board: &Board, signal: Signal) -> Reading
-        ensures { (m : Moment) → IsAt board.now m self.now.kept self.now.waits.items self.now.scene → Reads board.now m signal result }
+        ensures { (m : Moment) →
+            IsAt board.now m self.now.kept self.now.waits.items self.now.scene →
+            Reads board.now m signal result }
     {
         match signal {
             Signal::Bus { .. } => Reading::Number(0),
@@ -161,7 +168,8 @@ impl Watch {
     }
 
     fn waits(&self, master: u16) -> bool
-        ensures { result ≡ option_map_or (λ waits. waits) (slice_get self.now.waits.items master) false }
+        ensures { result ≡ option_map_or
+            (λ waits. waits) (slice_get self.now.waits.items master) false }
     {
         match self.waits.get(usize::from(master)) {
             Some(waits) => *waits,
@@ -170,7 +178,8 @@ impl Watch {
     }
 
     fn stalls(&self, board: &Board, target: u16) -> u64
-        ensures { (h : List Event) → StandsFor board.now h self.now.kept → result ≡ stalls_of board.now target - stalls_used h target }
+        ensures { (h : List Event) → StandsFor board.now h self.now.kept →
+            result ≡ stalls_of board.now target - stalls_used h target }
     {
         match board.targets.as_slice().get(usize::from(target)) {
             Some(_) => u64::from(self.kept.tokens(target)),

@@ -1,3 +1,4 @@
+pub mod Ops
 pub mod Raisers
 pub mod Clocks
 pub mod Safe

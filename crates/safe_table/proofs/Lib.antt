@@ -1,3 +1,10 @@
 pub mod StartLemmas
 pub mod KnownLemmas
 pub mod LowerLemmas
+pub mod FallLemmas
+pub mod ListLemmas
+pub mod BoundLemmas
+pub mod WriteLemmas
+pub mod PollLemmas
+pub mod KeptLemmas
+pub mod ReachLemmas

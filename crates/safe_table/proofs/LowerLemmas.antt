@@ -98,3 +98,9 @@ lowers_inside o other most old new program within is program_is =
 pub lowers_outside : (o : OpId) (other most : ℕ) (old : List ProgramRows) → length old ≤ o.master → LowersAt o other most old old
 lowers_outside o other most old beyond =
     subst (LowersAt o other most old) (set_past old o.master (lowered_in (rows_of old o.master) o.index other most) beyond) (lowers o other most old)
+
+-- What each function wants.
+
+pub ruleset of_programs = (lowers_inside, lowers_outside)
+
+pub ruleset of_row = (row_kept, row_past, row_lower)

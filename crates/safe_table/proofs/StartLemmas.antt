@@ -1,11 +1,11 @@
 -- To begin with everything is known behind each poll.
-use Rattle.std.proofs.Common.{◌≡◌, ℕ, zero, suc, ◌+◌, ◌-◌, ◌<◌, ◌≤◌, Bool, true, false, cond, nat_lt, List, [], ◌∷◌, ◌++◌, length, get_or, slice_get, Option, Some, None, refl, sym, ap, subst, ◌∙◌, arith}
+use Rattle.std.proofs.Common.{◌≡◌, ℕ, zero, suc, ◌+◌, ◌-◌, ◌<◌, ◌≤◌, Bool, true, false, cond, nat_lt, List, [], ◌∷◌, ◌++◌, length, get_or, slice_get, map, take, Option, Some, None, refl, sym, ap, subst, ◌∙◌, arith}
 use Rattle.std.specs.Option.{option_map_or}
 use Rattle.std.proofs.Math.ListN.{get_or-append, get_or-eq_default}
-use Rattle.std.proofs.Math.Seq.{get_or-append_seam}
+use Rattle.std.proofs.Math.Seq.{get_or-append_seam, take_all}
 use Rattle.std.proofs.lemmas.Bool.Decides.{nat_tests}
 use Rattle.std.proofs.lemmas.Option.{slice_get_past, slice_get-get_or}
-use Rattle.std.proofs.lemmas.List.{length-append}
+use Rattle.std.proofs.lemmas.List.{length-append, map-append, take_more}
 use Rattle.board_model.specs.declared.op.Op.{Op}
 use Rattle.board_model.specs.declared.agents.Master.{Master}
 use Rattle.board_model.specs.declared.board.Board.{Board}
@@ -160,7 +160,7 @@ starts_all board programs number past filled =
 
 -- What that is.
 
-tried_is : (board : Board) (master index : ℕ) → is_poll (op_of board (at_place master index)) ≡ is_tried_at (slice_get (ops_at board master) index)
+pub tried_is : (board : Board) (master index : ℕ) → is_poll (op_of board (at_place master index)) ≡ is_tried_at (slice_get (ops_at board master) index)
 tried_is board master index = by_master (slice_get board.masters master) refl
   where
     by_tries : (op : Op) (b : Bool) → is_poll (cond b (Some op) None) ≡ cond b (is_poll (Some op)) false
@@ -193,3 +193,26 @@ starts_know_all board programs starts =
           ap (λ row. number row other) ((starts.each master).row_is index ∙ ap (row_behind (everything board)) (sym (tried_is board master index)))
           ∙ (elim (is_poll (op_of board (at_place master index))) as P [ true ↦ refl | false ↦ refl ]);
     }
+
+-- How many operations the programs have.
+
+abbrev pub count_in : Master → ℕ
+count_in master = length master.ops
+
+pub counts_next : (masters : List Master) (i n : ℕ) (m : Master) (counts : List ℕ) → i < length masters → m ≡ get_or masters i m → n ≡ length m.ops → counts ≡ map count_in (take i masters) → counts ++ n ∷ [] ≡ map count_in (take (i + 1) masters)
+counts_next masters i n m counts within is number_is are =
+    let last : n ≡ count_in (get_or masters i m) = number_is ∙ ap count_in is in
+    ap (λ xs. xs ++ n ∷ []) are ∙ ap (λ k. map count_in (take i masters) ++ k ∷ []) last
+    ∙ sym (map-append count_in (take i masters) (get_or masters i m ∷ []))
+    ∙ sym (ap (map count_in) (take_more masters i m within))
+
+pub counts_all : (masters : List Master) (i : ℕ) (counts : List ℕ) → length masters ≤ i → counts ≡ map count_in (take i masters) → counts ≡ map count_in masters
+counts_all masters i counts past are = are ∙ ap (map count_in) (take_all i masters past)
+
+-- What each function wants.
+
+pub ruleset of_programs = (starts_none, starts_next, starts_all)
+
+pub ruleset of_program = (started_none, started_all)
+
+pub ruleset of_counts = (counts_next, counts_all)

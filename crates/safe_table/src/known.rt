@@ -1,6 +1,8 @@
 ghost use Rattle.std.specs.Prelude.{◌≡◌, nat_lt};
 ghost use Rattle.safe_model.specs.Clocks.{clock_of, greater};
+ghost use Rattle.safe_table.specs.Looks.{clock_in, clock_past};
 ghost use Rattle.safe_table.specs.Rows.{known_in, table_of, raised_at, KeepsPolls};
+ghost use Rattle.safe_table.specs.Falls.{LowersTo};
 
 use crate::program::Program;
 use crate::start::start_all;
@@ -10,7 +12,7 @@ use std::alloc::Global;
 use std::marker::Model;
 
 /// A table of clocks of a board: of each poll and each master, how many operations of its program
-/// are known behind the poll. No word of the program calls it.
+/// are known behind the poll.
 #[derive(Debug, Drop)]
 pub struct ClockTable {
     programs: Vec<Program>,
@@ -40,12 +42,31 @@ impl ClockTable {
     }
 
     /// How many operations of a master an operation comes after. It takes two looks.
-    #[tactic(auto, using(crate::proofs::KnownLemmas::clock_is))]
+    #[tactic(auto, using(crate::proofs::KnownLemmas::clock_looks))]
     pub fn clock(&self, op: OpId, other: u16) -> usize
         ensures { (board : Board) → KeepsPolls board self.now →
             result ≡ clock_of board (table_of self.now) op other }
     {
+        self.look(op, other)
+    }
+
+    /// The same, as the rows have it.
+    pub(crate) fn look(&self, op: OpId, other: u16) -> usize
+        ensures { result ≡ clock_in self.now op other }
+    {
         raised(self.known(op, other), op, other)
+    }
+
+    /// The same with the operation itself.
+    pub(crate) fn look_past(&self, op: OpId, other: u16) -> usize
+        ensures { result ≡ clock_past self.now op other }
+    {
+        let known = self.known(op, other);
+        if other == op.master {
+            greater(known, usize::from(op.index) + 1)
+        } else {
+            known
+        }
     }
 
     /// Whether one operation comes before another in every run.
@@ -57,13 +78,27 @@ impl ClockTable {
     }
 
     /// Behind an operation so many operations of a master are known at most, from now on.
-    #[tactic(auto, using(crate::proofs::LowerLemmas::lowers_inside, crate::proofs::LowerLemmas::lowers_outside))]
+    #[tactic(auto, using(crate::proofs::LowerLemmas::of_programs))]
     pub fn lower(&mut self, op: OpId, other: u16, most: usize)
         ensures { LowersAt op other most self.old self.new }
     {
         let master = usize::from(op.master);
         if master < self.programs.len() {
             self.programs[master].lower(usize::from(op.index), usize::from(other), most);
+        }
+    }
+
+    /// Behind an operation so many operations of each master are known at most, from now on;
+    /// whether a number fell.
+    #[tactic(auto, using(crate::proofs::FallLemmas::of_programs))]
+    pub(crate) fn lower_to(&mut self, op: OpId, most: &[usize]) -> bool
+        ensures { LowersTo op most.now self.old self.new result }
+    {
+        let master = usize::from(op.master);
+        if master < self.programs.len() {
+            self.programs[master].lower_to(usize::from(op.index), most)
+        } else {
+            false
         }
     }
 
@@ -89,7 +124,7 @@ fn raised(known: usize, op: OpId, other: u16) -> usize
     }
 }
 
-fn greater(a: usize, b: usize) -> usize
+pub(crate) fn greater(a: usize, b: usize) -> usize
     ensures { result ≡ greater a b }
 {
     if a < b { b } else { a }

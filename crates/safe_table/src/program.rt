@@ -1,5 +1,6 @@
 ghost use Rattle.std.specs.Prelude.{◌≡◌};
 ghost use Rattle.safe_table.specs.Rows.{known_at, last_in, lowered_in};
+ghost use Rattle.safe_table.specs.Falls.{FallsIn};
 
 use crate::row::Row;
 use std::marker::Model;
@@ -62,6 +63,19 @@ impl Program {
     {
         if index < self.rows.len() {
             self.rows[index].lower(other, most);
+        }
+    }
+
+    /// Behind the operation at a place so many operations of each master are known at most; whether
+    /// a number fell.
+    #[tactic(auto, using(crate::proofs::FallLemmas::of_program))]
+    pub(crate) fn lower_to(&mut self, index: usize, most: &[usize]) -> bool
+        ensures { FallsIn index most.now self.old self.new result }
+    {
+        if index < self.rows.len() {
+            self.rows[index].lower_to(most)
+        } else {
+            false
         }
     }
 }

@@ -1,14 +1,16 @@
 ghost use Rattle.std.specs.Prelude.{◌≡◌};
 ghost use Rattle.safe_table.specs.Rows.{lowered, number};
+ghost use Rattle.safe_table.specs.Falls.{Falls};
 
 use pci_command::NoMemory;
 use std::alloc::Global;
 use std::marker::Model;
 
-/// How many operations of each master's program are known, from the first on.
+/// How many operations of each master's program are known, from the first on: a program has few,
+/// and there may be many rows.
 #[derive(Debug, Drop)]
 pub(crate) struct Row {
-    numbers: Vec<usize>,
+    numbers: Vec<u16>,
 }
 
 impl Model for Row {
@@ -32,7 +34,7 @@ impl Row {
     }
 
     /// These.
-    pub(crate) fn of(numbers: Vec<usize>) -> Row
+    pub(crate) fn of(numbers: Vec<u16>) -> Row
         ensures { result ≡ numbers.items }
     {
         Row { numbers }
@@ -51,18 +53,33 @@ impl Row {
         ensures { result ≡ number self.now master }
     {
         match self.numbers.as_slice().get(usize::from(master)) {
-            Some(number) => *number,
+            Some(number) => usize::from(*number),
             None => 0,
         }
     }
 
     /// That of the master is at most this from now on.
-    #[tactic(auto, using(crate::proofs::LowerLemmas::row_kept, crate::proofs::LowerLemmas::row_past, crate::proofs::LowerLemmas::row_lower))]
+    #[tactic(auto, using(crate::proofs::LowerLemmas::of_row))]
     pub(crate) fn lower(&mut self, master: usize, most: usize)
         ensures { self.new ≡ lowered self.old master most }
     {
-        if master < self.numbers.len() && most < self.numbers[master] {
-            self.numbers[master] = most;
+        if master < self.numbers.len() && most < usize::from(self.numbers[master]) {
+            self.numbers[master] = most as u16;
         }
+    }
+
+    /// Each number is at most that of these from now on; whether one fell.
+    #[tactic(auto, using(crate::proofs::FallLemmas::of_row))]
+    pub(crate) fn lower_to(&mut self, most: &[usize]) -> bool
+        ensures { Falls most.now self.old self.new result }
+    {
+        let mut fell = false;
+        for (master, number) in most.iter().enumerate() {
+            if master < self.numbers.len() && *number < usize::from(self.numbers[master]) {
+                self.numbers[master] = *number as u16;
+                fell = true;
+            }
+        }
+        fell
     }
 }

@@ -1,15 +1,17 @@
-ghost use Rattle.std.specs.Prelude.{◌≡◌, IfOk, length};
+ghost use Rattle.std.specs.Prelude.{◌≡◌, IfOk};
+ghost use Rattle.board_model.specs.Valid.{IsValid};
 ghost use Rattle.safe_table.specs.Rows.{everything, is_tried, row_behind, Started, Starts};
 
 use crate::program::Program;
 use crate::row::Row;
-use board_model::{Board, Master, Op, tries_of};
+use board_model::{Board, Op, tries_of};
 use pci_command::NoMemory;
 use std::alloc::Global;
 
 /// What is kept of each program, where everything is known behind each poll.
-#[tactic(auto, using(crate::proofs::StartLemmas::starts_none, crate::proofs::StartLemmas::starts_next, crate::proofs::StartLemmas::starts_all))]
+#[tactic(auto, using(crate::proofs::StartLemmas::of_programs))]
 pub(crate) fn start_all(alloc: Global, board: &Board) -> Result<Vec<Program>, NoMemory>
+    requires { IsValid board.now }
     ensures { IfOk result (λ programs. Starts board.now programs.items) }
 {
     let all = everything(alloc, board)?;
@@ -21,25 +23,21 @@ pub(crate) fn start_all(alloc: Global, board: &Board) -> Result<Vec<Program>, No
 }
 
 /// How many operations the program of each master has.
+#[tactic(auto, using(crate::proofs::StartLemmas::of_counts))]
 fn everything(alloc: Global, board: &Board) -> Result<Row, NoMemory>
+    requires { IsValid board.now }
     ensures { IfOk result (λ row. row ≡ everything board.now) }
 {
-    let masters = board.masters.as_slice();
-    let numbers = masters
-        .iter()
-        .map(|master| count_of(master))
-        .collect(alloc)?;
+    let mut numbers = Vec::new(alloc);
+    for master in board.masters.as_slice() {
+        let count = master.ops.as_slice().len();
+        numbers.push(count as u16)?;
+    }
     Ok(Row::of(numbers))
 }
 
-fn count_of(master: &Master) -> usize
-    ensures { result ≡ length master.now.ops }
-{
-    master.ops.as_slice().len()
-}
-
 /// What is kept of a program.
-#[tactic(auto, using(crate::proofs::StartLemmas::started_none, crate::proofs::StartLemmas::started_all))]
+#[tactic(auto, using(crate::proofs::StartLemmas::of_program))]
 fn start_of(alloc: Global, all: &Row, ops: &[Op]) -> Result<Program, NoMemory>
     ensures { IfOk result (Started all.now ops.now) }
 {
@@ -67,7 +65,7 @@ fn row_behind(alloc: Global, all: &Row, is_poll: bool) -> Result<Row, NoMemory>
 }
 
 /// Whether it is a poll, which is tried at least once.
-fn is_tried(op: &Op) -> bool
+pub(crate) fn is_tried(op: &Op) -> bool
     ensures { result ≡ is_tried op.now }
 {
     tries_of(op) > 0 && matches!(op, Op::Poll { .. })

@@ -6,6 +6,7 @@ mod events;
 mod names;
 mod printed;
 mod runs;
+mod written;
 
 ghost use Rattle.std.specs.Prelude.{◌≡◌, ◌<◌, ◌^◌, List, length, Ok, true, false};
 ghost use Rattle.std.specs.List.{AllByRecursion};
@@ -21,8 +22,8 @@ ghost use Rattle.trace_roundtrip.specs.events.Fits.{EventFits};
 
 pub use events::{end_lines_are_read, event_lines_are_read};
 pub use names::{numbers_are_read, operations_are_read, targets_are_read};
-pub use printed::printed_trace_is_read;
-pub use runs::{completions_say_how, run_has_lines, runs_have_lines};
+pub use runs::{completions_say_how, runs_have_lines};
+pub use written::run_text;
 
 /// The text of a trace is read as its board and its events, where the board is well formed and has
 /// every bus that it names, and each event has a line over it.

@@ -13,7 +13,7 @@ use board_roundtrip::board_fits;
 use history_model::Event;
 
 /// What is printed of a board and events of the program is read as the same pair.
-pub fn printed_trace_is_read(board: &Board, events: &[Event])
+pub(crate) fn printed_trace_is_read(board: &Board, events: &[Event])
     requires well_formed { IsTrue (is_well_formed board.now) }
     requires buses { lacks_a_bus board.now ≡ false }
     requires lines { All (HasLine board.now) events.now }

@@ -14,7 +14,7 @@ ghost use Rattle.history_model.specs.Runs.{Run};
 ghost use Rattle.trace_text.specs.Events.{HasLine};
 ghost use Rattle.trace_roundtrip.specs.runs.Completions.{SaysHow};
 
-pub use printed::run_has_lines;
+pub(crate) use printed::run_has_lines;
 
 /// A completion in flight or standing on a lane says what came of its request: a value, that the
 /// write was taken, or that it was aborted.

@@ -1,9 +1,9 @@
 -- What is found of an event is what the list has of it.
-use Rattle.std.proofs.Common.{◌≡◌, ℕ, ◌+◌, ◌-◌, ◌<◌, ◌≤◌, Bool, true, false, not, ◌&&◌, ◌||◌, cond, eqb, nat_lt, List, [], ◌∷◌, ◌++◌, length, take, drop, reverse, get_or, slice_get, Option, Some, None, is_some, refl, sym, ap, subst, ◌∙◌, arith}
+use Rattle.std.proofs.Common.{◌≡◌, ℕ, ◌+◌, ◌-◌, ◌<◌, ◌≤◌, Bool, true, false, not, ◌&&◌, cond, nat_lt, List, [], ◌∷◌, ◌++◌, length, take, drop, reverse, get_or, slice_get, Option, Some, None, is_some, refl, sym, ap, subst, ◌∙◌, arith}
 use Rattle.std.specs.List.{find, list_any}
 use Rattle.std.proofs.lemmas.Bool.Decides.{nat_tests}
 use Rattle.std.proofs.lemmas.List.{take_all, take_more, reverse-append, take-append-drop}
-use Rattle.std.proofs.lemmas.Option.{slice_get-get_or, slice_get_within}
+use Rattle.std.proofs.lemmas.Option.{slice_get-get_or}
 use Rattle.pci_command.specs.declared.op_id.OpId.{OpId}
 use Rattle.board_model.specs.declared.board.Board.{Board}
 use Rattle.history_model.specs.declared.event.Event.{Event}
@@ -14,13 +14,15 @@ use Rattle.history_model.specs.Runs.{RunBy, history_of}
 use Rattle.board_model.specs.declared.word.Word.{Word}
 use Rattle.audit_clocks.specs.Rows.{number}
 use Rattle.law_audit.specs.Clocks.{reaches}
-use Rattle.audit_landings.specs.Hits.{dword, or_place, whole_at}
+use Rattle.audit_landings.specs.Hits.{or_place, whole_at}
 use Rattle.audit_landings.proofs.Laws.{whole_has}
 use Rattle.law_untagged.specs.Untagged.{UntaggedRun}
 use Rattle.law_untagged.specs.Origins.{ending_reading, untagged_got}
 use Rattle.law_untagged.specs.Heard.{untagged_was_told}
 use Rattle.law_untagged.specs.Orderly.{Front, Orderly}
-use Rattle.law_untagged.specs.Stale.{StaleRead, same_dword, breaks, breaks_in, ops_by, stale_by, stale_at, stale_ending, stale_in}
+use Rattle.safe_model.specs.Raisers.{same_dword}
+use Rattle.safe_model.specs.Ops.{ops_by}
+use Rattle.law_untagged.specs.Stale.{StaleRead, breaks, breaks_in, stale_by, stale_at, stale_ending, stale_in}
 use Rattle.law_untagged.proofs.HeardLemmas.{ending_front}
 use Rattle.law_untagged.proofs.OrderLemmas.{front_front, front_more, front_self}
 use Rattle.law_untagged.proofs.ToldLemmas.{got_along}
@@ -35,7 +37,7 @@ use Rattle.machine_steps.specs.Endings.{ended_op}
 use Rattle.untagged_run.specs.told.Knowers.{KnowerState, known_at, Knows}
 use Rattle.untagged_run.proofs.told.NextLemmas.{master_within}
 use Rattle.untagged_check.specs.index.Entries.{Listing}
-use Rattle.untagged_check.specs.index.Pending.{is_before, landed_before, reaches_in, names, is_pending, first_pending}
+use Rattle.untagged_check.specs.index.Pending.{is_before, reaches_in, names, is_pending, first_pending}
 use Rattle.untagged_check.specs.Found.{IndexesRun, is_unlanded, first_unlanded, found_by, found_with, found_at, found_ending}
 
 -- what is found by tests that agree

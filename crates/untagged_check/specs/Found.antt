@@ -8,7 +8,8 @@ use Rattle.history_model.specs.Knowledge.{is_write}
 use Rattle.board_model.specs.declared.word.Word.{Word}
 use Rattle.audit_clocks.specs.Tables.{value_of}
 use Rattle.audit_landings.specs.Hits.{whole_at}
-use Rattle.law_untagged.specs.Stale.{StaleRead, ops_by}
+use Rattle.safe_model.specs.Ops.{ops_by}
+use Rattle.law_untagged.specs.Stale.{StaleRead}
 use Rattle.untagged_run.specs.declared.got.Got.{Got}
 use Rattle.untagged_check.specs.index.Entries.{Listing}
 use Rattle.untagged_check.specs.index.Kept.{Indexes}

@@ -1,4 +1,3 @@
 pub mod Judged
 pub mod Found
 pub mod index
-pub mod masters

@@ -7,7 +7,6 @@ ghost use Rattle.std.specs.Prelude.{◌<◌, ◌^◌, length, IfOk};
 ghost use Rattle.untagged_check.specs.Judged.{JudgesUntagged};
 
 mod index;
-mod masters;
 mod stale;
 mod verdict;
 
@@ -16,7 +15,6 @@ use history_model::Event;
 use law_untagged::{
     apart_runs_are_alike, apart_runs_are_sound, stale_reads_are_listed, stale_reads_break_freshness,
 };
-pub use masters::apart;
 use pci_command::{List, NoMemory};
 use stale::stale_reads;
 use std::alloc::Global;

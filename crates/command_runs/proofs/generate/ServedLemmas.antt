@@ -1,22 +1,13 @@
 -- A word that names rounds is short, and is refused only for want of memory.
-use Rattle.std.proofs.Common.{◌≡◌, ℕ, ◌*◌, ◌^◌, ◌≤◌, Bool, true, false, cond, nat_lt, List, length, Option, Result, Ok, Err, inl, refl, ap, subst, ◌∙◌, ltb-false}
+use Rattle.std.proofs.Common.{◌≡◌, ℕ, ◌^◌, ◌≤◌, Bool, true, false, cond, nat_lt, List, length, Result, Ok, Err, inl, refl, ap, ltb-false}
 use Rattle.std.specs.Str.Parse.{digits_value}
 use Rattle.std.specs.Option.{is_some}
-use Rattle.board_model.specs.declared.board.Board.{Board}
-use Rattle.board_model.specs.Ways.{bound_of}
-use Rattle.board_model.specs.Valid.{IsValid}
-use Rattle.history_model.specs.declared.event.Event.{Event}
-use Rattle.history_model.specs.Runs.{history_of}
-use Rattle.judge_check.specs.Verdicts.{CompleteRun}
-use Rattle.traffic_generator.specs.Generated.{generated}
-use Rattle.run_report.specs.Report.{report_of}
 use Rattle.board_text.specs.declared.numbers.NumberFault.{NumberFault}
 use Rattle.board_text.specs.declared.numbers.NumberFault.TheVariants.{TooWide, NotDigits, OutOfRange}
 use Rattle.board_text.specs.Numbers.{is_numeral}
-use Rattle.program_status.specs.declared.status.Status.TheVariants.{NoMemory}
 use Rattle.program_status.specs.Subjects.{subject_of}
 use Rattle.program_input.specs.Refusals.{IsRefusing}
-use Rattle.command_runs.specs.generate.Answers.{GeneratesTo, rounds_by, rounds_of, names_rounds, NamesRounds, RefusesGenerate}
+use Rattle.command_runs.specs.generate.Answers.{rounds_by, rounds_of, names_rounds, NamesRounds, RefusesGenerate}
 
 -- it has at most ten digits
 pub names_short : (word : List ℕ) → names_rounds word ≡ true → length word ≤ 10

@@ -26,8 +26,3 @@ pub record AnswersFinish (input text : List ℕ) : Type 0 where
 abbrev pub RefusesFinish : List ℕ → Status → Type 0
 RefusesFinish input (NotRun event why) = IsNoRun input event why
 RefusesFinish input status = RefusesTrace input status
-
--- the trace text of these events, which is read as them
-pub record IsTraceOf (board : Board) (events : List Event) (text : List ℕ) : Type 0 where
-  pub written : text ≡ trace_of board events
-  pub read_back : trace_read text ≡ Ok (board, events)

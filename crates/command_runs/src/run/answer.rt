@@ -1,18 +1,15 @@
 ghost use Rattle.std.specs.Prelude.{◌<◌, ◌^◌, length, IfOk, IfErr};
 ghost use Rattle.program_input.specs.Boards.{RefusesBoard};
-ghost use Rattle.judge_check.specs.Verdicts.{CompleteRun};
 ghost use Rattle.command_runs.specs.run.Answers.{AnswersRun, RunsTo};
 
 use board_tree::Tree;
 use engine_runs::{Gate, steady_run, threaded_run};
-use history_model::Event;
 use pci_command::{List, NoMemory};
 use program_input::read_tree;
 use program_status::Status;
 use std::alloc::Global;
 use std::thread::Threads;
-use trace_roundtrip::{printed_trace_is_read, run_has_lines};
-use trace_text::print_trace;
+use trace_roundtrip::run_text;
 
 /// The trace of a run of the board whose text these bytes are, in which a thread of its own works each
 /// bus, and the gate is told of the turns of each: which run it is depends on the threads. It is
@@ -56,23 +53,12 @@ fn threaded_trace<R: Threads + Sync, G: Gate + Sync>(
     ensures { IfOk result (RunsTo tree.now) }
 {
     let events = threaded_run(rt, alloc, tree, gate)?;
-    trace_of(alloc, tree, events.as_slice())
+    run_text(alloc, tree.board(), events.as_slice())
 }
 
 fn steady_trace(alloc: Global, tree: &Tree) -> Result<List<u8>, NoMemory>
     ensures { IfOk result (RunsTo tree.now) }
 {
     let events = steady_run(alloc, tree)?;
-    trace_of(alloc, tree, events.as_slice())
-}
-
-/// The trace text of a run of the board.
-fn trace_of(alloc: Global, tree: &Tree, events: &[Event]) -> Result<List<u8>, NoMemory>
-    requires { CompleteRun tree.now events.now }
-    ensures { IfOk result (RunsTo tree.now) }
-{
-    let board = tree.board();
-    run_has_lines(board, events);
-    printed_trace_is_read(board, events);
-    print_trace(alloc, board, events)
+    run_text(alloc, tree.board(), events.as_slice())
 }

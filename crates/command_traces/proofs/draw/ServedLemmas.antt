@@ -1,6 +1,5 @@
 -- The text of a run of which few enough events are to be drawn is not refused.
 use Rattle.std.proofs.Common.{◌≡◌, ◌<◌, ℕ, List, Option, ◌⊎◌, inr, refl, length, subst, sym, arith}
-use Rattle.board_model.specs.declared.board.Board.{Board}
 use Rattle.history_model.specs.declared.event.Event.{Event}
 use Rattle.program_input.specs.Refusals.{IsRefusing}
 use Rattle.program_input.specs.Traces.{IsRunTrace}

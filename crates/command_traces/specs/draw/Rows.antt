@@ -1,6 +1,7 @@
 -- Which events of a run are drawn.
-use Rattle.std.specs.Prelude.{ℕ, ◌+◌, ◌-◌, min, Bool, List, Option, Some, None, Result, Ok, Err, nat_lt, is_some, if◌then◌else◌}
+use Rattle.std.specs.Prelude.{ℕ, ◌+◌, ◌-◌, ◌^◌, min, Bool, List, Option, Some, None, Result, Ok, Err, nat_lt, is_some, if◌then◌else◌}
 use Rattle.board_text.specs.declared.numbers.NumberFault.{NumberFault}
+use Rattle.board_text.specs.declared.numbers.NumberFault.TheVariants.{TooWide, NotDigits, OutOfRange}
 use Rattle.board_text.specs.Numbers.{decimal_answer}
 use Rattle.command_traces.specs.declared.draw.rows.Rows.{Rows}
 
@@ -17,10 +18,13 @@ last_row (Some rows) count = min rows.last count
 abbrev pub drawn_count : Option Rows → ℕ → ℕ
 drawn_count rows count = last_row rows count + 1 - first_row rows
 
--- the number of an event that a word tells: a decimal of 1 to 10 digits, from 1 on
+-- the number of an event that a word tells: a decimal of 1 to 10 digits, from 1 on; one of 2^32 or above is lowered to the
+-- number before, which no event has
 abbrev pub event_by : Result ℕ NumberFault → Option ℕ
 event_by (Ok number) = if nat_lt 0 number then Some number else None
-event_by (Err fault) = None
+event_by (Err OutOfRange) = Some (2 ^ 32 - 1)
+event_by (Err TooWide) = None
+event_by (Err NotDigits) = None
 
 unfoldable pub event_of : List ℕ → Option ℕ
 event_of word = event_by (decimal_answer word)

@@ -1,10 +1,11 @@
 -- untagged: the lines that are written for a trace text.
-use Rattle.std.specs.Prelude.{ℕ, Bool, true, false, List, [], ◌∷◌, ◌++◌, length, map, codes}
+use Rattle.std.specs.Prelude.{ℕ, Bool, List, [], ◌∷◌, ◌++◌, length, map, codes}
 use Rattle.std.specs.Fmt.{decimal}
 use Rattle.board_model.specs.declared.board.Board.{Board}
 use Rattle.board_printer.specs.Lines.{Line, line_text, text_of}
 use Rattle.trace_text.specs.Words.{op_word}
 use Rattle.untagged_check.specs.declared.verdict.Stale.{Stale}
+use Rattle.untagged_apart.specs.Lines.{apart_line}
 
 -- `untagged run of N events`
 abbrev pub run_line : ℕ → Line
@@ -21,14 +22,6 @@ stale_lines board stale = text_of (map (stale_line board) stale)
 -- `stale M`
 abbrev pub count_line : ℕ → Line
 count_line stale = codes "stale" ∷ decimal stale ∷ []
-
-abbrev pub yes_or_no : Bool → List ℕ
-yes_or_no true = codes "yes"
-yes_or_no false = codes "no"
-
--- `apart yes` or `apart no`
-abbrev pub apart_line : Bool → Line
-apart_line apart = codes "apart" ∷ yes_or_no apart ∷ []
 
 -- all lines
 abbrev pub untagged_text : Board → ℕ → List Stale → Bool → List ℕ

@@ -43,7 +43,8 @@ fn verdict_text(alloc: Global, events: usize, bound: u64) -> Result<Vec<u8>, Sta
 }
 
 fn print_verdict(text: &mut String, events: usize, bound: u64) -> Result<(), AllocError>
-    ensures { OnOk result (string_bytes text.new ≡ string_bytes text.old ++ check_text events bound) }
+    ensures { OnOk result (string_bytes text.new
+        ≡ string_bytes text.old ++ check_text events bound) }
 {
     writeln!(text, "complete run of {events} events, bound {bound}")
 }

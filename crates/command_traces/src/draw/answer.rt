@@ -69,7 +69,8 @@ fn page_of_rows(
     rows: Option<Rows>,
 ) -> Result<List<u8>, NoMemory>
     requires { Run tree.now (history_of events.now) }
-    ensures { IfOk result (λ page. page ≡ page_of tree.now events.now (first_row rows) (last_row rows (length events.now))) }
+    ensures { IfOk result (λ page. page
+        ≡ page_of tree.now events.now (first_row rows) (last_row rows (length events.now))) }
 {
     // The board of a tree is valid, so that a run of it has at most 500,000 events.
     runs_end();

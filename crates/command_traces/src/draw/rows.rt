@@ -1,7 +1,7 @@
 ghost use Rattle.std.specs.Prelude.{◌≡◌};
 ghost use Rattle.command_traces.specs.draw.Rows.{event_of, names_event, rows_of};
 
-use board_text::decimal;
+use board_text::{NumberFault, decimal};
 
 /// The numbers, from 1 on, of the first and the last event that is drawn. The last may be above the number of events.
 #[derive(Clone, Copy, Debug, PartialEq, Eq)]
@@ -10,8 +10,9 @@ pub struct Rows {
     pub last: u32,
 }
 
-/// The number of an event that a word tells: a decimal of 1 to 10 digits, from 1 on. There is none
-/// exactly where the word is no such number.
+/// The number of an event that a word tells: a decimal of 1 to 10 digits, from 1 on; one of 2^32 or
+/// above is lowered to the number before, which no event has. There is none exactly where the word
+/// is no such number.
 #[tactic(auto, unfolding(crate::specs::draw::Rows::event_of))]
 pub fn event_of(word: &[u8]) -> Option<u32>
     ensures { result ≡ event_of word.now }
@@ -19,7 +20,8 @@ pub fn event_of(word: &[u8]) -> Option<u32>
     match decimal(word) {
         Ok(0) => None,
         Ok(number) => Some(number),
-        Err(_) => None,
+        Err(NumberFault::OutOfRange) => Some(u32::MAX),
+        Err(NumberFault::TooWide | NumberFault::NotDigits) => None,
     }
 }
 

@@ -1,4 +1,5 @@
-ghost use Rattle.std.specs.Prelude.{◌<◌, ◌^◌, length, IfOk, IfErr};
+ghost use Rattle.std.specs.Prelude.{◌≡◌, ◌<◌, ◌^◌, ◌↔◌, IsTrue, length, IfOk, IfErr};
+ghost use Rattle.law_untagged.specs.Apart.{Apart};
 ghost use Rattle.command_traces.specs.untagged.Answers.{AnswersUntagged, RefusesUntagged, Tells, RefusesEvents};
 
 use crate::untagged::text::untagged_text;
@@ -7,7 +8,8 @@ use history_model::Event;
 use program_input::read_tree_trace;
 use program_status::Status;
 use std::alloc::Global;
-use untagged_check::{Untagged, apart, check_untagged};
+use untagged_apart::apart;
+use untagged_check::{Untagged, check_untagged};
 
 /// The lines for a trace text of a run on bridges that keep no local master: how many events it has, its
 /// stale reads and how many they are, and whether masters are apart on its board.
@@ -27,10 +29,20 @@ fn answer_events(alloc: Global, tree: &Tree, events: &[Event]) -> Result<Vec<u8>
 {
     match check_untagged(alloc, tree, events) {
         Ok(Untagged::Run { stale }) => {
-            let apart = apart(tree);
+            let apart = are_apart(alloc, tree)?;
             untagged_text(alloc, tree.board(), events.len(), stale.as_slice(), apart)
         }
         Ok(Untagged::NotRun { event, why }) => Err(Status::NotRun { event, why }),
+        Err(_) => Err(Status::NoMemory),
+    }
+}
+
+fn are_apart(alloc: Global, tree: &Tree) -> Result<bool, Status>
+    ensures ok { IfOk result (λ apart. IsTrue apart ↔ Apart tree.now) }
+    ensures err { IfErr result (λ status. status ≡ Status.NoMemory) }
+{
+    match apart(alloc, tree) {
+        Ok(apart) => Ok(apart),
         Err(_) => Err(Status::NoMemory),
     }
 }

@@ -1,11 +1,12 @@
 ghost use Rattle.std.specs.Prelude.{◌≡◌, ◌++◌, IfOk, IfErr, OnOk, string_bytes};
 ghost use Rattle.board_printer.specs.Lines.{line_text};
-ghost use Rattle.command_traces.specs.untagged.Lines.{run_line, stale_line, stale_lines, count_line, apart_line, untagged_text};
+ghost use Rattle.command_traces.specs.untagged.Lines.{run_line, stale_line, stale_lines, count_line, untagged_text};
 
 use board_model::Board;
 use program_status::Status;
 use std::alloc::{AllocError, Global};
 use trace_text::print_operation;
+use untagged_apart::print_apart;
 use untagged_check::Stale;
 
 /// All lines of a run.
@@ -33,7 +34,8 @@ fn print_untagged(
     stale: &[Stale],
     apart: bool,
 ) -> Result<(), AllocError>
-    ensures { OnOk result (string_bytes text.new ≡ string_bytes text.old ++ untagged_text board.now events stale.now apart) }
+    ensures { OnOk result (string_bytes text.new
+        ≡ string_bytes text.old ++ untagged_text board.now events stale.now apart) }
 {
     print_run(text, events)?;
     print_stales(text, board, stale)?;
@@ -42,14 +44,16 @@ fn print_untagged(
 }
 
 fn print_run(text: &mut String, events: usize) -> Result<(), AllocError>
-    ensures { OnOk result (string_bytes text.new ≡ string_bytes text.old ++ line_text (run_line events)) }
+    ensures { OnOk result (string_bytes text.new
+        ≡ string_bytes text.old ++ line_text (run_line events)) }
 {
     writeln!(text, "untagged run of {events} events")
 }
 
 /// A line for each stale read.
 fn print_stales(text: &mut String, board: &Board, stale: &[Stale]) -> Result<(), AllocError>
-    ensures { OnOk result (string_bytes text.new ≡ string_bytes text.old ++ stale_lines board.now stale.now) }
+    ensures { OnOk result (string_bytes text.new
+        ≡ string_bytes text.old ++ stale_lines board.now stale.now) }
 {
     for one in stale {
         print_stale(text, board, one)?;
@@ -58,7 +62,8 @@ fn print_stales(text: &mut String, board: &Board, stale: &[Stale]) -> Result<(),
 }
 
 fn print_stale(text: &mut String, board: &Board, stale: &Stale) -> Result<(), AllocError>
-    ensures { OnOk result (string_bytes text.new ≡ string_bytes text.old ++ line_text (stale_line board.now stale.now)) }
+    ensures { OnOk result (string_bytes text.new
+        ≡ string_bytes text.old ++ line_text (stale_line board.now stale.now)) }
 {
     print_operation(text, board, &stale.read)?;
     text.push_str(" stale ")?;
@@ -67,17 +72,8 @@ fn print_stale(text: &mut String, board: &Board, stale: &Stale) -> Result<(), Al
 }
 
 fn print_count(text: &mut String, stale: usize) -> Result<(), AllocError>
-    ensures { OnOk result (string_bytes text.new ≡ string_bytes text.old ++ line_text (count_line stale)) }
+    ensures { OnOk result (string_bytes text.new
+        ≡ string_bytes text.old ++ line_text (count_line stale)) }
 {
     writeln!(text, "stale {stale}")
-}
-
-fn print_apart(text: &mut String, apart: bool) -> Result<(), AllocError>
-    ensures { OnOk result (string_bytes text.new ≡ string_bytes text.old ++ line_text (apart_line apart)) }
-{
-    if apart {
-        writeln!(text, "apart yes")
-    } else {
-        writeln!(text, "apart no")
-    }
 }

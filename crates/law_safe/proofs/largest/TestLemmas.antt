@@ -15,8 +15,8 @@ use Rattle.history_model.specs.Words.{opens_as}
 use Rattle.history_model.specs.Knowledge.{is_write, words_named}
 use Rattle.law_lanes.specs.order.Order.{is_posted_op}
 use Rattle.history_model.proofs.facts.RequestLemmas.{same_op_true}
-use Rattle.law_untagged.specs.Stale.{ops_by}
-use Rattle.law_untagged.proofs.StaleLemmas.{write_listed}
+use Rattle.safe_model.specs.Ops.{ops_by}
+use Rattle.safe_model.proofs.OpsLemmas.{write_listed}
 use Rattle.safe_model.specs.Raisers.{same_dword, phases_for, phases_in, phases_to, is_met_by, is_whole, brings_met, is_plain, Raises, Firm}
 use Rattle.safe_model.specs.Clocks.{Table, clock_of, IsBefore, behind, LandsNoMore, lands_once, stands_before, had_ended, WritesBefore, LeftOut, OpensOut}
 use Rattle.law_safe.specs.largest.Tests.{is_before, lands_no_more, brings, writes_of, writes_before, Wish, raises, is_last, is_clean, is_firm, opens_out, is_left_out}

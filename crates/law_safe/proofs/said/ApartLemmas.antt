@@ -19,7 +19,7 @@ use Rattle.board_model.specs.Ways.{Dword, address_in, aborts_at, dwords_from, dw
 use Rattle.history_model.specs.Knowledge.{is_write, words_on, words_named}
 use Rattle.list_facts.proofs.EachLemmas.{Each-append, Each-weaker}
 use Rattle.history_model.proofs.facts.RequestLemmas.{same_op_true}
-use Rattle.law_untagged.specs.Stale.{ops_from, ops_by}
+use Rattle.safe_model.specs.Ops.{ops_from, ops_by}
 use Rattle.safe_model.specs.Raisers.{same_dword, phases_for, phases_in, phases_to}
 use Rattle.law_safe.proofs.largest.TestLemmas.{either_way}
 

@@ -28,7 +28,7 @@ use Rattle.history_model.specs.Runs.{Run}
 use Rattle.list_facts.proofs.EachLemmas.{Each-all, Each-weaker}
 use Rattle.list_facts.proofs.FindLemmas.{find-none_any}
 use Rattle.history_model.proofs.facts.RequestLemmas.{same_op_self}
-use Rattle.law_untagged.specs.Stale.{ops_by}
+use Rattle.safe_model.specs.Ops.{ops_by}
 use Rattle.safe_model.specs.Raisers.{Raises, phases_to, phases_in}
 use Rattle.safe_model.specs.Clocks.{Table, is_poll, clock_of, IsBefore, LeftOut, Awaits}
 use Rattle.safe_model.specs.Safe.{IsSafe}

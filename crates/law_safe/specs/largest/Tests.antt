@@ -12,7 +12,7 @@ use Rattle.board_model.specs.Ways.{Dword}
 use Rattle.history_model.specs.Words.{opens_as}
 use Rattle.history_model.specs.Knowledge.{words_named}
 use Rattle.law_lanes.specs.order.Order.{is_posted_op}
-use Rattle.law_untagged.specs.Stale.{ops_by}
+use Rattle.safe_model.specs.Ops.{ops_by}
 use Rattle.safe_model.specs.Raisers.{phases_to, is_met_by, is_whole, brings_met, is_plain, same_dword}
 use Rattle.safe_model.specs.Clocks.{Table, greater, clock_of, clock_with, behind}
 

@@ -22,8 +22,16 @@ pub fn is_refused(alloc: Global, text: &[u8], status: &Status) -> Result<bool, N
     match read_tree(alloc, text) {
         Ok(_) => Ok(false),
         Err(Status::NoMemory) => Err(NoMemory),
-        Err(refusal) => Ok(refusal == *status),
+        Err(refusal) => Ok(is_same(&refusal, status)),
     }
+}
+
+/// Whether two statuses are one.
+fn is_same(a: &Status, b: &Status) -> bool
+    ensures yes { result ≡ true → a.now ≡ b.now }
+    ensures no { result ≡ false → a.now ≢ b.now }
+{
+    a == b
 }
 
 /// The line of this number, from 1 on, and the place at which it begins. Behind the last newline a

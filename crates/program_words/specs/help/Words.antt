@@ -1,7 +1,7 @@
 -- The words that the program may be called with first.
 use Rattle.std.specs.Prelude.{ℕ, Bool, false, List, [], ◌∷◌}
 use Rattle.std.specs.Str.{bytes_eq}
-use Rattle.program_words.specs.Shapes.Shape.{Word, File, Rounds, First, Last}
+use Rattle.program_words.specs.Shapes.Shape.{Word}
 use Rattle.program_words.specs.declared.help.own.OwnWord.{OwnWord}
 use Rattle.program_words.specs.Shapes.{Shape}
 
@@ -9,10 +9,7 @@ use Rattle.program_words.specs.Shapes.{Shape}
 abbrev pub begins : List ℕ → List Shape → Bool
 begins word [] = false
 begins word (Word text ∷ parts) = bytes_eq text word
-begins word (File ∷ parts) = false
-begins word (Rounds ∷ parts) = false
-begins word (First ∷ parts) = false
-begins word (Last ∷ parts) = false
+begins word (_ ∷ parts) = false
 
 abbrev pub is_own : List ℕ → OwnWord → Bool
 is_own word own = bytes_eq own.word.now word

@@ -3,7 +3,7 @@ use crate::{Part, Row};
 use std::fmt;
 
 /// Where the help lines begin.
-const COLUMN: usize = 20;
+const COLUMN: usize = 24;
 
 /// The words of one way to call the program.
 #[derive(Clone, Copy, Debug)]

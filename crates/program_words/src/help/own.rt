@@ -26,8 +26,10 @@ pub static OWN_WORDS: [OwnWord; 3] = [
         more: "The exit status is 0 where all went well, 1 for no memory, 2 for usage, 3 where the file was not\n\
             read, 4 where the output was not written, 5 for an input that is too long or a run with too many\n\
             events to draw, 6 for a fault of the board or of what `lspci` wrote, 7 for one of the\n\
-            trace text, 8 for an event that is not allowed, 9 for a run that has not ended. Standard\n\
-            error says in its first line which it is, and behind it where and why.",
+            trace text, 8 for an event that is not allowed, 9 for a run that has not ended, 10\n\
+            where `safe` lists an unsafe read, a lost write or a vain poll, 11 where `adverse`\n\
+            found no such run. Standard error says in its first line which it is, and behind it\n\
+            where and why.",
     },
     OwnWord {
         word: "--version",

@@ -17,7 +17,8 @@ pub struct WordHelp<'a> {
 
 /// The help of a word, if it is one of the program's.
 pub fn word_help(word: &str) -> Option<WordHelp<'_>>
-    ensures forms { IsTrue (list_any (λ form. begins word.now (parts_of form)) FORMS) → IsSome result }
+    ensures forms { IsTrue (list_any (λ form. begins word.now (parts_of form)) FORMS) →
+        IsSome result }
 {
     if begins_form(word) || is_one_of(&OWN_WORDS, word) {
         Some(WordHelp { word })
@@ -40,7 +41,7 @@ fn begins(parts: &[Part], word: &str) -> bool
         [] => false,
         [part, ..] => match *part {
             Part::Word(text) => text == word,
-            Part::File | Part::Rounds | Part::First | Part::Last => false,
+            _ => false,
         },
     }
 }

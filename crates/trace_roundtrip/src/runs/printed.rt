@@ -9,7 +9,7 @@ use board_model::Board;
 use history_model::Event;
 
 /// The events of a run of the program have lines, in the order of a trace.
-pub fn run_has_lines(board: &Board, events: &[Event])
+pub(crate) fn run_has_lines(board: &Board, events: &[Event])
     requires well_formed { IsTrue (is_well_formed board.now) }
     requires buses { lacks_a_bus board.now ≡ false }
     requires run { Run board.now (history_of events.now) }

@@ -13,7 +13,8 @@ use Rattle.history_model.specs.Knowledge.{is_write, words_named}
 use Rattle.audit_clocks.specs.Tables.{value_of}
 use Rattle.board_model.specs.declared.word.Word.{Word}
 use Rattle.audit_landings.specs.Hits.{dword}
-use Rattle.law_untagged.specs.Stale.{same_dword, ops_from, ops_by}
+use Rattle.safe_model.specs.Raisers.{same_dword}
+use Rattle.safe_model.specs.Ops.{ops_from, ops_by}
 use Rattle.untagged_check.specs.declared.index.entry.Entry.{Entry}
 use Rattle.untagged_check.specs.index.Entries.{Listing, first_in}
 use Rattle.untagged_check.specs.index.Pending.{is_before, names, reaches_in, is_pending}

@@ -9,7 +9,7 @@ use Rattle.board_model.specs.Ways.{Dword}
 use Rattle.audit_clocks.specs.Rows.{number}
 use Rattle.board_model.specs.declared.word.Word.{Word}
 use Rattle.audit_landings.specs.Hits.{dword}
-use Rattle.law_untagged.specs.Stale.{same_dword}
+use Rattle.safe_model.specs.Raisers.{same_dword}
 use Rattle.untagged_check.specs.declared.index.entry.Entry.{Entry}
 use Rattle.untagged_check.specs.declared.index.entry.Write.{Write}
 use Rattle.untagged_check.specs.index.Pending.{reaches_in}

@@ -14,7 +14,7 @@ use Rattle.board_model.specs.WellFormed.{is_well_formed_master}
 use Rattle.board_model.specs.Valid.{IsValid}
 use Rattle.board_model.proofs.Laws.{Master-parts, WellFormed-parts}
 use Rattle.board_model.specs.declared.word.Word.{Word}
-use Rattle.law_untagged.specs.Stale.{ops_from, ops_by}
+use Rattle.safe_model.specs.Ops.{ops_from, ops_by}
 use Rattle.untagged_check.specs.declared.index.entry.Write.{Write}
 use Rattle.untagged_check.specs.index.Entries.{Listing}
 use Rattle.untagged_check.specs.index.Kept.{listings_of, written, Writes, write_of, dwords_written, listed, Lists}

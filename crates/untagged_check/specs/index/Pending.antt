@@ -8,7 +8,8 @@ use Rattle.audit_clocks.specs.Rows.{number}
 use Rattle.audit_clocks.specs.Tables.{value_of}
 use Rattle.board_model.specs.declared.word.Word.{Word}
 use Rattle.audit_landings.specs.Hits.{dword}
-use Rattle.law_untagged.specs.Stale.{ops_by, same_dword}
+use Rattle.safe_model.specs.Raisers.{same_dword}
+use Rattle.safe_model.specs.Ops.{ops_by}
 
 -- before so many events
 abbrev pub is_before : ℕ → Option ℕ → Bool

@@ -1,6 +1,6 @@
 ghost use Rattle.std.specs.Prelude.{◌≡◌, ◌≤◌, OnOk, length};
 ghost use Rattle.board_tree.specs.Decodable.{IsDecodable};
-ghost use Rattle.law_untagged.specs.Stale.{ops_by, ops_from};
+ghost use Rattle.safe_model.specs.Ops.{ops_by, ops_from};
 ghost use Rattle.untagged_check.specs.index.Kept.{Lists, Writes, dwords_written, write_of};
 
 use crate::index::entry::Write;

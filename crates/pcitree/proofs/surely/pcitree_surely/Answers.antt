@@ -1,4 +1,4 @@
-use Rattle.pcitree.proofs.SureLemmas.{never_rose, done_or_no_memory}
+use Rattle.pcitree.proofs.SureLemmas.{never_rose, answered_or_no_memory}
 use Rattle.pcitree.proofs.surely.pcitree_surely.Goals as goal
 
 pub returns-clause-reads : goal.returns-clause-reads
@@ -12,4 +12,4 @@ returns-clause-cause g c = λ form input is told. c.pcitree.ensures.cause form i
 
 pub returns-clause-served : goal.returns-clause-served
 returns-clause-served g c = λ form input is told served.
-    done_or_no_memory _ (λ e. never_rose (c.pcitree.ensures.read_fault e)) (λ e. never_rose (c.pcitree.ensures.write_fault e)) (c.pcitree.ensures.served form input is told served)
+    answered_or_no_memory form _ input _ (λ e. never_rose (c.pcitree.ensures.read_fault e)) (λ e. never_rose (c.pcitree.ensures.write_fault e)) (c.pcitree.ensures.served form input is told served) (c.pcitree.ensures.cause form input is told)

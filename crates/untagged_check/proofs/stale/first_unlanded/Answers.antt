@@ -1,4 +1,4 @@
-use Rattle.std.proofs.Common.{◌≡◌, ap, ◌∙◌}
+use Rattle.std.proofs.Common.{ap, ◌∙◌}
 use Rattle.untagged_check.specs.Found.{first_unlanded}
 use Rattle.untagged_check.proofs.FoundLemmas.{pending_is}
 use Rattle.untagged_check.proofs.stale.first_unlanded.Goals as goal

@@ -1,4 +1,3 @@
-use Rattle.std.proofs.Common.{arith}
 use Rattle.untagged_check.specs.Judged.{reads_of}
 use Rattle.untagged_check.proofs.FoundLemmas.{list_next, list_whole}
 use Rattle.untagged_check.proofs.stale.list_each.Goals as goal

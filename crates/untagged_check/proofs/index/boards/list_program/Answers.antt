@@ -1,6 +1,6 @@
 use Rattle.board_model.specs.declared.op.Op.{Op}
 use Rattle.board_model.specs.declared.op.Op.TheVariants.{CfgRead}
-use Rattle.law_untagged.specs.Stale.{ops_from}
+use Rattle.safe_model.specs.Ops.{ops_from}
 use Rattle.untagged_check.proofs.index.WalkLemmas.{program_more}
 use Rattle.untagged_check.proofs.index.boards.list_program.Goals as goal
 

@@ -1,5 +1,5 @@
 use Rattle.std.proofs.Common.{drop}
-use Rattle.law_untagged.specs.Stale.{ops_from}
+use Rattle.safe_model.specs.Ops.{ops_from}
 use Rattle.untagged_check.proofs.index.WalkLemmas.{BehindOps}
 use Rattle.untagged_check.proofs.index.boards.list_program.Given as goal
 

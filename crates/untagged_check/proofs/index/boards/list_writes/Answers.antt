@@ -4,7 +4,7 @@ use Rattle.board_model.specs.declared.agents.Master.{Master}
 use Rattle.board_model.specs.declared.board.Board.{Board}
 use Rattle.board_tree.proofs.DecodableLemmas.{IsDecodable-valid}
 use Rattle.board_model.proofs.form_laws.Laws.{few_masters}
-use Rattle.law_untagged.specs.Stale.{ops_by, ops_from}
+use Rattle.safe_model.specs.Ops.{ops_by, ops_from}
 use Rattle.untagged_check.specs.index.Kept.{Lists}
 use Rattle.untagged_check.proofs.index.WalkLemmas.{few_at, master_more}
 use Rattle.untagged_check.proofs.index.boards.list_writes.Goals as goal

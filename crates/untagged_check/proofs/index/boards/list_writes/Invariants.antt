@@ -1,5 +1,5 @@
 use Rattle.std.proofs.Common.{drop}
-use Rattle.law_untagged.specs.Stale.{ops_by}
+use Rattle.safe_model.specs.Ops.{ops_by}
 use Rattle.untagged_check.proofs.index.WalkLemmas.{BehindOps}
 use Rattle.untagged_check.proofs.index.boards.list_writes.Given as goal
 

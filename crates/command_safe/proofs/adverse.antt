@@ -1,0 +1,4 @@
+pub mod WordLemmas
+pub mod ServedLemmas
+pub mod WrittenLemmas
+pub mod AnswerLemmas

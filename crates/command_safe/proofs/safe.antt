@@ -1,0 +1,4 @@
+pub mod AddressLemmas
+pub mod CountLemmas
+pub mod SaysLemmas
+pub mod EndingLemmas

@@ -1,0 +1,41 @@
+use Rattle.std.proofs.Common.{◌≡◌, ◌^◌, ◌<◌, List, length, map, sym, ap, subst, ◌∙◌}
+use Rattle.law_untagged.specs.ApartTest.{is_apart}
+use Rattle.safe_table.specs.Rows.{table_of}
+use Rattle.safe_table.specs.AllSaid.{Line as OpVerdict, line, all_said}
+use Rattle.safe_table.specs.declared.said.verdict.OpSaid.{OpSaid}
+use Rattle.command_safe.specs.safe.Counts.{counts_of, ending_of}
+use Rattle.command_safe.specs.safe.Lines.{lines_of}
+use Rattle.command_safe.proofs.safe.CountLemmas.{said_few}
+use Rattle.command_safe.proofs.safe.SaysLemmas.{of_both}
+use Rattle.command_safe.proofs.safe.answer.said_by_table.Goals as goal
+
+pub text_of-requires : goal.text_of-requires
+text_of-requires c =
+    let P : List OpSaid → Type 0 = λ said. length said < 2 ^ 32 in
+    subst P (sym c.as_slice.ensures.value) (said_few c.args.tree.now (table_of c.args.table.now) c.in-Ok.said.items c.board-valid.ensures.valid c.in-Ok.ensures)
+
+pub returns-in-Ok-clause-ok : goal.returns-in-Ok-clause-ok
+returns-in-Ok-clause-ok c =
+    let board = c.args.tree.now in
+    let table = table_of c.args.table.now in
+    let valid = c.board-valid.ensures.valid in
+    let largest = c.requires.largest in
+    let is : map line c.as_slice.result.now ≡ all_said board table = ap (map line) c.as_slice.ensures.value ∙ c.in-Ok.ensures in
+    of_both
+    c.text_of.result
+    _
+    _
+    _
+    c.text_of.ensures.written
+    c.text_of.ensures.ends
+    (λ answer written ends. record {
+      valid = valid;
+      table = table;
+      largest = largest;
+      written = written ∙ ap (λ (said : List OpVerdict). lines_of board said (is_apart board)) is;
+      ends = ends ∙ ap (λ (said : List OpVerdict). ending_of (counts_of said)) is;
+      returns = λ h r word value said run. c.said_safe_returns.ensures board table h r word value valid largest said run;
+      vain = λ e h p mask wanted outcome said awaits run. c.said_vain_is_not_met.ensures board table e h p mask wanted outcome valid largest said awaits run;
+      unreached = λ h o on by step place not_reached run. c.unreached_is_never_done.ensures board table h o on by step place valid largest not_reached run;
+      alike = λ apart h. c.apart_runs_are_alike.ensures board h valid ((c.apart_is_tested.ensures board valid).0 apart);
+    })

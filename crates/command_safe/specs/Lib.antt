@@ -1,0 +1,2 @@
+pub mod adverse
+pub mod safe

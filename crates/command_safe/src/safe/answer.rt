@@ -1,0 +1,100 @@
+ghost use Rattle.std.specs.Prelude.{◌≡◌, ◌<◌, ◌^◌, length, map, IfOk, IfErr};
+ghost use Rattle.law_untagged.specs.ApartTest.{is_apart};
+ghost use Rattle.law_safe.specs.largest.Largest.{IsLargest};
+ghost use Rattle.program_input.specs.Protocols.{RefusesProtocol};
+ghost use Rattle.safe_table.specs.Rows.{table_of, KeepsPolls};
+ghost use Rattle.safe_table.specs.AllSaid.{line};
+ghost use Rattle.command_safe.specs.safe.Counts.{counts_of, ending_of};
+ghost use Rattle.command_safe.specs.safe.Lines.{lines_of};
+ghost use Rattle.command_safe.specs.safe.Answers.{AnswersSafe, SaysSafe};
+
+use crate::safe::counts::{counts_of, ending_of};
+use crate::safe::text::safe_text;
+use board_model::Board;
+use board_tree::Tree;
+use law_safe::{said_safe_returns, said_vain_is_not_met, unreached_is_never_done};
+use law_untagged::{apart_is_tested, apart_runs_are_alike};
+use program_input::read_protocol;
+use program_status::Status;
+use safe_table::{ClockTable, OpSaid, largest_table, said_of_all};
+use std::alloc::Global;
+use untagged_apart::apart;
+
+/// What is said of a board's operations, as a text, and the status that it ends with.
+#[derive(Debug, Drop)]
+pub struct SafeText {
+    pub text: Vec<u8>,
+    pub ending: Status,
+}
+
+/// What is said of the operations of the board whose text these bytes are, or of the board of the
+/// devices that they tell.
+pub fn answer_safe(alloc: Global, input: &[u8]) -> Result<SafeText, Status>
+    requires { length input.now < 2 ^ 31 }
+    ensures ok { IfOk result (λ answer. AnswersSafe input.now answer.text.items answer.ending) }
+    ensures err { IfErr result (RefusesProtocol input.now) }
+{
+    let tree = read_protocol(alloc, input)?;
+    said_of_tree(alloc, &tree)
+}
+
+/// By the largest consistent table of the board.
+fn said_of_tree(alloc: Global, tree: &Tree) -> Result<SafeText, Status>
+    ensures ok { IfOk result (λ answer. SaysSafe tree.now answer.text.items answer.ending) }
+    ensures err { IfErr result (λ status. status ≡ Status.NoMemory) }
+{
+    match largest_table(alloc, tree) {
+        Ok(table) => said_by_table(alloc, tree, &table),
+        Err(_) => Err(Status::NoMemory),
+    }
+}
+
+fn said_by_table(alloc: Global, tree: &Tree, table: &ClockTable) -> Result<SafeText, Status>
+    requires largest { IsLargest tree.now (table_of table.now) }
+    requires polls { KeepsPolls tree.now table.now }
+    ensures ok { IfOk result (λ answer. SaysSafe tree.now answer.text.items answer.ending) }
+    ensures err { IfErr result (λ status. status ≡ Status.NoMemory) }
+{
+    said_safe_returns();
+    said_vain_is_not_met();
+    unreached_is_never_done();
+    apart_runs_are_alike();
+    apart_is_tested();
+    // The board of a tree is valid, so that all of this holds of its runs.
+    let _valid = tree.board();
+    match said_of_all(alloc, tree, table) {
+        Ok(said) => text_of(alloc, tree, said.as_slice()),
+        Err(_) => Err(Status::NoMemory),
+    }
+}
+
+fn text_of(alloc: Global, tree: &Tree, said: &[OpSaid]) -> Result<SafeText, Status>
+    requires { length said.now < 2 ^ 32 }
+    ensures written { IfOk result (λ answer. answer.text.items
+        ≡ lines_of tree.now (map line said.now) (is_apart tree.now)) }
+    ensures ends { IfOk result (λ answer. answer.ending
+        ≡ ending_of (counts_of (map line said.now))) }
+    ensures err { IfErr result (λ status. status ≡ Status.NoMemory) }
+{
+    apart_is_tested();
+    match apart(alloc, tree) {
+        Ok(apart) => text_with(alloc, tree.board(), said, apart),
+        Err(_) => Err(Status::NoMemory),
+    }
+}
+
+fn text_with(alloc: Global, board: &Board, said: &[OpSaid], apart: bool) -> Result<SafeText, Status>
+    requires { length said.now < 2 ^ 32 }
+    ensures written { IfOk result (λ answer. answer.text.items
+        ≡ lines_of board.now (map line said.now) apart) }
+    ensures ends { IfOk result (λ answer. answer.ending
+        ≡ ending_of (counts_of (map line said.now))) }
+    ensures err { IfErr result (λ status. status ≡ Status.NoMemory) }
+{
+    let counts = counts_of(said);
+    let text = safe_text(alloc, board, said, apart, counts)?;
+    Ok(SafeText {
+        text,
+        ending: ending_of(counts),
+    })
+}

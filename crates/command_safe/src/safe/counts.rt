@@ -1,0 +1,91 @@
+ghost use Rattle.std.specs.Prelude.{◌≡◌, ◌<◌, ◌≤◌, ◌^◌, length, map, count_by};
+ghost use Rattle.safe_table.specs.AllSaid.{line};
+ghost use Rattle.command_safe.specs.safe.Counts.{counts_of, ending_of, is_unsafe, is_lost, is_vain};
+
+use program_status::Status;
+use safe_table::{OpSaid, Said};
+
+/// How many reads are unsafe, how many writes are lost and how many polls are vain.
+#[derive(Clone, Copy, Debug, PartialEq, Eq)]
+pub(crate) struct Counts {
+    pub(crate) unsafe_reads: u32,
+    pub(crate) lost: u32,
+    pub(crate) vain: u32,
+}
+
+/// Of all that is said.
+pub(crate) fn counts_of(said: &[OpSaid]) -> Counts
+    requires { length said.now < 2 ^ 32 }
+    ensures { result ≡ counts_of (map line said.now) }
+{
+    Counts {
+        unsafe_reads: unsafe_in(said) as u32,
+        lost: lost_in(said) as u32,
+        vain: vain_in(said) as u32,
+    }
+}
+
+/// How many unsafe reads there are.
+#[tactic(auto, using(crate::proofs::safe::CountLemmas::count_by_map))]
+fn unsafe_in(said: &[OpSaid]) -> usize
+    ensures value { result ≡ count_by is_unsafe (map line said.now) }
+    ensures most { result ≤ length said.now }
+{
+    said.iter().filter(|one| is_unsafe(one)).count()
+}
+
+/// How many lost writes there are.
+#[tactic(auto, using(crate::proofs::safe::CountLemmas::count_by_map))]
+fn lost_in(said: &[OpSaid]) -> usize
+    ensures value { result ≡ count_by is_lost (map line said.now) }
+    ensures most { result ≤ length said.now }
+{
+    said.iter().filter(|one| is_lost(one)).count()
+}
+
+/// How many vain polls there are.
+#[tactic(auto, using(crate::proofs::safe::CountLemmas::count_by_map))]
+fn vain_in(said: &[OpSaid]) -> usize
+    ensures value { result ≡ count_by is_vain (map line said.now) }
+    ensures most { result ≤ length said.now }
+{
+    said.iter().filter(|one| is_vain(one)).count()
+}
+
+fn is_unsafe(one: &OpSaid) -> bool
+    ensures { result ≡ is_unsafe (line one.now) }
+{
+    matches!(one.said, Said::Unsafe { .. })
+}
+
+fn is_lost(one: &OpSaid) -> bool
+    ensures { result ≡ is_lost (line one.now) }
+{
+    matches!(one.said, Said::Lost { .. })
+}
+
+fn is_vain(one: &OpSaid) -> bool
+    ensures { result ≡ is_vain (line one.now) }
+{
+    matches!(one.said, Said::Vain)
+}
+
+/// The status of a text with these counts.
+pub(crate) fn ending_of(counts: Counts) -> Status
+    ensures { result ≡ ending_of counts }
+{
+    let Counts {
+        unsafe_reads,
+        lost,
+        vain,
+    } = counts;
+    if unsafe_reads == 0 && lost == 0 && vain == 0 {
+        Status::Done
+    } else {
+        Status::NotSafe {
+            unsafe_reads,
+            lost,
+            vain,
+        }
+    }
+}

@@ -1,0 +1,4 @@
+mod BegunLemmas
+mod EarlyLemmas
+mod RingLemmas
+mod TurnsLemmas

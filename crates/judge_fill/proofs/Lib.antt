@@ -1,0 +1,2 @@
+pub mod ArrivingLemmas
+pub mod PlacedLemmas

@@ -1,0 +1,14 @@
+pub mod ActLemmas
+pub mod ListLemmas
+pub mod StandLemmas
+pub mod LandLemmas
+pub mod FillLemmas
+pub mod CargoLemmas
+pub mod OneOwnLemmas
+pub mod CargoMoveLemmas
+pub mod CargoArriveLemmas
+pub mod OneSlotLemmas
+pub mod CargoAheadLemmas
+pub mod OnesLemmas
+pub mod LinedLemmas
+pub mod Laws

@@ -1,0 +1,5 @@
+pub mod LandingLemmas
+pub mod MemberLemmas
+pub mod ChainLemmas
+pub mod NamedLemmas
+pub mod LineLemmas

@@ -1,0 +1,7 @@
+use Rattle.audit_landings.specs.Hits.{dword}
+use Rattle.safe_table.proofs.said.LandingLemmas.{left_whole}
+use Rattle.safe_table.proofs.said.values.left_by.Goals as goal
+
+pub returns : goal.returns
+returns c =
+    left_whole c.args.board.now (dword c.args.word) c.mask_of-mask.result c.loop-write.value c.loop-write.write-index c.args.writes.now c.mask_of-mask.ensures c.loop-write-test.false c.requires c.loop-write.invariant

@@ -1,0 +1,52 @@
+-- What the rows of a table of clocks say of operations, and of writes that are kept.
+use Rattle.std.specs.Prelude.{ℕ, Bool, List, map, not, ◌+◌, ◌==◌, ◌&&◌, ◌||◌, nat_lt, if◌then◌else◌}
+use Rattle.std.specs.List.{list_any}
+use Rattle.pci_command.specs.declared.op_id.OpId.{OpId}
+use Rattle.pci_command.specs.Same.{same_op}
+use Rattle.safe_model.specs.Clocks.{greater}
+use Rattle.law_safe.specs.largest.Tests.{least}
+use Rattle.safe_table.specs.declared.writers.write.WordWrite.{WordWrite}
+use Rattle.safe_table.specs.Rows.{ProgramRows, known_in, raised_at}
+
+-- how many operations of a master an operation comes after
+abbrev pub clock_in : List ProgramRows → OpId → ℕ → ℕ
+clock_in rows o other = raised_at (known_in rows o.master o.index other) o other
+
+-- the same with the operation itself
+abbrev pub clock_past : List ProgramRows → OpId → ℕ → ℕ
+clock_past rows o other =
+    let known = known_in rows o.master o.index other in if other == o.master then greater known (o.index + 1) else known
+
+-- an operation comes before another
+abbrev pub before_in : List ProgramRows → OpId → OpId → Bool
+before_in rows p q = nat_lt p.index (clock_in rows q p.master)
+
+-- a write lands no more once an operation does
+abbrev pub no_more_in : List ProgramRows → WordWrite → OpId → Bool
+no_more_in rows a b =
+    (a.posted && before_in rows a.op b)
+    || ((a.op.master == b.master && nat_lt a.op.index b.index) || nat_lt (a.op.index + 1) (clock_in rows b a.op.master))
+
+-- by this other write of a word, which comes before the poll, a raiser is left out
+abbrev pub leaves_out : List ProgramRows → OpId → WordWrite → WordWrite → Bool
+leaves_out rows p f x = before_in rows x.op p && (not (same_op x.op f.op) && no_more_in rows f x.op)
+
+-- by one of these
+abbrev pub left_out_in : List ProgramRows → OpId → List WordWrite → WordWrite → Bool
+left_out_in rows p writes f = list_any (leaves_out rows p f) writes
+
+-- one of these comes before the poll
+abbrev pub any_before : List ProgramRows → OpId → List WordWrite → Bool
+any_before rows p writes = list_any (λ x. before_in rows x.op p) writes
+
+-- some run may come to a write that is not left out
+abbrev pub is_reached_in : List ProgramRows → OpId → List WordWrite → WordWrite → Bool
+is_reached_in rows p writes f = not (left_out_in rows p writes f) && not (before_in rows f.op f.op)
+
+-- what all of these know of one master's operations, and at most this
+abbrev pub known_to : List ProgramRows → List WordWrite → ℕ → ℕ → ℕ
+known_to rows raisers most other = least most (map (λ f. clock_past rows f.op other) raisers)
+
+-- what may be known of it behind the poll at most
+abbrev pub most_in : List ProgramRows → OpId → List WordWrite → ℕ → ℕ → ℕ
+most_in rows p raisers most other = greater (clock_in rows p other) (known_to rows raisers most other)

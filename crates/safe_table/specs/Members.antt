@@ -1,0 +1,75 @@
+-- The writes of words that some run may come to, as they are kept.
+use Rattle.std.specs.Prelude.{◌≡◌, Bool, true, ◌&&◌, List, [], ◌∷◌, ◌++◌, map, Option, Some, None, IfSome, is_some}
+use Rattle.std.specs.List.{find}
+use Rattle.pci_command.specs.declared.op_id.OpId.{OpId}
+use Rattle.board_model.specs.declared.board.Board.{Board}
+use Rattle.board_model.specs.declared.word.Word.{Word}
+use Rattle.board_model.specs.Ways.{Dword}
+use Rattle.safe_model.specs.Clocks.{Table}
+use Rattle.law_safe.specs.largest.Tests.{lands_no_more}
+use Rattle.law_safe.specs.largest.Largest.{IsLargest}
+use Rattle.law_safe.specs.said.Said.{Said as Verdict, safe, unsafe, members, is_open, in_order, left_by}
+use Rattle.audit_clocks.specs.Tables.{found_in}
+use Rattle.audit_landings.specs.Hits.{dword}
+use Rattle.safe_table.specs.Rows.{ProgramRows, table_of, KeepsPolls}
+use Rattle.safe_table.specs.declared.said.verdict.OpSaid.{OpSaid}
+use Rattle.safe_table.specs.declared.writers.write.WordWrite.{WordWrite}
+use Rattle.safe_table.specs.Writes.{op_in, AreWrites, ListsWrites}
+use Rattle.safe_table.specs.Landing.{Sorts}
+use Rattle.safe_table.specs.Polls.{PollFacts, KnowsPolls}
+use Rattle.safe_table.specs.AllSaid.{line, said_among}
+
+-- the largest table of clocks of the board, the writes of its words, and what is kept of its polls
+pub record IsSeen (board : Board) (table : List ProgramRows) (writers : List (Word × List WordWrite)) (facts : List (List (Option PollFacts))) : Type 0 where
+  pub largest : IsLargest board (table_of table)
+  pub polls : KeepsPolls board table
+  pub writes : ListsWrites board writers
+  pub kept : KnowsPolls board facts
+
+-- the first write lands no more once the next one does
+abbrev pub no_more_next : Board → Table → OpId → List OpId → Bool
+no_more_next board table a [] = true
+no_more_next board table a (b ∷ rest) = lands_no_more board table a b
+
+-- each lands no more once the next one does
+abbrev pub is_chained : Board → Table → List OpId → Bool
+is_chained board table [] = true
+is_chained board table (a ∷ rest) = no_more_next board table a rest && is_chained board table rest
+
+-- what is kept of a word
+pub record WordMembers : Type 0 where
+  -- its writes that some run may come to
+  pub writes : List WordWrite
+  -- the same in the order in which they land
+  pub list : List WordWrite
+  -- each of them lands no more once the next one does, so that no two are open
+  pub chained : Bool
+
+-- what is kept of a word is so
+pub record AreMembers (board : Board) (table : Table) (word : Dword) (kept : WordMembers) : Type 0 where
+  pub writes : AreWrites board word (members board table word) kept.writes
+  pub list : Sorts board table kept.writes kept.list
+  pub chained : kept.chained ≡ is_chained board table (map op_in kept.list)
+
+-- of each word of which something is kept
+pub record KeepsMembers (board : Board) (table : Table) (entries : List (Word × WordMembers)) : Type 0 where
+  pub each : (word : Word) → IfSome (found_in word entries) (AreMembers board table (dword word))
+
+-- and of this word something is
+pub record KeepsWord (board : Board) (table : Table) (word : Word) (entries : List (Word × WordMembers)) : Type 0 where
+  pub others : KeepsMembers board table entries
+  pub here : is_some (found_in word entries) ≡ true
+
+-- of a read of the word, by the writes before it and the first of them that another is not settled with
+abbrev pub said_with : Board → Table → Dword → List OpId → Option OpId → Verdict
+said_with board table word before None = safe word (left_by board word (in_order board table before))
+said_with board table word before (Some w) = unsafe word w
+
+-- where no write stands beside it
+abbrev pub said_open : Board → Table → Dword → List OpId → Verdict
+said_open board table word before = said_with board table word before (find (is_open board table before) before)
+
+-- what is said of these operations stands behind what was said before
+pub record Says (board : Board) (table : Table) (ops : List OpId) (entries : List (Word × WordMembers)) (old new : List OpSaid) : Type 0 where
+  pub lines : map line new ≡ map line old ++ said_among board table ops
+  pub members : KeepsMembers board table entries

@@ -1,0 +1,24 @@
+ghost use Rattle.std.specs.Prelude.{IfOk};
+ghost use Rattle.safe_table.specs.Bounds.{AreKept};
+
+use crate::polls::Polls;
+use crate::writers::Writers;
+use board_tree::Tree;
+use pci_command::NoMemory;
+use std::alloc::Global;
+
+/// What is kept of the writes and the polls of a board.
+#[derive(Debug, Drop)]
+pub(crate) struct Gathered {
+    pub(crate) writers: Writers,
+    pub(crate) polls: Polls,
+}
+
+/// It is gathered once.
+pub(crate) fn gather(alloc: Global, tree: &Tree) -> Result<Gathered, NoMemory>
+    ensures { IfOk result (λ gathered. AreKept tree.now gathered.writers gathered.polls) }
+{
+    let writers = Writers::new(alloc, tree)?;
+    let polls = Polls::new(alloc, tree, &writers)?;
+    Ok(Gathered { writers, polls })
+}

@@ -1,0 +1,50 @@
+ghost use Rattle.std.specs.Prelude.{IfOk, OnOk};
+ghost use Rattle.law_safe.specs.largest.Largest.{IsLargest};
+ghost use Rattle.safe_table.specs.Rows.{table_of, KeepsPolls, KnowsAll};
+ghost use Rattle.safe_table.specs.Bounds.{AreOf, BoundsAll, Largest};
+
+use crate::fall::lower_until_none;
+use crate::fronts::lower_fronts;
+use crate::gathered::{Gathered, gather};
+use crate::known::ClockTable;
+use crate::list::polls_of;
+use board_tree::Tree;
+use pci_command::{NoMemory, OpId};
+use std::alloc::Global;
+
+/// The largest consistent table of the board. It goes over the polls until no number falls. No word
+/// of the program calls it.
+pub fn largest_table(alloc: Global, tree: &Tree) -> Result<ClockTable, NoMemory>
+    ensures largest { IfOk result (λ table. IsLargest tree.now (table_of table)) }
+    ensures polls { IfOk result (λ table. KeepsPolls tree.now table) }
+{
+    let mut table = ClockTable::start(alloc, tree)?;
+    lower(alloc, tree, &mut table)?;
+    Ok(table)
+}
+
+/// From the top a table falls to the largest consistent one.
+fn lower(alloc: Global, tree: &Tree, table: &mut ClockTable) -> Result<(), NoMemory>
+    requires { KnowsAll tree.now table.old }
+    ensures { OnOk result (Largest tree.now table.new) }
+{
+    let gathered = gather(alloc, tree)?;
+    let ops = polls_of(alloc, tree)?;
+    lower_by(alloc, tree, &gathered, table, ops.as_slice())
+}
+
+/// Along the programs at first, since most numbers fall there; then over all polls until none does.
+fn lower_by(
+    alloc: Global,
+    tree: &Tree,
+    gathered: &Gathered,
+    table: &mut ClockTable,
+    ops: &[OpId],
+) -> Result<(), NoMemory>
+    requires are { AreOf tree.now gathered.now.writers gathered.now.polls ops.now }
+    requires bounds { BoundsAll tree.now table.old }
+    ensures { OnOk result (Largest tree.now table.new) }
+{
+    lower_fronts(alloc, tree, gathered, table, ops)?;
+    lower_until_none(alloc, tree, gathered, table, ops)
+}

@@ -1,0 +1,54 @@
+ghost use Rattle.std.specs.Prelude.{◌≡◌, nat_lt, if◌then◌else◌};
+ghost use Rattle.safe_table.specs.Looks.{before_in, any_before, known_to, most_in};
+
+use crate::known::{ClockTable, greater};
+use crate::writers::WordWrite;
+use pci_command::OpId;
+
+/// Whether one operation comes before another in every run.
+pub(crate) fn is_before(table: &ClockTable, first: OpId, second: OpId) -> bool
+    ensures { result ≡ before_in table.now first second }
+{
+    usize::from(first.index) < table.look(second, first.master)
+}
+
+/// Whether one of these writes comes before the poll.
+pub(crate) fn is_any_before(table: &ClockTable, poll: OpId, writes: &[WordWrite]) -> bool
+    ensures { result ≡ any_before table.now poll writes.now }
+{
+    writes.iter().any(|write| is_before(table, write.op, poll))
+}
+
+/// What may be known of a master behind a poll at most, where these tell of it.
+pub(crate) fn most_of(
+    table: &ClockTable,
+    poll: OpId,
+    raisers: &[WordWrite],
+    most: usize,
+    other: u16,
+) -> usize
+    ensures { result ≡ most_in table.now poll raisers.now most other }
+{
+    greater(
+        table.look(poll, other),
+        known_to(table, raisers, most, other),
+    )
+}
+
+/// What all of these writes know of a master, and at most this.
+#[tactic(auto, using(crate::proofs::KeptLemmas::least_next))]
+fn known_to(table: &ClockTable, raisers: &[WordWrite], most: usize, other: u16) -> usize
+    ensures { result ≡ known_to table.now raisers.now most other }
+{
+    let mut least = most;
+    for raiser in raisers {
+        least = lesser(table.look_past(raiser.op, other), least);
+    }
+    least
+}
+
+fn lesser(number: usize, most: usize) -> usize
+    ensures { result ≡ (if nat_lt number most then number else most) }
+{
+    if number < most { number } else { most }
+}

@@ -1,0 +1,13 @@
+use crate::known::ClockTable;
+use crate::polls::Polls;
+use crate::writers::Writers;
+use board_tree::Tree;
+
+/// A board, a table of clocks of it, the writes of its words, and what is kept of its polls.
+#[derive(Clone, Copy, Drop)]
+pub(crate) struct Looks<'a> {
+    pub tree: &'a Tree,
+    pub table: &'a ClockTable,
+    pub writers: &'a Writers,
+    pub polls: &'a Polls,
+}

@@ -1,0 +1,147 @@
+ghost use Rattle.std.specs.Prelude.{◌≡◌, IfOk};
+ghost use Rattle.std.specs.List.{filter};
+ghost use Rattle.law_safe.specs.largest.Tests.{is_reached};
+ghost use Rattle.audit_landings.specs.Hits.{dword};
+ghost use Rattle.safe_table.specs.Rows.{table_of, KeepsPolls};
+ghost use Rattle.safe_table.specs.Members.{AreMembers, IsSeen};
+
+use crate::said::landing::{in_order, is_chained};
+use crate::said::looks::Looks;
+use crate::said::order::is_reached;
+use crate::writers::WordWrite;
+use audit_clocks::WordTable;
+use board_model::Word;
+use pci_command::NoMemory;
+use std::alloc::Global;
+use std::marker::Model;
+
+/// The writes of a word that some run may come to; the same in the order in which they land; and
+/// whether each of these lands no more once the next does.
+#[derive(Debug, Drop)]
+pub(crate) struct Reached {
+    writes: Vec<WordWrite>,
+    list: Vec<WordWrite>,
+    chained: bool,
+}
+
+impl Model for Reached {
+    ghost use Rattle.safe_table.specs.Members.{WordMembers};
+
+    ghost Value = { WordMembers };
+
+    ghost view = { λ k.
+        record { writes = k.writes.items; list = k.list.items; chained = k.chained } };
+}
+
+impl Reached {
+    /// In the order of master and index.
+    pub(crate) fn writes(&self) -> &[WordWrite]
+        ensures { result.now ≡ self.now.writes }
+    {
+        self.writes.as_slice()
+    }
+
+    /// In the order in which they land.
+    pub(crate) fn list(&self) -> &[WordWrite]
+        ensures { result.now ≡ self.now.list }
+    {
+        self.list.as_slice()
+    }
+
+    /// Whether they land in one order.
+    pub(crate) fn is_chained(&self) -> bool
+        ensures { result ≡ self.now.chained }
+    {
+        self.chained
+    }
+}
+
+/// Of the words that were asked for, the writes that some run may come to.
+#[derive(Debug, Drop)]
+pub(crate) struct Members {
+    words: WordTable<Reached>,
+}
+
+impl Model for Members {
+    ghost use Rattle.std.specs.Prelude.{List};
+    ghost use Rattle.board_model.specs.declared.word.Word.{Word};
+    ghost use Rattle.safe_table.specs.Members.{WordMembers};
+
+    ghost Value = { List (Word × WordMembers) };
+
+    ghost view = { λ k. k.words };
+}
+
+impl Members {
+    ghost use Rattle.std.specs.Prelude.{OnOk, []};
+    ghost use Rattle.std.specs.Option.{option_copied};
+    ghost use Rattle.audit_clocks.specs.Tables.{found_in};
+    ghost use Rattle.safe_table.specs.Members.{KeepsMembers, KeepsWord};
+
+    /// No word was asked for.
+    pub(crate) fn new(alloc: Global) -> Members
+        ensures { result ≡ [] }
+    {
+        Members {
+            words: WordTable::new(alloc),
+        }
+    }
+
+    /// The word is asked for: its writes are listed, where they were not yet.
+    pub(crate) fn list(&mut self, alloc: Global, looks: &Looks, word: Word) -> Result<(), NoMemory>
+        requires seen { IsSeen looks.now.tree.now looks.now.table.now looks.now.writers.now
+            looks.now.polls.now }
+        requires kept { KeepsMembers looks.now.tree.now (table_of looks.now.table.now) self.old }
+        ensures { OnOk result (KeepsWord looks.now.tree.now (table_of looks.now.table.now) word
+            self.new) }
+    {
+        if self.words.get(word).is_none() {
+            let reached = reached_of(alloc, looks, word)?;
+            self.words.put(word, reached)?;
+        }
+        Ok(())
+    }
+
+    /// Those of the word, where it was asked for.
+    pub(crate) fn of(&self, word: Word) -> Option<&Reached>
+        ensures { option_copied result ≡ found_in word self.now }
+    {
+        self.words.get(word)
+    }
+}
+
+/// Those of the word.
+fn reached_of(alloc: Global, looks: &Looks, word: Word) -> Result<Reached, NoMemory>
+    requires { IsSeen looks.now.tree.now looks.now.table.now looks.now.writers.now
+        looks.now.polls.now }
+    ensures { IfOk result (AreMembers looks.now.tree.now (table_of looks.now.table.now) (dword
+        word)) }
+{
+    let writes = filter_reached(alloc, looks, looks.writers.of_word(word))?;
+    let board = looks.tree.board();
+    let list = in_order(alloc, board, looks.table, writes.as_slice())?;
+    let chained = is_chained(board, looks.table, list.as_slice());
+    Ok(Reached {
+        writes,
+        list,
+        chained,
+    })
+}
+
+/// Those of the writes that some run may come to.
+fn filter_reached(
+    alloc: Global,
+    looks: &Looks,
+    writes: &[WordWrite],
+) -> Result<Vec<WordWrite>, NoMemory>
+    requires { KeepsPolls looks.now.tree.now looks.now.table.now }
+    ensures { IfOk result (λ list. list.items ≡ filter (λ write. is_reached looks.now.tree.now
+        (table_of looks.now.table.now) write.op) writes.now) }
+{
+    let list = writes
+        .iter()
+        .copied()
+        .filter(|write| is_reached(looks.table, write.op))
+        .collect(alloc)?;
+    Ok(list)
+}

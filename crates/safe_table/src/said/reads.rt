@@ -1,0 +1,159 @@
+ghost use Rattle.std.specs.Prelude.{◌≡◌, map, IfOk, not, ◌&&◌};
+ghost use Rattle.std.specs.List.{find, filter, list_any, AllByRecursion};
+ghost use Rattle.pci_command.specs.Same.{same_op};
+ghost use Rattle.law_safe.specs.largest.Tests.{is_before};
+ghost use Rattle.law_safe.specs.said.Said.{safe, left_by, is_beside, is_open};
+ghost use Rattle.law_safe.specs.said.Said.{first_beside, said_beside};
+ghost use Rattle.audit_landings.specs.Hits.{dword};
+ghost use Rattle.safe_table.specs.Rows.{table_of, KeepsPolls};
+ghost use Rattle.safe_table.specs.Writes.{op_in, IsWordWrite};
+ghost use Rattle.safe_table.specs.AllSaid.{verdict};
+ghost use Rattle.safe_table.specs.Members.{AreMembers, IsSeen, said_open};
+
+use crate::said::looks::Looks;
+use crate::said::members::Reached;
+use crate::said::order::{is_beside, is_settled};
+use crate::said::values::{left_by, value_of};
+use crate::said::verdict::Said;
+use crate::writers::WordWrite;
+use board_model::Word;
+use pci_command::{NoMemory, OpId, same_op};
+use std::alloc::Global;
+
+/// What is said of a read of the word, by the writes of the word that some run may come to.
+pub(crate) fn said_of_read(
+    alloc: Global,
+    looks: &Looks,
+    word: Word,
+    read: OpId,
+    reached: &Reached,
+) -> Result<Said, NoMemory>
+    requires seen { IsSeen looks.now.tree.now looks.now.table.now looks.now.writers.now
+        looks.now.polls.now }
+    requires members { AreMembers looks.now.tree.now (table_of looks.now.table.now) (dword word)
+        reached.now }
+    ensures { IfOk result (λ said. verdict said ≡ said_beside looks.now.tree.now (table_of
+        looks.now.table.now) (dword word) read (first_beside looks.now.tree.now (table_of
+        looks.now.table.now) (dword word) read)) }
+{
+    if let Some(beside) = first_beside(looks, read, reached.writes()) {
+        Ok(Said::Unsafe { word, beside })
+    } else if reached.is_chained() {
+        said_in_chain(alloc, looks, word, read, reached.list())
+    } else {
+        said_by_order(alloc, looks, word, read, reached.writes())
+    }
+}
+
+/// Of a read that no write stands beside, where these land in this order.
+fn said_in_chain(
+    alloc: Global,
+    looks: &Looks,
+    word: Word,
+    read: OpId,
+    list: &[WordWrite],
+) -> Result<Said, NoMemory>
+    requires polls { KeepsPolls looks.now.tree.now looks.now.table.now }
+    requires writes { AllByRecursion (IsWordWrite looks.now.tree.now (dword word)) list.now }
+    ensures { IfOk result (λ said. verdict said ≡ safe (dword word) (left_by looks.now.tree.now
+        (dword word) (filter (λ write. is_before looks.now.tree.now (table_of looks.now.table.now)
+        write read) (map op_in list.now)))) }
+{
+    let before = members_before(alloc, looks, read, list)?;
+    let value = left_by(looks.tree.board(), word, before.as_slice());
+    Ok(Said::Safe { word, value })
+}
+
+/// The first that is neither before the read nor behind it.
+fn first_beside(looks: &Looks, read: OpId, members: &[WordWrite]) -> Option<OpId>
+    requires { KeepsPolls looks.now.tree.now looks.now.table.now }
+    ensures { result ≡ find (is_beside looks.now.tree.now (table_of looks.now.table.now) read) (map
+        op_in members.now) }
+{
+    members
+        .iter()
+        .map(|write| write.op)
+        .find(|write| is_beside(looks.table, read, *write))
+}
+
+/// Of a read that no write stands beside.
+fn said_by_order(
+    alloc: Global,
+    looks: &Looks,
+    word: Word,
+    read: OpId,
+    members: &[WordWrite],
+) -> Result<Said, NoMemory>
+    requires polls { KeepsPolls looks.now.tree.now looks.now.table.now }
+    requires members { AllByRecursion (IsWordWrite looks.now.tree.now (dword word)) members.now }
+    ensures { IfOk result (λ said. verdict said ≡ said_open looks.now.tree.now (table_of
+        looks.now.table.now) (dword word) (filter (λ write. is_before looks.now.tree.now (table_of
+        looks.now.table.now) write read) (map op_in members.now))) }
+{
+    let before = members_before(alloc, looks, read, members)?;
+    said_of_before(alloc, looks, word, before.as_slice())
+}
+
+/// Those before the read.
+fn members_before(
+    alloc: Global,
+    looks: &Looks,
+    read: OpId,
+    members: &[WordWrite],
+) -> Result<Vec<WordWrite>, NoMemory>
+    requires { KeepsPolls looks.now.tree.now looks.now.table.now }
+    ensures { IfOk result (λ list. list.items ≡ filter (λ write. is_before looks.now.tree.now
+        (table_of looks.now.table.now) write.op read) members.now) }
+{
+    let list = members
+        .iter()
+        .copied()
+        .filter(|write| looks.table.is_before(write.op, read))
+        .collect(alloc)?;
+    Ok(list)
+}
+
+/// By the writes before the read.
+fn said_of_before(
+    alloc: Global,
+    looks: &Looks,
+    word: Word,
+    before: &[WordWrite],
+) -> Result<Said, NoMemory>
+    requires polls { KeepsPolls looks.now.tree.now looks.now.table.now }
+    requires writes { AllByRecursion (IsWordWrite looks.now.tree.now (dword word)) before.now }
+    ensures { IfOk result (λ said. verdict said ≡ said_open looks.now.tree.now (table_of
+        looks.now.table.now) (dword word) (map op_in before.now)) }
+{
+    match first_open(looks, before) {
+        Some(beside) => Ok(Said::Unsafe { word, beside }),
+        None => {
+            let board = looks.tree.board();
+            let value = value_of(alloc, board, looks.table, word, before)?;
+            Ok(Said::Safe { word, value })
+        }
+    }
+}
+
+/// The first that some other of them is not settled with.
+fn first_open(looks: &Looks, writes: &[WordWrite]) -> Option<OpId>
+    requires { KeepsPolls looks.now.tree.now looks.now.table.now }
+    ensures { result ≡ find (is_open looks.now.tree.now (table_of looks.now.table.now) (map op_in
+        writes.now)) (map op_in writes.now) }
+{
+    writes
+        .iter()
+        .map(|write| write.op)
+        .find(|write| is_open(looks, writes, *write))
+}
+
+/// Whether some other of the writes is not settled with this one.
+fn is_open(looks: &Looks, writes: &[WordWrite], write: OpId) -> bool
+    requires { KeepsPolls looks.now.tree.now looks.now.table.now }
+    ensures { result ≡ is_open looks.now.tree.now (table_of looks.now.table.now) (map op_in
+        writes.now) write }
+{
+    let board = looks.tree.board();
+    writes.iter().map(|other| other.op).any(|other| !same_op(write, other)
+        && !is_settled(board, looks.table, write, other))
+}

@@ -1,0 +1,45 @@
+ghost use Rattle.std.specs.Prelude.{◌≡◌, map, IfOk};
+ghost use Rattle.std.specs.List.{AllByRecursion};
+ghost use Rattle.law_safe.specs.said.Said.{in_order, left_by};
+ghost use Rattle.audit_landings.specs.Hits.{dword};
+ghost use Rattle.safe_table.specs.Rows.{table_of, KeepsPolls};
+ghost use Rattle.safe_table.specs.Writes.{op_in, IsWordWrite};
+
+use crate::known::ClockTable;
+use crate::said::landing::in_order;
+use crate::writers::WordWrite;
+use board_headers::merge;
+use board_model::{Board, Word};
+use machine_steps::{mask_of, opens_as};
+use pci_command::NoMemory;
+use std::alloc::Global;
+
+/// What these writes of the word leave in it, in the order in which they land.
+pub(crate) fn value_of(
+    alloc: Global,
+    board: &Board,
+    table: &ClockTable,
+    word: Word,
+    writes: &[WordWrite],
+) -> Result<u32, NoMemory>
+    requires polls { KeepsPolls board.now table.now }
+    requires writes { AllByRecursion (IsWordWrite board.now (dword word)) writes.now }
+    ensures { IfOk result (λ value. value ≡ left_by board.now (dword word) (in_order board.now
+        (table_of table.now) (map op_in writes.now))) }
+{
+    let list = in_order(alloc, board, table, writes)?;
+    Ok(left_by(board, word, list.as_slice()))
+}
+
+/// What these writes of the word leave in it, one after another.
+pub(crate) fn left_by(board: &Board, word: Word, writes: &[WordWrite]) -> u32
+    requires { AllByRecursion (IsWordWrite board.now (dword word)) writes.now }
+    ensures { result ≡ left_by board.now (dword word) (map op_in writes.now) }
+{
+    let mask = mask_of(word.space, word.address);
+    let mut value = opens_as(board, word.target, word.space, word.address);
+    for write in writes {
+        value = merge(value, &write.phase, mask);
+    }
+    value
+}

@@ -1,0 +1,4 @@
+pub mod LookLemmas
+pub mod KeptLemmas
+pub mod GoneLemmas
+pub mod FoundLemmas

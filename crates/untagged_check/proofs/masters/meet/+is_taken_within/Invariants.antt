@@ -1,4 +1,0 @@
-use Rattle.untagged_check.proofs.masters.meet.+is_taken_within.Given as goal
-
-abbrev pub decreases-is_taken_within : goal.decreases-is_taken_within
-decreases-is_taken_within l = l.most

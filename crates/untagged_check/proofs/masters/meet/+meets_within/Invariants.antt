@@ -1,4 +1,0 @@
-use Rattle.untagged_check.proofs.masters.meet.+meets_within.Given as goal
-
-abbrev pub decreases-meets_within : goal.decreases-meets_within
-decreases-meets_within l = l.most
