@@ -1,0 +1,16 @@
+use board_tree::{Tree, validate};
+use history_model::Event;
+use pci_command::List;
+use std::alloc::Global;
+use std::test::Fail;
+use trace_reader::read_trace;
+
+/// The valid board of a trace text, and its events.
+pub(crate) fn worked(alloc: Global, text: &[u8]) -> Result<(Tree, List<Event>), Fail> {
+    if text.len() > 1000 {
+        return Err("too long".into());
+    }
+    let (board, events) = read_trace(alloc, text)?;
+    let tree = validate(board).ok().ok_or("not valid")?;
+    Ok((tree, events))
+}
