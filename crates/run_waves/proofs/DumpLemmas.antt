@@ -15,7 +15,7 @@ use Rattle.run_waves.specs.declared.reading.Reading.{Reading}
 use Rattle.run_waves.specs.declared.signal.Signal.{Signal}
 use Rattle.run_waves.specs.Signals.{signals_of}
 use Rattle.run_waves.specs.Shown.{Moment, past, beginning, next, ending}
-use Rattle.run_waves.specs.Scenes.{IsAt, ReadsFrom, scene_of}
+use Rattle.run_waves.specs.Scenes.{Follows, IsAt, ReadsFrom, scene_of}
 use Rattle.run_waves.specs.Dump.{time_line, head_lines, value_lines, change_lines, moment_lines, moments, first_lines, dump_lines}
 
 -- after so many events: what is to be written in all
@@ -126,22 +126,24 @@ so_far_all board events signals whole text longer shown kept waiting scene i so 
 -- what a moment writes
 abbrev Writes : Board → List Signal → Option Scene → List Reading → KeptState → List Bool → Option Scene → ℕ → List ℕ → List ℕ → Type 0
 Writes board signals from shown kept waiting scene n text longer =
-    (before after : Moment) → from ≡ scene_of board before → ReadsFrom board before signals shown 0 → IsAt board after kept waiting scene → longer ≡ text ++ text_of (time_line n ∷ change_lines board before after 0 signals)
+    (before after : Moment) → Follows before after → from ≡ scene_of board before → ReadsFrom board before signals shown 0 → IsAt board after kept waiting scene → longer ≡ text ++ text_of (time_line n ∷ change_lines board before after 0 signals)
 
-abbrev Tells : Board → List Signal → List Reading → KeptState → List Bool → Option Scene → Type 0
-Tells board signals changed kept waiting scene = (after : Moment) → IsAt board after kept waiting scene → ReadsFrom board after signals changed 0
+abbrev Tells : Board → List Signal → Option Scene → List Reading → List Reading → KeptState → List Bool → Option Scene → Type 0
+Tells board signals from shown changed kept waiting scene =
+    (before after : Moment) → Follows before after → from ≡ scene_of board before → ReadsFrom board before signals shown 0 → IsAt board after kept waiting scene → ReadsFrom board after signals changed 0
 
 pub next_so_far : (given board : Board) (events : List Event) (signals s1 : List Signal) (whole text longer : List ℕ) (shown changed : List Reading) (kept after : KeptState) (waiting later : List Bool) (scene from now : Option Scene) (i : ℕ) (d : Event)
     → (so : SoFar board events signals whole text shown kept waiting scene i) → i < length events → given ≡ board → s1 ≡ signals → signals ≡ signals_of given → from ≡ scene
-    → IsAt board (next so.moment (get_or events i d)) after later now → Writes given s1 from shown after later now (i + 1) text longer → Tells given s1 changed after later now
+    → IsAt board (next so.moment (get_or events i d)) after later now → Writes given s1 from shown after later now (i + 1) text longer → Tells given s1 from shown changed after later now
     → SoFar board events signals whole longer changed after later now (i + 1)
 next_so_far given board events signals s1 whole text longer shown changed kept after waiting later scene from now i d so within same s1_is signals_are from_is at writes tells =
     let to : Moment = next so.moment (get_or events i d) in
     let w1 : Writes board s1 from shown after later now (i + 1) text longer = subst (λ (b : Board). Writes b s1 from shown after later now (i + 1) text longer) same writes in
     let w2 : Writes board signals from shown after later now (i + 1) text longer = subst (λ (l : List Signal). Writes board l from shown after later now (i + 1) text longer) s1_is w1 in
-    let r1 : Tells board s1 changed after later now = subst (λ (b : Board). Tells b s1 changed after later now) same tells in
-    let r2 : Tells board signals changed after later now = subst (λ (l : List Signal). Tells board l changed after later now) s1_is r1 in
-    so_far_next board events signals whole text longer shown changed kept after waiting later scene now i d so within (signals_are ∙ ap signals_of same) at (r2 to at) (w2 so.moment to (from_is ∙ so.at.scene_is) so.reads at)
+    let r1 : Tells board s1 from shown changed after later now = subst (λ (b : Board). Tells b s1 from shown changed after later now) same tells in
+    let r2 : Tells board signals from shown changed after later now = subst (λ (l : List Signal). Tells board l from shown changed after later now) s1_is r1 in
+    let scene_is : from ≡ scene_of board so.moment = from_is ∙ so.at.scene_is in
+    so_far_next board events signals whole text longer shown changed kept after waiting later scene now i d so within (signals_are ∙ ap signals_of same) at (r2 so.moment to refl scene_is so.reads at) (w2 so.moment to refl scene_is so.reads at)
 
 pub all_so_far : (given board : Board) (events : List Event) (signals s1 : List Signal) (whole text longer : List ℕ) (shown : List Reading) (kept after : KeptState) (waiting later : List Bool) (scene from now : Option Scene) (i n : ℕ)
     → (so : SoFar board events signals whole text shown kept waiting scene i) → length events ≡ i → n ≡ i + 1 → given ≡ board → s1 ≡ signals → signals ≡ signals_of given → from ≡ scene → after ≡ kept → later ≡ waiting → now ≡ None
@@ -151,4 +153,4 @@ all_so_far given board events signals s1 whole text longer shown kept after wait
     let w1 : Writes board s1 from shown after later now n text longer = subst (λ (b : Board). Writes b s1 from shown after later now n text longer) same writes in
     let w2 : Writes board signals from shown after later now n text longer = subst (λ (l : List Signal). Writes board l from shown after later now n text longer) s1_is w1 in
     so_far_all board events signals whole text longer shown kept waiting scene i so all (signals_are ∙ ap signals_of same)
-    (w2 so.moment (ending so.moment) (from_is ∙ so.at.scene_is) so.reads at ∙ ap (λ (k : ℕ). text ++ text_of (time_line k ∷ change_lines board so.moment (ending so.moment) 0 signals)) number)
+    (w2 so.moment (ending so.moment) refl (from_is ∙ so.at.scene_is) so.reads at ∙ ap (λ (k : ℕ). text ++ text_of (time_line k ∷ change_lines board so.moment (ending so.moment) 0 signals)) number)

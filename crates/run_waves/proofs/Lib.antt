@@ -1,6 +1,7 @@
 pub mod PassLemmas
 pub mod HeadLemmas
 pub mod WaitLemmas
+pub mod TouchLemmas
 pub mod WatchLemmas
 pub mod ReadLemmas
 pub mod ChangeLemmas

@@ -4,3 +4,4 @@ pub mod Dump
 pub mod Told
 pub mod Widths
 pub mod Scenes
+pub mod Touched

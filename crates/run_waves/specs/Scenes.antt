@@ -95,6 +95,10 @@ abbrev pub waits_next : List (Option OpId) → Event → List Bool → List Bool
 waits_next turns (Act on by o step place) waits = waits_by turns by o waits
 waits_next turns (Arrive lane mark) waits = waits
 
+-- one moment is the next behind another
+abbrev pub Follows : Moment → Moment → Type 0
+Follows before after = after.before ≡ past before
+
 -- what is kept at a moment: the state of the run, for each master whether it waits, and the scene
 pub record IsAt (board : Board) (m : Moment) (kept : KeptState) (waiting : List Bool) (scene : Option Scene) : Type 0 where
   pub stands : StandsFor board (past m) kept

@@ -5,7 +5,7 @@ ghost use Rattle.history_model.specs.Runs.{Run, history_of};
 ghost use Rattle.run_waves.specs.declared.signal.Signal.TheVariants.{Bus};
 ghost use Rattle.run_waves.specs.Shown.{Moment, beginning, idle_part, shown};
 ghost use Rattle.run_waves.specs.Signals.{signals_of};
-ghost use Rattle.run_waves.specs.Scenes.{IsAt, Reads, ReadsFrom, shown_of, scene_of, shown_on, new_line, bus_change};
+ghost use Rattle.run_waves.specs.Scenes.{Follows, IsAt, Reads, ReadsFrom, shown_of, scene_of, shown_on, new_line, bus_change};
 ghost use Rattle.run_waves.specs.Dump.{same_shown, value_line, value_lines, time_line, change_line, change_lines, first_lines, moments, dump_lines, dump_of};
 
 use crate::head::print_head;
@@ -13,6 +13,7 @@ use crate::lines::{is_idle, print_idle, print_part, print_reading};
 use crate::reading::{Reading, is_same};
 use crate::scene::Scene;
 use crate::signal::{BusPart, Signal};
+use crate::touched::Touch;
 use crate::watch::Watch;
 use board_model::Board;
 use board_tree::Tree;
@@ -157,19 +158,20 @@ fn print_moment(
 ) -> Result<(), AllocError>
     requires { length signals.now ≡ length shown.old.items }
     ensures each { OnOk result (length shown.new.items ≡ length shown.old.items) }
-    ensures text { (before after : Moment) → from ≡ scene_of board.now before →
-        ReadsFrom board.now before signals.now shown.old.items 0
+    ensures text { (before after : Moment) → Follows before after →
+        from ≡ scene_of board.now before → ReadsFrom board.now before signals.now shown.old.items 0
         → IsAt board.now after watch.now.kept watch.now.waits.items watch.now.scene
         → OnOk result (string_bytes text.new ≡ string_bytes text.old ++ text_of (time_line number ∷ change_lines board.now before after 0 signals.now)) }
-    ensures reads { (after : Moment) →
-        IsAt board.now after watch.now.kept watch.now.waits.items watch.now.scene
+    ensures reads { (before after : Moment) → Follows before after →
+        from ≡ scene_of board.now before → ReadsFrom board.now before signals.now shown.old.items 0
+        → IsAt board.now after watch.now.kept watch.now.waits.items watch.now.scene
         → OnOk result (ReadsFrom board.now after signals.now shown.new.items 0) }
 {
     print_time(text, number)?;
     print_changes(text, board, signals, shown.as_mut_slice(), from, watch)
 }
 
-/// The signals that change.
+/// The signals that change: those that the event does not touch are passed over.
 fn print_changes(
     text: &mut String,
     board: &Board,
@@ -179,17 +181,22 @@ fn print_changes(
     watch: &Watch,
 ) -> Result<(), AllocError>
     requires { length signals.now ≡ length shown.old }
-    ensures text { (before after : Moment) → from ≡ scene_of board.now before →
-        ReadsFrom board.now before signals.now shown.old 0
+    ensures text { (before after : Moment) → Follows before after →
+        from ≡ scene_of board.now before → ReadsFrom board.now before signals.now shown.old 0
         → IsAt board.now after watch.now.kept watch.now.waits.items watch.now.scene
         → OnOk result (string_bytes text.new ≡ string_bytes text.old ++ text_of (change_lines board.now before after 0 signals.now)) }
-    ensures reads { (after : Moment) →
-        IsAt board.now after watch.now.kept watch.now.waits.items watch.now.scene
+    ensures reads { (before after : Moment) → Follows before after →
+        from ≡ scene_of board.now before → ReadsFrom board.now before signals.now shown.old 0
+        → IsAt board.now after watch.now.kept watch.now.waits.items watch.now.scene
         → OnOk result (ReadsFrom board.now after signals.now shown.new 0) }
 {
+    let touch = Touch::of(board, from, watch.scene());
     for number in 0..signals.len() {
-        let old = shown[number];
-        shown[number] = print_change(text, board, number, signals[number], old, from, watch)?;
+        let signal = signals[number];
+        if touch.may_change(signal) {
+            let old = shown[number];
+            shown[number] = print_change(text, board, number, signal, old, from, watch)?;
+        }
     }
     Ok(())
 }

@@ -11,6 +11,7 @@ mod reading;
 mod scene;
 mod signal;
 mod signals;
+mod touched;
 mod watch;
 
 pub use dump::waves;
