@@ -38,6 +38,7 @@ kind_of_part parts.Op = codes "string" ∷ codes "1" ∷ []
 kind_of_part parts.To = codes "string" ∷ codes "1" ∷ []
 kind_of_part parts.Value = codes "reg" ∷ codes "32" ∷ []
 
+-- of a count of a lane
 abbrev pub kind_of_count : LaneCount → Line
 kind_of_count Owed = codes "reg" ∷ codes "4" ∷ []
 kind_of_count Held = codes "reg" ∷ codes "4" ∷ []
@@ -46,6 +47,7 @@ kind_of_count Posts = codes "reg" ∷ codes "4" ∷ []
 kind_of_count Requests = codes "reg" ∷ codes "4" ∷ []
 kind_of_count Completions = codes "reg" ∷ codes "4" ∷ []
 
+-- of each signal
 abbrev pub kind_of : Signal → Line
 kind_of (Bus bus part) = kind_of_part part
 kind_of (Lane lane count) = kind_of_count count
@@ -62,6 +64,7 @@ part_word parts.Op = codes "op"
 part_word parts.To = codes "to"
 part_word parts.Value = codes "value"
 
+-- what a count is called
 abbrev pub count_word : LaneCount → List ℕ
 count_word Owed = codes "owed"
 count_word Held = codes "held"
@@ -103,6 +106,7 @@ abbrev pub scopes : Board → ℕ → List ℕ → List Line
 scopes board k [] = []
 scopes board k (bus ∷ buses) = scope_lines board k bus ++ scopes board (k + length (signals_on board bus)) buses
 
+-- the declarations of all buses of a board
 unfoldable pub all_scopes : Board → List Line
 all_scopes board = scopes board 0 (buses_of board)
 
@@ -136,10 +140,12 @@ is_of_event board event (Try master) = false
 is_of_event board event (Waits master) = false
 is_of_event board event (Stall target) = false
 
+-- both are up, or both down
 abbrev pub same_level : Bool → Bool → Bool
 same_level true b = b
 same_level false b = not b
 
+-- a viewer shows the two alike
 abbrev pub same_shown : Shown → Shown → Bool
 same_shown (Text a) (Text b) = bytes_eq a b
 same_shown (Text a) (Level b) = false
@@ -163,6 +169,7 @@ same_shown Nothing Nothing = true
 abbrev pub is_written : Board → Moment → Moment → Signal → Bool
 is_written board from to signal = is_of_event board to.event signal || not (same_shown (shown board from signal) (shown board to signal))
 
+-- the line of the signal of number k, where it is written
 abbrev pub change_line : Board → Moment → Moment → ℕ → Signal → List Line
 change_line board from to k signal = if is_written board from to signal then value_line k (shown board to signal) ∷ [] else []
 
@@ -188,6 +195,7 @@ moments board n from (e ∷ events) = moment_lines board n from (next from e) ++
 abbrev pub first_lines : Board → List Signal → List Line → List Line
 first_lines board signals rest = time_line 0 ∷ (codes "$dumpvars" ∷ []) ∷ (value_lines board beginning 0 signals ++ ((codes "$end" ∷ []) ∷ rest))
 
+-- all lines of the dump of a run: declarations, what is shown before the first event, and each moment
 abbrev pub dump_lines : Board → List Event → List Line
 dump_lines board events =
     head_lines board

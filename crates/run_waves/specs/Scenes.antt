@@ -45,6 +45,7 @@ abbrev pub shown_by : Board → ℕ → BusPart → Option Scene → Shown
 shown_by board bus part None = idle_part part
 shown_by board bus part (Some scene) = scene_part board part scene
 
+-- what a part of a bus shows: idle, where the scene is on another
 abbrev pub shown_on : Board → ℕ → BusPart → Option Scene → Shown
 shown_on board bus part scene = if is_scene_on board bus scene then shown_by board bus part scene else idle_part part
 
@@ -91,6 +92,7 @@ abbrev pub waits_by : List (Option OpId) → By → OpId → List Bool → List 
 waits_by turns Master o waits = set waits o.master (is_turn o (turn_in turns o.master))
 waits_by turns (ByLane lane) o waits = waits
 
+-- who waits after an event
 abbrev pub waits_next : List (Option OpId) → Event → List Bool → List Bool
 waits_next turns (Act on by o step place) waits = waits_by turns by o waits
 waits_next turns (Arrive lane mark) waits = waits

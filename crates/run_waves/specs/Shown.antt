@@ -42,6 +42,7 @@ abbrev pub events_by : List Event → Option Event → List Event
 events_by before None = before
 events_by before (Some e) = e ∷ before
 
+-- all that has happened up to a moment
 abbrev pub past : Moment → List Event
 past m = events_by m.before m.event
 
@@ -163,6 +164,7 @@ abbrev pub is_event_on : Board → ℕ → Option Event → Bool
 is_event_on board bus None = false
 is_event_on board bus (Some e) = bus_of board e == bus
 
+-- what a part of a bus shows of what happens there
 abbrev pub part_of : Board → BusPart → List Event → Option Event → Shown
 part_of board part before None = idle_part part
 part_of board part before (Some e) = event_part board part e (item_by board before e)
@@ -177,6 +179,7 @@ is_request (Done op slot outcome) = false
 is_request Room = false
 is_request (Gone slot) = false
 
+-- whether an item is a completion
 abbrev pub is_completion : Carried → Bool
 is_completion (Post op) = false
 is_completion (Ask op slot) = false
@@ -212,6 +215,7 @@ abbrev pub is_presented_by : OpId → By → OpId → Bool
 is_presented_by o Master p = same_op p o
 is_presented_by o (ByLane lane) p = false
 
+-- the event is one in which its master presented the operation
 abbrev pub presents_in : OpId → Event → Bool
 presents_in o (Act on by p step place) = is_presented_by o by p
 presents_in o (Arrive lane mark) = false

@@ -21,6 +21,7 @@ abbrev pub presents_over : By → ℕ → Bool
 presents_over Master bus = false
 presents_over (ByLane lane) bus = lane.bus == bus
 
+-- a lane of the bridge to the bus claims
 abbrev pub claims_over : Place → ℕ → Bool
 claims_over (places.Target target) bus = false
 claims_over (places.Header header) bus = false
@@ -37,6 +38,7 @@ abbrev pub presents_as : By → OpId → ℕ → Bool
 presents_as Master o master = o.master == master
 presents_as (ByLane lane) o master = false
 
+-- an event is one of the master's
 abbrev pub moves_master : ℕ → Event → Bool
 moves_master master (Act on by o step place) = presents_as by o master
 moves_master master (Arrive lane mark) = false
@@ -48,6 +50,7 @@ claims_at (places.Header header) target = false
 claims_at (places.Lane lane) target = false
 claims_at places.Nobody target = false
 
+-- an event is claimed by the target
 abbrev pub moves_target : ℕ → Event → Bool
 moves_target target (Act on by o step place) = claims_at place target
 moves_target target (Arrive lane mark) = false
@@ -60,6 +63,7 @@ is_at bus found = option_map_or (λ (other : ℕ). other == bus) found false
 abbrev pub happens_so : (Event → Bool) → Option Event → Bool
 happens_so test event = option_map_or test event false
 
+-- whether the signal may show something else than a moment before
 abbrev pub may_change : Touch → Signal → Bool
 may_change touch (Bus bus part) = is_at bus touch.from || is_at bus touch.to
 may_change touch (Lane lane count) = happens_so (moves_lanes lane.bus) touch.event

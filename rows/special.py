@@ -1,0 +1,266 @@
+"""The rows that are no line of a table: each a function of a place (rowing.Place), with its cases: a name, what was seen, and
+what was wanted. ROWS has them; scripts() the scripts that count rows of their own.
+"""
+import hashlib
+import os
+import re
+import shutil
+import subprocess
+import tempfile
+
+from rowing import PROGRAM, Seen, Wanted, called, first_line
+
+ROWS = []
+
+
+def row(name):
+    def kept(function):
+        ROWS.append((name, function))
+        return function
+
+    return kept
+
+
+def seen_as(seen, out):
+    """What was seen, with another text in place of its standard output."""
+    return Seen(seen.status, out, seen.error)
+
+
+# The threads of `run`, twenty times on one board: each trace is a complete run.
+
+
+def threads_row(time):
+    def threads(place):
+        whole = place.call("run", "boards/host_disk_and_network.board")
+        seen = place.call("check", place.file("whole", whole.out)) if whole.status == 0 else whole
+        yield f"threads_time_{time}", seen.cut(16), Wanted(0, b"complete run of ", "-")
+
+    return f"threads_time_{time}", threads
+
+
+ROWS += [threads_row(time) for time in range(1, 21)]
+
+
+# Inputs of just as many bytes as they may have, and of one more: the room is filled with comments.
+
+
+def filled(text, before, size):
+    """The text with comments before this line, of so many bytes in all."""
+    at = text.index(b"\n" + before.encode() + b"\n") + 1
+    left = size - len(text)
+    comments = (b"# " + b"0" * 61 + b"\n") * (left // 64)
+    rest = b" " * (left % 64 - 1) + b"\n" if left % 64 else b""
+    return text[:at] + comments + rest + text[at:]
+
+
+@row("board_of_the_limit")
+def board_of_the_limit(place):
+    text = place.read("boards/one_word.board")
+    large = place.file("large", filled(text, "master cpu on 0", 1 << 20))
+    yield "board_of_the_limit", place.call("run", "--steady", large), Wanted(0, place.read("boards/one_word.trace"), "-")
+    large = place.file("large", filled(text, "master cpu on 0", (1 << 20) + 1))
+    for name, words in ("board_past_the_limit", ["run", "--steady"]), ("safe_of_a_board_past_the_limit", ["safe"]):
+        yield name, place.call(*words, large), Wanted(5, b"", "pcitree: input too long")
+    large = place.file("large", filled(place.read("../boards/early.board"), "master nic on 1", 1 << 20))
+    wanted = Wanted(10, place.read("safe/early.safe"), "pcitree: 1 unsafe, 0 lost, 0 vain")
+    yield "safe_of_a_board_of_the_limit", place.call("safe", large), wanted
+
+
+@row("trace_of_the_limit")
+def trace_of_the_limit(place):
+    text = place.read("boards/one_word.trace")
+    large = place.file("large", filled(text, "events", 1 << 26))
+    yield "trace_of_the_limit", place.call("check", large), Wanted(0, b"complete run of 2 events, bound 2\n", "-")
+    large = place.file("large", filled(text, "events", (1 << 26) + 1))
+    yield "trace_past_the_limit", place.call("check", large), Wanted(5, b"", "pcitree: input too long")
+
+
+@row("refused_at_the_end_of_64_mib")
+def refused_at_the_end(place):
+    """A read that is stalled 499,999 times and then gives another value, behind comments that fill the length."""
+    comments = (b"#" + b"0" * 98 + b"\n") * 571087 + b"#" + b"0" * 23 + b"\n"
+    events = b"0 stall m cpu.0 ram\n" * 499999 + b"0 read m cpu.0 ram 00000001\nend 500000\n"
+    text = b"pcitrace 1\n" + place.read("boards/stalled.board") + comments + b"events\n" + events
+    wanted = Wanted(8, b"", "pcitree: event 500000 is not allowed: N2")
+    yield "refused_at_the_end_of_64_mib", place.call("check", place.file("large", text)), wanted
+
+
+@row("refused_among_empty_lines")
+def refused_among_empty_lines(place):
+    """A board of 1 MiB, most of it empty lines, of which two devices meet: the lines that matter are found at once."""
+    text = b"pciboard 1\ntarget a on 0 dev 9\ntarget b on 0 dev 9\n" + b"\n" * 1048500
+    seen = place.call("headers", place.file("large", text), timeout=10)
+    yield "refused_among_empty_lines", seen, Wanted(6, b"", "pcitree: board line 0 fault V7")
+
+
+# What lspci wrote of some 650 KB, of which the text with its comments would be longer than 1 MiB; of 4,800 devices and of 4,800
+# bridges, each told of on a small stack; and slot lines alone, no two alike, whose time does not grow with the square.
+
+
+def told(bus, device, number, kind, register, rest):
+    return (
+        f"{bus:02x}:{device:02x}.{number:x} x\n"
+        f"00: 34 12 01 00 07 00 00 00 00 00 80 05 00 00 {kind:02x} 00\n"
+        f"10: {register} {register} {rest}\n"
+        f"20: {register} {register} 00 00 00 00 00 00 00 00\n"
+        "30: 00 00 00 00 00 00 00 00 00 00 00 00 00 00 00 00\n"
+    )
+
+
+def machine(buses, devices, functions, kind, is_joined):
+    """Devices of so many functions on each bus, of this header type, where a bridge 1f.0 may lead to the next bus."""
+    lines = []
+    for bus in range(buses):
+        for device in range(devices):
+            for number in range(functions):
+                lines.append(told(bus, device, number, kind, "00 00 00 10", "00 00 00 10 00 00 00 10"))
+        if is_joined and bus < buses - 1:
+            lines.append(told(bus, devices, 0, 1, "00 00 00 00", f"{bus:02x} {bus + 1:02x} {buses - 1:02x} 00 00 00 00 00"))
+    return "".join(lines).encode()
+
+
+@row("import_longer_than_a_board")
+def import_longer_than_a_board(place):
+    large = place.file("large", machine(12, 31, 8, 0, True))
+    yield "import_longer_than_a_board", place.call("import", large), Wanted(6, b"", "pcitree: import line 0 fault I5")
+
+
+@row("import_on_a_small_stack")
+def import_on_a_small_stack(place):
+    for kind, ranges in (0, 192), (1, 0):
+        large = place.file("large", machine(150, 32, 1, kind, False))
+        seen = called(["bash", "-c", 'ulimit -s 512 && exec "$0" import "$1"', PROGRAM, large])
+        wanted = f"pciboard 1\n# import: 0 bridges, 0 targets, 0 ranges\n# left out: 4800 functions, 0 windows, {ranges} ranges\n".encode()
+        yield f"import_on_a_small_stack_{kind}", seen.cut(len(wanted)), Wanted(0, wanted, "-")
+
+
+@row("import_of_slot_lines")
+def import_of_slot_lines(place):
+    lines = "".join(f"{n // 2048:02x}:{n // 8 % 256:02x}.{n % 8:x} x\n" for n in range(104857))
+    seen = place.call("import", place.file("large", lines.encode()), timeout=10)
+    yield "import_of_slot_lines", seen, Wanted(6, b"", "pcitree: import line 1 fault I3")
+
+
+# Standard output that takes nothing, that is closed, and whose reader left; a FIFO, and standard input by its name.
+
+
+@row("full_output")
+def outputs_that_fail(place):
+    failed = Wanted(4, b"", "pcitree: write failed")
+    run = [PROGRAM, "run", "--steady", "boards/one_word.board"]
+    with open("/dev/full", "wb") as full:
+        yield "full_output", called(run, stdout=full), failed
+        # and so of a board that is not safe, or of no such run: a write fault has its status, whatever the text says
+        yield "full_output_of_safe", called([PROGRAM, "safe", "../boards/early.board"], stdout=full), failed
+        adverse = [PROGRAM, "adverse", "../boards/early.board", "cpu.1", "nic.1"]
+        yield "full_output_of_adverse", called(adverse, stdout=full), failed
+    yield "closed_output", called(["bash", "-c", 'exec "$@" >&-', "bash", *run]), failed
+    reading, writing = os.pipe()
+    os.close(reading)
+    yield "output_whose_reader_left", called(run, stdout=writing), failed
+    os.close(writing)
+
+
+@row("fifo")
+def inputs_by_other_ways(place):
+    board = place.read("boards/one_word.board")
+    whole = Wanted(0, place.read("boards/one_word.trace"), "-")
+    fifo = os.path.join(place.folder, "fifo")
+    os.mkfifo(fifo)
+    for name, text, wanted in (
+        ("fifo", board, whole),
+        ("fifo_that_ends_early", board[:14], Wanted(6, b"", "pcitree: board line 2 fault P2")),
+    ):
+        writer = subprocess.Popen(["bash", "-c", 'cat "$0" >"$1"', place.file("text", text), fifo])
+        yield name, place.call("run", "--steady", fifo), wanted
+        writer.wait()
+    with open("boards/one_word.board", "rb") as file:
+        yield "standard_input", place.call("run", "--steady", "/dev/stdin", stdin=file), whole
+    seen = place.call("run", "--steady", "/dev/stdin", stdin=None, input=board)
+    yield "standard_input_of_a_pipe", seen, whole
+
+
+# The version is the one that the file says, and the logic by which all was proved is that of the kit that is here; another kit
+# may have another letter. The pages name that logic too, each of them.
+
+
+@row("version")
+def version(place):
+    kit = called(["rt", "version"]).out.decode()
+    logic = re.search("logic [0-9a-f]{16}", kit)[0]
+    seen = place.call("--version")
+    number = place.read("../VERSION").decode().strip()
+    out = re.sub(rb"\(rattle-kit-[^ )]* ", b"(", seen.out)
+    yield "version", seen_as(seen, out), Wanted(0, f"pcitree {number} ({logic})\n".encode(), "-")
+    for page in "README.md", "docs/proofs.md", "docs/pcitree.1":
+        found = re.findall("logic `?([0-9a-f]{16})", place.read(os.path.join("..", page)).decode())
+        named = "\n".join(sorted(set(found)))
+        yield f"kit_of_{page}", Seen(0, named.encode(), b""), Wanted(0, logic.split()[1].encode(), "-")
+    print(f"the kit that is here: {kit.strip()}; the program: {seen.out.decode().strip()}")
+
+
+# Each code: `explain` shows an input that has it; of I5 none of a few lines is known (import_longer_than_a_board).
+
+CODES = {
+    "headers": "L1 L2 L3 P1 P2 P3 P4 P5 P6 P7 P8 P9 P10 P11 P12 H1 H2 H3 H4 V1 V2 V3 V4 V5 V6 V7 V8 V9",
+    "check": "X1 X2 X3 X4 X5 X6 X7 X8 N1 N2 N3 N4 N5",
+    "import": "I1 I2 I3 I4",
+}
+
+
+def explain_row(word, code):
+    def explained(place):
+        page = place.call("explain", code)
+        lines = page.out.decode().split("\n")
+        # an example stands between its title and what follows it: an empty line and a line that ends with a colon, if any
+        example = "\n".join(lines[lines.index("Example:") + 2 :])
+        example = re.split(r"\n\n(?=[^\n]*:\n)", example)[0]
+        seen = place.call(word, place.file("example", example.rstrip("\n").encode() + b"\n"))
+        is_told = f" {code} " in first_line(seen.error) + " " and lines[0].startswith(f"{code}: ")
+        yield f"explain_{code}", Seen(page.status if is_told else 99, seen.out, b""), Wanted(0, b"", "-")
+
+    return f"explain_{code}", explained
+
+
+ROWS += [explain_row(word, code) for word, codes in CODES.items() for code in codes.split()]
+
+
+# All of a run of 1,940 events, by the sum of its page; more events than a page may show; README's picture and its board.
+
+
+@row("drawn_whole_run")
+def drawn(place):
+    page = place.call("draw", "draw/generated.trace")
+    yield "drawn_whole_run", seen_as(page, hashlib.sha256(page.out).hexdigest().encode() + b"\n"), Wanted(0, place.read("draw/generated.sum"), "-")
+    whole = place.call("finish", "traces/drawn_traffic.trace")
+    seen = place.call("draw", place.file("whole", whole.out))
+    yield "drawn_too_many_events", seen, Wanted(5, b"", "pcitree: 9700 events are too many to draw")
+    page = place.call("draw", "../boards/flag.trace")
+    seen = called(["../tools/page-svg", place.file("page", page.out)])
+    yield "picture_of_readme", seen, Wanted(0, place.read("../docs/flag.svg"), "-")
+    readme = place.read("../README.md").decode()
+    board = re.search(r"^```\n(.*?)^```$", readme, re.S | re.M)[1]
+    yield "board_of_readme", Seen(0, board.encode(), b""), Wanted(0, place.read("../boards/nic.board"), "-")
+
+
+# Scripts with rows of their own.
+
+
+def scripts():
+    # the commands of README.md and of the guide, but for the one that compiles the program anew (../tools/try-newcomer has it)
+    yield "readme_commands", ["../tools/readme-commands", "--without", "tools/try", "README.md", "docs/GUIDE.md"]
+    # `safe` beside a second program, over all boards here and some that are drawn, and what `adverse` writes of them
+    yield "safe_by_definitions", ["../tools/safe-by-definitions", "--compare", PROGRAM, "100"]
+    # arrivals taken out of each run here, and put in again
+    yield "fill_again", ["../tools/fill-again"]
+    # faults of the system in turn, disturbed schedules, inputs changed at random and the worst ones, each in a short form
+    if shutil.which("cc"):
+        yield "fail_each_call", ["../tools/fail-each-call", "--most", "3"]
+        yield "try_schedules", ["../tools/try-schedules", "--times", "6"]
+    yield "fuzz", ["../tools/fuzz", "--seconds", "15"]
+    yield "worst", ["../tools/worst", "--part", "16"]
+    # the Debian package, where there is what makes one
+    if shutil.which("dpkg-deb"):
+        folder = tempfile.mkdtemp()
+        yield "package", ["bash", "-c", '../tools/try-deb "$(../tools/make-deb "$0")"', folder]
+        shutil.rmtree(folder)
