@@ -51,6 +51,26 @@ reads_more board m signals shown n r s within below there here = λ k signal rea
           below k signal reading before is (sym (set_other shown n k r differ) ∙ got)
     ]) refl
 
+-- one that is kept
+pub reads_kept : (board : Board) (m : Moment) (signals : List Signal) (shown : List Reading) (n : ℕ) (r : Reading) (s : Signal) → ReadsBelow board m signals shown n → slice_get signals n ≡ Some s → slice_get shown n ≡ Some r
+    → Reads board m s r → ReadsBelow board m signals shown (n + 1)
+reads_kept board m signals shown n r s below there read here = λ k signal reading less is got.
+    let P : Bool → Type 0 = λ b. eqb n k ≡ b → Reads board m signal reading in
+    (elim (eqb n k) as P [
+      | true ↦ λ same.
+          let one : n ≡ k = eqb-true n k same in
+          let signals_same : Some s ≡ Some signal = sym there ∙ ap (slice_get signals) one ∙ is in
+          let readings_same : Some r ≡ Some reading = sym read ∙ ap (slice_get shown) one ∙ got in
+          let s_is : s ≡ signal = cc in
+          let r_is : r ≡ reading = cc in
+          let P : Signal → Type 0 = λ x. Reads board m x reading in
+          let Q : Reading → Type 0 = λ x. Reads board m s x in
+          subst P s_is (subst Q r_is here)
+      | false ↦ λ differ.
+          let before : k < n = grind (arith, nat_tests) in
+          below k signal reading before is got
+    ]) refl
+
 -- all of them
 pub reads_all : (board : Board) (m : Moment) (signals : List Signal) (shown : List Reading) (n : ℕ) → length signals ≤ n → ReadsBelow board m signals shown n → ((k : ℕ) (signal : Signal) → slice_get signals k ≡ Some signal → k < length signals)
     → ReadsFrom board m signals shown 0

@@ -18,7 +18,6 @@ use Rattle.history_model.specs.Lanes.{LaneState, Both, item_ends, arrives}
 use Rattle.history_model.specs.World.{World, same_lane, same_direction, both, moved, enters, at_place, lane_outcome, leaves, at_initiator, world_of}
 use Rattle.history_model.specs.Program.{ending_of, master_outcome, follows, turn_after, turn_of}
 use Rattle.history_model.specs.Answers.{stalls_at, stalls_in, stalls_by, stalls_used}
-use Rattle.board_printer.specs.Lines.{Line}
 use Rattle.run_waves.specs.declared.signal.BusPart.{BusPart}
 use Rattle.run_waves.specs.declared.signal.BusPart.TheVariants as parts
 use Rattle.run_waves.specs.declared.signal.LaneCount.{LaneCount}
@@ -29,9 +28,9 @@ use Rattle.history_model.specs.Local.{bus_of}
 use Rattle.run_waves.specs.declared.scene.Scene.{Scene}
 use Rattle.run_waves.specs.declared.reading.Reading.{Reading}
 use Rattle.run_waves.specs.Shown.{Moment, past, events_by, Shown, Level, Number, is_event_on, idle_part, part_of, count_on, ops_of, index_of, try_of, waits, stalls_of, shown}
-use Rattle.run_waves.specs.Scenes.{Follows, Reads, scene_at, scene_of, shown_of}
+use Rattle.run_waves.specs.Scenes.{Follows, Reads, scene_at, scene_of}
 use Rattle.run_waves.specs.Dump.{value_line, same_shown, same_level, is_of_event, change_line}
-use Rattle.run_waves.specs.Touched.{presents_over, claims_over, moves_lanes, presents_as, moves_master, claims_at, moves_target, is_at, happens_so, may_change, touch_of}
+use Rattle.run_waves.specs.Touched.{presents_over, claims_over, moves_lanes, moves_master, claims_at, moves_target, is_at, happens_so, may_change, touch_of}
 use Rattle.run_waves.proofs.WaitLemmas.{other_waits, lane_waits}
 
 -- neither of two tests holds
@@ -122,7 +121,7 @@ no_stall target (Act on by o step place) none = no_stall_in target place step no
 no_stall target (Arrive lane mark) none = refl
 
 stalls_stay : (h : List Event) (e : Event) (target : ℕ) → moves_target target e ≡ false → stalls_used (e ∷ h) target ≡ stalls_used h target
-stalls_stay h e target none = ap (λ (n : ℕ). n + stalls_used h target) (no_stall target e none)
+stalls_stay h e target none = ap (λ (n : ℕ). n + stalls_used h target) (no_stall target e none) ∙ omega arith
 
 -- Signals, by the events before a moment and what happens in it.
 
@@ -154,11 +153,11 @@ scene_bus board h None bus = refl
 scene_bus board h (Some e) bus = refl
 
 -- the moment behind another
-behind : Moment → Option Event → Moment
+abbrev behind : Moment → Option Event → Moment
 behind before event = record { before = past before; event = event }
 
 -- what is not touched then
-Untouched : Board → Moment → Option Event → Signal → Type 0
+abbrev Untouched : Board → Moment → Option Event → Signal → Type 0
 Untouched board before event signal = may_change (touch_of board (scene_of board before) (scene_at board (past before) event)) signal ≡ false
 
 shown_stays : (board : Board) (before : Moment) (event : Option Event) (signal : Signal) → Untouched board before event signal → shown board (behind before event) signal ≡ shown board before signal
@@ -199,7 +198,7 @@ same_idle parts.To = refl
 same_idle parts.Value = refl
 
 -- a signal is written in a moment, or shows what it showed
-written_by : Board → Option Event → Signal → Shown → Shown → Bool
+abbrev written_by : Board → Option Event → Signal → Shown → Shown → Bool
 written_by board event signal old new = is_of_event board event signal || not (same_shown old new)
 
 not_written : (board : Board) (before : Moment) (event : Option Event) (signal : Signal) → Untouched board before event signal → written_by board event signal (shown board before signal) (shown board before signal) ≡ false
@@ -225,7 +224,7 @@ line_behind board before event k signal none =
     ap (λ (b : Bool). cond b (value_line k new ∷ []) []) off
 
 reads_behind : (board : Board) (before : Moment) (event : Option Event) (signal : Signal) (r : Reading) → Untouched board before event signal → Reads board before signal r → Reads board (behind before event) signal r
-reads_behind board before event (Bus bus part) r none reads = unit
+reads_behind board before event (Bus bus part) r none reads = reads
 reads_behind board before event (Lane lane count) r none reads = reads ∙ sym (shown_stays board before event (Lane lane count) none)
 reads_behind board before event (Index master) r none reads = reads ∙ sym (shown_stays board before event (Index master) none)
 reads_behind board before event (Try master) r none reads = reads ∙ sym (shown_stays board before event (Try master) none)

@@ -1,6 +1,6 @@
 -- Which signals may show something else than a moment before: those of the buses on which something happens or happened
 -- then, of the lanes that the event goes over, of the master that presents it and of the target that claims it.
-use Rattle.std.specs.Prelude.{ℕ, Bool, false, ◌||◌, ◌==◌, Option, Some, None}
+use Rattle.std.specs.Prelude.{ℕ, Bool, false, ◌||◌, ◌==◌, Option}
 use Rattle.std.specs.Option.{option_map, option_map_or}
 use Rattle.pci_command.specs.declared.op_id.OpId.{OpId}
 use Rattle.board_model.specs.declared.bridge.Place.{Place}

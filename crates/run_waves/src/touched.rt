@@ -1,7 +1,14 @@
 ghost use Rattle.std.specs.Prelude.{◌≡◌};
 ghost use Rattle.run_waves.specs.Touched.{
-    presents_over, claims_over, moves_lanes, presents_as, moves_master, claims_at, moves_target,
-    may_change, touch_of,
+  presents_over,
+  claims_over,
+  moves_lanes,
+  presents_as,
+  moves_master,
+  claims_at,
+  moves_target,
+  may_change,
+  touch_of,
 };
 
 use crate::scene::Scene;
@@ -39,7 +46,8 @@ impl Touch {
                 self.from.is_some_and(|from| from == bus) || self.to.is_some_and(|to| to == bus)
             }
             Signal::Lane { lane, .. } => {
-                self.event.is_some_and(|event| moves_lanes(lane.bus, &event))
+                self.event
+                    .is_some_and(|event| moves_lanes(lane.bus, &event))
             }
             Signal::Index { master } | Signal::Try { master } | Signal::Waits { master } => {
                 self.event.is_some_and(|event| moves_master(master, &event))

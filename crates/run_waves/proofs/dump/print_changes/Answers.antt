@@ -1,17 +1,22 @@
-use Rattle.std.proofs.Common.{◌≡◌, ◌<◌, ◌++◌, eqb, false, length, get_or, Some, sym, ◌∙◌, arith, string_bytes, slice_get}
+use Rattle.std.proofs.Common.{◌≡◌, ◌<◌, ◌+◌, ◌++◌, eqb, false, length, get_or, List, Some, sym, ap, subst, ◌∙◌, arith, append-nil, drop, string_bytes, slice_get}
 use Rattle.std.proofs.lemmas.Bool.Decides.{nat_tests}
 use Rattle.std.proofs.lemmas.Option.{slice_get-get_or, slice_get_within}
-use Rattle.board_printer.specs.Lines.{text_of}
+use Rattle.board_printer.specs.Lines.{Line, text_of}
 use Rattle.run_waves.specs.declared.reading.Reading.{Reading}
 use Rattle.run_waves.specs.declared.reading.Reading.TheVariants.{Level}
 use Rattle.run_waves.specs.declared.signal.BusPart.TheVariants as parts
 use Rattle.run_waves.specs.declared.signal.Signal.{Signal}
 use Rattle.run_waves.specs.declared.signal.Signal.TheVariants.{Bus}
-use Rattle.run_waves.specs.Dump.{change_lines}
+use Rattle.run_waves.specs.declared.touched.Touch.{Touch}
+use Rattle.run_waves.specs.Scenes.{ReadsBelow}
+use Rattle.run_waves.specs.Dump.{change_line, change_lines}
+use Rattle.run_waves.specs.Touched.{may_change, touch_of}
 use Rattle.run_waves.proofs.WatchLemmas.{set_other}
-use Rattle.run_waves.proofs.ReadLemmas.{reads_more, reads_all}
+use Rattle.run_waves.proofs.ReadLemmas.{reads_more, reads_kept, reads_all}
 use Rattle.run_waves.proofs.ChangeLemmas.{changes_more}
+use Rattle.run_waves.proofs.TouchLemmas.{untouched_line, untouched_reads}
 use Rattle.run_waves.proofs.dump.print_changes.Goals as goal
+use Rattle.run_waves.proofs.dump.print_changes.Goals.{then-may_change+in_ok-shown, else-may_change}
 
 pub loop-number-preserved : goal.loop-number-preserved
 loop-number-preserved c =
@@ -22,23 +27,51 @@ loop-number-preserved c =
     let first = c.args.shown.now in
     let s : Signal = Bus 0 parts.Event in
     let r : Reading = Level false in
-    let new = c.in_ok-shown.field-0 in
+    let signal : Signal = get_or signals i s in
+    let reading : Reading = get_or shown i r in
+    let text = string_bytes c.loop-number.text in
     let within : i < length signals = c.loop-number-test.true in
     let so : i < length shown = omega (arith, c.requires, within, c.loop-number.auto.shown) in
     let signal_at = slice_get-get_or signals i s within in
-    let reading_at : slice_get first i ≡ Some (get_or shown i r) = sym (c.loop-number.invariant.rest i (omega arith)) ∙ slice_get-get_or shown i r so in
-    record {
-      text = λ before after scene was at.
-          changes_more board before after signals i s (string_bytes c.loop-number.text) (string_bytes c.print_change.new.text) (string_bytes c.args.text.now ++ text_of (change_lines board before after 0 signals)) within
-          (c.loop-number.invariant.text before after scene was at)
-          (c.in_ok-shown.ensures.text before after scene (was i (get_or signals i s) (get_or shown i r) (omega arith) signal_at reading_at) at);
-      reads = λ after at. reads_more board after signals shown i new (get_or signals i s) so (c.loop-number.invariant.reads after at) signal_at (c.in_ok-shown.ensures.reads after at);
-      rest = λ k more.
-          let apart : eqb i k ≡ false = grind (arith, nat_tests) in
-          set_other shown i k new apart ∙ c.loop-number.invariant.rest k (omega (arith, more));
-    }
+    let reading_here : slice_get shown i ≡ Some reading = slice_get-get_or shown i r so in
+    let reading_at : slice_get first i ≡ Some reading = sym (c.loop-number.invariant.rest i (omega arith)) ∙ reading_here in
+    elim c.if-may_change.branch [
+      | then-may_change+in_ok-shown w ↦
+          let new = w.in_ok-shown.field-0 in
+          record {
+            text = λ before after follows scene was at.
+                ap (λ t. string_bytes t ++ text_of (change_lines board before after (i + 1) (drop (i + 1) signals))) w.text-is
+                ∙ changes_more board before after signals i s text (string_bytes w.print_change.new.text) (string_bytes c.args.text.now ++ text_of (change_lines board before after 0 signals)) within
+                (c.loop-number.invariant.text before after follows scene was at)
+                (w.in_ok-shown.ensures.text before after scene (was i signal reading (omega arith) signal_at reading_at) at);
+            reads = λ before after follows scene was at.
+                subst (λ (l : List Reading). ReadsBelow board after signals l (i + 1)) (sym w.shown-is)
+                (reads_more board after signals shown i new signal so (c.loop-number.invariant.reads before after follows scene was at) signal_at (w.in_ok-shown.ensures.reads after at));
+            rest = λ k more.
+                let apart : eqb i k ≡ false = grind (arith, nat_tests) in
+                ap (λ (l : List Reading). slice_get l k) w.shown-is ∙ set_other shown i k new apart ∙ c.loop-number.invariant.rest k (omega (arith, more));
+          }
+      | else-may_change w ↦
+          let off : may_change (touch_of board c.args.from c.scene.result) signal ≡ false =
+          ap (λ (t : Touch). may_change t signal) (sym c.of-touch.ensures) ∙ sym c.may_change.ensures ∙ w.if-may_change.false in
+          record {
+            text = λ before after follows scene was at.
+                let none = untouched_line board before after c.args.from c.scene.result i signal follows scene (c.scene.ensures ∙ at.scene_is) off in
+                let same : text ≡ text ++ text_of (change_line board before after i signal) = sym (append-nil text) ∙ ap (λ (l : List Line). text ++ text_of l) (sym none) in
+                ap (λ t. string_bytes t ++ text_of (change_lines board before after (i + 1) (drop (i + 1) signals))) w.text-is
+                ∙ changes_more board before after signals i s text text (string_bytes c.args.text.now ++ text_of (change_lines board before after 0 signals)) within
+                (c.loop-number.invariant.text before after follows scene was at) same;
+            reads = λ before after follows scene was at.
+                let old = was i signal reading (omega arith) signal_at reading_at in
+                let still = untouched_reads board before after c.args.from c.scene.result signal reading follows scene (c.scene.ensures ∙ at.scene_is) off old in
+                subst (λ (l : List Reading). ReadsBelow board after signals l (i + 1)) (sym w.shown-is)
+                (reads_kept board after signals shown i reading signal (c.loop-number.invariant.reads before after follows scene was at) signal_at reading_here still);
+            rest = λ k more. ap (λ (l : List Reading). slice_get l k) w.shown-is ∙ c.loop-number.invariant.rest k (omega (arith, more));
+          }
+    ]
 
 pub returns-clause-reads : goal.returns-clause-reads
-returns-clause-reads c = λ after at.
+returns-clause-reads c = λ before after follows scene was at.
     let signals = c.args.signals.now in
-    reads_all c.args.board.now after signals c.loop-number.shown c.loop-number.number c.loop-number-test.false (c.loop-number.invariant.reads after at) (λ k signal is. slice_get_within signals k signal is)
+    reads_all c.args.board.now after signals c.loop-number.shown c.loop-number.number c.loop-number-test.false (c.loop-number.invariant.reads before after follows scene was at)
+    (λ k signal is. slice_get_within signals k signal is)
