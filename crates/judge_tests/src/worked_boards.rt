@@ -1,3 +1,5 @@
+ghost use Rattle.std.specs.Prelude.{◌<◌, ◌^◌, IfOk, length};
+
 use board_tree::{Tree, validate};
 use history_model::Event;
 use pci_command::List;
@@ -6,7 +8,9 @@ use std::test::Fail;
 use trace_reader::read_trace;
 
 /// The valid board of a trace text, and its events.
-pub(crate) fn worked(alloc: Global, text: &[u8]) -> Result<(Tree, List<Event>), Fail> {
+pub(crate) fn worked(alloc: Global, text: &[u8]) -> Result<(Tree, List<Event>), Fail>
+    ensures { IfOk result (λ read. length read.1 < 2 ^ 32) }
+{
     if text.len() > 1000 {
         return Err("too long".into());
     }
