@@ -37,9 +37,7 @@ pub fn answer_draw_operation(alloc: Global, input: &[u8], word: &[u8]) -> Result
 {
     let TreeTrace { tree, events } = read_run(alloc, input)?;
     let events = events.as_slice();
-    // The board of a tree is valid, so that a run of it has at most 500,000 events.
-    runs_end();
-    let rows = rows_of_operation(alloc, tree.board(), events, word)?;
+    let rows = rows_of_operation(alloc, &tree, events, word)?;
     answer_rows(alloc, &tree, events, Some(rows))
 }
 

@@ -1,9 +1,12 @@
-ghost use Rattle.std.specs.Prelude.{◌≡◌, ◌<◌, ◌^◌, length, string_bytes, IfOk};
+ghost use Rattle.std.specs.Prelude.{◌≡◌, string_bytes, IfOk};
+ghost use Rattle.history_model.specs.Runs.{Run, history_of};
 ghost use Rattle.command_traces.specs.draw.Operations.{operation_word, names_word, with_event, rows_of_operation};
 
 use crate::draw::rows::Rows;
 use board_model::Board;
+use board_tree::Tree;
 use history_model::Event;
+use law_bound::runs_end;
 use pci_command::OpId;
 use std::alloc::{AllocError, Global};
 use trace_text::master_name;
@@ -12,13 +15,16 @@ use trace_text::master_name;
 /// none does there are none, as behind the last event.
 pub(crate) fn rows_of_operation(
     alloc: Global,
-    board: &Board,
+    tree: &Tree,
     events: &[Event],
     word: &[u8],
 ) -> Result<Rows, AllocError>
-    requires { length events.now < 2 ^ 31 }
-    ensures { IfOk result (λ rows. rows ≡ rows_of_operation board.now events.now word.now) }
+    requires { Run tree.now (history_of events.now) }
+    ensures { IfOk result (λ rows. rows ≡ rows_of_operation tree.now events.now word.now) }
 {
+    // The board of a tree is valid, so that a run of it has at most 500,000 events.
+    runs_end();
+    let board = tree.board();
     let mut rows = Rows {
         first: events.len() as u32 + 1,
         last: events.len() as u32,
