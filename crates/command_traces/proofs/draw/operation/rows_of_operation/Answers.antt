@@ -5,5 +5,5 @@ use Rattle.command_traces.proofs.draw.operation.rows_of_operation.Goals as goal
 
 pub returns : goal.returns
 returns c =
-    rows_all c.board.result.now c.args.word.now c.args.events.now c.loop-before.before c.loop-before.rows (rows_of_operation c.board.result.now c.args.events.now c.args.word.now) c.loop-before-test.false c.loop-before.invariant
-    ∙ ap (λ b. rows_of_operation b c.args.events.now c.args.word.now) c.board.ensures.value
+    rows_all c.board-board.result.now c.args.word.now c.args.events.now c.loop-before.before c.loop-before.rows (rows_of_operation c.board-board.result.now c.args.events.now c.args.word.now) c.loop-before-test.false c.loop-before.invariant
+    ∙ ap (λ b. rows_of_operation b c.args.events.now c.args.word.now) c.board-board.ensures.value
