@@ -121,8 +121,8 @@ def machine(buses, devices, functions, kind, is_joined):
 
 @row("import_longer_than_a_board")
 def import_longer_than_a_board(place):
-    large = place.file("large", machine(12, 31, 8, 0, True))
-    yield "import_longer_than_a_board", place.call("import", large), Wanted(6, b"", "pcitree: import line 0 fault I5")
+    seen = place.call("import", "/dev/stdin", stdin=None, input=machine(12, 31, 8, 0, True))
+    yield "import_longer_than_a_board", seen, Wanted(6, b"", "pcitree: import line 0 fault I5")
 
 
 @row("import_on_a_small_stack")
@@ -235,6 +235,14 @@ def drawn(place):
     whole = place.call("finish", "traces/drawn_traffic.trace")
     seen = place.call("draw", place.file("whole", whole.out))
     yield "drawn_too_many_events", seen, Wanted(5, b"", "pcitree: 9700 events are too many to draw")
+    # the events of an operation are those from the first to the last that names it
+    for trace, operation, first, last in (
+        ("../boards/flag.trace", "prod.0", "1", "26"),
+        ("traces/host_disk_and_network.trace", "cpu.2", "26", "53"),
+        ("boards/one_word.trace", "cpu.2", "3", "9"),
+    ):
+        part = place.call("draw", trace, first, last)
+        yield f"drawn_operation_{operation}", place.call("draw", trace, operation), Wanted(0, part.out, "-")
     page = place.call("draw", "../boards/flag.trace")
     seen = called(["../tools/page-svg", place.file("page", page.out)])
     yield "picture_of_readme", seen, Wanted(0, place.read("../docs/flag.svg"), "-")

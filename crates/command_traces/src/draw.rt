@@ -1,6 +1,7 @@
 //! `draw`: the page that the program writes for a trace text of a run, complete or not, or why it refuses it.
 mod answer;
+mod operation;
 mod rows;
 
-pub use answer::answer_draw;
+pub use answer::{answer_draw, answer_draw_operation};
 pub use rows::{Rows, event_of, names_event, rows_of};

@@ -14,6 +14,8 @@ use Rattle.program_input.proofs.RunLemmas.{run_refusing}
 use Rattle.command_runs.proofs.generate.ServedLemmas.{generate_refusing}
 use Rattle.program_input.proofs.ProtocolLemmas.{protocol_refusing, devices_refusing}
 use Rattle.command_traces.proofs.draw.ServedLemmas.{draw_refusing}
+use Rattle.command_traces.specs.draw.Rows.{rows_asked}
+use Rattle.command_traces.specs.draw.Operations.{operation_asked}
 use Rattle.command_traces.proofs.fill.ServedLemmas.{fill_refusing}
 use Rattle.command_traces.proofs.untagged.ServedLemmas.{untagged_refusing}
 use Rattle.command_boards.proofs.import.ServedLemmas.{import_refusing}
@@ -21,7 +23,7 @@ use Rattle.command_safe.proofs.safe.EndingLemmas.{safe_succeeds}
 use Rattle.command_safe.proofs.adverse.ServedLemmas.{adverse_refusing}
 use Rattle.program_words.specs.declared.Form.{Form}
 use Rattle.program_words.specs.declared.Form.TheVariants as forms
-use Rattle.pcitree.specs.Words.{command_of, rows_in, read_in, write_in}
+use Rattle.pcitree.specs.Words.{command_of, rows_in, operation_in, read_in, write_in}
 use Rattle.pcitree.specs.Answers.{limit_of, AnswersTo, Refuses, IsServed, IsAnswered, CausesBy, Causes}
 use Rattle.pcitree.specs.Given.{given, left}
 use Rattle.pcitree.specs.Ends.{HoldsTooMuch, ReadsInput, AnswersInput, RefusesInput, Finishes, StopsInText}
@@ -90,8 +92,9 @@ refusing forms.Fill words = fill_refusing
 refusing forms.Audit words = run_refusing
 refusing forms.Report words = run_refusing
 refusing forms.Waves words = run_refusing
-refusing forms.Draw words = draw_refusing (rows_in words)
-refusing forms.DrawRows words = draw_refusing (rows_in words)
+refusing forms.Draw words = draw_refusing (rows_asked (rows_in words))
+refusing forms.DrawRows words = draw_refusing (rows_asked (rows_in words))
+refusing forms.DrawOperation words = draw_refusing (operation_asked (operation_in words))
 refusing forms.Untagged words = untagged_refusing
 refusing forms.Combine words = board_refusing
 refusing forms.Generate words = generate_refusing

@@ -14,7 +14,8 @@ use Rattle.command_traces.specs.audit.Answers.{AnswersAudit}
 use Rattle.command_traces.specs.report.Answers.{AnswersReport}
 use Rattle.command_traces.specs.waves.Answers.{AnswersWaves}
 use Rattle.command_traces.specs.declared.draw.rows.Rows.{Rows}
-use Rattle.command_traces.specs.draw.Rows.{rows_of, names_event}
+use Rattle.command_traces.specs.draw.Rows.{rows_of, names_event, rows_asked}
+use Rattle.command_traces.specs.draw.Operations.{operation_asked}
 use Rattle.command_traces.specs.draw.Answers.{AnswersDraw, RefusesDraw, IsDrawable}
 use Rattle.command_traces.specs.fill.Answers.{AnswersFill, RefusesFill, HasRun}
 use Rattle.command_traces.specs.untagged.Answers.{AnswersUntagged, RefusesUntagged, IsUntaggedTrace}
@@ -37,6 +38,11 @@ use Rattle.program_words.specs.Shapes.Shape.{Word, File, Rounds, First, Last, Op
 abbrev pub rows_in : List (List ℕ) → Option Rows
 rows_in (draw ∷ file ∷ first ∷ last ∷ []) = rows_of first last
 rows_in _ = None
+
+-- the operation that the words name: in words of the form `draw FILE OPERATION`
+abbrev pub operation_in : List (List ℕ) → List ℕ
+operation_in (draw ∷ file ∷ operation ∷ []) = operation
+operation_in _ = []
 
 -- the operations that the words name: in words of the form `adverse FILE READ WRITE`
 abbrev pub read_in : List (List ℕ) → List ℕ
@@ -152,15 +158,21 @@ command_of forms.Devices words = record {
   writes_run = true;
 }
 command_of forms.Draw words = record {
-  Answers = WithDone (λ input text. AnswersDraw input (rows_in words) text);
-  Refuses = λ input status. RefusesDraw input (rows_in words) status;
-  IsFaultless = IsDrawable (rows_in words);
+  Answers = WithDone (λ input text. AnswersDraw input (rows_asked (rows_in words)) text);
+  Refuses = λ input status. RefusesDraw input (rows_asked (rows_in words)) status;
+  IsFaultless = IsDrawable (rows_asked (rows_in words));
   writes_run = false;
 }
 command_of forms.DrawRows words = record {
-  Answers = WithDone (λ input text. AnswersDraw input (rows_in words) text);
-  Refuses = λ input status. RefusesDraw input (rows_in words) status;
-  IsFaultless = IsDrawable (rows_in words);
+  Answers = WithDone (λ input text. AnswersDraw input (rows_asked (rows_in words)) text);
+  Refuses = λ input status. RefusesDraw input (rows_asked (rows_in words)) status;
+  IsFaultless = IsDrawable (rows_asked (rows_in words));
+  writes_run = false;
+}
+command_of forms.DrawOperation words = record {
+  Answers = WithDone (λ input text. AnswersDraw input (operation_asked (operation_in words)) text);
+  Refuses = λ input status. RefusesDraw input (operation_asked (operation_in words)) status;
+  IsFaultless = IsDrawable (operation_asked (operation_in words));
   writes_run = false;
 }
 command_of forms.Import words = record {

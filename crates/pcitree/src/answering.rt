@@ -4,7 +4,7 @@ ghost use Rattle.command_safe.specs.safe.Answers.{AnswersSafe};
 ghost use Rattle.pcitree.specs.Answers.{AnswersTo, Refuses};
 ghost use Rattle.pcitree.specs.Given.{IsGiven};
 
-use crate::words::{operations_in, rows_in};
+use crate::words::{operation_in, operations_in, rows_in};
 use command_runs::Gate;
 use command_safe::SafeText;
 use program_status::Status;
@@ -51,6 +51,11 @@ pub(crate) fn answer<R: Threads + Sync, G: Gate + Sync>(
         Form::Waves => done(command_traces::answer_waves(alloc, input)),
         Form::Draw => done(command_traces::answer_draw(alloc, input, rows_in(words))),
         Form::DrawRows => done(command_traces::answer_draw(alloc, input, rows_in(words))),
+        Form::DrawOperation => done(command_traces::answer_draw_operation(
+            alloc,
+            input,
+            operation_in(words),
+        )),
         Form::Untagged => done(command_traces::answer_untagged(alloc, input)),
         Form::Combine => done(command_boards::answer_combine(alloc, input)),
         Form::Generate => done(command_runs::answer_generate(alloc, input)),

@@ -1,7 +1,7 @@
 ghost use Rattle.std.specs.Prelude.{◌≡◌, ◌≤◌, ◌<◌, ◌^◌, IfSome, map, length, position, string_bytes};
 ghost use Rattle.std.specs.Option.{option_map};
 ghost use Rattle.program_words.specs.Shapes.{shape_of, input_limit};
-ghost use Rattle.pcitree.specs.Words.{names_file, fits, fitting, is_of, form_of, misfit, is_file, is_number, file_in, file_place, limit_by, rows_in, read_in, write_in};
+ghost use Rattle.pcitree.specs.Words.{names_file, fits, fitting, is_of, form_of, misfit, is_file, is_number, file_in, file_place, limit_by, rows_in, operation_in, read_in, write_in};
 ghost use Rattle.pcitree.specs.Given.{number_in, number_of};
 
 use command_runs::names_rounds;
@@ -107,6 +107,16 @@ pub(crate) fn rows_in(words: &[String]) -> Option<Rows>
     match words {
         [_draw, _file, first, last] => rows_of(first.as_bytes(), last.as_bytes()),
         _ => None,
+    }
+}
+
+/// The operation that the words name, in words of the form `draw FILE OPERATION`.
+pub(crate) fn operation_in(words: &[String]) -> &[u8]
+    ensures { result.now ≡ operation_in (map string_bytes words.now) }
+{
+    match words {
+        [_draw, _file, operation] => operation.as_bytes(),
+        _ => &[],
     }
 }
 

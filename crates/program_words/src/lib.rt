@@ -41,6 +41,7 @@ pub enum Form {
     Waves,
     Draw,
     DrawRows,
+    DrawOperation,
     Untagged,
     Combine,
     Generate,
@@ -71,7 +72,7 @@ const TRACE: usize = 0x400_0000;
 const NUMBER: usize = 10;
 
 /// All forms, in the order in which they are told.
-pub const FORMS: [Form; 18] = [
+pub const FORMS: [Form; 19] = [
     Form::Safe,
     Form::Adverse,
     Form::Run,
@@ -85,6 +86,7 @@ pub const FORMS: [Form; 18] = [
     Form::Waves,
     Form::Draw,
     Form::DrawRows,
+    Form::DrawOperation,
     Form::Untagged,
     Form::Combine,
     Form::Generate,
@@ -208,6 +210,13 @@ const DRAW_ROWS: Row = Row {
     more: "At most 4,096 of them, by number from 1 on; a LAST above the number of events is lowered to it.",
 };
 
+const DRAW_OPERATION: Row = Row {
+    parts: &[Part::Word("draw"), Part::File, Part::Operation("OPERATION")],
+    limit: TRACE,
+    line: "draws the events of one operation of a trace",
+    more: "From its first event to its last, of a poll over all its tries.",
+};
+
 const UNTAGGED: Row = Row {
     parts: &[Part::Word("untagged"), Part::File],
     limit: TRACE,
@@ -278,6 +287,7 @@ impl Form {
             Form::Waves => WAVES,
             Form::Draw => DRAW,
             Form::DrawRows => DRAW_ROWS,
+            Form::DrawOperation => DRAW_OPERATION,
             Form::Untagged => UNTAGGED,
             Form::Combine => COMBINE,
             Form::Generate => GENERATE,

@@ -1,5 +1,7 @@
 -- Which events of a run are drawn.
 use Rattle.std.specs.Prelude.{ℕ, ◌+◌, ◌-◌, ◌^◌, min, Bool, List, Option, Some, None, Result, Ok, Err, nat_lt, is_some, if◌then◌else◌}
+use Rattle.board_model.specs.declared.board.Board.{Board}
+use Rattle.history_model.specs.declared.event.Event.{Event}
 use Rattle.board_text.specs.declared.numbers.NumberFault.{NumberFault}
 use Rattle.board_text.specs.declared.numbers.NumberFault.TheVariants.{TooWide, NotDigits, OutOfRange}
 use Rattle.board_text.specs.Numbers.{decimal_answer}
@@ -13,6 +15,14 @@ first_row (Some rows) = rows.first
 abbrev pub last_row : Option Rows → ℕ → ℕ
 last_row None count = count
 last_row (Some rows) count = min rows.last count
+
+-- Which events are asked for, of a board and events of it: all, or these rows.
+abbrev pub Asked : Type 0
+Asked = Board → List Event → Option Rows
+
+-- of each board and events the same: all, or these rows
+abbrev pub rows_asked : Option Rows → Asked
+rows_asked rows board events = rows
 
 -- how many that are
 abbrev pub drawn_count : Option Rows → ℕ → ℕ

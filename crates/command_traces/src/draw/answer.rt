@@ -1,9 +1,11 @@
 ghost use Rattle.std.specs.Prelude.{◌≡◌, ◌<◌, ◌^◌, length, IfOk, IfErr};
 ghost use Rattle.history_model.specs.Runs.{Run, history_of};
 ghost use Rattle.draw_page.specs.Pages.{page_of};
-ghost use Rattle.command_traces.specs.draw.Rows.{first_row, last_row, drawn_count};
-ghost use Rattle.command_traces.specs.draw.Answers.{AnswersDraw, RefusesDraw};
+ghost use Rattle.command_traces.specs.draw.Rows.{first_row, last_row, drawn_count, rows_asked};
+ghost use Rattle.command_traces.specs.draw.Operations.{operation_asked};
+ghost use Rattle.command_traces.specs.draw.Answers.{AnswersDraw, RefusesDraw, DrawsRows, HidesRows};
 
+use crate::draw::operation::rows_of_operation;
 use crate::draw::rows::Rows;
 use board_tree::Tree;
 use draw_page::page_of;
@@ -20,15 +22,40 @@ const MOST: u64 = 4096;
 /// The page of a run, complete or not, for its trace text: of all its events, or of those in these rows.
 pub fn answer_draw(alloc: Global, input: &[u8], rows: Option<Rows>) -> Result<Vec<u8>, Status>
     requires { length input.now < 2 ^ 31 }
-    ensures ok { IfOk result (λ text. AnswersDraw input.now rows text.items) }
-    ensures err { IfErr result (RefusesDraw input.now rows) }
+    ensures ok { IfOk result (λ text. AnswersDraw input.now (rows_asked rows) text.items) }
+    ensures err { IfErr result (RefusesDraw input.now (rows_asked rows)) }
 {
     let TreeTrace { tree, events } = read_run(alloc, input)?;
-    let drawn = drawn_count(rows, events.as_slice());
+    answer_rows(alloc, &tree, events.as_slice(), rows)
+}
+
+/// The same of the events of one operation.
+pub fn answer_draw_operation(alloc: Global, input: &[u8], word: &[u8]) -> Result<Vec<u8>, Status>
+    requires { length input.now < 2 ^ 31 }
+    ensures ok { IfOk result (λ text. AnswersDraw input.now (operation_asked word.now) text.items) }
+    ensures err { IfErr result (RefusesDraw input.now (operation_asked word.now)) }
+{
+    let TreeTrace { tree, events } = read_run(alloc, input)?;
+    let events = events.as_slice();
+    let rows = rows_of_operation(alloc, &tree, events, word)?;
+    answer_rows(alloc, &tree, events, Some(rows))
+}
+
+fn answer_rows(
+    alloc: Global,
+    tree: &Tree,
+    events: &[Event],
+    rows: Option<Rows>,
+) -> Result<Vec<u8>, Status>
+    requires { Run tree.now (history_of events.now) }
+    ensures ok { IfOk result (λ text. DrawsRows tree.now events.now rows text.items) }
+    ensures err { IfErr result (HidesRows events.now rows) }
+{
+    let drawn = drawn_count(rows, events);
     if drawn > MOST {
         return Err(Status::TooManyEvents { events: drawn });
     }
-    match page_of_rows(alloc, &tree, events.as_slice(), rows) {
+    match page_of_rows(alloc, tree, events, rows) {
         Ok(page) => Ok(page.into_vec()),
         Err(_) => Err(Status::NoMemory),
     }

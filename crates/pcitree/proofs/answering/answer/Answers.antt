@@ -1,4 +1,4 @@
-use Rattle.std.proofs.Common.{IfOk, sym, subst, map}
+use Rattle.std.proofs.Common.{ℕ, List, IfOk, sym, subst, map}
 use Rattle.std.specs.Prelude.{string_bytes}
 use Rattle.command_runs.specs.run.Answers.{AnswersRun}
 use Rattle.command_runs.specs.finish.Answers.{AnswersFinish}
@@ -9,6 +9,8 @@ use Rattle.command_traces.specs.fill.Answers.{AnswersFill}
 use Rattle.command_traces.specs.audit.Answers.{AnswersAudit}
 use Rattle.command_traces.specs.report.Answers.{AnswersReport}
 use Rattle.command_traces.specs.waves.Answers.{AnswersWaves}
+use Rattle.command_traces.specs.draw.Rows.{rows_asked}
+use Rattle.command_traces.specs.draw.Operations.{operation_asked}
 use Rattle.command_traces.specs.draw.Answers.{AnswersDraw}
 use Rattle.command_traces.specs.untagged.Answers.{AnswersUntagged}
 use Rattle.command_boards.specs.headers.Answers.{AnswersHeaders}
@@ -80,12 +82,17 @@ returns-in-Import-clause-ok g c = subst (λ (form : Form). IfOk c.done-in-Import
 pub returns-in-Draw-clause-ok : goal.returns-in-Draw-clause-ok
 returns-in-Draw-clause-ok g c = subst (λ (form : Form). IfOk c.done-in-Draw.result (λ answer. AnswersTo form (map string_bytes c.args.words.now) c.args.input.now answer.text.items answer.ending)) (sym c.in-Draw.is)
     (done_answers (AnswersDraw c.args.input.now _) _ _ c.done-in-Draw.ensures.ok
-    (subst (λ rows. IfOk c.answer_draw.result (λ text. AnswersDraw c.args.input.now rows text.items)) c.rows_in.ensures c.answer_draw.ensures.ok))
+    (subst (λ rows. IfOk c.answer_draw.result (λ text. AnswersDraw c.args.input.now (rows_asked rows) text.items)) c.rows_in.ensures c.answer_draw.ensures.ok))
 
 pub returns-in-DrawRows-clause-ok : goal.returns-in-DrawRows-clause-ok
 returns-in-DrawRows-clause-ok g c = subst (λ (form : Form). IfOk c.done-in-DrawRows.result (λ answer. AnswersTo form (map string_bytes c.args.words.now) c.args.input.now answer.text.items answer.ending)) (sym c.in-DrawRows.is)
     (done_answers (AnswersDraw c.args.input.now _) _ _ c.done-in-DrawRows.ensures.ok
-    (subst (λ rows. IfOk c.answer_draw-in-DrawRows.result (λ text. AnswersDraw c.args.input.now rows text.items)) c.rows_in-in-DrawRows.ensures c.answer_draw-in-DrawRows.ensures.ok))
+    (subst (λ rows. IfOk c.answer_draw-in-DrawRows.result (λ text. AnswersDraw c.args.input.now (rows_asked rows) text.items)) c.rows_in-in-DrawRows.ensures c.answer_draw-in-DrawRows.ensures.ok))
+
+pub returns-in-DrawOperation-clause-ok : goal.returns-in-DrawOperation-clause-ok
+returns-in-DrawOperation-clause-ok g c = subst (λ (form : Form). IfOk c.done-in-DrawOperation.result (λ answer. AnswersTo form (map string_bytes c.args.words.now) c.args.input.now answer.text.items answer.ending)) (sym c.in-DrawOperation.is)
+    (done_answers (AnswersDraw c.args.input.now _) _ _ c.done-in-DrawOperation.ensures.ok
+    (subst (λ (word : List ℕ). IfOk c.answer_draw_operation.result (λ text. AnswersDraw c.args.input.now (operation_asked word) text.items)) c.operation_in.ensures c.answer_draw_operation.ensures.ok))
 
 -- a number is answered only where it names rounds
 pub answer_generate-requires : goal.answer_generate-requires
