@@ -2,8 +2,12 @@
 mod call;
 mod help;
 mod own;
+mod topic;
+mod wanted;
 mod word;
 
 pub use help::{Help, VERSION};
 pub use own::{OWN_WORDS, OwnWord};
+pub use topic::TOPICS;
+pub use wanted::{Wanted, wanted_at};
 pub use word::{WordHelp, is_one_of, word_help};
