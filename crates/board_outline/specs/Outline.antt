@@ -111,5 +111,5 @@ place_text board bus = if is_bus board bus then bus_text board bus else []
 
 -- the buses by number. In a valid board the buses below a bridge are numbered from its own to its last, and those below
 -- two bridges of one bus do not meet: so behind a bridge come its bus, then all that is below, then the next bridge
-abbrev pub outline_text : Board → List ℕ
+unfoldable pub outline_text : Board → List ℕ
 outline_text board = flat_map (place_text board) (range_with_len 0 256)

@@ -10,7 +10,7 @@ use std::alloc::AllocError;
 pub(crate) fn print_blanks(text: &mut String, depth: usize) -> Result<(), AllocError>
     ensures { OnOk result (string_bytes text.new ≡ string_bytes text.old ++ blanks depth) }
 {
-    for _ in 0..depth {
+    'levels: for _ in 0..depth {
         text.push_str("  ")?;
     }
     Ok(())
@@ -108,7 +108,12 @@ fn print_target(text: &mut String, target: &Target) -> Result<(), AllocError>
     ensures { OnOk result (string_bytes text.new
         ≡ string_bytes text.old ++ target_text target.now) }
 {
-    write!(text, "target {} dev {}", target.name.as_str(), target.device)?;
+    write!(
+        text,
+        "target {} dev {}",
+        target.name.as_str(),
+        target.device
+    )?;
     print_ranges(text, " ", target.ranges.as_slice())?;
     print_ranges(text, " abort ", target.aborts.as_slice())?;
     writeln!(text)

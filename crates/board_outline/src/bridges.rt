@@ -13,7 +13,7 @@ pub(crate) fn print_head(
     bridge: Option<&Bridge>,
 ) -> Result<(), AllocError>
     ensures { OnOk result (string_bytes text.new
-        ≡ string_bytes text.old ++ head_text bus (option_copied bridge)) }
+        ≡ string_bytes text.old ++ head_text bus (option_copied bridge.entry)) }
 {
     match bridge {
         Some(bridge) => print_bridge(text, bridge),

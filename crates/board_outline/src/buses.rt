@@ -51,7 +51,10 @@ fn depth_of(board: &Board, bus: u8) -> usize
     ensures { result ≡ depth_of board.now bus }
 {
     let bridges = board.bridges.as_slice();
-    bridges.iter().filter(|bridge| leads_to(bridge, bus)).count()
+    bridges
+        .iter()
+        .filter(|bridge| leads_to(bridge, bus))
+        .count()
 }
 
 fn leads_to(bridge: &Bridge, bus: u8) -> bool

@@ -27,7 +27,12 @@ fn print_range(text: &mut String, lead: &str, range: &Range) -> Result<(), Alloc
 {
     let space = space_word(range.space);
     let last = last_of(range);
-    write!(text, "{lead}{space} {}-{}", Address(range.base), Address(last))
+    write!(
+        text,
+        "{lead}{space} {}-{}",
+        Address(range.base),
+        Address(last)
+    )
 }
 
 /// The last address of a range.

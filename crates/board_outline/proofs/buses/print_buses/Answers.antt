@@ -1,6 +1,6 @@
 use Rattle.std.proofs.Common.{◌≡◌, ◌++◌, ℕ, List, sym, ap, subst, ◌∙◌, arith, append_assoc, string_bytes}
 use Rattle.std.specs.List.{flat_map, range_with_len}
-use Rattle.board_outline.specs.Outline.{place_text}
+use Rattle.board_outline.specs.Outline.{place_text, outline_text}
 use Rattle.board_outline.proofs.RangeLemmas.{text_more}
 use Rattle.board_outline.proofs.buses.print_buses.Goals as goal
 
@@ -14,5 +14,6 @@ loop-bus-preserved c =
     ∙ ap (λ (t : List ℕ). string_bytes c.args.text.now ++ t) (sym (text_more part c.loop-bus.bus))
 
 pub returns : goal.returns
+unfolding outline_text
 returns c = let end : c.loop-bus.bus ≡ 256 = omega (arith, c.loop-bus.auto.bus-end, c.loop-bus-test.false) in
     subst (λ n. string_bytes c.loop-bus.text ≡ string_bytes c.args.text.now ++ flat_map (place_text c.args.board.now) (range_with_len 0 n)) end c.loop-bus.invariant
