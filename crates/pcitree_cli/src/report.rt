@@ -3,7 +3,7 @@ use pci_command::NoMemory;
 use pcitree::Status;
 use program_messages::{about, message, not_shown};
 use program_pages::Message;
-use program_words::{Help, wanted_at, word_help};
+use program_words::usage_help;
 use std::io::ErrorKind;
 
 /// The lines on standard error. Where there is no memory for those behind the first there are none.
@@ -22,7 +22,7 @@ pub(crate) fn report(
         _ => eprintln!(rt; "{status}"),
     };
     if let Status::Usage { word } = status {
-        tell_usage(rt, words, word);
+        let _ = eprint!(rt; "{}", usage_help(words, word));
         return;
     }
     if let Ok(message) = message_of(rt, words, name, input, status, reason)
@@ -30,39 +30,6 @@ pub(crate) fn report(
     {
         let _ = eprint!(rt; "{text}");
     }
-}
-
-/// What word is wanted at this place, with the help of the word before it; where that is none of the
-/// program's, the help of all.
-fn tell_usage(rt: &HostRuntime, words: &[String], place: u32) {
-    let first = words.first().map_or("", |word| word.as_str());
-    match word_help(if first == "--help" { "help" } else { first }) {
-        Some(help) if place > 0 => {
-            let _ = eprintln!(rt; "{}", wanted_at(words, place));
-            let _ = eprint!(rt; "{help}");
-        }
-        _ => {
-            if !words.is_empty() {
-                tell_no_word(rt, first);
-            }
-            let _ = eprint!(rt; "{Help}");
-        }
-    }
-}
-
-fn tell_no_word(rt: &HostRuntime, word: &str) {
-    if let Ok(message) = no_word(rt, word)
-        && let Ok(text) = str::from_utf8(message.as_bytes())
-    {
-        let _ = eprint!(rt; "{text}");
-    }
-}
-
-fn no_word(rt: &HostRuntime, word: &str) -> Result<Message, NoMemory> {
-    let mut message = Message::new(rt.alloc());
-    let sentence = format!(in rt.alloc(); "{word} is no word of pcitree")?;
-    message.line(rt.alloc(), sentence.as_bytes())?;
-    Ok(message)
 }
 
 fn message_of(

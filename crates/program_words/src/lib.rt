@@ -6,7 +6,7 @@ ghost use Rattle.program_words.specs.Shapes.{shape_of, shown_as, parts_of, input
 
 mod help;
 
-pub use help::{Help, OWN_WORDS, VERSION, Wanted, WordHelp, wanted_at, word_help};
+pub use help::{Help, OWN_WORDS, UsageHelp, VERSION, WordHelp, usage_help, word_help};
 
 /// What a word has to be.
 #[derive(Clone, Copy, Debug, PartialEq, Eq)]

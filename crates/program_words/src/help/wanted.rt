@@ -3,7 +3,7 @@ use std::fmt;
 
 /// What the word at a place has to be, behind words that begin a form but for it.
 #[derive(Clone, Copy, Debug)]
-pub enum Wanted {
+pub(crate) enum Wanted {
     /// As a form has it.
     Part(Part),
     /// What stands behind a word with which the program speaks of itself.
@@ -13,7 +13,7 @@ pub enum Wanted {
 }
 
 /// What the word at this place, from 1 on, has to be.
-pub fn wanted_at(words: &[String], place: u32) -> Wanted {
+pub(crate) fn wanted_at(words: &[String], place: u32) -> Wanted {
     match (words, place) {
         ([first, ..], 1) if first.as_str() == "explain" => Wanted::Operand("CODE, such as P6"),
         ([first, ..], 1) if first.as_str() == "help" || first.as_str() == "--help" => {
