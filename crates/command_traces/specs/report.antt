@@ -1,1 +1,2 @@
+pub mod Lapses
 pub mod Answers

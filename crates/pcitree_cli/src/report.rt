@@ -3,7 +3,7 @@ use pci_command::NoMemory;
 use pcitree::Status;
 use program_messages::{about, message, not_shown};
 use program_pages::Message;
-use program_words::Help;
+use program_words::usage_help;
 use std::io::ErrorKind;
 
 /// The lines on standard error. Where there is no memory for those behind the first there are none.
@@ -21,8 +21,8 @@ pub(crate) fn report(
         }
         _ => eprintln!(rt; "{status}"),
     };
-    if matches!(status, Status::Usage { .. }) {
-        let _ = eprint!(rt; "{Help}");
+    if let Status::Usage { word } = status {
+        let _ = eprint!(rt; "{}", usage_help(words, word));
         return;
     }
     if let Ok(message) = message_of(rt, words, name, input, status, reason)
