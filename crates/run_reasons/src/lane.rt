@@ -100,14 +100,23 @@ fn behind_other(
     let word = LaneWord(lane);
     let since = scene.since_words(lane, item)?;
     let text = format!(in scene.alloc; "{words} stands on {word}{since}, behind {older}")?;
+    let kind = kind_words(scene.board, other).name;
+    let since = scene.since_words(lane, other)?;
+    let note = format!(in scene.alloc; "{older} ({kind}) stands there{since}")?;
+    let mut reason = Reason::with(scene.alloc, text, note)?;
+    reason.notes.push(table_note(scene, item, other)?)?;
+    Ok(reason)
+}
+
+/// What the ordering table says of an item and one that is older.
+fn table_note(scene: &Scene, item: Carried, other: Carried) -> Result<String, NoMemory> {
     let row = kind_words(scene.board, item);
     let column = kind_words(scene.board, other);
-    let since = scene.since_words(lane, other)?;
     let note = format!(in scene.alloc;
-        "{older} ({}) stands there{since}; a {} does not pass a {} (row {}, column {} of the table)",
-        column.name, row.name, column.name, row.row, column.row
+        "a {} does not pass a {} (row {}, column {} of the table)",
+        row.name, column.name, row.row, column.row
     )?;
-    Reason::with(scene.alloc, text, note)
+    Ok(note)
 }
 
 /// The operation left the lane, was dropped there, or was never sent on it.
