@@ -7,7 +7,7 @@ use program_words::Help;
 use std::io::ErrorKind;
 
 /// What is said of a page of too many events.
-const MOST_DRAWN: &str = "at most 4,096 events are drawn: pcitree draw FILE FIRST LAST draws those";
+const MOST_DRAWN: &str = "at most 4,096 events are drawn: pcitree draw FILE FIRST LAST";
 
 /// The lines on standard error. Where there is no memory for those behind the first there are none.
 pub(crate) fn report(

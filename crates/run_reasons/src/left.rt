@@ -56,7 +56,7 @@ fn going_words(scene: &Scene, presented: Presented) -> Result<String, NoMemory>
     let answer = scene.kept.answer(scene.board, presented);
     match answer {
         Answer::Retry { cause } => {
-            let held = held_words(scene, presented, cause)?;
+            let held = held_words(scene, presented, cause, true)?;
             Ok(format!(in scene.alloc; "waits: {held}")?)
         }
         Answer::Gives { .. } => match act_given(presented, answer) {

@@ -64,24 +64,9 @@ impl<'a> Past<'a> {
         found
     }
 
-    /// The event by which another bridge latched the operation as a lane presented it, and the lane
-    /// into which it did.
-    pub(crate) fn latched(&self, op: OpId) -> Option<(usize, Lane)> {
-        let mut found = None;
-        for (index, event) in self.events.iter().enumerate() {
-            if let Event::Act {
-                by: By::Lane(_),
-                op: other,
-                step: Step::Latch,
-                place: Place::Lane(lane),
-                ..
-            } = *event
-                && same_op(other, op)
-            {
-                found = Some((index.saturating_add(1), lane));
-            }
-        }
-        found
+    /// All of them.
+    pub(crate) fn events(&self) -> &'a [Event] {
+        self.events
     }
 
     /// The last so many posted writes that were accepted on the lane, the oldest first.
@@ -167,6 +152,20 @@ impl<'a> Past<'a> {
     }
 }
 
+/// The lane into which a further bridge latched the operation by the event, as a lane presented it.
+pub(crate) fn latched_into(event: &Event, op: OpId) -> Option<Lane> {
+    match *event {
+        Event::Act {
+            by: By::Lane(_),
+            op: other,
+            step: Step::Latch,
+            place: Place::Lane(lane),
+            ..
+        } if same_op(other, op) => Some(lane),
+        Event::Act { .. } | Event::Arrive { .. } => None,
+    }
+}
+
 /// The lane of the same bridge in the other direction.
 pub(crate) fn back_of(lane: Lane) -> Lane {
     Lane {
@@ -175,7 +174,7 @@ pub(crate) fn back_of(lane: Lane) -> Lane {
     }
 }
 
-fn is_same(lane: Lane, other: Lane) -> bool {
+pub(crate) fn is_same(lane: Lane, other: Lane) -> bool {
     lane.bus == other.bus && lane.up == other.up
 }
 

@@ -2,14 +2,14 @@
 ghost use Rattle.std.specs.Prelude.{IsTrue};
 ghost use Rattle.board_model.specs.WellFormed.{is_well_formed};
 
-use crate::past::back_of;
+use crate::past::{back_of, is_same, latched_into};
 use crate::reason::Reason;
 use crate::scene::Scene;
 use crate::words::{counted, op_word};
 use board_model::{Lane, Place, bridge_to, claim_in_space, request_of};
 use history_model::{Carried, Cause, Slot};
 use machine_steps::{Presented, address_left, own_slot, place_of_completion};
-use pci_command::{NoMemory, OpId};
+use pci_command::{NoMemory, OpId, same_op};
 use trace_text::LaneWord;
 
 /// Why the bridge that claims what is presented has to answer with Retry.
@@ -22,7 +22,7 @@ pub(crate) fn retry_reason(
 {
     let lacks = what_lacks(scene, presented, cause)?;
     let text = format!(in scene.alloc; "the bridge has to answer with Retry: {lacks}")?;
-    let note = held_words(scene, presented, cause)?;
+    let note = held_words(scene, presented, cause, false)?;
     let mut reason = Reason::with(scene.alloc, text, note)?;
     if matches!(cause, Cause::Behind) {
         let rule = "a delayed read completion does not pass a posted write";
@@ -62,11 +62,13 @@ fn what_lacks(scene: &Scene, presented: Presented, cause: Cause) -> Result<Strin
     Ok(lacks)
 }
 
-/// What is held, or what is waited for, by which the answer is Retry.
+/// What is held, or what is waited for, by which the answer is Retry; of a request that a further bridge
+/// latched the whole way, or that alone.
 pub(crate) fn held_words(
     scene: &Scene,
     presented: Presented,
     cause: Cause,
+    is_whole: bool,
 ) -> Result<String, NoMemory>
     requires { IsTrue (is_well_formed scene.now.board.now) }
 {
@@ -93,7 +95,7 @@ pub(crate) fn held_words(
                 ..presented
             };
             match own_slot(scene.board, noted, here.held()) {
-                Some(slot) => waited_words(scene, lane, slot),
+                Some(slot) => waited_words(scene, lane, slot, is_whole),
                 None => Ok(String::new(scene.alloc)),
             }
         }
@@ -111,8 +113,60 @@ fn list_of(scene: &Scene, what: &str, lane: Lane, ops: &[OpId]) -> Result<String
     Ok(list)
 }
 
-/// Where the request of a slot is, or its completion.
-fn waited_words(scene: &Scene, lane: Lane, slot: Slot) -> Result<String, NoMemory> {
+/// Where the request of a slot is, or its completion: with the furthest bridge that holds a slot for
+/// it, of which the latch is told where that is enough.
+fn waited_words(scene: &Scene, lane: Lane, slot: Slot, is_whole: bool) -> Result<String, NoMemory> {
+    match furthest(scene, slot.op) {
+        Some((event, further, held)) if !is_same(further, lane) => {
+            if !is_whole && is_request_on(scene, further, held.number) {
+                let word = LaneWord(further);
+                return Ok(format!(in scene.alloc; "it was latched into {word} at event {event}")?);
+            }
+            place_words(scene, further, held)
+        }
+        _ => place_words(scene, lane, slot),
+    }
+}
+
+/// The last bridge that latched the operation as a lane presented it, and still holds a slot for it:
+/// the event by which it did, the lane, and the slot.
+fn furthest(scene: &Scene, op: OpId) -> Option<(usize, Lane, Slot)> {
+    let mut found = None;
+    for (index, event) in scene.past.events().iter().enumerate() {
+        if let Some(lane) = latched_into(event, op)
+            && let Some(slot) = slot_of(scene, lane, op)
+        {
+            found = Some((index.saturating_add(1), lane, slot));
+        }
+    }
+    found
+}
+
+/// The slot that is held for the operation where the lane begins.
+fn slot_of(scene: &Scene, lane: Lane, op: OpId) -> Option<Slot> {
+    let lanes = scene.kept.lanes_to(scene.board, lane.bus)?;
+    for slot in lanes.lane(lane.up).held() {
+        if same_op(slot.op, op) {
+            return Some(*slot);
+        }
+    }
+    None
+}
+
+/// Whether the request of a slot is on the lane.
+fn is_request_on(scene: &Scene, lane: Lane, number: u8) -> bool {
+    match scene.kept.lanes_to(scene.board, lane.bus) {
+        Some(lanes) => {
+            let tables = lanes.lane(lane.up);
+            place_of_ask(tables.flight(), number).is_some()
+                || place_of_ask(tables.standing(), number).is_some()
+        }
+        None => false,
+    }
+}
+
+/// Where on the lanes of its bridge the request of a slot is, or its completion.
+fn place_words(scene: &Scene, lane: Lane, slot: Slot) -> Result<String, NoMemory> {
     let Some(lanes) = scene.kept.lanes_to(scene.board, lane.bus) else {
         return Ok(String::new(scene.alloc));
     };
@@ -137,7 +191,7 @@ fn waited_words(scene: &Scene, lane: Lane, slot: Slot) -> Result<String, NoMemor
     )?)
 }
 
-/// Where a request is that stands at this place of a lane: a further bridge may have latched it.
+/// Behind what a request waits that stands at this place of a lane.
 fn request_words(
     scene: &Scene,
     lane: Lane,
@@ -145,10 +199,6 @@ fn request_words(
     place: usize,
     standing: &[Carried],
 ) -> Result<String, NoMemory> {
-    if let Some((event, further)) = scene.past.latched(slot.op) {
-        let further = LaneWord(further);
-        return Ok(format!(in scene.alloc; "it was latched into {further} at event {event}")?);
-    }
     let (older, _) = standing.split_at(place.min(standing.len()));
     let item = Carried::Ask {
         op: slot.op,
