@@ -42,21 +42,21 @@ fn put_masters(notes: &mut Vec<String>, scene: &Scene) -> Result<(), NoMemory>
                 op,
             };
             let name = op_word(scene.alloc, scene.board, op)?;
-            let goes = going_words(scene, presented)?;
+            let goes = going_words(scene, presented, true)?;
             notes.push(format!(in scene.alloc; "{name} {goes}")?)?;
         }
     }
     Ok(())
 }
 
-/// Whether what is presented may go on, or what it waits for.
-fn going_words(scene: &Scene, presented: Presented) -> Result<String, NoMemory>
+/// Whether what is presented may go on, or what it waits for, told whole or in few words.
+fn going_words(scene: &Scene, presented: Presented, is_whole: bool) -> Result<String, NoMemory>
     requires { IsTrue (is_well_formed scene.now.board.now) }
 {
     let answer = scene.kept.answer(scene.board, presented);
     match answer {
         Answer::Retry { cause } => {
-            let held = held_words(scene, presented, cause, true)?;
+            let held = held_words(scene, presented, cause, is_whole)?;
             Ok(format!(in scene.alloc; "waits: {held}")?)
         }
         Answer::Gives { .. } => match act_given(presented, answer) {
@@ -129,7 +129,7 @@ fn standing_note(
             op,
         };
         if scene.kept.wants(scene.board, presented) {
-            let goes = going_words(scene, presented)?;
+            let goes = going_words(scene, presented, false)?;
             return Ok(format!(in scene.alloc; "{head} and {goes}")?);
         }
     }

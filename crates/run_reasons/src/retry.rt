@@ -62,8 +62,8 @@ fn what_lacks(scene: &Scene, presented: Presented, cause: Cause) -> Result<Strin
     Ok(lacks)
 }
 
-/// What is held, or what is waited for, by which the answer is Retry; of a request that a further bridge
-/// latched the whole way, or that alone.
+/// What is held, or what is waited for, by which the answer is Retry: of a request that a further bridge
+/// latched all that is so there, or that alone.
 pub(crate) fn held_words(
     scene: &Scene,
     presented: Presented,
@@ -113,16 +113,16 @@ fn list_of(scene: &Scene, what: &str, lane: Lane, ops: &[OpId]) -> Result<String
     Ok(list)
 }
 
-/// Where the request of a slot is, or its completion: with the furthest bridge that holds a slot for
-/// it, of which the latch is told where that is enough.
+/// Where the request of a slot is, or its completion: on the lanes of the furthest bridge that holds a
+/// slot for it, or that this bridge latched it.
 fn waited_words(scene: &Scene, lane: Lane, slot: Slot, is_whole: bool) -> Result<String, NoMemory> {
     match furthest(scene, slot.op) {
         Some((event, further, held)) if !is_same(further, lane) => {
-            if !is_whole && is_request_on(scene, further, held.number) {
-                let word = LaneWord(further);
-                return Ok(format!(in scene.alloc; "it was latched into {word} at event {event}")?);
+            if is_whole {
+                return place_words(scene, further, held);
             }
-            place_words(scene, further, held)
+            let word = LaneWord(further);
+            Ok(format!(in scene.alloc; "it was latched into {word} at event {event}")?)
         }
         _ => place_words(scene, lane, slot),
     }
@@ -151,18 +151,6 @@ fn slot_of(scene: &Scene, lane: Lane, op: OpId) -> Option<Slot> {
         }
     }
     None
-}
-
-/// Whether the request of a slot is on the lane.
-fn is_request_on(scene: &Scene, lane: Lane, number: u8) -> bool {
-    match scene.kept.lanes_to(scene.board, lane.bus) {
-        Some(lanes) => {
-            let tables = lanes.lane(lane.up);
-            place_of_ask(tables.flight(), number).is_some()
-                || place_of_ask(tables.standing(), number).is_some()
-        }
-        None => false,
-    }
 }
 
 /// Where on the lanes of its bridge the request of a slot is, or its completion.
