@@ -119,12 +119,12 @@ fn waited_words(scene: &Scene, lane: Lane, slot: Slot, is_whole: bool) -> Result
     match furthest(scene, slot.op) {
         Some((event, further, held)) if !is_same(further, lane) => {
             if is_whole {
-                return place_words(scene, further, held);
+                return place_words(scene, further, held, true);
             }
             let word = LaneWord(further);
             Ok(format!(in scene.alloc; "it was latched into {word} at event {event}")?)
         }
-        _ => place_words(scene, lane, slot),
+        _ => place_words(scene, lane, slot, is_whole),
     }
 }
 
@@ -154,7 +154,7 @@ fn slot_of(scene: &Scene, lane: Lane, op: OpId) -> Option<Slot> {
 }
 
 /// Where on the lanes of its bridge the request of a slot is, or its completion.
-fn place_words(scene: &Scene, lane: Lane, slot: Slot) -> Result<String, NoMemory> {
+fn place_words(scene: &Scene, lane: Lane, slot: Slot, is_whole: bool) -> Result<String, NoMemory> {
     let Some(lanes) = scene.kept.lanes_to(scene.board, lane.bus) else {
         return Ok(String::new(scene.alloc));
     };
@@ -166,7 +166,12 @@ fn place_words(scene: &Scene, lane: Lane, slot: Slot) -> Result<String, NoMemory
         return Ok(format!(in scene.alloc; "its request is in flight on {word}")?);
     }
     if let Some(place) = place_of_ask(here.standing(), slot.number) {
-        return request_words(scene, lane, slot, place, here.standing());
+        let request = request_words(scene, lane, slot)?;
+        if !is_whole {
+            return Ok(request);
+        }
+        let behind = behind_at(scene, lane, place, here.standing())?;
+        return Ok(format!(in scene.alloc; "{request}{behind}")?);
     }
     if let Some(place) = place_of_completion(back.standing(), slot.number) {
         return completion_words(scene, back_of(lane), slot, place, back.standing());
@@ -179,26 +184,32 @@ fn place_words(scene: &Scene, lane: Lane, slot: Slot) -> Result<String, NoMemory
     )?)
 }
 
-/// Behind what a request waits that stands at this place of a lane.
-fn request_words(
-    scene: &Scene,
-    lane: Lane,
-    slot: Slot,
-    place: usize,
-    standing: &[Carried],
-) -> Result<String, NoMemory> {
-    let (older, _) = standing.split_at(place.min(standing.len()));
+/// A request of a slot, as it stands on a lane.
+fn request_words(scene: &Scene, lane: Lane, slot: Slot) -> Result<String, NoMemory> {
     let item = Carried::Ask {
         op: slot.op,
         slot: slot.number,
     };
     let word = LaneWord(lane);
     let since = scene.since_words(lane, item)?;
-    let behind = scene.behind_words(lane, item, older)?;
-    Ok(format!(in scene.alloc; "its request stands on {word}{since}{behind}")?)
+    Ok(format!(in scene.alloc; "its request stands on {word}{since}")?)
 }
 
-/// Behind what a completion waits that stands at this place of a lane.
+/// Behind what the item waits that stands at this place of a lane.
+fn behind_at(
+    scene: &Scene,
+    lane: Lane,
+    place: usize,
+    standing: &[Carried],
+) -> Result<String, NoMemory> {
+    let (older, rest) = standing.split_at(place.min(standing.len()));
+    match rest.first().copied() {
+        Some(item) => scene.behind_words(lane, item, older),
+        None => Ok(String::new(scene.alloc)),
+    }
+}
+
+/// A completion as it stands at this place of a lane, and behind what it waits.
 fn completion_words(
     scene: &Scene,
     lane: Lane,
@@ -206,14 +217,13 @@ fn completion_words(
     place: usize,
     standing: &[Carried],
 ) -> Result<String, NoMemory> {
-    let (older, rest) = standing.split_at(place.min(standing.len()));
-    let Some(item) = rest.first().copied() else {
-        return Ok(String::new(scene.alloc));
-    };
     let op = op_word(scene.alloc, scene.board, slot.op)?;
     let word = LaneWord(lane);
-    let since = scene.since_words(lane, item)?;
-    let behind = scene.behind_words(lane, item, older)?;
+    let since = match standing.get(place) {
+        Some(item) => scene.since_words(lane, *item)?,
+        None => String::new(scene.alloc),
+    };
+    let behind = behind_at(scene, lane, place, standing)?;
     Ok(format!(in scene.alloc; "the completion of {op} stands on {word}{since}{behind}")?)
 }
 
