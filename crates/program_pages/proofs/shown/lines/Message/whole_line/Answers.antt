@@ -1,7 +1,7 @@
 use Rattle.std.proofs.Common.{◌∙◌}
 use Rattle.std.specs.Prelude.{is_ok}
 use Rattle.program_pages.proofs.shown.ShownLemmas.{either_shown}
-use Rattle.program_pages.proofs.shown.lines.Message.line.Goals as goal
+use Rattle.program_pages.proofs.shown.lines.Message.whole_line.Goals as goal
 
 -- the line was put behind the others, or there was no memory and they are as they were
 pub invariant_of-self-2 : goal.invariant_of-self-2
