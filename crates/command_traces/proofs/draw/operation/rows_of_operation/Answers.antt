@@ -1,7 +1,11 @@
-use Rattle.std.proofs.Common.{◌∙◌, ap}
+use Rattle.std.proofs.Common.{◌∙◌, ap, refl}
 use Rattle.command_traces.specs.draw.Operations.{rows_of_operation}
 use Rattle.command_traces.proofs.draw.OperationLemmas.{rows_all}
 use Rattle.command_traces.proofs.draw.operation.rows_of_operation.Goals as goal
+
+pub loop-before-init : goal.loop-before-init
+unfolding rows_of_operation
+loop-before-init c = refl
 
 pub returns : goal.returns
 returns c =
