@@ -13,11 +13,11 @@ use Rattle.run_report.specs.Report.{buses_of, report_of}
 use Rattle.run_report.specs.way_counts.Plain.{IsSteady}
 use Rattle.run_report.specs.way_counts.WayCounts.{way_report}
 use Rattle.program_input.specs.Traces.{ReadsTrace}
-use Rattle.command_traces.specs.report.Lapses.{lapsed, lapses_text}
+use Rattle.command_traces.specs.report.Lapses.{lapse_told, lapses_text}
 
 -- the counts of a run, and behind them its lost writes and spent polls
 abbrev pub whole_report : Board → List Event → List ℕ
-whole_report board events = report_of board (history_of events) ++ lapses_text board (filter_map (lapsed board) events)
+whole_report board events = report_of board (history_of events) ++ lapses_text board (filter_map (lapse_told board) events)
 
 -- a run of a board, which is fresh: each read that was told of a write reads its words after it has landed, and returns
 -- them as that write, or what landed later, left them; each read returns what its word held; and the text of its report

@@ -55,9 +55,9 @@ lapse_of o by step (Some (CfgRead bus device register)) = None
 lapse_of o by step (Some (CfgWrite bus device register phase)) = lost_by step
 lapse_of o by step (Some (Poll space address mask wanted tries)) = last_by o by mask wanted tries step
 
-abbrev pub lapsed : Board → Event → Option Lapsed
-lapsed board (Act on by o step place) = option_map (λ lapse. record { op = o; lapse = lapse }) (lapse_of o by step (op_of board o))
-lapsed board (Arrive lane mark) = None
+abbrev pub lapse_told : Board → Event → Option Lapsed
+lapse_told board (Act on by o step place) = option_map (λ lapse. record { op = o; lapse = lapse }) (lapse_of o by step (op_of board o))
+lapse_told board (Arrive lane mark) = None
 
 -- it tells of the operation of this master and index
 abbrev pub is_of : ℕ → ℕ → Lapsed → Bool

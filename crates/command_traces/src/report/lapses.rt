@@ -1,7 +1,7 @@
 ghost use Rattle.std.specs.Prelude.{◌≡◌, ◌++◌, IfOk, OnOk, length, slice_get, string_bytes};
 ghost use Rattle.std.specs.List.{find, filter_map};
 ghost use Rattle.std.specs.Option.{option_map, option_copied};
-ghost use Rattle.command_traces.specs.report.Lapses.{lost_by, spent_by, lapse_of, lapsed, is_of, lapse_line, program_lapses, lapses_text};
+ghost use Rattle.command_traces.specs.report.Lapses.{lost_by, spent_by, lapse_of, lapse_told, is_of, lapse_line, program_lapses, lapses_text};
 
 use board_model::{Board, Master, Op, op_of};
 use history_model::{By, Event, Step};
@@ -33,7 +33,7 @@ pub(crate) fn lapses_text(
     events: &[Event],
 ) -> Result<String, AllocError>
     ensures { IfOk result (λ text. string_bytes text
-        ≡ lapses_text board.now (filter_map (lapsed board.now) events.now)) }
+        ≡ lapses_text board.now (filter_map (lapse_told board.now) events.now)) }
 {
     let lapses = lapses_in(alloc, board, events)?;
     let mut text = String::new(alloc);
@@ -42,19 +42,19 @@ pub(crate) fn lapses_text(
 }
 
 fn lapses_in(alloc: Global, board: &Board, events: &[Event]) -> Result<Vec<Lapsed>, AllocError>
-    ensures { IfOk result (λ found. found.items ≡ filter_map (lapsed board.now) events.now) }
+    ensures { IfOk result (λ found. found.items ≡ filter_map (lapse_told board.now) events.now) }
 {
     let mut found = Vec::new(alloc);
     for event in events {
-        if let Some(lapse) = lapsed(board, event) {
+        if let Some(lapse) = lapse_told(board, event) {
             found.push(lapse)?;
         }
     }
     Ok(found)
 }
 
-fn lapsed(board: &Board, event: &Event) -> Option<Lapsed>
-    ensures { result ≡ lapsed board.now event.now }
+fn lapse_told(board: &Board, event: &Event) -> Option<Lapsed>
+    ensures { result ≡ lapse_told board.now event.now }
 {
     match *event {
         Event::Arrive { .. } => None,
