@@ -44,13 +44,10 @@ pub(crate) fn lapses_text(
 fn lapses_in(alloc: Global, board: &Board, events: &[Event]) -> Result<Vec<Lapsed>, AllocError>
     ensures { IfOk result (λ found. found.items ≡ filter_map (lapse_told board.now) events.now) }
 {
-    let mut found = Vec::new(alloc);
-    for event in events {
-        if let Some(lapse) = lapse_told(board, event) {
-            found.push(lapse)?;
-        }
-    }
-    Ok(found)
+    events
+        .iter()
+        .filter_map(|event| lapse_told(board, event))
+        .collect(alloc)
 }
 
 fn lapse_told(board: &Board, event: &Event) -> Option<Lapsed>
