@@ -81,6 +81,7 @@ leads_to bus bridge = nat_le bridge.bus bus && nat_le bus bridge.last
 abbrev pub depth_of : Board → ℕ → ℕ
 depth_of board bus = count_by (leads_to bus) board.bridges
 
+-- two for each of so many
 abbrev pub blanks : ℕ → List ℕ
 blanks depth = repeat depth (codes "  ")
 
@@ -93,9 +94,11 @@ head_text bus (Some bridge) = bridge_text bridge
 abbrev pub there_text : Bool → ℕ → List ℕ → List ℕ
 there_text there depth line = if there then codes "  " ++ (blanks depth ++ line) else []
 
+-- the line of a master that is on this bus
 abbrev pub master_on : ℕ → ℕ → Master → List ℕ
 master_on bus depth master = there_text (master.bus == bus) depth (master_text master)
 
+-- the line of a target that is on this bus
 abbrev pub target_on : ℕ → ℕ → Target → List ℕ
 target_on bus depth target = there_text (target.bus == bus) depth (target_text target)
 

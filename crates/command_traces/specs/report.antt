@@ -1,2 +1,1 @@
-pub mod Lapses
 pub mod Answers

@@ -1,5 +1,4 @@
 //! `report`: what the program writes for a trace text of a run, complete or not, or why it refuses it.
 mod answer;
-mod lapses;
 
 pub use answer::answer_report;

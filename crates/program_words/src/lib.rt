@@ -184,8 +184,7 @@ const REPORT: Row = Row {
     limit: TRACE,
     line: "counts the events of a trace by bus and kind",
     more: "The trace is of a run, complete or not. Writes how many buses, masters, operations and events there\n\
-        are, the bound of the board, and for each bus its events by kind; a part of a burst is a land.\n\
-        Behind them are the writes that no target took (`lost`) and the polls that spent their tries.",
+        are, the bound of the board, and for each bus its events by kind; a part of a burst is a land.",
 };
 
 const WAVES: Row = Row {

@@ -1,6 +1,5 @@
 -- report: what is written for a trace text, and with which status it is refused.
-use Rattle.std.specs.Prelude.{◌≡◌, ℕ, List, ◌++◌, length}
-use Rattle.std.specs.List.{filter_map}
+use Rattle.std.specs.Prelude.{◌≡◌, ℕ, List, length}
 use Rattle.list_facts.specs.Lists.{total}
 use Rattle.board_model.specs.declared.board.Board.{Board}
 use Rattle.board_model.specs.Valid.{IsValid}
@@ -13,11 +12,6 @@ use Rattle.run_report.specs.Report.{buses_of, report_of}
 use Rattle.run_report.specs.way_counts.Plain.{IsSteady}
 use Rattle.run_report.specs.way_counts.WayCounts.{way_report}
 use Rattle.program_input.specs.Traces.{ReadsTrace}
-use Rattle.command_traces.specs.report.Lapses.{lapsed, lapses_text}
-
--- the counts of a run, and behind them its lost writes and spent polls
-abbrev pub whole_report : Board → List Event → List ℕ
-whole_report board events = report_of board (history_of events) ++ lapses_text board (filter_map (lapsed board) events)
 
 -- a run of a board, which is fresh: each read that was told of a write reads its words after it has landed, and returns
 -- them as that write, or what landed later, left them; each read returns what its word held; and the text of its report
@@ -26,10 +20,10 @@ pub record Reports (board : Board) (events : List Event) (text : List ℕ) : Typ
   pub fresh : Fresh board (history_of events)
   pub as_left : ReturnsAsLeft board (history_of events)
   pub as_held : ReturnsAsHeld board (history_of events)
-  pub written : text ≡ whole_report board events
-  -- of a complete run of a board without stalls, bursts in parts, polls, discards and drops, whoever made it, its
-  -- counts are the way counts of the board
-  pub counted : IsSteady board → Complete board (history_of events) → report_of board (history_of events) ≡ way_report board
+  pub written : text ≡ report_of board (history_of events)
+  -- of a complete run of a board without stalls, bursts in parts, polls, discards and drops, whoever made it, these
+  -- are the way counts of the board
+  pub counted : IsSteady board → Complete board (history_of events) → text ≡ way_report board
   -- the counts of all its buses and kinds add up to the number of its events
   pub sums : total (λ bus. total (count_of board (history_of events) bus) kinds) (buses_of board) ≡ length events
 

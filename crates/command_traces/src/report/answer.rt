@@ -1,9 +1,8 @@
-ghost use Rattle.std.specs.Prelude.{◌≡◌, ◌<◌, ◌^◌, length, IfOk, IfErr};
+ghost use Rattle.std.specs.Prelude.{◌<◌, ◌^◌, length, IfOk, IfErr};
 ghost use Rattle.history_model.specs.Runs.{Run, history_of};
 ghost use Rattle.program_input.specs.Traces.{RefusesRun};
-ghost use Rattle.command_traces.specs.report.Answers.{AnswersReport, Reports, whole_report};
+ghost use Rattle.command_traces.specs.report.Answers.{AnswersReport, Reports};
 
-use crate::report::lapses::lapses_text;
 use board_model::board_fits;
 use board_tree::Tree;
 use history_model::Event;
@@ -40,15 +39,5 @@ fn text_of_run(alloc: Global, tree: &Tree, events: &[Event]) -> Result<List<u8>,
     // The board of a tree is valid, and its bus numbers are bytes.
     let board = tree.board();
     board_fits(board);
-    whole_report(alloc, tree, events)
-}
-
-/// What is counted, and behind it what came to nothing.
-fn whole_report(alloc: Global, tree: &Tree, events: &[Event]) -> Result<List<u8>, NoMemory>
-    ensures { IfOk result (λ text. text ≡ whole_report tree.now events.now) }
-{
-    let mut text = report(alloc, tree, events)?.into_vec();
-    let lapses = lapses_text(alloc, tree.board(), events)?;
-    text.extend_from_slice(lapses.as_bytes())?;
-    Ok(List::from_vec(text))
+    report(alloc, tree, events)
 }
