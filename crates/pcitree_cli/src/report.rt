@@ -7,7 +7,8 @@ use program_words::usage_help;
 use std::io::ErrorKind;
 
 /// What is said of a page of too many events.
-const MOST_DRAWN: &str = "at most 4,096 events are drawn: pcitree draw FILE FIRST LAST";
+const MOST_DRAWN: &str = "at most 4,096 events are drawn: pcitree draw FILE FIRST LAST, or \
+    pcitree draw FILE OPERATION";
 
 /// The lines on standard error. Where there is no memory for those behind the first there are none.
 pub(crate) fn report(

@@ -392,16 +392,7 @@ pub static PAGES: [Page; 41] = [
         fault: Fault::Cause(Why::NotPresented),
         rule: "A master presents its turn: the first operation of its program that has not ended, on\n\
             its own bus. A lane presents on the bus at its end what stands there and may go before\n\
-            all that is older (the ordering table; PCI Local Bus 2.2, appendix E, from memory).\n\n\
-            May a transaction of the row pass an older one of the column? (PMW: posted memory write,\n\
-            DR: delayed read, DW: delayed write, R behind it: request, C: completion)\n\n\
-            ----  PMW     DRR     DWR     DRC     DWC\n\
-            PMW   No      Yes     Yes     Yes     Yes\n\
-            DRR   No      Yes/No  Yes/No  Yes/No  Yes/No\n\
-            DWR   No      Yes/No  Yes/No  Yes/No  Yes/No\n\
-            DRC   No      Yes     Yes     Yes/No  Yes/No\n\
-            DWC   Yes/No  Yes     Yes     Yes/No  Yes/No\n\n\
-            Yes/No is read as Yes.",
+            all that is older (the ordering table; PCI Local Bus 2.2, appendix E, from memory).",
         example: "pcitrace 1\n\
             pciboard 1\n\
             target ram on 0 dev 1\n\
@@ -435,16 +426,7 @@ pub static PAGES: [Page; 41] = [
         fault: Fault::Cause(Why::GetsRetry),
         rule: "A bridge answers with Retry, which is no event, while it has no credit for a posted\n\
             write, no slot for a delayed request, or no completion that may be given yet (PCI Local\n\
-            Bus 2.2, section 3.3.3.3, from memory).\n\n\
-            May a transaction of the row pass an older one of the column? (PMW: posted memory write,\n\
-            DR: delayed read, DW: delayed write, R behind it: request, C: completion)\n\n\
-            ----  PMW     DRR     DWR     DRC     DWC\n\
-            PMW   No      Yes     Yes     Yes     Yes\n\
-            DRR   No      Yes/No  Yes/No  Yes/No  Yes/No\n\
-            DWR   No      Yes/No  Yes/No  Yes/No  Yes/No\n\
-            DRC   No      Yes     Yes     Yes/No  Yes/No\n\
-            DWC   Yes/No  Yes     Yes     Yes/No  Yes/No\n\n\
-            Yes/No is read as Yes.",
+            Bus 2.2, section 3.3.3.3, from memory).",
         example: "pcitrace 1\n\
             pciboard 1\n\
             bridge 1 on 0 dev 1 last 1 mem 80000000 800fffff posted 1\n\
