@@ -1,17 +1,45 @@
 # completion of pcitree for bash: source this file. Made by tools/make-man.
 _pcitree() {
-  local word=${COMP_WORDS[COMP_CWORD]} first=${COMP_WORDS[1]}
+  local word=${COMP_WORDS[COMP_CWORD]} first=${COMP_WORDS[1]} options= endings= ending
   COMPREPLY=()
   if [ "$COMP_CWORD" = 1 ]; then
-    mapfile -t COMPREPLY < <(compgen -W "safe adverse run headers check finish fill audit report waves draw untagged combine generate devices import explain help --version --help" -- "$word")
-  elif [ "$first" = explain ]; then
-    mapfile -t COMPREPLY < <(compgen -W "L1 L2 L3 P1 P2 P3 P4 P5 P6 P7 P8 P9 P10 P11 P12 H1 H2 H3 H4 V1 V2 V3 V4 V5 V6 V7 V8 V9 Q1 Q2 Q3 Q4 Q5 Q6 X1 X2 X3 X4 X5 X6 X7 X8 N1 N2 N3 N4 N5 I1 I2 I3 I4 I5" -- "${word^^}")
-  elif [ "$first" = help ] || [ "$first" = --help ]; then
-    mapfile -t COMPREPLY < <(compgen -W "safe adverse run headers check finish fill audit report waves draw untagged combine generate devices import explain help --version" -- "$word")
-  elif [ "$first" = run ] && [ "$COMP_CWORD" = 2 ]; then
-    mapfile -t COMPREPLY < <(compgen -W "--steady" -- "$word"; compgen -f -- "$word")
-  elif [ "$COMP_CWORD" = 2 ] && { [ "$first" = safe ] || [ "$first" = adverse ]; }; then
-    mapfile -t COMPREPLY < <(compgen -f -X '!*.board' -- "$word"; compgen -f -X '!*.devices' -- "$word"; compgen -d -- "$word")
+    mapfile -t COMPREPLY < <(compgen -W "safe adverse run devices check fill finish audit report draw waves untagged tree headers combine import generate help explain --version --help" -- "$word")
+    return
+  fi
+  case $first in
+    explain)
+      mapfile -t COMPREPLY < <(compgen -W "L1 L2 L3 P1 P2 P3 P4 P5 P6 P7 P8 P9 P10 P11 P12 H1 H2 H3 H4 V1 V2 V3 V4 V5 V6 V7 V8 V9 Q1 Q2 Q3 Q4 Q5 Q6 X1 X2 X3 X4 X5 X6 X7 X8 N1 N2 N3 N4 N5 I1 I2 I3 I4 I5" -- "${word^^}")
+      return
+      ;;
+    help | --help)
+      mapfile -t COMPREPLY < <(compgen -W "safe adverse run devices check fill finish audit report draw waves untagged tree headers combine import generate help explain --version board trace device status codes" -- "$word")
+      return
+      ;;
+    safe) options="" endings="board devices" ;;
+    adverse) options="" endings="board devices" ;;
+    run) options="--steady" endings="board" ;;
+    devices) options="" endings="devices" ;;
+    check) options="" endings="trace" ;;
+    fill) options="" endings="trace" ;;
+    finish) options="" endings="trace" ;;
+    audit) options="" endings="trace" ;;
+    report) options="" endings="trace" ;;
+    draw) options="" endings="trace" ;;
+    waves) options="" endings="trace" ;;
+    untagged) options="" endings="trace" ;;
+    tree) options="" endings="board devices" ;;
+    headers) options="" endings="board" ;;
+    combine) options="" endings="board" ;;
+    generate | --version) return ;;
+  esac
+  if [ "$COMP_CWORD" = 2 ] || { [ "$COMP_CWORD" = 3 ] && [ "${COMP_WORDS[2]:0:2}" = -- ]; }; then
+    # The files that the word reads, and folders; where there are none, or it reads any, all files.
+    [ -n "$endings" ] || mapfile -t COMPREPLY < <(compgen -f -- "$word")
+    for ending in $endings; do
+      mapfile -t -O "${#COMPREPLY[@]}" COMPREPLY < <(compgen -f -X "!*.$ending" -- "$word")
+    done
+    [ -z "$endings" ] || mapfile -t -O "${#COMPREPLY[@]}" COMPREPLY < <(compgen -d -- "$word")
+    [ "$COMP_CWORD" = 3 ] || mapfile -t -O "${#COMPREPLY[@]}" COMPREPLY < <(compgen -W "$options" -- "$word")
     [ "${#COMPREPLY[@]}" != 0 ] || mapfile -t COMPREPLY < <(compgen -f -- "$word")
   elif [ "$first" = adverse ] && [ "$COMP_CWORD" -le 4 ]; then
     # The reads of the unsafe lines of FILE, and then the writes. All of it is compared, and nothing expanded or run.
@@ -26,8 +54,6 @@ _pcitree() {
         COMPREPLY+=("$write")
       fi
     done < <(pcitree safe "$file" 2>/dev/null </dev/null)
-  else
-    mapfile -t COMPREPLY < <(compgen -f -- "$word")
   fi
 }
 complete -o filenames -F _pcitree pcitree

@@ -1,3 +1,4 @@
 pub mod headers
 pub mod combine
 pub mod import
+pub mod tree

@@ -100,6 +100,7 @@ refusing forms.Combine words = board_refusing
 refusing forms.Generate words = generate_refusing
 refusing forms.Devices words = devices_refusing
 refusing forms.Import words = import_refusing
+refusing forms.Tree words = protocol_refusing
 
 -- an input that was read, and is refused
 pub refused_answer : (form : Form) (words : List (List ℕ)) (held left : Option (List ℕ)) (before now : ℕ) (input : List ℕ) (status : Status) → ReadsInput form held left input → Refuses form words input status → StopsAnswering form words held left before now status

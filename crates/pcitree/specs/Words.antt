@@ -24,6 +24,7 @@ use Rattle.command_runs.specs.generate.Answers.{names_rounds, AnswersGenerate, R
 use Rattle.command_runs.specs.devices.Answers.{AnswersDevices}
 use Rattle.program_input.specs.Devices.{RefusesDevices, IsDeviceText}
 use Rattle.command_boards.specs.import.Answers.{AnswersImport, RefusesImport, IsMachineText}
+use Rattle.command_boards.specs.tree.Answers.{AnswersTree}
 use Rattle.program_input.specs.Protocols.{RefusesProtocol, IsProtocolText}
 use Rattle.command_safe.specs.safe.Answers.{AnswersSafe}
 use Rattle.command_safe.specs.adverse.Operation.{names_operation}
@@ -179,6 +180,12 @@ command_of forms.Import words = record {
   Answers = WithDone AnswersImport;
   Refuses = RefusesImport;
   IsFaultless = IsMachineText;
+  writes_run = false;
+}
+command_of forms.Tree words = record {
+  Answers = WithDone AnswersTree;
+  Refuses = RefusesProtocol;
+  IsFaultless = IsProtocolText;
   writes_run = false;
 }
 

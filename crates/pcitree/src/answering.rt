@@ -61,6 +61,7 @@ pub(crate) fn answer<R: Threads + Sync, G: Gate + Sync>(
         Form::Generate => done(command_runs::answer_generate(alloc, input)),
         Form::Devices => done(command_runs::answer_devices(alloc, input)),
         Form::Import => done(command_boards::answer_import(alloc, input)),
+        Form::Tree => done(command_boards::answer_tree(alloc, input)),
     }
 }
 

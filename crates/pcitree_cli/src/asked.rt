@@ -1,4 +1,4 @@
-use program_pages::{Page, explain};
+use program_pages::{Codes, Page, explain};
 use program_words::{Help, VERSION, WordHelp, word_help};
 use std::io;
 
@@ -11,11 +11,12 @@ pub(crate) enum Asked<'a> {
     HelpOf(WordHelp<'a>),
     Version,
     Explain(&'static Page),
+    Codes,
     /// Of one of these forms, but for the word at this place.
     Misfit(u32),
 }
 
-/// `--help`, `help`, `help WORD`, `--help WORD`, `--version` or `explain CODE`.
+/// `--help`, `help`, `help WORD`, `--help WORD`, `--version`, `explain` or `explain CODE`.
 pub(crate) fn asked_for(words: &[String]) -> Asked<'_> {
     match words {
         [word] => asked_by_one(word.as_str()),
@@ -33,13 +34,14 @@ fn asked_by_one(word: &str) -> Asked<'_> {
     match word {
         "--help" | "help" => Asked::Help,
         "--version" => Asked::Version,
-        "explain" => Asked::Misfit(1),
+        "explain" => Asked::Codes,
         _ => Asked::Work,
     }
 }
 
 fn asked_by_two<'a>(word: &str, other: &'a str) -> Asked<'a> {
     match word {
+        "--help" | "help" if other == "codes" => Asked::Codes,
         "--help" | "help" => match word_help(other) {
             Some(help) => Asked::HelpOf(help),
             None => Asked::Misfit(1),
@@ -61,5 +63,6 @@ pub(crate) fn tell(rt: &HostRuntime, asked: Asked<'_>) -> io::Result<()> {
         Asked::HelpOf(word) => print!(rt; "{word}"),
         Asked::Version => println!(rt; "{VERSION}"),
         Asked::Explain(page) => print!(rt; "{page}"),
+        Asked::Codes => print!(rt; "{Codes}"),
     }
 }

@@ -42,7 +42,7 @@ fn status_only(rt: &HostRuntime, status: Status) -> Status {
 fn serve<R: Threads + Sync>(rt: &HostRuntime, threads: &R, words: &[String]) -> Status {
     match asked_for(words) {
         Asked::Work => run(rt, threads, words),
-        Asked::Misfit(word) => misfit(rt, word),
+        Asked::Misfit(word) => misfit(rt, words, word),
         asked => match tell(rt, asked) {
             Ok(()) => Status::Done,
             Err(_) => status_only(rt, Status::WriteFault),
@@ -50,9 +50,9 @@ fn serve<R: Threads + Sync>(rt: &HostRuntime, threads: &R, words: &[String]) -> 
     }
 }
 
-fn misfit(rt: &HostRuntime, word: u32) -> Status {
+fn misfit(rt: &HostRuntime, words: &[String], word: u32) -> Status {
     let status = Status::Usage { word };
-    report(rt, &[], "", b"", status, None);
+    report(rt, words, "", b"", status, None);
     status
 }
 

@@ -1,10 +1,14 @@
 use history_model::Rule;
 use pci_command::NoMemory;
-use pcitree::Status;
-use program_messages::{about, message, not_shown};
+use pcitree::{Status, input_limit};
+use program_messages::{Form, about, message, not_shown, note};
 use program_pages::Message;
-use program_words::Help;
+use program_words::usage_help;
 use std::io::ErrorKind;
+
+/// What is said of a page of too many events.
+const MOST_DRAWN: &str = "at most 4,096 events are drawn: pcitree draw FILE FIRST LAST, or \
+    pcitree draw FILE OPERATION";
 
 /// The lines on standard error. Where there is no memory for those behind the first there are none.
 pub(crate) fn report(
@@ -21,8 +25,8 @@ pub(crate) fn report(
         }
         _ => eprintln!(rt; "{status}"),
     };
-    if matches!(status, Status::Usage { .. }) {
-        let _ = eprint!(rt; "{Help}");
+    if let Status::Usage { word } = status {
+        let _ = eprint!(rt; "{}", usage_help(words, word));
         return;
     }
     if let Ok(message) = message_of(rt, words, name, input, status, reason)
@@ -42,30 +46,37 @@ fn message_of(
 ) -> Result<Message, NoMemory> {
     match (status, words) {
         (Status::ReadFault, _) => match reason {
+            Some(ErrorKind::NotFound) => about(rt.alloc(), name, "no such file"),
             Some(kind) => {
                 let reason = kind.to_string(rt.alloc())?;
                 about(rt.alloc(), name, reason.as_str())
             }
             None => about(rt.alloc(), name, "it was opened, and not read to its end"),
         },
-        (Status::TooLong, _) => about(
-            rt.alloc(),
-            name,
-            "a board text may have 1,048,576 bytes, a trace text 67,108,864",
-        ),
+        (Status::TooLong, _) => note(rt.alloc(), limit_words(input_limit(words))),
+        (Status::TooManyEvents { .. }, _) => note(rt.alloc(), MOST_DRAWN),
         (Status::NotShown, [_adverse, _file, read, write]) => {
             not_shown(rt.alloc(), input, read.as_str(), write.as_str())
         }
-        // What is so in its place would be told of the arrivals that were read, which are left away.
-        (Status::NotRun { .. }, [word, ..]) if word.as_str() == "fill" => about(
-            rt.alloc(),
-            name,
-            "wherever arrivals are put, no run has the acts before it and then this one",
-        ),
-        // Events are judged by the rule of the bridge that the word asks about.
-        (_, [word, ..]) if word.as_str() == "untagged" => {
-            message(rt.alloc(), name, input, &status, Rule::Untagged)
-        }
-        _ => message(rt.alloc(), name, input, &status, Rule::Tagged),
+        _ => message(rt.alloc(), name, input, &status, form_of(words)),
+    }
+}
+
+fn limit_words(limit: usize) -> &'static str {
+    if limit > 0x10_0000 {
+        "a trace has at most 64 MiB"
+    } else {
+        "a board has at most 1 MiB"
+    }
+}
+
+/// As what the first of the words reads the input.
+fn form_of(words: &[String]) -> Form {
+    match words.first().map_or("", |word| word.as_str()) {
+        "run" | "headers" | "combine" => Form::Board,
+        "check" | "finish" | "audit" | "report" | "waves" | "draw" => Form::Trace(Rule::Tagged),
+        "untagged" => Form::Trace(Rule::Untagged),
+        "fill" => Form::Filled,
+        _ => Form::Protocol,
     }
 }

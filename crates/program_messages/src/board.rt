@@ -1,5 +1,6 @@
 ghost use Rattle.std.specs.Prelude.{◌<◌, ◌≤◌, ◌^◌, length};
 
+use crate::form::Form;
 use crate::refused::{
     Spot, TOO_LONG, board_part, line_at, named_spot, place_of, smallest, word_at_fault,
 };
@@ -18,11 +19,12 @@ const MOST_SHOWN: u32 = 8;
 pub(crate) fn tell_board(
     teller: &mut Teller,
     input: &[u8],
+    form: Form,
     status: &Status,
     number: u32,
     fault: BoardFault,
 ) -> Result<(), NoMemory> {
-    let text = board_part(teller.alloc(), input)?;
+    let text = board_part(teller.alloc(), input, form)?;
     let sentence = match Fault::of(status) {
         Some(fault) => fault.to_string(teller.alloc())?,
         None => String::new(teller.alloc()),
@@ -38,13 +40,10 @@ pub(crate) fn tell_board(
                 sentence.as_str(),
             )
         }
-        BoardFault::Tree(_) => {
-            teller.say(sentence.as_str())?;
-            show_smallest(teller, text.as_slice(), status, 0)
-        }
+        BoardFault::Tree(_) => tell_tree(teller, text.as_slice(), status, sentence.as_str()),
         BoardFault::Bound(bound) => {
             let line = format!(in teller.alloc(); "{sentence}: this board may have {bound}")?;
-            teller.say(line.as_str())
+            teller.error(line.as_str())
         }
         BoardFault::Device(fault) => tell_device(teller, input, number, fault, sentence.as_str()),
     }
@@ -59,10 +58,10 @@ fn tell_device(
     sentence: &str,
 ) -> Result<(), NoMemory> {
     let Some((_, line)) = line_at(input, number) else {
-        return teller.say(sentence);
+        return teller.point(number, b"", 0, sentence);
     };
     if line.len() >= TOO_LONG {
-        return teller.say(sentence);
+        return teller.point(number, b"", 0, sentence);
     }
     let word = match fault {
         DeviceFault::Misshapen | DeviceFault::OverLimit => 0,
@@ -97,19 +96,19 @@ fn tell_line(
     sentence: &str,
 ) -> Result<(), NoMemory> {
     let Some((start, line)) = line_at(text, number) else {
-        return teller.say(sentence);
+        return teller.point(number, b"", 0, sentence);
     };
     let end = start.saturating_add(line.len()).min(text.len());
     let front = &text[..end];
     if front.len() >= TOO_LONG {
-        return teller.say(sentence);
+        return teller.point(number, b"", 0, sentence);
     }
     let line = &front[start.min(end)..];
     let spot = spot_at_fault(teller.alloc(), front, start.min(end), status, fault)?;
     let at = place_of(teller.alloc(), line, spot)?;
     teller.point(number, line, at, sentence)?;
     match fault {
-        LineFault::NameUsed | LineFault::BusUsed => show_smallest(teller, front, status, number),
+        LineFault::NameUsed | LineFault::BusUsed => tell_first_use(teller, front, status, number),
         _ => Ok(()),
     }
 }
@@ -135,8 +134,37 @@ fn spot_at_fault(
     }
 }
 
-/// The lines, but this one, that have the fault of the status together.
-fn show_smallest(
+/// The lines that have the fault of the tree together: the first with the sentence, and the others.
+fn tell_tree(
+    teller: &mut Teller,
+    text: &[u8],
+    status: &Status,
+    sentence: &str,
+) -> Result<(), NoMemory> {
+    let Some(left) = smallest(teller.alloc(), text, status)? else {
+        return teller.error(sentence);
+    };
+    let mut shown: u32 = 0;
+    let mut number: u32 = 1;
+    for line in left.as_slice().split(|byte| *byte == b'\n') {
+        if says_more(line) {
+            match shown {
+                0 => teller.point(number, line, 0, sentence)?,
+                MOST_SHOWN => return teller.note(".."),
+                _ => teller.also(number, line, 0, "with this line")?,
+            }
+            shown = shown.saturating_add(1);
+        }
+        number = number.saturating_add(1);
+    }
+    if shown == 0 {
+        return teller.error(sentence);
+    }
+    Ok(())
+}
+
+/// The line, but the one of this number, that has the fault of the status with it.
+fn tell_first_use(
     teller: &mut Teller,
     text: &[u8],
     status: &Status,
@@ -145,15 +173,10 @@ fn show_smallest(
     let Some(left) = smallest(teller.alloc(), text, status)? else {
         return Ok(());
     };
-    let mut shown: u32 = 0;
     let mut number: u32 = 1;
     for line in left.as_slice().split(|byte| *byte == b'\n') {
         if number != but && says_more(line) {
-            if shown >= MOST_SHOWN {
-                return teller.say("...");
-            }
-            teller.show(number, line)?;
-            shown += 1;
+            return teller.also(number, line, 0, "it is used here first");
         }
         number = number.saturating_add(1);
     }

@@ -1,6 +1,4 @@
-//! Why the first event of a trace that is not allowed is not: its line, and what is so in its place
-//! after the events before it.
-mod cause;
+//! An event that is not allowed, by its line, and what tells why; or what is left of a run.
 mod event;
 mod piece;
 

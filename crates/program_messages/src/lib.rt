@@ -4,6 +4,7 @@
 
 mod board;
 mod event;
+mod form;
 mod machine;
 mod refused;
 mod telling;
@@ -11,7 +12,8 @@ mod trace;
 mod unclear;
 mod unshown;
 
+pub use form::Form;
 pub(crate) use refused::behind;
 pub use refused::{Spot, named_spot, place_of, smallest, word_at_fault};
-pub use telling::{about, message};
+pub use telling::{about, message, note};
 pub use unshown::not_shown;

@@ -13,6 +13,6 @@ pub(crate) fn tell_machine_line(
     let sentence = Fault::Machine(fault).to_string(teller.alloc())?;
     match line_at(input, number) {
         Some((_, line)) => teller.point(number, line, 0, sentence.as_str()),
-        None => teller.say(sentence.as_str()),
+        None => teller.error(sentence.as_str()),
     }
 }

@@ -5,23 +5,23 @@ ghost use Rattle.program_messages.specs.Quiet.{IsQuiet};
 
 use crate::board::tell_board;
 use crate::event::tell_event;
+use crate::form::Form;
 use crate::machine::tell_machine_line;
 use crate::trace::tell_trace_line;
-use history_model::Rule;
 use pci_command::NoMemory;
-use program_pages::{Message, Teller};
+use program_pages::{Fault, Message, Teller};
 use program_status::Status;
 use std::alloc::Global;
 
 /// What a status says of an input, behind its first line: the lines at fault and why. The name is
-/// that of the input, as it is to be shown, and events were judged by the rule of the bridge.
-/// Nothing is said of a status that does not tell of the input.
+/// that of the input, and it was read as of this form. Nothing is said of a status that does not
+/// tell of the input.
 pub fn message(
     alloc: Global,
     name: &str,
     input: &[u8],
     status: &Status,
-    rule: Rule,
+    form: Form,
 ) -> Result<Message, NoMemory>
     ensures printing { IfOk result (λ message. IsTrue (list_all is_shown message)) }
     ensures quiet { IsQuiet status.now → IfOk result (λ message. message ≡ []) }
@@ -31,17 +31,26 @@ pub fn message(
         | Status::BadTrace { .. }
         | Status::BadMachine { .. }
         | Status::NotRun { .. }
-        | Status::Incomplete { .. } => told(alloc, name, input, status, rule),
+        | Status::Incomplete { .. } => told(alloc, name, input, status, form),
         _ => Ok(Message::new(alloc)),
     }
 }
 
-/// One line about a file.
+/// What is wrong with a file.
 pub fn about(alloc: Global, name: &str, text: &str) -> Result<Message, NoMemory>
     ensures printing { IfOk result (λ message. IsTrue (list_all is_shown message)) }
 {
-    let mut teller = Teller::new(alloc, name);
-    teller.about(text)?;
+    let mut teller = Teller::new(alloc, name, None);
+    teller.error(text)?;
+    Ok(teller.into_message())
+}
+
+/// One sentence.
+pub fn note(alloc: Global, text: &str) -> Result<Message, NoMemory>
+    ensures printing { IfOk result (λ message. IsTrue (list_all is_shown message)) }
+{
+    let mut teller = Teller::new(alloc, "", None);
+    teller.note(text)?;
     Ok(teller.into_message())
 }
 
@@ -50,22 +59,24 @@ fn told(
     name: &str,
     input: &[u8],
     status: &Status,
-    rule: Rule,
+    form: Form,
 ) -> Result<Message, NoMemory>
     ensures { IfOk result (λ message. IsTrue (list_all is_shown message)) }
 {
-    let mut teller = Teller::new(alloc, name);
+    let mut teller = Teller::new(alloc, name, Fault::of(status));
     match *status {
-        Status::BadBoard { line, fault } => tell_board(&mut teller, input, status, line, fault)?,
+        Status::BadBoard { line, fault } => {
+            tell_board(&mut teller, input, form, status, line, fault)?;
+        }
         Status::BadTrace { line, fault } => tell_trace_line(&mut teller, input, line, fault)?,
         Status::BadMachine { line, fault } => {
             tell_machine_line(&mut teller, input, line, fault)?;
         }
-        Status::NotRun { .. } => tell_event(&mut teller, input, rule)?,
-        Status::Incomplete { .. } => {
-            teller.say("the events are a run that has not ended: `finish` goes on with it")?;
+        Status::NotRun { .. } | Status::Incomplete { .. } => {
+            tell_event(&mut teller, input, form)?;
         }
         _ => {}
     }
+    teller.more()?;
     Ok(teller.into_message())
 }

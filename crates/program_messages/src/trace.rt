@@ -1,7 +1,9 @@
 use crate::event::place_of_piece;
+use crate::form::Form;
 use crate::refused::{TOO_LONG, board_part, line_at};
 use board_model::Board;
 use board_parser::{ParseFault, parse};
+use history_model::Rule;
 use pci_command::NoMemory;
 use program_pages::{Fault, Teller};
 use std::alloc::Global;
@@ -16,7 +18,7 @@ pub(crate) fn tell_trace_line(
 ) -> Result<(), NoMemory> {
     let sentence = Fault::Trace(fault).to_string(teller.alloc())?;
     let Some((_, line)) = line_at(input, number) else {
-        return teller.say(sentence.as_str());
+        return teller.point(number, b"", 0, sentence.as_str());
     };
     let at = match fault {
         TraceLineFault::Unreadable => first_unreadable(line),
@@ -53,7 +55,7 @@ fn first_gap(line: &[u8]) -> usize {
 /// is not read. Of an arrival, the lane or else the bus.
 fn first_unknown(teller: &Teller, input: &[u8], line: &[u8]) -> Result<usize, NoMemory> {
     let pieces: Vec<&[u8]> = line.split(|byte| *byte == b' ').collect(teller.alloc())?;
-    let text = board_part(teller.alloc(), input)?;
+    let text = board_part(teller.alloc(), input, Form::Trace(Rule::Tagged))?;
     if text.len() >= TOO_LONG {
         return Ok(0);
     }

@@ -19,7 +19,7 @@ pub(crate) fn tell_unclear(
     sentence: &str,
 ) -> Result<(), NoMemory> {
     let Some((_, line)) = line_at(input, number) else {
-        return teller.say(sentence);
+        return teller.point(number, b"", 0, sentence);
     };
     match why_unclear(teller.alloc(), input)? {
         None => teller.point(number, line, at, sentence),
@@ -133,7 +133,7 @@ fn tell_other(
         return Ok(());
     }
     let at = place_of(teller.alloc(), line, Spot::Word(0))?;
-    teller.point(number, line, at, text)
+    teller.also(number, line, at, text)
 }
 
 /// The line with the operation or range of this index, of the owner of this number.

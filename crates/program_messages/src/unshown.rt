@@ -18,7 +18,7 @@ use std::alloc::Global;
 pub fn not_shown(alloc: Global, input: &[u8], read: &str, write: &str) -> Result<Message, NoMemory>
     ensures { IfOk result (λ message. IsTrue (list_all is_shown message)) }
 {
-    let mut teller = Teller::new(alloc, "");
+    let mut teller = Teller::new(alloc, "", None);
     tell_words(&mut teller, input, read, write)?;
     Ok(teller.into_message())
 }
@@ -54,7 +54,7 @@ fn tell_word(
     let name = parts.next().unwrap_or(b"");
     let index = parts.next().unwrap_or(b"");
     let Some(master) = master_of(board, name) else {
-        teller.say("note: no master of the board has this name")?;
+        teller.note("no master of the board has this name")?;
         return Ok(true);
     };
     match op_at(master, index) {
@@ -67,8 +67,8 @@ fn tell_word(
             if kind == wanted {
                 return Ok(false);
             }
-            let note = format!(in teller.alloc(); "note: {word} is a {kind}, and no {wanted}")?;
-            teller.say(note.as_str())?;
+            let note = format!(in teller.alloc(); "{word} is a {kind}, and no {wanted}")?;
+            teller.note(note.as_str())?;
             Ok(true)
         }
     }
@@ -93,13 +93,13 @@ fn op_at<'a>(master: &'a Master, index: &[u8]) -> Option<&'a Op> {
 fn tell_operations(teller: &mut Teller, master: &Master) -> Result<(), NoMemory> {
     let name = master.name.as_str();
     let note = match master.ops.as_slice().len() {
-        0 => format!(in teller.alloc(); "note: {name} has no operations")?,
+        0 => format!(in teller.alloc(); "{name} has no operations")?,
         count => {
             let last = count - 1;
-            format!(in teller.alloc(); "note: {name} has operations 0 to {last}")?
+            format!(in teller.alloc(); "{name} has operations 0 to {last}")?
         }
     };
-    teller.say(note.as_str())
+    teller.note(note.as_str())
 }
 
 fn kind_of(op: &Op) -> &'static str {

@@ -58,6 +58,24 @@ impl fmt::Display for Fault {
     }
 }
 
+/// The code of a fault: a letter and a number.
+#[derive(Clone, Copy)]
+pub(crate) struct Code(pub(crate) Fault);
+
+impl fmt::Display for Code {
+    fn fmt<W: fmt::Write>(&self, f: &mut fmt::Formatter<W>) -> fmt::Result {
+        match self.0 {
+            Fault::Line(fault) => write!(f, "{}", BoardFault::Line(fault)),
+            Fault::Tree(fault) => write!(f, "{}", BoardFault::Tree(fault)),
+            Fault::Bound => write!(f, "V9"),
+            Fault::Device(fault) => write!(f, "{}", BoardFault::Device(fault)),
+            Fault::Trace(fault) => write!(f, "X{}", fault.code()),
+            Fault::Machine(fault) => write!(f, "I{}", fault.code()),
+            Fault::Cause(why) => write!(f, "{why}"),
+        }
+    }
+}
+
 fn sentence_of(why: Why) -> &'static str {
     match why {
         Why::NotPresented => "its initiator does not present that operation on that bus now",

@@ -2,6 +2,7 @@
 //! messages on standard error are printed.
 #![tactic(auto)]
 
+mod codes;
 mod device_pages;
 mod fault;
 mod machine_pages;
@@ -9,6 +10,7 @@ mod page;
 mod pages;
 mod shown;
 
+pub use codes::Codes;
 pub use device_pages::DEVICE_PAGES;
 pub use fault::Fault;
 pub use machine_pages::MACHINE_PAGES;

@@ -3,7 +3,18 @@ ghost use Rattle.std.specs.Option.{option_map};
 ghost use Rattle.program_pages.specs.Pages.{has_code};
 
 use crate::{DEVICE_PAGES, Fault, MACHINE_PAGES, PAGES};
+use history_model::Why;
 use std::fmt;
+
+/// Who may pass whom, both going the same way through one bridge: `table` of `order_table`.
+const ORDERING_TABLE: &str = "May a transaction of the row pass an older one of the column?\n\
+    \n\
+    \x20                               PMW     DRR     DWR     DRC     DWC\n\
+    PMW posted memory write         No      Yes     Yes     Yes     Yes\n\
+    DRR delayed read request        No      Yes/No  Yes/No  Yes/No  Yes/No\n\
+    DWR delayed write request       No      Yes/No  Yes/No  Yes/No  Yes/No\n\
+    DRC delayed read completion     No      Yes     Yes     Yes/No  Yes/No\n\
+    DWC delayed write completion    Yes/No  Yes     Yes     Yes/No  Yes/No\n";
 
 /// What one code means.
 #[derive(Clone, Copy, Debug)]
@@ -55,12 +66,25 @@ fn has_code(page: &Page, code: &str) -> bool
     page.code.eq_ignore_ascii_case(code)
 }
 
+impl Page {
+    /// Whether who may pass whom decides it.
+    fn has_table(&self) -> bool {
+        matches!(
+            self.fault,
+            Fault::Cause(Why::NotPresented) | Fault::Cause(Why::GetsRetry)
+        )
+    }
+}
+
 impl fmt::Display for Page {
     fn fmt<W: fmt::Write>(&self, f: &mut fmt::Formatter<W>) -> fmt::Result {
         writeln!(f, "{}: {}\n\n{}", self.code, self.fault, self.rule)?;
-        if self.example.is_empty() {
-            return Ok(());
+        if !self.example.is_empty() {
+            write!(f, "\nExample:\n\n{}", self.example)?;
         }
-        write!(f, "\nExample:\n\n{}", self.example)
+        if self.has_table() {
+            write!(f, "\n{ORDERING_TABLE}")?;
+        }
+        Ok(())
     }
 }

@@ -1,6 +1,6 @@
 use board_statements::LineFault;
+use pcitree::{BoardFault, Status};
 use program_messages::{Spot, named_spot, place_of, smallest, word_at_fault};
-use program_status::{BoardFault, Status};
 use std::test::Fail;
 
 const TEXT: &[u8] = b"pciboard 1\nmaster cpu on 0\nmr 2";

@@ -53,6 +53,7 @@ parts_of forms.Combine = Word (codes "combine") ∷ File ∷ []
 parts_of forms.Generate = Word (codes "generate") ∷ Rounds ∷ []
 parts_of forms.Devices = Word (codes "devices") ∷ File ∷ []
 parts_of forms.Import = Word (codes "import") ∷ File ∷ []
+parts_of forms.Tree = Word (codes "tree") ∷ File ∷ []
 
 -- how many bytes the input may have: 1 MiB for a board text and for what lspci wrote, 64 MiB for a trace text, and 10 for a number
 abbrev pub input_limit : Form → ℕ
@@ -75,3 +76,4 @@ input_limit forms.Combine = 2 ^ 20
 input_limit forms.Generate = 10
 input_limit forms.Devices = 2 ^ 20
 input_limit forms.Import = 2 ^ 20
+input_limit forms.Tree = 2 ^ 20

@@ -2,8 +2,14 @@
 mod call;
 mod help;
 mod own;
+mod topic;
+mod usage;
+mod wanted;
 mod word;
 
 pub use help::{Help, VERSION};
 pub use own::{OWN_WORDS, OwnWord};
+pub use topic::TOPICS;
+pub use usage::{UsageHelp, usage_help};
+pub(crate) use wanted::wanted_at;
 pub use word::{WordHelp, is_one_of, word_help};

@@ -6,7 +6,7 @@ ghost use Rattle.program_words.specs.Shapes.{shape_of, shown_as, parts_of, input
 
 mod help;
 
-pub use help::{Help, OWN_WORDS, VERSION, WordHelp, word_help};
+pub use help::{Help, OWN_WORDS, UsageHelp, VERSION, WordHelp, usage_help, word_help};
 
 /// What a word has to be.
 #[derive(Clone, Copy, Debug, PartialEq, Eq)]
@@ -47,6 +47,7 @@ pub enum Form {
     Generate,
     Devices,
     Import,
+    Tree,
 }
 
 /// A row of the table of words.
@@ -72,26 +73,27 @@ const TRACE: usize = 0x400_0000;
 const NUMBER: usize = 10;
 
 /// All forms, in the order in which they are told.
-pub const FORMS: [Form; 19] = [
+pub const FORMS: [Form; 20] = [
     Form::Safe,
     Form::Adverse,
     Form::Run,
     Form::RunSteady,
-    Form::Headers,
+    Form::Devices,
     Form::Check,
-    Form::Finish,
     Form::Fill,
+    Form::Finish,
     Form::Audit,
     Form::Report,
-    Form::Waves,
     Form::Draw,
     Form::DrawRows,
     Form::DrawOperation,
+    Form::Waves,
     Form::Untagged,
+    Form::Tree,
+    Form::Headers,
     Form::Combine,
-    Form::Generate,
-    Form::Devices,
     Form::Import,
+    Form::Generate,
 ];
 
 const SAFE: Row = Row {
@@ -164,11 +166,9 @@ const FINISH: Row = Row {
 const FILL: Row = Row {
     parts: &[Part::Word("fill"), Part::File],
     limit: TRACE,
-    line: "puts the arrivals of a trace anew, as early as can be",
-    more: "No monitor on a bus sees an arrival: a trace without them will do, and those that it has are\n\
-        left away. Behind each act all that is in flight arrives, so that what is written is a run of\n\
-        these acts, which `check` takes where it is complete. An act that is refused (8) is in no run\n\
-        behind the acts before it, wherever their arrivals are.",
+    line: "puts the arrivals into a trace that has none",
+    more: "Arrivals of the trace are left away, and put in behind each event as early as they can be.\n\
+        What is written is a run; where that is refused, no other place of arrivals makes it one.",
 };
 
 const AUDIT: Row = Row {
@@ -261,6 +261,14 @@ const IMPORT: Row = Row {
         depths of bridges. What is written is a board text without masters.",
 };
 
+const TREE: Row = Row {
+    parts: &[Part::Word("tree"), Part::File],
+    limit: BOARD,
+    line: "lists the buses, windows and ranges of a board or device text",
+    more: "What stands below a bridge is on the bus of its number: masters, targets, bridges. Ranges and\n\
+        windows are told from the first to the last address.",
+};
+
 impl Form {
     /// The table of words: the row of each form.
     pub fn row(self) -> Row
@@ -293,6 +301,7 @@ impl Form {
             Form::Generate => GENERATE,
             Form::Devices => DEVICES,
             Form::Import => IMPORT,
+            Form::Tree => TREE,
         }
     }
 }

@@ -1,70 +1,92 @@
-ghost use Rattle.std.specs.Prelude.{◌<◌, ◌^◌, length};
-
-use crate::event::cause::tell_cause;
 use crate::event::place_of_piece;
+use crate::form::Form;
 use crate::refused::{TOO_LONG, find_line, line_at};
-use history_model::{Event, Rule, Why};
-use judge_state::{Kept, take_all_by_rule};
+use history_model::{Rule, Why};
 use pci_command::NoMemory;
 use program_input::{TreeTrace, read_tree_trace};
-use program_pages::{Fault, Teller};
+use program_pages::Teller;
 use program_status::Status;
+use run_reasons::{Findings, reasons, reasons_filled};
 
-/// The first event of a trace that is not allowed by the rule of the bridge, by its line, and what
-/// tells why.
-pub fn tell_event(teller: &mut Teller, input: &[u8], rule: Rule) -> Result<(), NoMemory> {
+/// How many sentences are told of what is left.
+const MOST_LEFT: usize = 8;
+
+/// The first event of a trace that is not allowed, by its line, and what tells why; or what is left
+/// where all are allowed.
+pub fn tell_event(teller: &mut Teller, input: &[u8], form: Form) -> Result<(), NoMemory> {
     if input.len() >= TOO_LONG {
         return Ok(());
     }
     match read_tree_trace(teller.alloc(), input) {
-        Ok(read) => tell_first(teller, input, &read, rule),
+        Ok(read) => tell_read(teller, input, &read, form),
         Err(Status::NoMemory) => Err(NoMemory),
         Err(_) => Ok(()),
     }
 }
 
-/// What is kept of the events before the refused one tells what is so in its place.
-fn tell_first(
+fn tell_read(
     teller: &mut Teller,
     input: &[u8],
     read: &TreeTrace,
-    rule: Rule,
-) -> Result<(), NoMemory>
-    requires { length read.now.events < 2 ^ 32 }
-{
-    let tree = &read.tree;
+    form: Form,
+) -> Result<(), NoMemory> {
     let events = read.events.as_slice();
-    let mut kept = Kept::by_rule(teller.alloc(), tree, rule)?;
-    let Some((number, why)) = take_all_by_rule(&mut kept, tree, events) else {
-        return Ok(());
+    let told = match form {
+        Form::Filled => reasons_filled(teller.alloc(), &read.tree, events)?,
+        Form::Trace(rule) => reasons(teller.alloc(), &read.tree, events, rule)?,
+        Form::Board | Form::Protocol => {
+            reasons(teller.alloc(), &read.tree, events, Rule::Tagged)?
+        }
     };
-    let Some(event) = events.get((number as usize).saturating_sub(1)) else {
-        return Ok(());
-    };
-    show_event(teller, input, number, why)?;
-    tell_cause(teller, tree.board(), &kept, event, why)
+    match told {
+        Findings::Refused { place, why, reason } => {
+            point_at(teller, input, place, why, reason.text.as_str())?;
+            tell_notes(teller, reason.notes.as_slice())
+        }
+        Findings::Left(notes) => tell_left(teller, notes.as_slice()),
+    }
 }
 
-/// The line of the event of this number.
-fn show_event(teller: &mut Teller, input: &[u8], number: u32, why: Why) -> Result<(), NoMemory> {
+fn tell_notes(teller: &mut Teller, notes: &[String]) -> Result<(), NoMemory> {
+    for note in notes {
+        teller.note(note.as_str())?;
+    }
+    Ok(())
+}
+
+/// What is left of a run that has not ended, of the first eight.
+fn tell_left(teller: &mut Teller, notes: &[String]) -> Result<(), NoMemory> {
+    for note in notes.iter().take(MOST_LEFT) {
+        teller.note(note.as_str())?;
+    }
+    if notes.len() > MOST_LEFT {
+        teller.note("..")?;
+    }
+    teller.note("pcitree finish FILE goes on with it")
+}
+
+/// The line of the event at this place, and a sentence.
+fn point_at(
+    teller: &mut Teller,
+    input: &[u8],
+    place: usize,
+    why: Why,
+    text: &str,
+) -> Result<(), NoMemory> {
     let Some((events, _)) = find_line(input, b"events") else {
         return Ok(());
     };
-    let line_number = events.saturating_add(number);
-    let Some((_, line)) = line_at(input, line_number) else {
+    let Ok(place) = u32::try_from(place) else {
         return Ok(());
     };
-    let fault = Fault::Cause(why);
-    let sentence = format!(in teller.alloc(); "event {number}: {fault}")?;
+    let number = events.saturating_add(place).saturating_add(1);
+    let Some((_, line)) = line_at(input, number) else {
+        return Ok(());
+    };
     let piece = match why {
         Why::NotPresented | Why::GetsRetry | Why::MarkedOtherwise => 3,
         Why::AnsweredOtherwise => 1,
         Why::NothingInFlight => 2,
     };
-    teller.point(
-        line_number,
-        line,
-        place_of_piece(line, piece),
-        sentence.as_str(),
-    )
+    teller.point(number, line, place_of_piece(line, piece), text)
 }

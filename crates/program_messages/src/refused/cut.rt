@@ -1,3 +1,4 @@
+use crate::form::Form;
 use crate::refused::reading::find_line;
 use board_text::next_line;
 use pci_command::NoMemory;
@@ -20,13 +21,17 @@ pub fn without_lines(
     Ok(other)
 }
 
-/// The board text of an input, each line with the number that it has in the input: of a trace the
-/// part between its first line, which is blank here, and the line `events`, and of a text of devices
-/// that up to the line `devices`.
-pub fn board_part(alloc: Global, input: &[u8]) -> Result<Vec<u8>, NoMemory> {
-    match next_line(input, 0) {
-        Some((b"pcitrace 1", next)) => board_between(alloc, input, next, b"events"),
-        Some((b"pcidevices 1", next)) => board_between(alloc, input, next, b"devices"),
+/// The board text of an input of this form, each line with the number that it has in the input: of a
+/// trace the part between its first line, which is blank here, and the line `events`, and of a text
+/// of devices that up to the line `devices`.
+pub fn board_part(alloc: Global, input: &[u8], form: Form) -> Result<Vec<u8>, NoMemory> {
+    match (form, next_line(input, 0)) {
+        (Form::Trace(_) | Form::Filled, Some((b"pcitrace 1", next))) => {
+            board_between(alloc, input, next, b"events")
+        }
+        (Form::Protocol, Some((b"pcidevices 1", next))) => {
+            board_between(alloc, input, next, b"devices")
+        }
         _ => Ok(input.to_vec(alloc)?),
     }
 }

@@ -13,6 +13,10 @@ is_shown byte = byte == 10 || is_printing byte
 abbrev pub shown : ℕ → ℕ
 shown byte = if is_printing byte then byte else if byte == 9 then 32 else 63
 
+-- a line
+abbrev pub whole_line : List ℕ → List ℕ
+whole_line text = map shown text ++ (10 ∷ [])
+
 -- a line of at most 120 columns
 abbrev pub shown_line : List ℕ → List ℕ
-shown_line text = map shown (take 120 text) ++ (10 ∷ [])
+shown_line text = whole_line (take 120 text)

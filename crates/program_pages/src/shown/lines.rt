@@ -1,15 +1,16 @@
 ghost use Rattle.std.specs.Prelude.{◌≡◌, [], ◌++◌, map, take, IfOk, OnOk, IsTrue};
 ghost use Rattle.std.specs.List.{list_all};
-ghost use Rattle.program_pages.specs.shown.Shown.{is_printing, is_shown, shown, shown_line};
+ghost use Rattle.program_pages.specs.shown.Shown.{is_printing, is_shown, shown, shown_line, whole_line};
 
 use pci_command::NoMemory;
 use std::alloc::{AllocError, Global};
 use std::marker::Model;
 
-/// The columns that a line has at most.
-pub(crate) const WIDTH: usize = 120;
+/// The columns that a line has at most, where it names no file.
+const WIDTH: usize = 120;
 
-/// Lines for a terminal: of printing characters of ASCII, each of at most 120 columns.
+/// Lines for a terminal, of printing characters of ASCII: of at most 120 columns, but for those that
+/// name a file.
 #[derive(Debug, Drop)]
 pub struct Message {
     text: Vec<u8>,
@@ -45,19 +46,34 @@ impl Message {
         self.text.as_slice()
     }
 
-    /// One more line: a text as it is shown.
-    #[tactic(auto, using(crate::proofs::shown::ShownLemmas::all_shown))]
+    /// One more line: a text as it is shown, of at most 120 columns.
     pub fn line(&mut self, alloc: Global, text: &[u8]) -> Result<(), NoMemory>
         ensures { OnOk result (self.new ≡ self.old ++ shown_line text.now) }
     {
-        let line = shown_line(alloc, text)?;
+        let front = front_of(alloc, text)?;
+        self.whole_line(alloc, front.as_slice())
+    }
+
+    /// One more line: a text as it is shown, however long it is.
+    #[tactic(auto, using(crate::proofs::shown::ShownLemmas::all_shown))]
+    pub fn whole_line(&mut self, alloc: Global, text: &[u8]) -> Result<(), NoMemory>
+        ensures { OnOk result (self.new ≡ self.old ++ whole_line text.now) }
+    {
+        let line = whole_line(alloc, text)?;
         self.text.extend_from_slice(line.as_slice())?;
         Ok(())
     }
 }
 
-fn shown_line(alloc: Global, text: &[u8]) -> Result<Vec<u8>, AllocError>
-    ensures { IfOk result (λ line. line.items ≡ shown_line text.now) }
+/// The first 120 columns.
+fn front_of(alloc: Global, text: &[u8]) -> Result<Vec<u8>, AllocError>
+    ensures { IfOk result (λ front. front.items ≡ take 120 text.now) }
+{
+    text.iter().take(WIDTH).copied().collect(alloc)
+}
+
+fn whole_line(alloc: Global, text: &[u8]) -> Result<Vec<u8>, AllocError>
+    ensures { IfOk result (λ line. line.items ≡ whole_line text.now) }
 {
     let mut line = shown_bytes(alloc, text)?;
     line.push(b'\n')?;
@@ -65,12 +81,9 @@ fn shown_line(alloc: Global, text: &[u8]) -> Result<Vec<u8>, AllocError>
 }
 
 fn shown_bytes(alloc: Global, text: &[u8]) -> Result<Vec<u8>, AllocError>
-    ensures { IfOk result (λ line. line.items ≡ map shown (take 120 text.now)) }
+    ensures { IfOk result (λ line. line.items ≡ map shown text.now) }
 {
-    text.iter()
-        .take(WIDTH)
-        .map(|byte| shown(*byte))
-        .collect(alloc)
+    text.iter().map(|byte| shown(*byte)).collect(alloc)
 }
 
 fn shown(byte: u8) -> u8

@@ -16,6 +16,7 @@ use Rattle.command_traces.specs.untagged.Answers.{AnswersUntagged}
 use Rattle.command_boards.specs.headers.Answers.{AnswersHeaders}
 use Rattle.command_boards.specs.combine.Answers.{AnswersCombine}
 use Rattle.command_boards.specs.import.Answers.{AnswersImport}
+use Rattle.command_boards.specs.tree.Answers.{AnswersTree}
 use Rattle.program_words.specs.declared.Form.{Form}
 use Rattle.pcitree.specs.Answers.{AnswersTo}
 use Rattle.pcitree.specs.Given.{IsGiven}
@@ -78,6 +79,10 @@ returns-in-Devices-clause-ok g c = subst (λ (form : Form). IfOk c.done-in-Devic
 pub returns-in-Import-clause-ok : goal.returns-in-Import-clause-ok
 returns-in-Import-clause-ok g c = subst (λ (form : Form). IfOk c.done-in-Import.result (λ answer. AnswersTo form (map string_bytes c.args.words.now) c.args.input.now answer.text.items answer.ending)) (sym c.in-Import.is)
     (done_answers (AnswersImport c.args.input.now) _ _ c.done-in-Import.ensures.ok c.answer_import.ensures.ok)
+
+pub returns-in-Tree-clause-ok : goal.returns-in-Tree-clause-ok
+returns-in-Tree-clause-ok g c = subst (λ (form : Form). IfOk c.done-in-Tree.result (λ answer. AnswersTo form (map string_bytes c.args.words.now) c.args.input.now answer.text.items answer.ending)) (sym c.in-Tree.is)
+    (done_answers (AnswersTree c.args.input.now) _ _ c.done-in-Tree.ensures.ok c.answer_tree.ensures.ok)
 
 pub returns-in-Draw-clause-ok : goal.returns-in-Draw-clause-ok
 returns-in-Draw-clause-ok g c = subst (λ (form : Form). IfOk c.done-in-Draw.result (λ answer. AnswersTo form (map string_bytes c.args.words.now) c.args.input.now answer.text.items answer.ending)) (sym c.in-Draw.is)
