@@ -212,9 +212,8 @@ def explain_row(word, code):
     def explained(place):
         page = place.call("explain", code)
         lines = page.out.decode().split("\n")
-        # an example stands between its title and what follows it: an empty line and a line that ends with a colon, if any
-        example = "\n".join(lines[lines.index("Example:") + 2 :])
-        example = re.split(r"\n\n(?=[^\n]*:\n)", example)[0]
+        # an example stands between its title and the ordering table, with which some pages end
+        example = "\n".join(lines[lines.index("Example:") + 2 :]).split("\n\nMay a transaction")[0]
         seen = place.call(word, place.file("example", example.rstrip("\n").encode() + b"\n"))
         is_told = f" {code} " in first_line(seen.error) + " " and lines[0].startswith(f"{code}: ")
         yield f"explain_{code}", Seen(page.status if is_told else 99, seen.out, b""), Wanted(0, b"", "-")
