@@ -2,3 +2,4 @@ pub mod TallyLemmas
 pub mod LineLemmas
 pub mod OperationLemmas
 pub mod AddingLemmas
+pub mod RangeLemmas

@@ -2,6 +2,7 @@
 //! there were on each bus.
 #![tactic(auto)]
 
+mod lapses;
 mod lines;
 mod sizes;
 mod sums;
@@ -10,5 +11,5 @@ mod text;
 pub mod way_counts;
 
 pub use sums::counts_add_up;
-pub use text::report;
+pub use text::{report, whole_report};
 pub use way_counts::{complete_runs_have_the_way_counts, complete_runs_weigh_their_ways};

@@ -1,7 +1,9 @@
 ghost use Rattle.std.specs.Prelude.{◌≡◌, ◌++◌, IfOk, OnOk, string_bytes};
 ghost use Rattle.history_model.specs.Runs.{history_of};
+ghost use Rattle.run_report.specs.Lapses.{whole_report};
 ghost use Rattle.run_report.specs.Report.{report_of};
 
+use crate::lapses::lapses_text;
 use crate::lines::{print_buses, print_length, print_size};
 use crate::sizes::{buses_of, masters_of, operations_of};
 use crate::tallies::tallies_of;
@@ -20,6 +22,17 @@ pub fn report(alloc: Global, tree: &Tree, events: &[Event]) -> Result<List<u8>, 
     let mut text = String::new(alloc);
     print_report(&mut text, tree, events)?;
     Ok(List::from_vec(text.into_bytes()))
+}
+
+/// The same, and behind it a line for each write that no target took, and for each poll that spent
+/// its tries.
+pub fn whole_report(alloc: Global, tree: &Tree, events: &[Event]) -> Result<List<u8>, NoMemory>
+    ensures { IfOk result (λ text. text ≡ whole_report tree.now events.now) }
+{
+    let mut text = report(alloc, tree, events)?.into_vec();
+    let lapses = lapses_text(alloc, tree.board(), events)?;
+    text.extend_from_slice(lapses.as_bytes())?;
+    Ok(List::from_vec(text))
 }
 
 fn print_report(text: &mut String, tree: &Tree, events: &[Event]) -> Result<(), AllocError>

@@ -8,6 +8,7 @@ use Rattle.history_model.specs.Runs.{Run, Complete, history_of}
 use Rattle.history_model.specs.Knowledge.{Fresh}
 use Rattle.law_delivered.specs.left.Left.{ReturnsAsLeft, ReturnsAsHeld}
 use Rattle.run_report.specs.Counts.{kinds, count_of}
+use Rattle.run_report.specs.Lapses.{whole_report}
 use Rattle.run_report.specs.Report.{buses_of, report_of}
 use Rattle.run_report.specs.way_counts.Plain.{IsSteady}
 use Rattle.run_report.specs.way_counts.WayCounts.{way_report}
@@ -20,10 +21,10 @@ pub record Reports (board : Board) (events : List Event) (text : List ℕ) : Typ
   pub fresh : Fresh board (history_of events)
   pub as_left : ReturnsAsLeft board (history_of events)
   pub as_held : ReturnsAsHeld board (history_of events)
-  pub written : text ≡ report_of board (history_of events)
-  -- of a complete run of a board without stalls, bursts in parts, polls, discards and drops, whoever made it, these
-  -- are the way counts of the board
-  pub counted : IsSteady board → Complete board (history_of events) → text ≡ way_report board
+  pub written : text ≡ whole_report board events
+  -- of a complete run of a board without stalls, bursts in parts, polls, discards and drops, whoever made it, its
+  -- counts are the way counts of the board
+  pub counted : IsSteady board → Complete board (history_of events) → report_of board (history_of events) ≡ way_report board
   -- the counts of all its buses and kinds add up to the number of its events
   pub sums : total (λ bus. total (count_of board (history_of events) bus) kinds) (buses_of board) ≡ length events
 

@@ -11,7 +11,7 @@ use law_fresh::runs_are_fresh;
 use pci_command::{List, NoMemory};
 use program_input::{TreeTrace, read_run};
 use program_status::Status;
-use run_report::{complete_runs_have_the_way_counts, counts_add_up, report};
+use run_report::{complete_runs_have_the_way_counts, counts_add_up, whole_report};
 use std::alloc::Global;
 
 /// The report of a run, complete or not, for its trace text.
@@ -39,5 +39,5 @@ fn text_of_run(alloc: Global, tree: &Tree, events: &[Event]) -> Result<List<u8>,
     // The board of a tree is valid, and its bus numbers are bytes.
     let board = tree.board();
     board_fits(board);
-    report(alloc, tree, events)
+    whole_report(alloc, tree, events)
 }

@@ -18,4 +18,4 @@ returns c =
     let fresh = c.runs_are_fresh.ensures board h valid c.requires in
     let left = c.reads_return_what_was_left.ensures.left board h valid c.requires in
     let held = c.reads_return_what_was_left.ensures.held board h valid c.requires in
-    IfOk-weaker _ _ _ (λ text is. reports_run board events text valid c.requires fresh left held is (c.counts_add_up.ensures board h valid fits c.requires)) c.report.ensures
+    IfOk-weaker _ _ _ (λ text is. reports_run board events text valid c.requires fresh left held is (c.counts_add_up.ensures board h valid fits c.requires)) c.whole_report.ensures
