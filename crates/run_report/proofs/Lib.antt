@@ -3,3 +3,4 @@ pub mod LineLemmas
 pub mod OperationLemmas
 pub mod AddingLemmas
 pub mod RangeLemmas
+pub mod OwnLemmas

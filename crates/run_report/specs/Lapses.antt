@@ -61,7 +61,11 @@ abbrev pub lapse_told : Board → Event → Option Lapsed
 lapse_told board (Act on by o step place) = option_map (λ lapse. record { op = o; lapse = lapse }) (lapse_of o by step (op_of board o))
 lapse_told board (Arrive lane mark) = None
 
--- it tells of the operation of this master and index
+-- it tells of an operation of this master
+abbrev pub is_by : ℕ → Lapsed → Bool
+is_by place lapsed = lapsed.op.master == place
+
+-- and of this index
 abbrev pub is_of : ℕ → ℕ → Lapsed → Bool
 is_of place index lapsed = lapsed.op.master == place && lapsed.op.index == index
 

@@ -1,7 +1,7 @@
 ghost use Rattle.std.specs.Prelude.{◌≡◌, ◌++◌, IfOk, OnOk, length, slice_get, string_bytes};
-ghost use Rattle.std.specs.List.{find, filter_map};
+ghost use Rattle.std.specs.List.{find, filter_map, filter};
 ghost use Rattle.std.specs.Option.{option_map, option_copied};
-ghost use Rattle.run_report.specs.Lapses.{lost_by, spent_by, lapse_of, lapse_told, is_of, lapse_line, program_lapses, lapses_text};
+ghost use Rattle.run_report.specs.Lapses.{lost_by, spent_by, lapse_of, lapse_told, is_by, is_of, lapse_line, program_lapses, lapses_text};
 
 use board_model::{Board, Master, Op, op_of};
 use history_model::{By, Event, Step};
@@ -37,7 +37,7 @@ pub(crate) fn lapses_text(
 {
     let lapses = lapses_in(alloc, board, events)?;
     let mut text = String::new(alloc);
-    print_programs(&mut text, board, lapses.as_slice())?;
+    print_programs(alloc, &mut text, board, lapses.as_slice())?;
     Ok(text)
 }
 
@@ -117,13 +117,18 @@ fn spent_by(mask: u32, wanted: u32, tries: u32, step: Step) -> Option<Lapse>
     }
 }
 
-fn print_programs(text: &mut String, board: &Board, lapses: &[Lapsed]) -> Result<(), AllocError>
+fn print_programs(
+    alloc: Global,
+    text: &mut String,
+    board: &Board,
+    lapses: &[Lapsed],
+) -> Result<(), AllocError>
     ensures { OnOk result (string_bytes text.new
         ≡ string_bytes text.old ++ lapses_text board.now lapses.now) }
 {
     let masters = board.masters.as_slice();
     for place in 0..masters.len() {
-        print_program(text, lapses, place, master_at(masters, place))?;
+        print_program(alloc, text, lapses, place, master_at(masters, place))?;
     }
     Ok(())
 }
@@ -134,7 +139,9 @@ fn master_at(masters: &[Master], place: usize) -> Option<&Master>
     masters.get(place)
 }
 
+#[tactic(auto, using(crate::proofs::OwnLemmas::program_own))]
 fn print_program(
+    alloc: Global,
     text: &mut String,
     lapses: &[Lapsed],
     place: usize,
@@ -145,8 +152,28 @@ fn print_program(
 {
     match master {
         None => Ok(()),
-        Some(master) => print_ops(text, lapses, place, master),
+        Some(master) => {
+            // Few of all are its own, and each of its operations looks at these alone.
+            let own = own_of(alloc, lapses, place)?;
+            print_ops(text, own.as_slice(), place, master)
+        }
     }
+}
+
+fn own_of(alloc: Global, lapses: &[Lapsed], place: usize) -> Result<Vec<Lapsed>, AllocError>
+    ensures { IfOk result (λ own. own.items ≡ filter (is_by place) lapses.now) }
+{
+    lapses
+        .iter()
+        .copied()
+        .filter(|lapsed| is_by(*lapsed, place))
+        .collect(alloc)
+}
+
+fn is_by(lapsed: Lapsed, place: usize) -> bool
+    ensures { result ≡ is_by place lapsed }
+{
+    usize::from(lapsed.op.master) == place
 }
 
 fn print_ops(

@@ -1,4 +1,4 @@
-use Rattle.std.proofs.Common.{◌<◌, ◌^◌, length, sym, subst, ◌∙◌, string_bytes}
+use Rattle.std.proofs.Common.{◌<◌, ◌^◌, length, sym, subst, string_bytes}
 use Rattle.std.proofs.lemmas.List.{length-reverse}
 use Rattle.std.proofs.lemmas.Result.{IfOk-weaker}
 use Rattle.board_model.specs.declared.board.Board.{Board}
