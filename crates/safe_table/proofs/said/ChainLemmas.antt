@@ -139,6 +139,18 @@ module _ (board : Board) (table : Table) where
       ∙ ap (λ os. cond (test x) (put board table x os) os) (order_filter is_largest test xs less)
       ∙ (elim (test x) as P [ true ↦ refl | false ↦ refl ])
 
+-- None is open of those that land in one order.
+
+kept_all : (xs : List OpId) → filter (λ x. true) xs ≡ xs
+kept_all [] = refl
+kept_all (x ∷ xs) = ap (λ (os : List OpId). x ∷ os) (kept_all xs)
+
+pub sorted_none_open : (board : Board) (table : Table) → IsLargest board table → (xs ops : List OpId) → ops ≡ in_order board table xs → is_chained board table ops ≡ true → None ≡ find (is_open board table xs) xs
+sorted_none_open board table is_largest xs ops is chained =
+    let chain : Chain board table (in_order board table xs) = subst (Chain board table) is (chain_of board table is_largest ops chained) in
+    let none = chain_none_open board table (λ x. true) xs chain in
+    sym none ∙ ap (λ os. find (is_open board table os) os) (kept_all xs)
+
 -- What is said of a read where the writes of its word land in one order.
 
 pub chain_read : (board : Board) (table : Table) → IsLargest board table → (word : Dword) (r : OpId) (kept : WordMembers) → AreMembers board table word kept → kept.chained ≡ true → None ≡ find (is_beside board table r) (map op_in kept.writes)

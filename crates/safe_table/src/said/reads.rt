@@ -12,9 +12,11 @@ ghost use Rattle.safe_table.specs.Landing.{is_chained, joined, AreChained};
 ghost use Rattle.safe_table.specs.Members.{AreMembers, IsSeen, said_open};
 
 use crate::polls::is_before;
+use crate::said::landing::{in_order, is_chained};
 use crate::said::looks::Looks;
 use crate::said::members::Reached;
 use crate::said::order::{is_beside, is_settled};
+use crate::said::runs::runs_of;
 use crate::said::values::value_of;
 use crate::said::verdict::Said;
 use crate::writers::{WordWrite, WordWrites};
@@ -168,13 +170,30 @@ fn said_of_before(
     ensures { IfOk result (λ said. verdict said ≡ said_open looks.now.tree.now (table_of
         looks.now.table.now) (dword word) (map op_in before.now)) }
 {
-    match first_open(looks, before) {
+    match open_among(alloc, looks, before)? {
         Some(beside) => Ok(Said::Unsafe { word, beside }),
         None => {
             let board = looks.tree.board();
             let value = value_of(alloc, board, looks.table, word, before)?;
             Ok(Said::Safe { word, value })
         }
+    }
+}
+
+/// The first that some other of them is not settled with: none where they land in one order.
+fn open_among(alloc: Global, looks: &Looks, writes: &[WordWrite]) -> Result<Option<OpId>, NoMemory>
+    requires seen { IsSeen looks.now.tree.now looks.now.table.now looks.now.writers.now
+        looks.now.polls.now }
+    ensures { IfOk result (λ found. found ≡ find (is_open looks.now.tree.now (table_of
+        looks.now.table.now) (map op_in writes.now)) (map op_in writes.now)) }
+{
+    let board = looks.tree.board();
+    let runs = runs_of(alloc, board, looks.table, writes)?;
+    let list = in_order(alloc, board, looks.table, runs.as_slice())?;
+    if is_chained(board, looks.table, list.as_slice()) {
+        Ok(None)
+    } else {
+        Ok(first_open(looks, writes))
     }
 }
 

@@ -23,8 +23,9 @@ use std::alloc::Global;
 ///
 /// The writes of a word that some run may come to are listed once, as runs, and put in the order in
 /// which they land, by one walk for each run. A read takes a binary search in each run; where no
-/// write stands beside it, one more where they land in one order, and a look at each two of those
-/// before it where they do not.
+/// write stands beside it, one more where they land in one order. Where they do not, those before
+/// it are put in their order once more; and where they land in none either, it takes a look at each
+/// two of them, up to the first that makes it unsafe.
 pub fn said_of_all(alloc: Global, tree: &Tree, table: &ClockTable) -> Result<Vec<OpSaid>, NoMemory>
     requires largest { IsLargest tree.now (table_of table.now) }
     requires polls { KeepsPolls tree.now table.now }
