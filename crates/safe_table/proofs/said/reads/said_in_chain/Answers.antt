@@ -1,4 +1,4 @@
-use Rattle.std.proofs.Common.{◌≡◌, ◌≤◌, List, length, map, get_or, ap, subst, ◌∙◌}
+use Rattle.std.proofs.Common.{◌≤◌, List, length, map, get_or, ap, subst, ◌∙◌}
 use Rattle.std.specs.List.{prefix_len}
 use Rattle.board_model.specs.declared.board.Board.{Board}
 use Rattle.safe_model.specs.Clocks.{Table}
