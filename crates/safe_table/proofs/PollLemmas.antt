@@ -134,7 +134,7 @@ module _ (board : Board) (rows : List ProgramRows) (keeps : KeepsPolls board row
   past_so : (o : OpId) (other : ℕ) → clock_past rows o other ≡ clock_with board table o other
   past_so o other = past_looks board rows o other keeps
 
-  before_so : (p q : OpId) → before_in rows p q ≡ is_before board table p q
+  pub before_so : (p q : OpId) → before_in rows p q ≡ is_before board table p q
   before_so p q = ap (nat_lt p.index) (clock_so q p.master)
 
   no_more_so : (w : WordWrite) (b : OpId) → w.posted ≡ is_posted_op board w.op → no_more_in rows w b ≡ lands_no_more board table w.op b

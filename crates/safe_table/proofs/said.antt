@@ -1,5 +1,6 @@
 pub mod LandingLemmas
 pub mod MemberLemmas
 pub mod ChainLemmas
+pub mod RunLemmas
 pub mod NamedLemmas
 pub mod LineLemmas

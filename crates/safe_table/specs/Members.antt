@@ -1,12 +1,12 @@
 -- The writes of words that some run may come to, as they are kept.
-use Rattle.std.specs.Prelude.{◌≡◌, Bool, true, ◌&&◌, List, [], ◌∷◌, ◌++◌, map, Option, Some, None, IfSome, is_some}
+use Rattle.std.specs.Prelude.{◌≡◌, ℕ, suc, ◌≤◌, Bool, true, List, length, take, get_or, ◌++◌, map, Option, Some, None, IfSome, is_some, if◌then◌else◌}
 use Rattle.std.specs.List.{find}
 use Rattle.pci_command.specs.declared.op_id.OpId.{OpId}
 use Rattle.board_model.specs.declared.board.Board.{Board}
 use Rattle.board_model.specs.declared.word.Word.{Word}
 use Rattle.board_model.specs.Ways.{Dword}
 use Rattle.safe_model.specs.Clocks.{Table}
-use Rattle.law_safe.specs.largest.Tests.{lands_no_more}
+use Rattle.law_safe.specs.largest.Tests.{is_before}
 use Rattle.law_safe.specs.largest.Largest.{IsLargest}
 use Rattle.law_safe.specs.said.Said.{Said as Verdict, safe, unsafe, members, is_open, in_order, left_by}
 use Rattle.audit_clocks.specs.Tables.{found_in}
@@ -15,7 +15,7 @@ use Rattle.safe_table.specs.Rows.{ProgramRows, table_of, KeepsPolls}
 use Rattle.safe_table.specs.declared.said.verdict.OpSaid.{OpSaid}
 use Rattle.safe_table.specs.declared.writers.write.WordWrite.{WordWrite}
 use Rattle.safe_table.specs.Writes.{op_in, AreWrites, ListsWrites}
-use Rattle.safe_table.specs.Landing.{Sorts}
+use Rattle.safe_table.specs.Landing.{Sorts, is_chained, AreRuns}
 use Rattle.safe_table.specs.Polls.{PollFacts, KnowsPolls}
 use Rattle.safe_table.specs.AllSaid.{line, said_among}
 
@@ -26,29 +26,30 @@ pub record IsSeen (board : Board) (table : List ProgramRows) (writers : List (Wo
   pub writes : ListsWrites board writers
   pub kept : KnowsPolls board facts
 
--- the first write lands no more once the next one does
-abbrev pub no_more_next : Board → Table → OpId → List OpId → Bool
-no_more_next board table a [] = true
-no_more_next board table a (b ∷ rest) = lands_no_more board table a b
-
--- each lands no more once the next one does
-abbrev pub is_chained : Board → Table → List OpId → Bool
-is_chained board table [] = true
-is_chained board table (a ∷ rest) = no_more_next board table a rest && is_chained board table rest
+-- what the first so many of these writes leave in the word
+pub record AreLeft (board : Board) (word : Dword) (list : List WordWrite) (values : List ℕ) : Type 0 where
+  pub all : length values ≡ suc (length list)
+  pub each : (count : ℕ) → count ≤ length list → get_or values count 0 ≡ left_by board word (map op_in (take count list))
 
 -- what is kept of a word
 pub record WordMembers : Type 0 where
   -- its writes that some run may come to
   pub writes : List WordWrite
+  -- the same as runs
+  pub runs : List (List WordWrite)
   -- the same in the order in which they land
   pub list : List WordWrite
+  -- what the first so many of these leave in it
+  pub values : List ℕ
   -- each of them lands no more once the next one does, so that no two are open
   pub chained : Bool
 
 -- what is kept of a word is so
 pub record AreMembers (board : Board) (table : Table) (word : Dword) (kept : WordMembers) : Type 0 where
   pub writes : AreWrites board word (members board table word) kept.writes
+  pub runs : AreRuns board table kept.writes kept.runs
   pub list : Sorts board table kept.writes kept.list
+  pub values : AreLeft board word kept.list kept.values
   pub chained : kept.chained ≡ is_chained board table (map op_in kept.list)
 
 -- of each word of which something is kept
@@ -68,6 +69,13 @@ said_with board table word before (Some w) = unsafe word w
 -- where no write stands beside it
 abbrev pub said_open : Board → Table → Dword → List OpId → Verdict
 said_open board table word before = said_with board table word before (find (is_open board table before) before)
+
+-- By runs.
+
+-- the first write that does not come before the read, where the read does not come before it
+abbrev pub beside_at : Board → Table → OpId → Option OpId → Option OpId
+beside_at board table r None = None
+beside_at board table r (Some w) = if is_before board table r w then None else Some w
 
 -- what is said of these operations stands behind what was said before
 pub record Says (board : Board) (table : Table) (ops : List OpId) (entries : List (Word × WordMembers)) (old new : List OpSaid) : Type 0 where

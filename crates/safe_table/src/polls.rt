@@ -6,4 +6,5 @@ mod looks;
 mod polls;
 mod reach;
 
+pub(crate) use looks::is_before;
 pub use polls::Polls;

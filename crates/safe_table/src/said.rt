@@ -8,6 +8,7 @@ mod ops;
 mod order;
 mod polls;
 mod reads;
+mod runs;
 mod values;
 mod verdict;
 mod walk;

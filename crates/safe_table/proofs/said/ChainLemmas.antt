@@ -15,7 +15,8 @@ use Rattle.law_safe.specs.largest.Largest.{IsLargest}
 use Rattle.law_safe.specs.said.Said.{safe, is_settled, is_beside, is_open, first_beside, said_beside, put, in_order, left_by}
 use Rattle.law_safe.proofs.largest.Laws.{no_more_is, is_no_more, no_more_through}
 use Rattle.safe_table.specs.Writes.{op_in}
-use Rattle.safe_table.specs.Members.{is_chained, WordMembers, AreMembers, said_with}
+use Rattle.safe_table.specs.Landing.{is_chained}
+use Rattle.safe_table.specs.Members.{WordMembers, AreMembers, said_with}
 use Rattle.safe_table.proofs.said.MemberLemmas.{each_filter, read_is}
 
 none_any : {X : Type 0} (test : X → Bool) (xs : List X) → AllByRecursion (λ (x : X). test x ≡ false) xs → list_any test xs ≡ false
@@ -93,7 +94,7 @@ module _ (board : Board) (table : Table) where
 
   -- By the largest table.
 
-  through : IsLargest board table → (a b c : OpId) → NoMore a b → NoMore b c → NoMore a c
+  pub through : IsLargest board table → (a b c : OpId) → NoMore a b → NoMore b c → NoMore a c
   through is_largest a b c first second =
       is_no_more board table a c (no_more_through board table is_largest a b c (no_more_is board table a b first) (no_more_is board table b c second))
 
@@ -137,6 +138,18 @@ module _ (board : Board) (table : Table) where
       put_filter is_largest test x rest less
       ∙ ap (λ os. cond (test x) (put board table x os) os) (order_filter is_largest test xs less)
       ∙ (elim (test x) as P [ true ↦ refl | false ↦ refl ])
+
+-- None is open of those that land in one order.
+
+kept_all : (xs : List OpId) → filter (λ x. true) xs ≡ xs
+kept_all [] = refl
+kept_all (x ∷ xs) = ap (λ (os : List OpId). x ∷ os) (kept_all xs)
+
+pub sorted_none_open : (board : Board) (table : Table) → IsLargest board table → (xs ops : List OpId) → ops ≡ in_order board table xs → is_chained board table ops ≡ true → None ≡ find (is_open board table xs) xs
+sorted_none_open board table is_largest xs ops is chained =
+    let chain : Chain board table (in_order board table xs) = subst (Chain board table) is (chain_of board table is_largest ops chained) in
+    let none = chain_none_open board table (λ x. true) xs chain in
+    sym none ∙ ap (λ os. find (is_open board table os) os) (kept_all xs)
 
 -- What is said of a read where the writes of its word land in one order.
 

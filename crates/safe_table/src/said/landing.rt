@@ -1,83 +1,68 @@
-ghost use Rattle.std.specs.Prelude.{◌≡◌, ◌≤◌, [], length, map, IfOk, OnOk};
-ghost use Rattle.std.specs.List.{position_or_len};
-ghost use Rattle.law_safe.specs.largest.Tests.{lands_no_more};
+ghost use Rattle.std.specs.Prelude.{◌≡◌, map, true, IfOk};
+ghost use Rattle.law_safe.specs.largest.Largest.{IsLargest};
 ghost use Rattle.safe_table.specs.Rows.{table_of, KeepsPolls};
 ghost use Rattle.safe_table.specs.Writes.{op_in};
-ghost use Rattle.safe_table.specs.Landing.{Puts, Sorts};
-ghost use Rattle.safe_table.specs.Members.{is_chained, no_more_next};
+ghost use Rattle.safe_table.specs.Landing.{AreChained, joined, PutsAll, Sorts};
+ghost use Rattle.safe_table.specs.Landing.{is_chained, no_more_next};
 
 use crate::known::ClockTable;
 use crate::said::order::lands_no_more;
-use crate::writers::WordWrite;
+use crate::writers::{WordWrite, WordWrites};
 use board_model::Board;
 use pci_command::{NoMemory, OpId};
 use std::alloc::Global;
 
-/// The writes in the order in which they land.
+/// The writes in the order in which they land: from the last run on, each is put among those behind
+/// it, by one walk over both.
 pub(crate) fn in_order(
     alloc: Global,
     board: &Board,
     table: &ClockTable,
-    writes: &[WordWrite],
+    runs: &[WordWrites],
 ) -> Result<Vec<WordWrite>, NoMemory>
-    requires { KeepsPolls board.now table.now }
-    ensures { IfOk result (λ list. Sorts board.now (table_of table.now) writes.now list.items) }
+    requires polls { KeepsPolls board.now table.now }
+    requires largest { IsLargest board.now (table_of table.now) }
+    requires runs { AreChained board.now (table_of table.now) runs.now }
+    ensures { IfOk result
+        (λ list. Sorts board.now (table_of table.now) (joined runs.now) list.items) }
 {
     let mut list = Vec::new(alloc);
-    put_all(&mut list, board, table, writes)?;
+    let count = runs.len();
+    for behind in 0..count {
+        let run = runs[count - 1 - behind].as_slice();
+        list = merged(alloc, board, table, run, list.as_slice())?;
+    }
     Ok(list)
 }
 
-/// From the last on each is put among those behind it.
-fn put_all(
-    list: &mut Vec<WordWrite>,
+/// The writes of a run put among others, each ahead of the first that it lands no more behind.
+fn merged(
+    alloc: Global,
     board: &Board,
     table: &ClockTable,
-    writes: &[WordWrite],
-) -> Result<(), NoMemory>
+    run: &[WordWrite],
+    list: &[WordWrite],
+) -> Result<Vec<WordWrite>, NoMemory>
     requires polls { KeepsPolls board.now table.now }
-    requires none { list.old.items ≡ [] }
-    ensures { OnOk result (Sorts board.now (table_of table.now) writes.now list.new.items) }
+    requires largest { IsLargest board.now (table_of table.now) }
+    requires run { is_chained board.now (table_of table.now) (map op_in run.now) ≡ true }
+    ensures { IfOk result
+        (λ all. PutsAll board.now (table_of table.now) run.now list.now all.items) }
 {
-    let count = writes.len();
-    for behind in 0..count {
-        put(list, board, table, writes[count - 1 - behind])?;
-    }
-    Ok(())
-}
-
-/// One write is put among others, ahead of the first that it lands no more behind.
-fn put(
-    list: &mut Vec<WordWrite>,
-    board: &Board,
-    table: &ClockTable,
-    write: WordWrite,
-) -> Result<(), NoMemory>
-    requires { KeepsPolls board.now table.now }
-    ensures { OnOk result
-        (Puts board.now (table_of table.now) write list.old.items list.new.items) }
-{
-    let place = place_of(board, table, list.as_slice(), write.op);
-    list.insert(place, write)?;
-    Ok(())
-}
-
-fn place_of(board: &Board, table: &ClockTable, list: &[WordWrite], write: OpId) -> usize
-    requires { KeepsPolls board.now table.now }
-    ensures value { result ≡ position_or_len (lands_no_more board.now (table_of table.now) write)
-        (map op_in list.now) }
-    ensures within { result ≤ length list.now }
-{
-    let mut place = 0;
-    let mut left = list;
-    while let [other, behind @ ..] = left {
-        if lands_no_more(board, table, write, other.op) {
-            return place;
+    let mut all = Vec::new(alloc);
+    let mut ahead = run;
+    let mut behind = list;
+    while let [write, others @ ..] = ahead {
+        if no_more_next(board, table, write.op, behind) {
+            all.push(*write)?;
+            ahead = others;
+        } else if let [other, rest @ ..] = behind {
+            all.push(*other)?;
+            behind = rest;
         }
-        place += 1;
-        left = behind;
     }
-    place
+    all.extend_from_slice(behind)?;
+    Ok(all)
 }
 
 /// Whether each of them lands no more once the next one does.

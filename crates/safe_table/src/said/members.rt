@@ -8,19 +8,24 @@ ghost use Rattle.safe_table.specs.Members.{AreMembers, IsSeen};
 use crate::said::landing::{in_order, is_chained};
 use crate::said::looks::Looks;
 use crate::said::order::is_reached;
-use crate::writers::WordWrite;
+use crate::said::runs::runs_of;
+use crate::said::values::all_left;
+use crate::writers::{WordWrite, WordWrites};
 use audit_clocks::WordTable;
 use board_model::Word;
 use pci_command::NoMemory;
 use std::alloc::Global;
 use std::marker::Model;
 
-/// The writes of a word that some run may come to; the same in the order in which they land; and
-/// whether each of these lands no more once the next does.
+/// The writes of a word that some run may come to; the same as runs, and in the order in which they
+/// land; what the first so many of these leave in the word; and whether each of these lands no more
+/// once the next does.
 #[derive(Debug, Drop)]
 pub(crate) struct Reached {
     writes: Vec<WordWrite>,
+    runs: Vec<WordWrites>,
     list: Vec<WordWrite>,
+    values: Vec<u32>,
     chained: bool,
 }
 
@@ -30,7 +35,13 @@ impl Model for Reached {
     ghost Value = { WordMembers };
 
     ghost view = { λ k.
-        record { writes = k.writes.items; list = k.list.items; chained = k.chained } };
+        record {
+          writes = k.writes.items;
+          runs = k.runs.items;
+          list = k.list.items;
+          values = k.values.items;
+          chained = k.chained;
+        } };
 }
 
 impl Reached {
@@ -41,11 +52,25 @@ impl Reached {
         self.writes.as_slice()
     }
 
+    /// As runs.
+    pub(crate) fn runs(&self) -> &[WordWrites]
+        ensures { result.now ≡ self.now.runs }
+    {
+        self.runs.as_slice()
+    }
+
     /// In the order in which they land.
     pub(crate) fn list(&self) -> &[WordWrite]
         ensures { result.now ≡ self.now.list }
     {
         self.list.as_slice()
+    }
+
+    /// What the first so many of these leave in the word.
+    pub(crate) fn values(&self) -> &[u32]
+        ensures { result.now ≡ self.now.values }
+    {
+        self.values.as_slice()
     }
 
     /// Whether they land in one order.
@@ -119,11 +144,15 @@ fn reached_of(alloc: Global, looks: &Looks, word: Word) -> Result<Reached, NoMem
 {
     let writes = filter_reached(alloc, looks, looks.writers.of_word(word))?;
     let board = looks.tree.board();
-    let list = in_order(alloc, board, looks.table, writes.as_slice())?;
+    let runs = runs_of(alloc, board, looks.table, writes.as_slice())?;
+    let list = in_order(alloc, board, looks.table, runs.as_slice())?;
+    let values = all_left(alloc, board, word, list.as_slice())?;
     let chained = is_chained(board, looks.table, list.as_slice());
     Ok(Reached {
         writes,
+        runs,
         list,
+        values,
         chained,
     })
 }

@@ -1,5 +1,5 @@
-ghost use Rattle.std.specs.Prelude.{◌≡◌, map, IfOk, not, ◌&&◌};
-ghost use Rattle.std.specs.List.{find, filter, list_any, AllByRecursion};
+ghost use Rattle.std.specs.Prelude.{◌≡◌, ◌≤◌, true, length, map, get_or, IfOk, not, ◌&&◌};
+ghost use Rattle.std.specs.List.{find, filter, list_any, prefix_len, AllByRecursion};
 ghost use Rattle.pci_command.specs.Same.{same_op};
 ghost use Rattle.law_safe.specs.largest.Tests.{is_before};
 ghost use Rattle.law_safe.specs.said.Said.{safe, left_by, is_beside, is_open};
@@ -8,14 +8,18 @@ ghost use Rattle.audit_landings.specs.Hits.{dword};
 ghost use Rattle.safe_table.specs.Rows.{table_of, KeepsPolls};
 ghost use Rattle.safe_table.specs.Writes.{op_in, IsWordWrite};
 ghost use Rattle.safe_table.specs.AllSaid.{verdict};
+ghost use Rattle.safe_table.specs.Landing.{is_chained, joined, AreChained};
 ghost use Rattle.safe_table.specs.Members.{AreMembers, IsSeen, said_open};
 
+use crate::polls::is_before;
+use crate::said::landing::{in_order, is_chained};
 use crate::said::looks::Looks;
 use crate::said::members::Reached;
 use crate::said::order::{is_beside, is_settled};
-use crate::said::values::{left_by, value_of};
+use crate::said::runs::runs_of;
+use crate::said::values::value_of;
 use crate::said::verdict::Said;
-use crate::writers::WordWrite;
+use crate::writers::{WordWrite, WordWrites};
 use board_model::Word;
 use pci_command::{NoMemory, OpId, same_op};
 use std::alloc::Global;
@@ -36,44 +40,83 @@ pub(crate) fn said_of_read(
         looks.now.table.now) (dword word) read (first_beside looks.now.tree.now (table_of
         looks.now.table.now) (dword word) read)) }
 {
-    if let Some(beside) = first_beside(looks, read, reached.writes()) {
+    if let Some(beside) = first_beside(looks, read, reached.runs()) {
         Ok(Said::Unsafe { word, beside })
     } else if reached.is_chained() {
-        said_in_chain(alloc, looks, word, read, reached.list())
+        Ok(said_in_chain(looks, word, read, reached))
     } else {
         said_by_order(alloc, looks, word, read, reached.writes())
     }
 }
 
-/// Of a read that no write stands beside, where these land in this order.
-fn said_in_chain(
-    alloc: Global,
-    looks: &Looks,
-    word: Word,
-    read: OpId,
-    list: &[WordWrite],
-) -> Result<Said, NoMemory>
-    requires polls { KeepsPolls looks.now.tree.now looks.now.table.now }
-    requires writes { AllByRecursion (IsWordWrite looks.now.tree.now (dword word)) list.now }
-    ensures { IfOk result (λ said. verdict said ≡ safe (dword word) (left_by looks.now.tree.now
-        (dword word) (filter (λ write. is_before looks.now.tree.now (table_of looks.now.table.now)
-        write read) (map op_in list.now)))) }
+/// Of a read that no write stands beside, where these land in one order.
+fn said_in_chain(looks: &Looks, word: Word, read: OpId, reached: &Reached) -> Said
+    requires seen { IsSeen looks.now.tree.now looks.now.table.now looks.now.writers.now
+        looks.now.polls.now }
+    requires members { AreMembers looks.now.tree.now (table_of looks.now.table.now) (dword word)
+        reached.now }
+    requires chained { is_chained looks.now.tree.now (table_of looks.now.table.now) (map op_in
+        reached.now.list) ≡ true }
+    ensures { verdict result ≡ safe (dword word) (left_by looks.now.tree.now (dword word) (filter
+        (λ write. is_before looks.now.tree.now (table_of looks.now.table.now) write read) (map op_in
+        reached.now.list))) }
 {
-    let before = members_before(alloc, looks, read, list)?;
-    let value = left_by(looks.tree.board(), word, before.as_slice());
-    Ok(Said::Safe { word, value })
+    let count = count_before(looks, read, reached.list());
+    let value = value_at(reached.values(), count);
+    Said::Safe { word, value }
+}
+
+fn value_at(values: &[u32], count: usize) -> u32
+    ensures { result ≡ get_or values.now count 0 }
+{
+    match values.get(count) {
+        Some(value) => *value,
+        None => 0,
+    }
 }
 
 /// The first that is neither before the read nor behind it.
-fn first_beside(looks: &Looks, read: OpId, members: &[WordWrite]) -> Option<OpId>
-    requires { KeepsPolls looks.now.tree.now looks.now.table.now }
+fn first_beside(looks: &Looks, read: OpId, runs: &[WordWrites]) -> Option<OpId>
+    requires seen { IsSeen looks.now.tree.now looks.now.table.now looks.now.writers.now
+        looks.now.polls.now }
+    requires runs { AreChained looks.now.tree.now (table_of looks.now.table.now) runs.now }
     ensures { result ≡ find (is_beside looks.now.tree.now (table_of looks.now.table.now) read) (map
-        op_in members.now) }
+        op_in (joined runs.now)) }
 {
-    members
-        .iter()
-        .map(|write| write.op)
-        .find(|write| is_beside(looks.table, read, *write))
+    for run in runs {
+        if let Some(beside) = beside_in(looks, read, run.as_slice()) {
+            return Some(beside);
+        }
+    }
+    None
+}
+
+/// The first of a run that is so: it is the first that is not before the read, or none.
+fn beside_in(looks: &Looks, read: OpId, run: &[WordWrite]) -> Option<OpId>
+    requires seen { IsSeen looks.now.tree.now looks.now.table.now looks.now.writers.now
+        looks.now.polls.now }
+    requires run { is_chained looks.now.tree.now (table_of looks.now.table.now) (map op_in run.now)
+        ≡ true }
+    ensures { result ≡ find (is_beside looks.now.tree.now (table_of looks.now.table.now) read) (map
+        op_in run.now) }
+{
+    match run.get(count_before(looks, read, run)) {
+        Some(write) if !looks.table.is_before(read, write.op) => Some(write.op),
+        _ => None,
+    }
+}
+
+/// How many of a run are before the read, from the first on. It takes a binary search.
+fn count_before(looks: &Looks, read: OpId, run: &[WordWrite]) -> usize
+    requires seen { IsSeen looks.now.tree.now looks.now.table.now looks.now.writers.now
+        looks.now.polls.now }
+    requires run { is_chained looks.now.tree.now (table_of looks.now.table.now) (map op_in run.now)
+        ≡ true }
+    ensures count { result ≡ prefix_len (λ write. is_before looks.now.tree.now (table_of
+        looks.now.table.now) write read) (map op_in run.now) }
+    ensures within { result ≤ length run.now }
+{
+    run.partition_point(|write| is_before(looks.table, write.op, read))
 }
 
 /// Of a read that no write stands beside.
@@ -84,7 +127,8 @@ fn said_by_order(
     read: OpId,
     members: &[WordWrite],
 ) -> Result<Said, NoMemory>
-    requires polls { KeepsPolls looks.now.tree.now looks.now.table.now }
+    requires seen { IsSeen looks.now.tree.now looks.now.table.now looks.now.writers.now
+        looks.now.polls.now }
     requires members { AllByRecursion (IsWordWrite looks.now.tree.now (dword word)) members.now }
     ensures { IfOk result (λ said. verdict said ≡ said_open looks.now.tree.now (table_of
         looks.now.table.now) (dword word) (filter (λ write. is_before looks.now.tree.now (table_of
@@ -120,18 +164,36 @@ fn said_of_before(
     word: Word,
     before: &[WordWrite],
 ) -> Result<Said, NoMemory>
-    requires polls { KeepsPolls looks.now.tree.now looks.now.table.now }
+    requires seen { IsSeen looks.now.tree.now looks.now.table.now looks.now.writers.now
+        looks.now.polls.now }
     requires writes { AllByRecursion (IsWordWrite looks.now.tree.now (dword word)) before.now }
     ensures { IfOk result (λ said. verdict said ≡ said_open looks.now.tree.now (table_of
         looks.now.table.now) (dword word) (map op_in before.now)) }
 {
-    match first_open(looks, before) {
+    match open_among(alloc, looks, before)? {
         Some(beside) => Ok(Said::Unsafe { word, beside }),
         None => {
             let board = looks.tree.board();
             let value = value_of(alloc, board, looks.table, word, before)?;
             Ok(Said::Safe { word, value })
         }
+    }
+}
+
+/// The first that some other of them is not settled with: none where they land in one order.
+fn open_among(alloc: Global, looks: &Looks, writes: &[WordWrite]) -> Result<Option<OpId>, NoMemory>
+    requires seen { IsSeen looks.now.tree.now looks.now.table.now looks.now.writers.now
+        looks.now.polls.now }
+    ensures { IfOk result (λ found. found ≡ find (is_open looks.now.tree.now (table_of
+        looks.now.table.now) (map op_in writes.now)) (map op_in writes.now)) }
+{
+    let board = looks.tree.board();
+    let runs = runs_of(alloc, board, looks.table, writes)?;
+    let list = in_order(alloc, board, looks.table, runs.as_slice())?;
+    if is_chained(board, looks.table, list.as_slice()) {
+        Ok(None)
+    } else {
+        Ok(first_open(looks, writes))
     }
 }
 

@@ -1,12 +1,15 @@
 ghost use Rattle.std.specs.Prelude.{◌≡◌, map, IfOk};
 ghost use Rattle.std.specs.List.{AllByRecursion};
+ghost use Rattle.law_safe.specs.largest.Largest.{IsLargest};
 ghost use Rattle.law_safe.specs.said.Said.{in_order, left_by};
 ghost use Rattle.audit_landings.specs.Hits.{dword};
 ghost use Rattle.safe_table.specs.Rows.{table_of, KeepsPolls};
 ghost use Rattle.safe_table.specs.Writes.{op_in, IsWordWrite};
+ghost use Rattle.safe_table.specs.Members.{AreLeft};
 
 use crate::known::ClockTable;
 use crate::said::landing::in_order;
+use crate::said::runs::runs_of;
 use crate::writers::WordWrite;
 use board_headers::merge;
 use board_model::{Board, Word};
@@ -23,11 +26,13 @@ pub(crate) fn value_of(
     writes: &[WordWrite],
 ) -> Result<u32, NoMemory>
     requires polls { KeepsPolls board.now table.now }
+    requires largest { IsLargest board.now (table_of table.now) }
     requires writes { AllByRecursion (IsWordWrite board.now (dword word)) writes.now }
     ensures { IfOk result (λ value. value ≡ left_by board.now (dword word) (in_order board.now
         (table_of table.now) (map op_in writes.now))) }
 {
-    let list = in_order(alloc, board, table, writes)?;
+    let runs = runs_of(alloc, board, table, writes)?;
+    let list = in_order(alloc, board, table, runs.as_slice())?;
     Ok(left_by(board, word, list.as_slice()))
 }
 
@@ -42,4 +47,25 @@ pub(crate) fn left_by(board: &Board, word: Word, writes: &[WordWrite]) -> u32
         value = merge(value, &write.phase, mask);
     }
     value
+}
+
+/// What the first so many of these writes of the word leave in it.
+pub(crate) fn all_left(
+    alloc: Global,
+    board: &Board,
+    word: Word,
+    writes: &[WordWrite],
+) -> Result<Vec<u32>, NoMemory>
+    requires { AllByRecursion (IsWordWrite board.now (dword word)) writes.now }
+    ensures { IfOk result (λ values. AreLeft board.now (dword word) writes.now values.items) }
+{
+    let mask = mask_of(word.space, word.address);
+    let mut value = opens_as(board, word.target, word.space, word.address);
+    let mut values = Vec::new(alloc);
+    values.push(value)?;
+    for write in writes {
+        value = merge(value, &write.phase, mask);
+        values.push(value)?;
+    }
+    Ok(values)
 }

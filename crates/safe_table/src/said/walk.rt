@@ -21,9 +21,11 @@ use std::alloc::Global;
 /// What is said of the operations of a board by its largest table, in the order of master and
 /// index; nothing of those of which nothing is said.
 ///
-/// The writes of a word that some run may come to are listed once, and put in the order in which
-/// they land. A read looks at each of them; where no write stands beside it, and they land in no
-/// one order, at each two of those before it.
+/// The writes of a word that some run may come to are listed once, as runs, and put in the order in
+/// which they land, by one walk for each run. A read takes a binary search in each run; where no
+/// write stands beside it, one more where they land in one order. Where they do not, those before
+/// it are put in their order once more; and where they land in none either, it takes a look at each
+/// two of them, up to the first that makes it unsafe.
 pub fn said_of_all(alloc: Global, tree: &Tree, table: &ClockTable) -> Result<Vec<OpSaid>, NoMemory>
     requires largest { IsLargest tree.now (table_of table.now) }
     requires polls { KeepsPolls tree.now table.now }

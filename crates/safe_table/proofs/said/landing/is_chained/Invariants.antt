@@ -1,7 +1,7 @@
 use Rattle.std.proofs.Common.{◌≡◌, length, map}
 use Rattle.safe_table.specs.Rows.{table_of}
 use Rattle.safe_table.specs.Writes.{op_in}
-use Rattle.safe_table.specs.Members.{is_chained}
+use Rattle.safe_table.specs.Landing.{is_chained}
 use Rattle.safe_table.proofs.said.landing.is_chained.Given as goal
 
 -- each so far lands no more once the next one does

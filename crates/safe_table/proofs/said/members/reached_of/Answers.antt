@@ -1,16 +1,34 @@
+use Rattle.std.proofs.Common.{◌≡◌, List, sym, ap, subst, ◌∙◌}
+use Rattle.std.specs.List.{AllByRecursion}
 use Rattle.board_model.specs.declared.board.Board.{Board}
 use Rattle.safe_model.specs.Clocks.{Table}
 use Rattle.audit_landings.specs.Hits.{dword}
+use Rattle.safe_table.specs.declared.writers.write.WordWrite.{WordWrite}
 use Rattle.safe_table.specs.Rows.{table_of}
+use Rattle.safe_table.specs.Writes.{IsWordWrite}
+use Rattle.safe_table.specs.Landing.{Sorts, joined}
 use Rattle.safe_table.proofs.said.MemberLemmas.{reached_are}
 use Rattle.safe_table.proofs.said.members.reached_of.Goals as goal
+
+pub all_left-requires : goal.all_left-requires
+all_left-requires c =
+    let board : Board = c.args.looks.now.tree.now in
+    let table : Table = table_of c.args.looks.now.table.now in
+    let are = reached_are board table (dword c.args.word) c.of_word.result.now c.in_ok-writes.writes.items (c.of_word.ensures.are board c.requires.writes) c.in_ok-writes.ensures in
+    let all : joined c.as_slice-2.result.now ≡ c.in_ok-writes.writes.items = ap joined c.as_slice-2.ensures.value ∙ c.in_ok-runs.ensures.all ∙ c.as_slice.ensures.value in
+    rw (c.board-board.ensures.value, c.as_slice-3.ensures.value)
+    ((rw c.board-board.ensures.value at c.in_ok-list.ensures).each (dword c.args.word) (subst (AllByRecursion (IsWordWrite board (dword c.args.word))) (sym all) are.each))
 
 pub returns : goal.returns
 returns c =
     let board : Board = c.args.looks.now.tree.now in
     let table : Table = table_of c.args.looks.now.table.now in
+    let all : joined c.as_slice-2.result.now ≡ c.in_ok-writes.writes.items = ap joined c.as_slice-2.ensures.value ∙ c.in_ok-runs.ensures.all ∙ c.as_slice.ensures.value in
+    let sorts = rw c.board-board.ensures.value at c.in_ok-list.ensures in
     record {
       writes = reached_are board table (dword c.args.word) c.of_word.result.now c.in_ok-writes.writes.items (c.of_word.ensures.are board c.requires.writes) c.in_ok-writes.ensures;
-      list = rw (c.board-board.ensures.value, c.as_slice.ensures.value) at c.in_ok-list.ensures;
-      chained = rw (c.board-board.ensures.value, c.as_slice-2.ensures.value) at c.is_chained-chained.ensures;
+      runs = rw (c.board-board.ensures.value, c.as_slice.ensures.value) at c.in_ok-runs.ensures;
+      list = subst (λ (ws : List WordWrite). Sorts board table ws c.in_ok-list.list.items) all sorts;
+      values = rw (c.board-board.ensures.value, c.as_slice-3.ensures.value) at c.in_ok-values.ensures;
+      chained = rw (c.board-board.ensures.value, c.as_slice-4.ensures.value) at c.is_chained-chained.ensures;
     }
