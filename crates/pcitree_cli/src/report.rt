@@ -1,7 +1,6 @@
-use history_model::Rule;
 use pci_command::NoMemory;
 use pcitree::{Status, input_limit};
-use program_messages::{Form, about, message, not_shown, note};
+use program_messages::{about, form_of, limit_words, message, not_shown, note};
 use program_pages::Message;
 use program_words::usage_help;
 use std::io::ErrorKind;
@@ -58,25 +57,9 @@ fn message_of(
         (Status::NotShown, [_adverse, _file, read, write]) => {
             not_shown(rt.alloc(), input, read.as_str(), write.as_str())
         }
-        _ => message(rt.alloc(), name, input, &status, form_of(words)),
-    }
-}
-
-fn limit_words(limit: usize) -> &'static str {
-    if limit > 0x10_0000 {
-        "a trace has at most 64 MiB"
-    } else {
-        "a board has at most 1 MiB"
-    }
-}
-
-/// As what the first of the words reads the input.
-fn form_of(words: &[String]) -> Form {
-    match words.first().map_or("", |word| word.as_str()) {
-        "run" | "headers" | "combine" => Form::Board,
-        "check" | "finish" | "audit" | "report" | "waves" | "draw" => Form::Trace(Rule::Tagged),
-        "untagged" => Form::Trace(Rule::Untagged),
-        "fill" => Form::Filled,
-        _ => Form::Protocol,
+        _ => {
+            let form = form_of(words.first().map_or("", |word| word.as_str()));
+            message(rt.alloc(), name, input, &status, form)
+        }
     }
 }

@@ -12,3 +12,23 @@ pub enum Form {
     /// As a trace, whose arrivals are put anew.
     Filled,
 }
+
+/// As what this word reads it.
+pub fn form_of(word: &str) -> Form {
+    match word {
+        "run" | "headers" | "combine" => Form::Board,
+        "check" | "finish" | "audit" | "report" | "waves" | "draw" => Form::Trace(Rule::Tagged),
+        "untagged" => Form::Trace(Rule::Untagged),
+        "fill" => Form::Filled,
+        _ => Form::Protocol,
+    }
+}
+
+/// What is said of an input that is longer than this limit.
+pub fn limit_words(limit: usize) -> &'static str {
+    if limit > 0x10_0000 {
+        "a trace has at most 64 MiB"
+    } else {
+        "a board has at most 1 MiB"
+    }
+}

@@ -12,7 +12,7 @@ mod trace;
 mod unclear;
 mod unshown;
 
-pub use form::Form;
+pub use form::{Form, form_of, limit_words};
 pub(crate) use refused::behind;
 pub use refused::{Spot, named_spot, place_of, smallest, word_at_fault};
 pub use telling::{about, message, note};
