@@ -45,8 +45,8 @@ ROWS += [threads_row(time) for time in range(1, 21)]
 
 
 def filled(text, before, size):
-    """The text with comments before this line, of so many bytes in all."""
-    at = text.index(b"\n" + before.encode() + b"\n") + 1
+    """The text with comments before this line, or behind all where there is no such line, of so many bytes in all."""
+    at = text.find(b"\n" + before.encode() + b"\n") + 1 or len(text)
     left = size - len(text)
     comments = (b"# " + b"0" * 61 + b"\n") * (left // 64)
     rest = b" " * (left % 64 - 1) + b"\n" if left % 64 else b""
@@ -213,8 +213,9 @@ def explain_row(word, code):
         page = place.call("explain", code)
         lines = page.out.decode().split("\n")
         # an example stands between its title and the ordering table, with which some pages end
-        example = "\n".join(lines[lines.index("Example:") + 2 :]).split("\n\nMay a transaction")[0]
-        seen = place.call(word, place.file("example", example.rstrip("\n").encode() + b"\n"))
+        example, table, _ = "\n".join(lines[lines.index("Example:") + 2 :]).partition("\n\nMay a transaction")
+        example += "\n" if table else ""
+        seen = place.call(word, place.file("example", example.encode()))
         is_told = f" {code} " in first_line(seen.error) + " " and lines[0].startswith(f"{code}: ")
         yield f"explain_{code}", Seen(page.status if is_told else 99, seen.out, b""), Wanted(0, b"", "-")
 
