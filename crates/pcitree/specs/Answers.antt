@@ -7,6 +7,7 @@ use Rattle.program_status.specs.Subjects.{Subject, subject_of}
 use Rattle.program_status.specs.Subjects.Subject.{Success, Memory, Words, Reading, Writing, Length, Input}
 use Rattle.program_words.specs.Shapes.{input_limit}
 
+-- how many bytes an input of this form may have
 abbrev pub limit_of : Form → ℕ
 limit_of form = input_limit form
 
@@ -22,6 +23,7 @@ Refuses form words input status = (command_of form words).Refuses input status
 abbrev pub IsFaultless : Form → List (List ℕ) → List ℕ → Type 0
 IsFaultless form words input = (command_of form words).IsFaultless input
 
+-- an input within its limit, without fault
 abbrev pub IsServed : Form → List (List ℕ) → List ℕ → Type 0
 IsServed form words input = (length input ≤ limit_of form) × IsFaultless form words input
 
@@ -41,5 +43,6 @@ CausesBy Writing form words input status = (ending : Status) × IsAnswered form 
 CausesBy Length form words input status = limit_of form < length input
 CausesBy Input form words input status = (length input ≤ limit_of form) × Refuses form words input status
 
+-- the cause that an input gives for this answer
 abbrev pub Causes : Form → List (List ℕ) → List ℕ → Status → Type 0
 Causes form words input status = CausesBy (subject_of status) form words input status

@@ -12,13 +12,16 @@ number_in [] words = None
 number_in (part ∷ parts) [] = None
 number_in (part ∷ parts) (word ∷ words) = if is_number part then Some word else number_in parts words
 
+-- the number among the words, if words of this form have one
 abbrev pub number_of : Form → List (List ℕ) → Option (List ℕ)
 number_of form words = number_in (parts_of form) words
 
+-- what is read: a number, where there is one, or what the source holds
 abbrev pub given_by : Option (List ℕ) → Option (List ℕ) → Option (List ℕ)
 given_by None held = held
 given_by (Some number) held = Some number
 
+-- what is left of it then: nothing of a number
 abbrev pub left_by : Option (List ℕ) → Option (List ℕ) → Option (List ℕ)
 left_by None left = left
 left_by (Some number) left = Some []

@@ -18,6 +18,7 @@ StopsBy Writing form words held left before now status = ⊥
 StopsBy Length form words held left before now status = HoldsTooMuch form held
 StopsBy Input form words held left before now status = RefusesInput form words held left status
 
+-- an input is not read, or not answered, and this status says why
 abbrev pub StopsAnswering : Form → List (List ℕ) → Option (List ℕ) → Option (List ℕ) → ℕ → ℕ → Status → Type 0
 StopsAnswering form words held left before now status = StopsBy (subject_of status) form words held left before now status
 

@@ -50,6 +50,7 @@ abbrev pub read_in : List (List ℕ) → List ℕ
 read_in (adverse ∷ file ∷ read ∷ write ∷ []) = read
 read_in _ = []
 
+-- the second of them
 abbrev pub write_in : List (List ℕ) → List ℕ
 write_in (adverse ∷ file ∷ read ∷ write ∷ []) = write
 write_in _ = []
@@ -189,6 +190,7 @@ command_of forms.Tree words = record {
   writes_run = false;
 }
 
+-- a word names a file: it is not empty, and does not begin with `-`
 abbrev pub names_file : List ℕ → Bool
 names_file [] = false
 names_file (first ∷ _) = not (first == 45)

@@ -2,6 +2,7 @@
 use Rattle.program_status.specs.declared.status.Status.{Status}
 use Rattle.program_status.specs.declared.status.Status.TheVariants.{Done, NoMemory, Usage, ReadFault, WriteFault, TooLong, BadBoard, BadTrace, BadMachine, TooManyEvents, NotRun, Incomplete, NotSafe, NotShown}
 
+-- nothing is said of an input that ends so
 abbrev pub IsQuiet : Status → Type 0
 IsQuiet Done = Unit {0}
 IsQuiet NoMemory = Unit {0}

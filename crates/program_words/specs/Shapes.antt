@@ -15,6 +15,7 @@ pub data Shape : Type 0 where
   Last : Shape
   Operation : List ℕ → Shape
 
+-- what a part of a form has to be
 abbrev pub shape_of : Part → Shape
 shape_of (parts.Word text) = Word text.now
 shape_of parts.File = File

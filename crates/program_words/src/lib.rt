@@ -192,7 +192,8 @@ const WAVES: Row = Row {
     limit: TRACE,
     line: "writes a trace as waves, for a viewer such as GTKWave",
     more: "The trace is of a run, complete or not. Writes a value change dump: what happens on each bus, what is\n\
-        on each lane, how far each master is and which stalls are left. Time is the number of the event.",
+        on each lane, how far each master is and which stalls are left. Time is the number of the event.\n\
+        `gtkwave -S docs/gtkwave.tcl FILE` opens it with all its signals.",
 };
 
 const DRAW: Row = Row {

@@ -26,9 +26,11 @@ abbrev pub refusal_by : Result (List ℕ) (ℕ × LspciFault) → Option Status
 refusal_by (Ok text) = text_refusal text
 refusal_by (Err fault) = Some (BadMachine fault.0 fault.1)
 
+-- why the text of a machine is refused, if it is
 abbrev pub machine_refusal : List ℕ → Option Status
 machine_refusal input = refusal_by (imported None input)
 
+-- it is refused with this status
 abbrev pub RefusesImport : List ℕ → Status → Type 0
 RefusesImport input status = RefusesBy (machine_refusal input) status
 

@@ -12,6 +12,7 @@ use Rattle.run_report.specs.way_counts.WayCounts.{way_report}
 use Rattle.program_status.specs.declared.status.Status.{Status}
 use Rattle.program_status.specs.declared.status.Status.TheVariants.{NoMemory}
 
+-- the rounds that a number names, where there is one
 abbrev pub rounds_by : Result ℕ NumberFault → Option ℕ
 rounds_by (Ok count) = rounds_in count
 rounds_by (Err fault) = None
@@ -20,6 +21,7 @@ rounds_by (Err fault) = None
 unfoldable pub rounds_of : List ℕ → Option ℕ
 rounds_of word = rounds_by (decimal_answer word)
 
+-- whether a word names rounds
 abbrev pub names_rounds : List ℕ → Bool
 names_rounds word = is_some (rounds_of word)
 

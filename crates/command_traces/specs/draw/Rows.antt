@@ -12,6 +12,7 @@ abbrev pub first_row : Option Rows → ℕ
 first_row None = 1
 first_row (Some rows) = rows.first
 
+-- the number of the last event that is drawn, of so many
 abbrev pub last_row : Option Rows → ℕ → ℕ
 last_row None count = count
 last_row (Some rows) count = min rows.last count
@@ -36,9 +37,11 @@ event_by (Err OutOfRange) = Some (2 ^ 32 - 1)
 event_by (Err TooWide) = None
 event_by (Err NotDigits) = None
 
+-- the number of the event that a word tells, where it tells one
 unfoldable pub event_of : List ℕ → Option ℕ
 event_of word = event_by (decimal_answer word)
 
+-- whether a word tells an event
 abbrev pub names_event : List ℕ → Bool
 names_event word = is_some (event_of word)
 
@@ -48,5 +51,6 @@ rows_by None last = None
 rows_by (Some first) None = None
 rows_by (Some first) (Some last) = if nat_lt last first then None else Some (record { first = first; last = last })
 
+-- the events that two words tell, by the words
 abbrev pub rows_of : List ℕ → List ℕ → Option Rows
 rows_of first last = rows_by (event_of first) (event_of last)

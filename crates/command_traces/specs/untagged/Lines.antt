@@ -16,6 +16,7 @@ abbrev pub stale_line : Board → Stale → Line
 stale_line board stale =
     op_word board stale.read ∷ codes "stale" ∷ op_word board stale.write ∷ codes "by" ∷ codes "event" ∷ decimal stale.event ∷ []
 
+-- a line for each stale read
 abbrev pub stale_lines : Board → List Stale → List ℕ
 stale_lines board stale = text_of (map (stale_line board) stale)
 

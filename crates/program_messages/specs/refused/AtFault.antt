@@ -9,6 +9,7 @@ use Rattle.program_status.specs.declared.status.Status.{Status}
 abbrev pub words_from : List ℕ → ℕ → List Token
 words_from text start = tokens_of start (drop start text)
 
+-- a word ends within the text
 abbrev pub EndsWithin : List ℕ → Token → Type 0
 EndsWithin text word = word.end ≤ length text
 

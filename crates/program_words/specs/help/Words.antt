@@ -11,5 +11,6 @@ begins word [] = false
 begins word (Word text ∷ parts) = bytes_eq text word
 begins word (_ ∷ parts) = false
 
+-- it is this word, which the program answers of itself
 abbrev pub is_own : List ℕ → OwnWord → Bool
 is_own word own = bytes_eq own.word.now word

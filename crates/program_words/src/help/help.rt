@@ -4,7 +4,7 @@ use crate::help::call::Call;
 use std::fmt;
 
 /// The version of the program, and of the kit that it is proved with.
-pub const VERSION: &str = "pcitree 0.2.0 (rattle-kit-13f logic dac8208d650f15bf)";
+pub const VERSION: &str = "pcitree 0.3.0~next (rattle-kit-13f logic dac8208d650f15bf)";
 
 /// What `--help` prints: each way to call the program with its help line.
 #[derive(Clone, Copy, Debug)]
