@@ -15,12 +15,29 @@ sys.dont_write_bytecode = True
 
 def command():
     """rt, as a module: its function main takes the words. What it is made of is its rtlib."""
-    page = subprocess.run(["rt", "doc"], stdout=subprocess.PIPE, text=True, check=True).stdout.strip()
-    made = load("rt_kit", os.path.join(os.path.dirname(page), "bin", "rt"))
-    made.rtlib.Crate.stamp, made.rtlib.Crate.below = once_for_each_crate(made.rtlib)
-    if "--statements" in made.rtlib.help_of("build"):
-        keep_statements(made.rtlib)
+    made = load("rt_kit", of_kit("rt"))
+    change(made.rtlib)
     return made
+
+
+def planting():
+    """rt plant, likewise: its function main takes the words one by one."""
+    made = load("rt_plant", of_kit("rt-plant"))
+    change(made.rt)
+    return made
+
+
+def of_kit(name):
+    """A file of the kit's bin/."""
+    page = subprocess.run(["rt", "doc"], stdout=subprocess.PIPE, text=True, check=True).stdout.strip()
+    return os.path.join(os.path.dirname(page), "bin", name)
+
+
+def change(rtlib):
+    """The two changes."""
+    rtlib.Crate.stamp, rtlib.Crate.below = once_for_each_crate(rtlib)
+    if "--statements" in rtlib.help_of("build"):
+        keep_statements(rtlib)
 
 
 def library():
