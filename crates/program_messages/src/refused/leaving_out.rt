@@ -7,8 +7,8 @@ use pci_command::NoMemory;
 use program_status::Status;
 use std::alloc::Global;
 
-/// About how many bytes are looked at again at most to find the lines that matter: 8 MiB.
-const MOST_READ: usize = 0x80_0000;
+/// About how many bytes are looked at again at most to find the lines that matter: 4 MiB.
+const MOST_READ: usize = 0x40_0000;
 
 /// A text that is refused with this status as well, in which most lines that do not matter are
 /// blank; the others stand at their places. None where the text is not refused with it.
