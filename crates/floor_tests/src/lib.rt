@@ -1,5 +1,5 @@
-//! Tests of the crates below the engines, of what judges runs and of the calls that no word of the program
-//! reaches, by values worked out by hand: each public call once.
+//! Tests of the crates below the engines and of the calls that no word of the program reaches, by values worked
+//! out by hand: each public call once.
 #![tactic(auto)]
 
 #[cfg(test)]
@@ -19,8 +19,6 @@ mod delayed_completions_tests;
 #[cfg(test)]
 mod device_header_tests;
 #[cfg(test)]
-mod judge_next_tests;
-#[cfg(test)]
 mod judged_tests;
 #[cfg(test)]
 mod lane_plain_tests;
@@ -31,13 +29,9 @@ mod master_agents_tests;
 #[cfg(test)]
 mod msi_agents_tests;
 #[cfg(test)]
-mod next_hop_tests;
-#[cfg(test)]
 mod order_table_tests;
 #[cfg(test)]
 mod pci_command_tests;
-#[cfg(test)]
-mod plain_audit_tests;
 #[cfg(test)]
 mod plain_decode_tests;
 #[cfg(test)]
@@ -48,9 +42,5 @@ mod slot_table_tests;
 mod target_agents_tests;
 #[cfg(test)]
 mod trace_merge_tests;
-#[cfg(test)]
-mod traffic_generator_tests;
-#[cfg(test)]
-mod worked_boards;
 #[cfg(test)]
 mod worked_read_tests;

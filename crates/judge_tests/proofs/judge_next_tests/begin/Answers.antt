@@ -3,7 +3,7 @@ use Rattle.std.specs.Prelude.{IfOk}
 use Rattle.board_model.specs.declared.board.Board.{Board}
 use Rattle.judge_next.specs.declared.course.Course.{Course}
 use Rattle.judge_next.specs.Course.{IsCourse, HasCourse}
-use Rattle.floor_tests.proofs.judge_next_tests.begin.Goals as goal
+use Rattle.judge_tests.proofs.judge_next_tests.begin.Goals as goal
 
 -- the run without events is one
 some_run : {E : Type 0} (board : Board) (r : Result Course E) → IfOk r (IsCourse board []) → IfOk r (HasCourse board)

@@ -5,7 +5,7 @@ use Rattle.history_model.specs.declared.event.Event.{Event}
 use Rattle.history_model.specs.declared.why.Why.{Why}
 use Rattle.judge_next.specs.declared.course.Course.{Course}
 use Rattle.judge_next.specs.Course.{IsCourse, HasCourse}
-use Rattle.floor_tests.proofs.judge_next_tests.step.Goals as goal
+use Rattle.judge_tests.proofs.judge_next_tests.step.Goals as goal
 
 goes_on : (board : Board) (h : List Event) (e : Event) (old new : Course) (r : Result (Unit {0}) Why) → IsCourse board h old → OnOk r (IsCourse board (e ∷ h) new) → OnErr r (new ≡ old) → HasCourse board new
 goes_on board h e old new (Ok value) is taken refused = (e ∷ h, taken)
