@@ -35,12 +35,3 @@ fn an_item_crosses_between_threads(rt: HostRuntime) -> Result<(), NoMemory> {
     assert_eq!(rt; ends[1].receive(), None);
     Ok(())
 }
-
-#[test]
-fn an_item_crosses_in_the_phase_in_which_it_is_sent(rt: HostRuntime) -> Result<(), NoMemory> {
-    let (mut above, mut below) = ring_pair(rt.alloc())?;
-    send_if_room(&mut above, Item::Room { stamp: 3 });
-    assert_eq!(rt; below.receive(), Some(Item::Room { stamp: 3 }));
-    assert_eq!(rt; below.receive(), None);
-    Ok(())
-}
