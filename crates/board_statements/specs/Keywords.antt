@@ -26,6 +26,7 @@ traffic_form_of word =
     else if bytes_eq word (codes "drop") then Ok Drop
     else Err WrongWord
 
+-- all of them: those of bridges and targets first
 unfoldable pub form_of : List ℕ → Result Form LineFault
 form_of word =
     if bytes_eq word (codes "bridge") then Ok Bridge

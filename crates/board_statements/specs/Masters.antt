@@ -105,11 +105,13 @@ planned_form = do
   count ← decimal 1 1000000
   give (record { bus = bus; up = up; count = count })
 
+-- `discard B down K` and the like
 unfoldable pub discard_form : Reader Statement
 discard_form = do
   planned ← planned_form
   give (Discards planned)
 
+-- `drop B down K` and the like
 unfoldable pub drop_form : Reader Statement
 drop_form = do
   planned ← planned_form

@@ -23,6 +23,7 @@ space_of_word word =
     else if bytes_eq word (codes "io") then Ok Io
     else Err WrongWord
 
+-- the next word as a space
 abbrev pub space_word : Reader Space
 space_word = one_word space_of_word
 
@@ -63,11 +64,13 @@ range_form wide = do
   size ← long (is_wide_in wide space)
   give (record { space = space; base = base; size = size })
 
+-- `range SPACE BASE SIZE`
 unfoldable pub claim_form : Bool → Reader Statement
 claim_form wide = do
   range ← range_form wide
   give (Claims range)
 
+-- `abort SPACE BASE SIZE`
 unfoldable pub abort_form : Bool → Reader Statement
 abort_form wide = do
   range ← range_form wide

@@ -53,6 +53,7 @@ pub record Presents (board : Board) (tags : By → OpId → ℕ) (world : World)
   pub stands : BusStands board tags (lanes_after board old.bus by o answer world) (past_after old.bus by o answer p) new
   pub flights : Flights (shape_of old) world (lanes_after board old.bus by o answer world) (λ n. items_at over n ++ items_at back n)
 
+-- so it is whatever the bus stands for
 pub record BusPresents (board : Board) (by : By) (o : OpId) (old : BusView) (answer : Answer) (over back : Option Sent) (new : BusView) : Type 0 where
   pub presents : (tags : By → OpId → ℕ) (world : World) (p : List Event) → BusStands board tags world p old → Presents board tags world p by o old answer over back new
 
@@ -104,6 +105,7 @@ abbrev pub ServesTurn : Board → Option OpId → BusView → Presented → BusV
 ServesTurn board None old presented new = (presented ≡ Nothing) × (new ≡ old)
 ServesTurn board (Some o) old presented new = Serves board Master o old presented new
 
+-- the same of the master at the place
 pub record ServesMaster (board : Board) (place : ℕ) (old : BusView) (presented : Presented) (new : BusView) : Type 0 where
   pub master : MasterView
   pub there : slice_get old.masters place ≡ Some master
@@ -162,6 +164,7 @@ pub record ArrivesAt (board : Board) (tags : By → OpId → ℕ) (world : World
   pub from_bus : (n : ℕ) (l : BridgeLane) → slice_get (shape_of old).lanes n ≡ Some l
       → (moved (arrives mark) lane world (lane_back l)).flight ≡ (world (lane_back l)).flight ++ (if place == n then map carried (option_to_list back) else [])
 
+-- so it is whatever the bus stands for, if the item is the next on the lane of this port
 pub record BusArrives (board : Board) (place : ℕ) (old : BusView) (item : Item) (mark : Mark) (back : Option Item) (new : BusView) : Type 0 where
   pub arrives : (tags : By → OpId → ℕ) (world : World) (p : List Event) (rest : List Carried) (lane : BridgeLane) → slice_get (shape_of old).lanes place ≡ Some lane → BusStands board tags world p old
       → (world lane).flight ≡ carried item ∷ rest → ArrivesAt board tags world p lane place old item mark back new

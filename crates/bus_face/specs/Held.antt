@@ -5,6 +5,7 @@ use Rattle.bus_face.specs.requests.Slots.{Slots, IsHeld}
 use Rattle.bus_face.specs.declared.completions.done_table.Done.{Done}
 use Rattle.bus_face.specs.completions.Completions.{Completions, IsStanding}
 
+-- the slot of each completion that stands is held
 abbrev pub HoldsSlots : List Slot → List Done → Type 0
 HoldsSlots slots dones = (slot : ℕ) → IsStanding slot dones → IsHeld slot slots
 

@@ -64,6 +64,7 @@ latched_reply face number tag op request =
     )
     else (Retry NoSlot, face)
 
+-- a delayed request: the completion of its own slot if it has one, else a new slot
 abbrev pub delayed_reply : FaceState → ℕ → ℕ → OpId → Request → Option Slot → Reply × FaceState
 delayed_reply face number tag op request None = latched_reply face number tag op request
 delayed_reply face number tag op request (Some slot) = taken_reply face slot.number (is_read request.command) (done_at slot.number face.dones.dones)
@@ -80,6 +81,7 @@ pub record LowestLatched (face : FaceState) (tag : ℕ) (op : OpId) (request : R
   pub reply_is : reply ≡ (latched_reply face number tag op request).0
   pub after_is : after ≡ (latched_reply face number tag op request).1
 
+-- the same of any request
 pub record LowestReply (face : FaceState) (tag : ℕ) (op : OpId) (request : Request) (reply : Reply) (after : FaceState) : Type 0 where
   pub number : ℕ
   pub lowest : reply ≡ Latched number → IsLowestFree number face.slots.slots

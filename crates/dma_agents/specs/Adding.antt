@@ -60,9 +60,11 @@ is_placed (Writes address value) = address % 4 == 0
 abbrev pub poll_of : Flag → Op
 poll_of flag = Poll Mem flag.address 0xffff_ffff flag.value flag.tries
 
+-- a read of the dword at the address
 abbrev pub read_of : ℕ → Op
 read_of address = Read MemRead address
 
+-- a write of the whole dword at the address
 abbrev pub write_of : ℕ → ℕ → Op
 write_of address value = Write MemWrite address (record { value = value; enables = 15 } ∷ [])
 
@@ -80,6 +82,7 @@ then_adds (Err fault) later = Err fault
 abbrev pub add_one : Draft → Op → Result Draft DeviceFault
 add_one draft op = limited (does draft op false)
 
+-- operations one after another, up to the first that passes a limit
 abbrev pub add_ops : Draft → List Op → Result Draft DeviceFault
 add_ops draft [] = Ok draft
 add_ops draft (op ∷ ops) = then_adds (add_one draft op) (λ next. add_ops next ops)
@@ -101,6 +104,7 @@ abbrev pub bus_of : Board → Option (List ℕ) → Option ℕ
 bus_of board None = None
 bus_of board (Some name) = bus_of_target board name
 
+-- the bus, if the board has it
 abbrev pub bus_there : Board → ℕ → Option ℕ
 bus_there board bus = if is_bus board bus then Some bus else None
 

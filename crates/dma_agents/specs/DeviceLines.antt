@@ -61,6 +61,7 @@ get_form = do
   address ← hex 8
   give (Gets address)
 
+-- the same of `look`
 unfoldable pub look_form : Reader DeviceLine
 look_form = do
   address ← hex 8

@@ -11,6 +11,7 @@ has_offset text =
     (hex_length text == 2 || hex_length text == 3)
     && (slice_index text (hex_length text) == 93 && slice_index text (hex_length text + 1) == 32)
 
+-- the kind that the text begins with, if it is one of the two
 abbrev pub kind_named : List ℕ → Option Kind
 kind_named text =
     if begins_with (codes "Express") text then Some Express else if begins_with (codes "PCI-X") text then Some PciX else None
@@ -19,6 +20,7 @@ kind_named text =
 abbrev pub kind_behind : List ℕ → Option Kind
 kind_behind text = if has_offset text then kind_named (drop (hex_length text + 2) text) else None
 
+-- the kind that a line tells, if it is a line of a capability
 abbrev pub kind_of : List ℕ → Option Kind
 kind_of line =
     if begins_with (codes "Capabilities: [") (indented line) then kind_behind (drop 15 (indented line)) else None

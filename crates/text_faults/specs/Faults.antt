@@ -3,6 +3,7 @@ use Rattle.std.specs.Prelude.{ℕ}
 use Rattle.text_faults.specs.declared.DeviceFault.{DeviceFault}
 use Rattle.text_faults.specs.declared.DeviceFault.TheVariants.{Misshapen, Misplaced, NameUsed, NotThere, OverLimit, NotClear}
 
+-- Q1 to Q6
 abbrev pub code_of : DeviceFault → ℕ
 code_of Misshapen = 1
 code_of Misplaced = 2

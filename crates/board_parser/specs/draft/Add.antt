@@ -11,6 +11,7 @@ use Rattle.board_parser.specs.draft.Masters.{add_master, does}
 use Rattle.board_parser.specs.draft.Plans.{add_discard, add_drop}
 use Rattle.board_model.specs.Requests.{tries_of}
 
+-- the draft behind the statement, or the first of its faults
 abbrev pub add : Draft → Statement → Result Draft LineFault
 add draft (NewBridge bridge) = add_bridge draft.wide (board_of draft) bridge
 add draft (NewHeader device bytes posted delayed) = add_header draft.wide (board_of draft) device bytes posted delayed

@@ -44,6 +44,7 @@ agent_in (Does op too_many) = None
 agent_in (Discards planned) = None
 agent_in (Drops planned) = None
 
+-- a target or master, by what is counted of it
 abbrev pub name_and_bus : Option Agent → Option (List ℕ × ℕ)
 name_and_bus None = None
 name_and_bus (Some agent) = Some (string_bytes agent.name, agent.bus)
@@ -53,6 +54,7 @@ abbrev pub used_with : Option (List ℕ × ℕ) → List ℕ → Bool → Bool
 used_with None name before = before
 used_with (Some agent) name before = if bytes_eq agent.0 name then true else before
 
+-- 1 where the agent is on the bus
 abbrev pub more_on : Option (List ℕ × ℕ) → ℕ → ℕ
 more_on None bus = 0
 more_on (Some agent) bus = if agent.1 == bus then 1 else 0

@@ -26,6 +26,7 @@ master_in Nobody = Err NoOwner
 master_in (OfTarget target) = Err NoOwner
 master_in (OfMaster master) = Ok master
 
+-- the draft with that master changed, or the fault
 abbrev pub on_master : Draft → (Master → Result Master LineFault) → Result Draft LineFault
 on_master draft change = do
   master ← master_in draft.owner

@@ -13,6 +13,7 @@ add_discard wide board planned =
     if nat_le 1024 (length board.discards) then Err OverLimit
     else Ok (draft_of wide (record board { discards = board.discards ++ planned ∷ [] }))
 
+-- the same of a `drop` line
 abbrev pub add_drop : Bool → Board → Planned → Result Draft LineFault
 add_drop wide board planned =
     if nat_le 1024 (length board.drops) then Err OverLimit

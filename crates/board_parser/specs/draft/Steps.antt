@@ -6,6 +6,7 @@ use Rattle.board_parser.specs.declared.draft.fault.AddFault.TheVariants.{Fault, 
 
 -- the next step, unless this one ended with a fault
 infixl 10 ◌>>=◌
+-- what this one answered goes on to the next
 abbrev pub ◌>>=◌ : {A B : Type 0} → Result A LineFault → (A → Result B LineFault) → Result B LineFault
 (Ok x) >>= next = next x
 (Err fault) >>= next = Err fault

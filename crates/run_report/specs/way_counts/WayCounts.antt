@@ -48,10 +48,12 @@ target_kind request (Some target) =
     else if is_read request.command then Read
     else Land
 
+-- the header of a bridge answers a read; where the bridge is not there nobody does
 abbrev pub header_kind : Option Bridge → Kind
 header_kind None = MasterAbort
 header_kind (Some bridge) = Read
 
+-- the same by the place that claims it
 abbrev pub last_kind : Board → Request → Place → Kind
 last_kind board request (Target place) = target_kind request (slice_get board.targets place)
 last_kind board request (Header bus) = header_kind (find (λ bridge. bridge.bus == bus) board.bridges)
