@@ -12,5 +12,6 @@ abbrev pub refusal_by : Board → Option TreeFault → TreeRefusal
 refusal_by board (Some fault) = Fault fault board
 refusal_by board None = AboveBound (bound_of board) board
 
+-- the same by the board alone
 abbrev pub refusal_of : Board → TreeRefusal
 refusal_of board = refusal_by board (first_fault_of board)
