@@ -25,6 +25,7 @@ making_refusal (Err (faults.NotClear line flag why)) = Some (BadBoard line (Devi
 making_refusal (Err faults.NoMemory) = None
 making_refusal (Ok made) = option_map (BadBoard 0) (tree_fault made.board)
 
+-- the same of the input
 abbrev pub devices_refusal : List ℕ → Option Status
 devices_refusal input = making_refusal (made_read input)
 
