@@ -31,6 +31,7 @@ number_of (Incomplete _) = 9
 number_of (NotSafe _ _ _) = 10
 number_of NotShown = 11
 
+-- the letter by which the fault of a line is told
 abbrev pub letter_of : Family → List ℕ
 letter_of L = codes "L"
 letter_of P = codes "P"
