@@ -28,6 +28,7 @@ later_kind_of word =
     else if bytes_eq word (codes "arrive") then Some Arrive
     else None
 
+-- all ten
 abbrev pub kind_of : List ℕ → Option Kind
 kind_of word =
     if bytes_eq word (codes "land") then Some Land
@@ -70,12 +71,15 @@ word_as reads words place = option_and_then reads (slice_get words place)
 abbrev pub at_target : Board → List (List ℕ) → Step → Option (Step × Place)
 at_target board words step = option_map (λ target. (step, Target target)) (word_as (target_in board) words 4)
 
+-- the target that a word names, or the header of a bridge
 abbrev pub reader_in : Board → List ℕ → Option Place
 reader_in board word = if begins_header word then option_map Header (header_in board word) else option_map Target (target_in board word)
 
+-- the same of a target or the header of a bridge
 abbrev pub at_reader : Board → List (List ℕ) → Step → Option (Step × Place)
 at_reader board words step = option_map (λ place. (step, place)) (word_as (reader_in board) words 4)
 
+-- the same of a lane
 abbrev pub at_lane : Board → List (List ℕ) → Step → Option (Step × Place)
 at_lane board words step = option_map (λ lane. (step, Lane lane)) (word_as (lane_in board) words 4)
 
@@ -96,6 +100,7 @@ done_by board Arrive words = None
 abbrev pub act_of : ℕ → By → OpId → Step × Place → Event
 act_of bus by op done = events.Act bus by op done.0 done.1
 
+-- the act of a line, if all its words name something
 abbrev pub act_in : Board → Kind → List (List ℕ) → Option Event
 act_in board kind words =
     option_and_then (λ bus. option_and_then (λ by. option_and_then (λ op. option_map (act_of bus by op) (done_by board kind words))
