@@ -7,8 +7,8 @@ use Rattle.pci_command.specs.declared.command.Space.TheVariants.{Mem, Io}
 use Rattle.pci_command.specs.Command.{space_of}
 use Rattle.board_model.specs.WellFormed.{read_space, write_space}
 use Rattle.board_parser.specs.draft.Formed.{is_target_space, is_formed}
-use Rattle.board_statements.specs.declared.fault.LineFault.{LineFault}
-use Rattle.board_statements.specs.declared.fault.LineFault.TheVariants.{WrongWord}
+use Rattle.text_faults.specs.declared.board_line.LineFault.{LineFault}
+use Rattle.text_faults.specs.declared.board_line.LineFault.TheVariants.{WrongWord}
 use Rattle.board_statements.specs.declared.keyword.Form.{Form}
 use Rattle.board_statements.specs.declared.keyword.Form.TheVariants.{Bridge, Header, Target, Id, Stall, Burst, Range, Abort, Word, Master, Reads, WritesBurst, WritesPort, ReadsRegister, WritesRegister, Polls, Discard, Drop}
 use Rattle.board_statements.specs.declared.statement.Statement.{Statement}

@@ -16,7 +16,7 @@ use Rattle.board_printer.specs.Lines.{Line}
 use Rattle.board_printer.specs.Numbers.{half_text}
 use Rattle.board_printer.specs.Targets.{id_lines, stall_lines, burst_lines, range_line, opening_line}
 use Rattle.board_printer.specs.Boards.{is_short, is_short_range}
-use Rattle.board_statements.specs.declared.fault.LineFault.{LineFault}
+use Rattle.text_faults.specs.declared.board_line.LineFault.{LineFault}
 use Rattle.board_statements.specs.declared.statement.Statement.{Statement}
 use Rattle.board_statements.specs.declared.statement.Statement.TheVariants.{Identifies, Stalls, Bursts, Claims, Aborts, Opens}
 use Rattle.board_roundtrip.specs.lines.Ranges.{RangeFits, OpeningFits}

@@ -12,7 +12,7 @@ use Rattle.board_model.specs.Requests.{tries_of}
 use Rattle.board_model.specs.WellFormed.{is_well_formed_op, is_well_formed_master, agents_on, operations_in, IsWellFormed}
 use Rattle.board_printer.specs.Masters.{op_line, master_line, master_lines}
 use Rattle.board_printer.specs.Boards.{is_short_op}
-use Rattle.board_statements.specs.declared.fault.LineFault.{LineFault}
+use Rattle.text_faults.specs.declared.board_line.LineFault.{LineFault}
 use Rattle.board_statements.specs.declared.statement.Statement.TheVariants.{NewMaster, Does}
 use Rattle.board_roundtrip.specs.lines.Ranges.{OpFits}
 use Rattle.board_roundtrip.proofs.lines.Laws.{master_law, op_law}

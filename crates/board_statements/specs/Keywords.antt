@@ -3,8 +3,8 @@ use Rattle.std.specs.Prelude.{ℕ, List, Result, Ok, Err, codes, if◌then◌els
 use Rattle.std.specs.Str.{bytes_eq}
 use Rattle.pci_command.specs.declared.command.Command.TheVariants.{IoRead, MemRead, MemWrite, MemReadMultiple, MemReadLine, MemWriteInvalidate}
 use Rattle.pci_command.specs.declared.command.Space.TheVariants.{Mem, Io}
-use Rattle.board_statements.specs.declared.fault.LineFault.{LineFault}
-use Rattle.board_statements.specs.declared.fault.LineFault.TheVariants.{WrongWord}
+use Rattle.text_faults.specs.declared.board_line.LineFault.{LineFault}
+use Rattle.text_faults.specs.declared.board_line.LineFault.TheVariants.{WrongWord}
 use Rattle.board_statements.specs.declared.keyword.Form.{Form}
 use Rattle.board_statements.specs.declared.keyword.Form.TheVariants.{Bridge, Header, Target, Id, Stall, Burst, Range, Abort, Word, Master, Reads, WritesBurst, WritesPort, ReadsRegister, WritesRegister, Polls, Discard, Drop}
 

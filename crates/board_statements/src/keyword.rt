@@ -1,9 +1,9 @@
 ghost use Rattle.std.specs.Prelude.{◌≡◌};
 ghost use Rattle.board_statements.specs.Keywords.{form_of, traffic_form_of};
 
-use crate::LineFault;
 use crate::words::is_word;
 use pci_command::{Command, Space};
+use text_faults::LineFault;
 
 /// The kinds of lines behind the first one.
 #[derive(Clone, Copy)]

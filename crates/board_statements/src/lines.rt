@@ -5,7 +5,8 @@ ghost use Rattle.board_statements.specs.Statements.{behind_word, statement_of, f
 
 use crate::keyword::{Form, form_of};
 use crate::words::{Words, is_word};
-use crate::{LineFault, Statement, bridges, masters, targets};
+use crate::{Statement, bridges, masters, targets};
+use text_faults::LineFault;
 
 /// Whether a line has words. A line is given without its newline.
 pub fn has_words(line: &[u8]) -> bool

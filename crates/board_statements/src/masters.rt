@@ -4,9 +4,10 @@ ghost use Rattle.board_statements.specs.Masters.{master_form, read_form, burst_w
 
 use crate::targets::is_wide_in;
 use crate::words::{Words, is_word};
-use crate::{LineFault, Statement};
+use crate::Statement;
 use board_model::{Op, Planned};
 use pci_command::{Command, Phases, Space};
+use text_faults::LineFault;
 
 /// `master NAME on B`
 #[tactic(auto, unfolding(crate::specs::Masters::master_form))]

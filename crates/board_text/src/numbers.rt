@@ -4,6 +4,7 @@ ghost use Rattle.std.specs.Char.{digit_value, is_digit};
 ghost use Rattle.std.specs.Str.Parse.{digits_value};
 ghost use Rattle.board_text.specs.Numbers.{is_numeral, hex_answer, decimal_answer};
 
+use text_faults::LineFault;
 use thiserror::Error;
 
 /// Why a token is no number of its kind.
@@ -18,6 +19,20 @@ pub enum NumberFault {
     /// It is a decimal of at most 10 digits, and 2^32 or above.
     #[error("number out of range")]
     OutOfRange,
+}
+
+impl From<NumberFault> for LineFault {
+    ghost use Rattle.std.specs.Prelude.{◌≡◌};
+    ghost use Rattle.board_text.specs.Numbers.{number_fault};
+
+    ghost from_gives = { λ number fault. fault ≡ number_fault number };
+
+    fn from(number: NumberFault) -> LineFault {
+        match number {
+            NumberFault::TooWide => LineFault::TooWide,
+            NumberFault::NotDigits | NumberFault::OutOfRange => LineFault::IllFormed,
+        }
+    }
 }
 
 /// The number that a token of 1 to `digits` hexadecimal digits of either case writes. `digits` is

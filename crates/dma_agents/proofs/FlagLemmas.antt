@@ -16,7 +16,7 @@ use Rattle.board_parser.specs.draft.Masters.{add_op, add_master, does}
 use Rattle.board_parser.specs.draft.Targets.{agent_fault}
 use Rattle.board_parser.proofs.draft.AddedLemmas.{on_master-ok, add_op-ok, unless-ok}
 use Rattle.board_parser.proofs.draft.PushLemmas.{all-push}
-use Rattle.text_faults.specs.declared.DeviceFault.{DeviceFault}
+use Rattle.text_faults.specs.declared.device.DeviceFault.{DeviceFault}
 use Rattle.dma_agents.specs.declared.line.Flag.{Flag}
 use Rattle.dma_agents.specs.declared.line.Waiting.{Waiting}
 use Rattle.dma_agents.specs.declared.line.DeviceLine.{DeviceLine}

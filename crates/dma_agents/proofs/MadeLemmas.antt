@@ -11,7 +11,7 @@ use Rattle.std.specs.Option.{option_and_then}
 use Rattle.board_model.specs.Requests.{tries_of, op_of}
 use Rattle.board_model.specs.Valid.{IsValid}
 use Rattle.board_text.specs.Lines.{lines_of}
-use Rattle.board_statements.specs.declared.fault.LineFault.{LineFault}
+use Rattle.text_faults.specs.declared.board_line.LineFault.{LineFault}
 use Rattle.board_parser.specs.declared.draft.draft.Draft.{Draft}
 use Rattle.board_parser.specs.draft.Drafts.{board_of}
 use Rattle.board_parser.specs.Boards.{read_lines}
@@ -22,7 +22,7 @@ use Rattle.law_delivered.specs.Delivered.{Awaits, Delivers, Delivered}
 use Rattle.dma_agents.specs.declared.fault.MakeFault.{MakeFault}
 use Rattle.dma_agents.specs.declared.making.Making.{Making}
 use Rattle.dma_agents.specs.declared.fault.MakeFault.TheVariants.{Device as OfLine}
-use Rattle.text_faults.specs.declared.DeviceFault.TheVariants.{Misshapen}
+use Rattle.text_faults.specs.declared.device.DeviceFault.TheVariants.{Misshapen}
 use Rattle.dma_agents.specs.declared.line.Owner.TheVariants.{Nobody}
 use Rattle.dma_agents.specs.declared.line.Waiting.{Waiting}
 use Rattle.dma_agents.specs.Made.{unclear, Made, by_flags, by_lines, by_board, until_devices, by_parts, is_line, by_first, made_read}

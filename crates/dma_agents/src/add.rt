@@ -5,8 +5,8 @@ ghost use Rattle.board_parser.specs.declared.draft.draft.Draft.{Draft};
 ghost use Rattle.board_parser.specs.draft.Drafts.{board_of};
 ghost use Rattle.board_parser.specs.draft.Masters.{add_master};
 ghost use Rattle.board_parser.specs.draft.Steps.{Answers};
-ghost use Rattle.board_statements.specs.declared.fault.LineFault.{LineFault};
-ghost use Rattle.text_faults.specs.declared.DeviceFault.TheVariants.{Misplaced};
+ghost use Rattle.text_faults.specs.declared.board_line.LineFault.{LineFault};
+ghost use Rattle.text_faults.specs.declared.device.DeviceFault.TheVariants.{Misplaced};
 ghost use Rattle.dma_agents.specs.Put.{cut};
 ghost use Rattle.dma_agents.specs.Adding.{Adds, stands, is_placed, poll_of, read_of, write_of, limited, add_one, add_ops, begins, begins_on, bus_of, bus_there, added, line_added};
 

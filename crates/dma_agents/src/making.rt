@@ -73,7 +73,7 @@ fn behind_end(making: Making, past: Option<u32>) -> Result<Making, MakeFault>
     }
 }
 
-ghost use Rattle.text_faults.specs.declared.DeviceFault.TheVariants.{Misshapen};
+ghost use Rattle.text_faults.specs.declared.device.DeviceFault.TheVariants.{Misshapen};
 ghost use Rattle.dma_agents.specs.declared.fault.MakeFault.{MakeFault as Fault};
 
 /// The line is none of its place.

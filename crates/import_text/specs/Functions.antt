@@ -6,8 +6,8 @@ use Rattle.import_text.specs.declared.capability.Kind.{Kind}
 use Rattle.import_text.specs.declared.entry.Entry.{Entry}
 use Rattle.import_text.specs.declared.entry.Entry.TheVariants.{Slot, Row, Region, Capability, Other}
 use Rattle.import_text.specs.declared.function.Function.{Function}
-use Rattle.import_text.specs.declared.fault.LspciFault.{LspciFault}
-use Rattle.import_text.specs.declared.fault.LspciFault.TheVariants.{NoSlot, Repeated, NoRow, HighDevice}
+use Rattle.text_faults.specs.declared.lspci.LspciFault.{LspciFault}
+use Rattle.text_faults.specs.declared.lspci.LspciFault.TheVariants.{NoSlot, Repeated, NoRow, HighDevice}
 use Rattle.import_text.specs.declared.fault.ReadFault.{ReadFault}
 use Rattle.import_text.specs.declared.fault.ReadFault.TheVariants.{Fault, NoMemory}
 use Rattle.import_text.specs.Entries.{entries_read}

@@ -1,8 +1,8 @@
-use board_statements::LineFault;
 use pcitree::{BoardFault, Status};
 use program_messages::{Form, about, message};
 use std::alloc::Global;
 use std::test::Fail;
+use text_faults::LineFault;
 
 /// What is said of a text with a byte that no line may have.
 fn said(alloc: Global, name: &str, text: &[u8], line: u32) -> Result<String, Fail> {

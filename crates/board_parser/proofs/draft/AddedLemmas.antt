@@ -15,7 +15,7 @@ use Rattle.board_model.specs.Requests.{tries_of}
 use Rattle.board_model.specs.WellFormed.{has_bus, children_on, registers_of}
 use Rattle.board_headers.specs.declared.windows.Windows.{Windows}
 use Rattle.board_headers.specs.declared.fault.HeaderFault.{HeaderFault}
-use Rattle.board_statements.specs.declared.fault.LineFault.{LineFault}
+use Rattle.text_faults.specs.declared.board_line.LineFault.{LineFault}
 use Rattle.board_parser.specs.declared.draft.draft.Draft.{Draft}
 use Rattle.board_parser.specs.declared.draft.draft.Owner.{Owner}
 use Rattle.board_parser.specs.declared.draft.draft.Owner.TheVariants.{Nobody, OfTarget, OfMaster}

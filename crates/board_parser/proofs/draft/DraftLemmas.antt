@@ -12,7 +12,7 @@ use Rattle.board_model.specs.declared.op.Op.{Op}
 use Rattle.board_model.specs.Requests.{tries_of}
 use Rattle.board_model.specs.WellFormed.{is_well_formed_bridge, is_well_formed_target, is_well_formed_op, operations_in}
 use Rattle.board_headers.specs.Windows.{reading_of}
-use Rattle.board_statements.specs.declared.fault.LineFault.{LineFault}
+use Rattle.text_faults.specs.declared.board_line.LineFault.{LineFault}
 use Rattle.board_statements.specs.declared.statement.Statement.{Statement}
 use Rattle.board_statements.specs.declared.statement.Statement.TheVariants.{NewBridge, NewHeader, NewTarget, Identifies, Stalls, Bursts, Claims, Aborts, Opens, NewMaster, Does, Discards, Drops}
 use Rattle.board_parser.specs.declared.draft.draft.Draft.{Draft}

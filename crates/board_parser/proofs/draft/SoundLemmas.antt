@@ -12,7 +12,7 @@ use Rattle.board_model.specs.declared.board.Board.{Board}
 use Rattle.board_model.specs.declared.board.Planned.{Planned}
 use Rattle.board_model.specs.Requests.{tries_of}
 use Rattle.board_model.specs.WellFormed.{is_well_formed, is_well_formed_bridge, is_well_formed_target, is_well_formed_master, is_well_formed_plan, are_numbered_apart, are_targets_named_apart, are_masters_named_apart, is_target_named, is_master_named, has_bus, children_on, agents_on, operations_in}
-use Rattle.board_statements.specs.declared.fault.LineFault.{LineFault}
+use Rattle.text_faults.specs.declared.board_line.LineFault.{LineFault}
 use Rattle.board_parser.specs.declared.draft.draft.Owner.{Owner}
 use Rattle.board_parser.specs.declared.draft.draft.Owner.TheVariants.{Nobody, OfTarget, OfMaster}
 use Rattle.board_parser.specs.draft.Drafts.{with_owner}

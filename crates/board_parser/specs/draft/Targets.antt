@@ -9,8 +9,8 @@ use Rattle.board_model.specs.declared.agents.Opening.{Opening}
 use Rattle.board_model.specs.declared.agents.Target.{Target}
 use Rattle.board_model.specs.declared.board.Board.{Board}
 use Rattle.board_model.specs.WellFormed.{registers_of, is_target_named, is_master_named, agents_on}
-use Rattle.board_statements.specs.declared.fault.LineFault.{LineFault}
-use Rattle.board_statements.specs.declared.fault.LineFault.TheVariants.{NoOwner, Unaligned, PastItsSpace, NameUsed, OverLimit}
+use Rattle.text_faults.specs.declared.board_line.LineFault.{LineFault}
+use Rattle.text_faults.specs.declared.board_line.LineFault.TheVariants.{NoOwner, Unaligned, PastItsSpace, NameUsed, OverLimit}
 use Rattle.board_parser.specs.declared.draft.draft.Draft.{Draft}
 use Rattle.board_parser.specs.declared.draft.draft.Owner.{Owner}
 use Rattle.board_parser.specs.declared.draft.draft.Owner.TheVariants.{Nobody, OfTarget, OfMaster}

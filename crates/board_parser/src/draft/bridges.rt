@@ -11,8 +11,8 @@ use crate::draft::lists::push;
 use crate::draft::{AddFault, Draft};
 use board_headers::{HeaderFault, Windows, decode};
 use board_model::{Board, Bridge, Window};
-use board_statements::LineFault;
 use std::alloc::Global;
+use text_faults::LineFault;
 
 pub(crate) fn add_bridge(alloc: Global, draft: &mut Draft, bridge: Bridge) -> Result<(), AddFault>
     ensures { Changes result draft.new (add_bridge draft.old.wide (board_of draft.old) bridge) }

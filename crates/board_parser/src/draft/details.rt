@@ -9,8 +9,8 @@ use crate::draft::masters::add_op;
 use crate::draft::targets::{add_abort, add_opening, add_range};
 use crate::draft::{AddFault, Draft, Owner};
 use board_model::{Op, Opening, Range};
-use board_statements::LineFault;
 use std::alloc::Global;
+use text_faults::LineFault;
 
 pub(crate) fn identify(draft: &mut Draft, vendor: u16, model: u16) -> Result<(), AddFault>
     ensures { Changes result draft.new (on_target draft.old (set_identity vendor model)) }

@@ -9,8 +9,8 @@ use crate::draft::add::close;
 use crate::draft::lists::{empty, push};
 use crate::draft::{AddFault, Draft, Owner};
 use board_model::{Master, Name, Op, tries_of};
-use board_statements::LineFault;
 use std::alloc::Global;
+use text_faults::LineFault;
 
 /// A master, unless a name or a limit forbids it by that fault.
 pub(crate) fn add_master(

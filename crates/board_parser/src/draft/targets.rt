@@ -9,9 +9,9 @@ use crate::draft::add::close;
 use crate::draft::lists::{empty, push};
 use crate::draft::{AddFault, Draft, Owner};
 use board_model::{Name, Opening, Range, Target, registers_fit, registers_of};
-use board_statements::LineFault;
 use pci_command::Space;
 use std::alloc::Global;
+use text_faults::LineFault;
 
 /// A target, unless a name or a limit forbids it by that fault.
 pub(crate) fn add_target(
