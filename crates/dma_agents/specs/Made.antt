@@ -11,7 +11,7 @@ use Rattle.text_faults.specs.declared.board_line.LineFault.TheVariants.{NoFirstL
 use Rattle.board_parser.specs.declared.draft.draft.Draft.{Draft}
 use Rattle.board_parser.specs.draft.Drafts.{board_of}
 use Rattle.board_parser.specs.Boards.{read_lines}
-use Rattle.law_delivered.specs.Clear.{is_clear}
+use Rattle.history_model.specs.Clear.{is_clear}
 use Rattle.text_faults.specs.declared.device.DeviceFault.{DeviceFault}
 use Rattle.text_faults.specs.declared.device.DeviceFault.TheVariants.{Misshapen}
 use Rattle.dma_agents.specs.declared.line.Flag.{Flag}

@@ -2,7 +2,7 @@ ghost use Rattle.std.specs.Prelude.{◌≡◌, ◌<◌, ◌≤◌, ◌^◌, [], 
 ghost use Rattle.board_model.specs.WellFormed.{is_well_formed};
 ghost use Rattle.board_parser.specs.draft.Drafts.{board_of};
 ghost use Rattle.board_parser.specs.Boards.{sheet_read};
-ghost use Rattle.law_delivered.specs.Clear.{is_clear};
+ghost use Rattle.history_model.specs.Clear.{is_clear};
 ghost use Rattle.dma_agents.specs.Made.{made_read, by_lines, unclear, Tells};
 ghost use Rattle.dma_agents.specs.Parts.{TellsSheet};
 ghost use Rattle.std.specs.Prelude.{Ok};

@@ -3,8 +3,8 @@ ghost use Rattle.dma_agents.specs.Made.{IsMade, made_read};
 ghost use Rattle.program_input.specs.Devices.{RefusesDevices};
 ghost use Rattle.command_runs.specs.devices.Answers.{AnswersDevices, DeliversTo};
 
+use super::delivery::delivered;
 use board_tree::Tree;
-use dma_agents::delivered;
 use engine_runs::steady_run;
 use pci_command::{List, NoMemory};
 use program_input::read_devices;
