@@ -136,7 +136,9 @@ fn io_upper(bytes: &[u8; 64], offset: usize) -> u16
     }
 }
 
-fn window_between(base: u64, limit: u64) -> Option<Window>
+/// The window from a base to a limit, and none where the limit lies below the base: such a window is
+/// closed (PCI-to-PCI Bridge Architecture 1.1, section 3.2.5; section from memory).
+pub fn window_between(base: u64, limit: u64) -> Option<Window>
     ensures { result ≡ window_between base limit }
 {
     if base <= limit {

@@ -90,8 +90,8 @@ fn value_of(token: &[u8], radix: u32) -> u64
     value
 }
 
-// The value of a digit or a letter, and 36 for any other byte.
-fn value_of_digit(byte: u8) -> u32
+/// The value of a digit or a letter, and 36 for any other byte.
+pub fn value_of_digit(byte: u8) -> u32
     ensures { result ≡ digit_value byte }
 {
     match byte {

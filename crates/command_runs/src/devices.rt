@@ -7,7 +7,6 @@ mod answer;
 mod delivery;
 
 pub use answer::answer_devices;
-pub use delivery::made_boards_deliver;
 
 /// What is written of devices on a board is the text of a valid board and of a complete run of it.
 pub fn written_devices_are_complete()

@@ -11,7 +11,7 @@ use history_model::Event;
 use law_delivered::clear_flags_deliver;
 
 /// Every run of the valid board of a device text delivers.
-pub fn made_boards_deliver()
+pub(crate) fn made_boards_deliver()
     ensures { (text : List ℕ) (made : Made) (h : List Event) →
         made_read text ≡ Ok made → IsValid made.board → Run made.board h →
         Delivered made.board made.first h }
