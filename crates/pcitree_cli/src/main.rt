@@ -45,7 +45,11 @@ fn serve<R: Threads + Sync>(rt: &HostRuntime, threads: &R, words: &[String]) -> 
         Asked::Misfit(word) => misfit(rt, words, word),
         asked => match tell(rt, asked) {
             Ok(()) => Status::Done,
-            Err(_) => status_only(rt, Status::WriteFault),
+            Err(error) => {
+                let status = Status::WriteFault;
+                report(rt, words, "", b"", status, Some(error.kind()));
+                status
+            }
         },
     }
 }
@@ -66,10 +70,14 @@ fn run<R: Threads + Sync>(rt: &HostRuntime, threads: &R, words: &[String]) -> St
     else {
         return status_only(rt, Status::NoMemory);
     };
-    let reason = reason.or(port.reason());
+    let unread = reason.or(port.reason());
     let mut sink = WritePort::new(rt.stdout());
     let status = pcitree(threads, rt.alloc(), words, &mut source, &mut sink, &NoGate);
     if status != Status::Done {
+        let reason = match status {
+            Status::WriteFault => sink.reason(),
+            _ => unread,
+        };
         report(rt, words, name, source.bytes(), status, reason);
     }
     status
