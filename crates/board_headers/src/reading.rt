@@ -136,8 +136,7 @@ fn io_upper(bytes: &[u8; 64], offset: usize) -> u16
     }
 }
 
-/// The window from a base to a limit, and none where the limit lies below the base: such a window is
-/// closed (PCI-to-PCI Bridge Architecture 1.1, section 3.2.5; section from memory).
+/// The window from a base to a limit; one whose limit lies below its base is closed.
 pub fn window_between(base: u64, limit: u64) -> Option<Window>
     ensures { result ≡ window_between base limit }
 {

@@ -17,7 +17,7 @@ use Rattle.board_statements.specs.declared.statement.Statement.TheVariants.{NewM
 use Rattle.board_roundtrip.specs.lines.Ranges.{OpFits}
 use Rattle.board_roundtrip.proofs.lines.Laws.{master_law, op_law}
 use Rattle.board_parser.specs.declared.draft.draft.Draft.{Draft}
-use Rattle.board_parser.specs.declared.draft.draft.Owner.TheVariants.{OfMaster}
+use Rattle.board_parser.specs.declared.draft.draft.AgentPlace.TheVariants.{OfMaster}
 use Rattle.board_parser.specs.draft.Steps.{◌>>=◌}
 use Rattle.board_parser.specs.draft.Drafts.{board_of}
 use Rattle.board_parser.specs.draft.Targets.{agent_fault, unless}

@@ -13,7 +13,7 @@ use Rattle.board_statements.specs.declared.statement.Statement.TheVariants.{NewT
 use Rattle.board_roundtrip.proofs.lines.TargetTexts.{first_may, second_may}
 use Rattle.board_roundtrip.proofs.lines.Laws.{target_law}
 use Rattle.board_parser.specs.declared.draft.draft.Draft.{Draft}
-use Rattle.board_parser.specs.declared.draft.draft.Owner.TheVariants.{OfTarget}
+use Rattle.board_parser.specs.declared.draft.draft.AgentPlace.TheVariants.{OfTarget}
 use Rattle.board_parser.specs.draft.Drafts.{board_of}
 use Rattle.board_parser.specs.draft.Targets.{is_name_used, agent_fault, unless, new_target, add_target}
 use Rattle.board_roundtrip.specs.lines.Fits.{DetailsFit}

@@ -2,8 +2,8 @@ ghost use Rattle.std.specs.Prelude.{false};
 ghost use Rattle.board_statements.specs.Words.{Gives, choice, give};
 ghost use Rattle.board_statements.specs.Bridges.{window, base_limit, depth, abort_mode, bridge_options, bridge_form, header_form};
 
-use crate::words::Words;
 use crate::Statement;
+use crate::words::Words;
 use board_model::{Bridge, Window};
 use text_faults::LineFault;
 

@@ -8,7 +8,6 @@ use Rattle.board_text.specs.declared.numbers.NumberFault.TheVariants.{TooWide, N
 use Rattle.text_faults.specs.declared.board_line.LineFault.{LineFault}
 use Rattle.text_faults.specs.declared.board_line.LineFault.TheVariants.{TooWide as TooManyDigits, IllFormed}
 
-
 -- one digit of the base or more, and nothing else
 abbrev pub is_numeral : ℕ → List ℕ → Bool
 is_numeral radix token = nat_lt 0 (length token) && list_all (λ byte. is_digit byte radix) token

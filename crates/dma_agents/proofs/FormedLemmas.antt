@@ -26,7 +26,7 @@ use Rattle.dma_agents.specs.declared.line.Flag.{Flag}
 use Rattle.dma_agents.specs.declared.line.Waiting.{Waiting}
 use Rattle.dma_agents.specs.declared.line.DeviceLine.{DeviceLine}
 use Rattle.dma_agents.specs.declared.line.DeviceLine.TheVariants.{Device, Handler, Puts, Gets, Sends, Looks, Waits, Writes}
-use Rattle.dma_agents.specs.declared.line.Owner.TheVariants.{Nobody}
+use Rattle.dma_agents.specs.declared.line.DeviceOwner.TheVariants.{Nobody}
 use Rattle.dma_agents.specs.declared.making.Making.{Making}
 use Rattle.dma_agents.specs.DeviceLines.{name_in, flag_form, device_form, handler_form, seeded, put_form, get_form, look_form, sent, send_form, wait_form, word_form, form_behind, device_line}
 use Rattle.dma_agents.specs.Adding.{line_added}

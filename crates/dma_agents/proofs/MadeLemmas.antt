@@ -19,7 +19,7 @@ use Rattle.dma_agents.specs.declared.fault.MakeFault.{MakeFault}
 use Rattle.dma_agents.specs.declared.making.Making.{Making}
 use Rattle.dma_agents.specs.declared.fault.MakeFault.TheVariants.{Device as OfLine}
 use Rattle.text_faults.specs.declared.device.DeviceFault.TheVariants.{Misshapen}
-use Rattle.dma_agents.specs.declared.line.Owner.TheVariants.{Nobody}
+use Rattle.dma_agents.specs.declared.line.DeviceOwner.TheVariants.{Nobody}
 use Rattle.dma_agents.specs.declared.line.Waiting.{Waiting}
 use Rattle.dma_agents.specs.Made.{unclear, Made, by_flags, by_lines, by_board, until_devices, by_parts, is_line, by_first, made_read}
 use Rattle.dma_agents.proofs.StepLemmas.{OnMaking, all_keep}
@@ -91,7 +91,7 @@ stands_at board o op is =
     ]) refl is
 
 pub made_clear : (text : List ℕ) (made : Made) (p : OpId) (address value tries : ℕ) → made_read text ≡ Ok made → made.first ≤ p.master
-  → op_of made.board p ≡ Some (Poll Mem address 0xffff_ffff value tries) → is_clear made.board address value ≡ true
+    → op_of made.board p ≡ Some (Poll Mem address 0xffff_ffff value tries) → is_clear made.board address value ≡ true
 made_clear text made p address value tries is least awaits =
     let board : Board = made.board in
     let op : Op = Poll Mem address 0xffff_ffff value tries in

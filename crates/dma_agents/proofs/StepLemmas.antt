@@ -15,7 +15,7 @@ use Rattle.text_faults.specs.declared.device.DeviceFault.TheVariants.{Misshapen,
 use Rattle.dma_agents.specs.declared.fault.MakeFault.{MakeFault}
 use Rattle.dma_agents.specs.declared.line.DeviceLine.{DeviceLine}
 use Rattle.dma_agents.specs.declared.line.DeviceLine.TheVariants.{Device, Handler, Puts, Gets, Sends, Looks, Waits, Writes}
-use Rattle.dma_agents.specs.declared.line.Owner.{Owner}
+use Rattle.dma_agents.specs.declared.line.DeviceOwner.{DeviceOwner}
 use Rattle.dma_agents.specs.declared.making.Making.{Making}
 use Rattle.dma_agents.specs.Put.{cut}
 use Rattle.dma_agents.specs.DeviceLines.{device_line}
@@ -85,7 +85,7 @@ added_keeps P may keeps draft (Looks address) allowed holds = one_keeps P may ke
 added_keeps P may keeps draft (Waits flag) allowed holds = one_keeps P may keeps draft (poll_of flag) allowed holds
 added_keeps P may keeps draft (Writes address value) allowed holds = one_keeps P may keeps draft (write_of address value) allowed holds
 
-pub line_keeps : (P : Draft → Type 0) (may : Op → Bool) → Keeps P may → (owner : Owner) (draft : Draft) (line : DeviceLine) → line_may may line ≡ true → P draft → OnDraft P (line_added owner draft line)
+pub line_keeps : (P : Draft → Type 0) (may : Op → Bool) → Keeps P may → (owner : DeviceOwner) (draft : Draft) (line : DeviceLine) → line_may may line ≡ true → P draft → OnDraft P (line_added owner draft line)
 line_keeps P may keeps owner draft line allowed holds =
     let Q : Bool → Type 0 = λ b. OnDraft P (cond b (Err Misplaced) (added draft line)) in
     let placed : Q (not (is_placed line)) = elim (not (is_placed line)) as Q [ true ↦ tt | false ↦ added_keeps P may keeps draft line allowed holds ] in

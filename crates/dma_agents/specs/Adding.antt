@@ -16,14 +16,14 @@ use Rattle.text_faults.specs.declared.device.DeviceFault.TheVariants.{Misshapen,
 use Rattle.dma_agents.specs.declared.line.Flag.{Flag}
 use Rattle.dma_agents.specs.declared.line.DeviceLine.{DeviceLine}
 use Rattle.dma_agents.specs.declared.line.DeviceLine.TheVariants.{Device, Handler, Puts, Gets, Sends, Looks, Waits, Writes}
-use Rattle.dma_agents.specs.declared.line.Owner.{Owner}
-use Rattle.dma_agents.specs.declared.line.Owner.TheVariants.{Nobody, Device as OfDevice, Handler as OfHandler}
+use Rattle.dma_agents.specs.declared.line.DeviceOwner.{DeviceOwner}
+use Rattle.dma_agents.specs.declared.line.DeviceOwner.TheVariants.{Nobody, Device as OfDevice, Handler as OfHandler}
 use Rattle.dma_agents.specs.declared.add.LineError.{LineError}
 use Rattle.dma_agents.specs.declared.add.LineError.TheVariants.{Fault, NoMemory}
 use Rattle.dma_agents.specs.Put.{cut}
 
 -- a line of operations stands behind its device or handler
-abbrev pub stands : Owner → DeviceLine → Bool
+abbrev pub stands : DeviceOwner → DeviceLine → Bool
 stands owner (Device name target bell) = true
 stands owner (Handler name bus wait) = true
 stands Nobody (Puts put) = false
@@ -120,7 +120,7 @@ added draft (Waits flag) = add_one draft (poll_of flag)
 added draft (Writes address value) = add_one draft (write_of address value)
 
 -- the board behind a line, or the first fault of the line
-abbrev pub line_added : Owner → Draft → DeviceLine → Result Draft DeviceFault
+abbrev pub line_added : DeviceOwner → Draft → DeviceLine → Result Draft DeviceFault
 line_added owner draft line =
     if not (stands owner line) then Err Misshapen
     else if not (is_placed line) then Err Misplaced

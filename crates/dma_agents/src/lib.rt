@@ -21,7 +21,7 @@ pub use laws::{
     made_boards_are_well_formed, made_flags_are_clear, put_is_written_once, worked, worked_devices,
 };
 pub use line::Flag;
-pub(crate) use line::{DeviceLine, Owner, Waiting};
+pub(crate) use line::{DeviceLine, DeviceOwner, Waiting};
 pub use messages::message;
 pub use parts::begins_devices;
 pub(crate) use put::{Put, cut};

@@ -12,7 +12,7 @@ use crate::laws::made_boards_are_well_formed;
 use crate::making::{Making, lines_read, misshapen};
 use crate::parts::{behind_first_line, find_devices};
 use crate::unclear::why_unclear;
-use crate::{Flag, MakeFault, Owner, Waiting};
+use crate::{DeviceOwner, Flag, MakeFault, Waiting};
 use board_model::Board;
 use board_parser::{ParseFault, Sheet, parse_sheet};
 use pci_command::List;
@@ -45,7 +45,7 @@ fn read_made(alloc: Global, bytes: &[u8]) -> Result<Board, MakeFault>
     let first = sheet.master_count();
     let making = Making {
         sheet,
-        owner: Owner::Nobody,
+        owner: DeviceOwner::Nobody,
         waits: List::from_vec(Vec::new(alloc)),
     };
     let making = lines_read(alloc, making, bytes, found.behind, found.number)?;

@@ -46,9 +46,8 @@ fn serve<R: Threads + Sync>(rt: &HostRuntime, threads: &R, words: &[String]) -> 
         asked => match tell(rt, asked) {
             Ok(()) => Status::Done,
             Err(error) => {
-                let status = Status::WriteFault;
-                report(rt, words, "", b"", status, Some(error.kind()));
-                status
+                report(rt, words, "", b"", Status::WriteFault, Some(error.kind()));
+                Status::WriteFault
             }
         },
     }
@@ -70,14 +69,11 @@ fn run<R: Threads + Sync>(rt: &HostRuntime, threads: &R, words: &[String]) -> St
     else {
         return status_only(rt, Status::NoMemory);
     };
-    let unread = reason.or(port.reason());
+    let reason = reason.or(port.reason());
     let mut sink = WritePort::new(rt.stdout());
     let status = pcitree(threads, rt.alloc(), words, &mut source, &mut sink, &NoGate);
     if status != Status::Done {
-        let reason = match status {
-            Status::WriteFault => sink.reason(),
-            _ => unread,
-        };
+        let reason = reason.or(sink.reason());
         report(rt, words, name, source.bytes(), status, reason);
     }
     status

@@ -6,7 +6,6 @@ use Rattle.text_faults.specs.declared.board_line.LineFault.{LineFault}
 use Rattle.text_faults.specs.declared.board_line.LineFault.TheVariants.{BadByte, TooWide, TooLong, NoFirstLine, WrongWord, Missing, TooMany, IllFormed, Unaligned, NameUsed, NoOwner, PastItsBlock, BusUsed, OverLimit, PastItsSpace, NotTypeOne, NotServed, NoBridgeNumbers, WideWindow}
 
 -- L of the line, P of its words and its statement, H of a header
--- the letter of a fault: of the text, of a line or what it adds, of a header
 abbrev pub family_of : LineFault → Family
 family_of BadByte = L
 family_of TooWide = L
@@ -29,7 +28,6 @@ family_of NoBridgeNumbers = H
 family_of WideWindow = H
 
 -- each letter counts from 1 on
--- its number in its family
 abbrev pub code_of : LineFault → ℕ
 code_of BadByte = 1
 code_of TooWide = 2

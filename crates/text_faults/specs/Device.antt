@@ -4,7 +4,6 @@ use Rattle.text_faults.specs.declared.device.DeviceFault.{DeviceFault}
 use Rattle.text_faults.specs.declared.device.DeviceFault.TheVariants.{Misshapen, Misplaced, NameUsed, NotThere, OverLimit, NotClear}
 
 -- Q1 to Q6
--- its number
 abbrev pub code_of : DeviceFault → ℕ
 code_of Misshapen = 1
 code_of Misplaced = 2

@@ -4,7 +4,6 @@ use Rattle.text_faults.specs.declared.lspci.LspciFault.{LspciFault}
 use Rattle.text_faults.specs.declared.lspci.LspciFault.TheVariants.{NoSlot, Repeated, NoRow, HighDevice, NoBoard}
 
 -- I1 to I5
--- its number
 abbrev pub code_of : LspciFault → ℕ
 code_of NoSlot = 1
 code_of Repeated = 2

@@ -2,8 +2,8 @@ ghost use Rattle.std.specs.Prelude.{◌+◌, ◌-◌, ◌<◌, ◌≤◌, ◌^�
 ghost use Rattle.board_text.specs.Lines.{lines_of};
 ghost use Rattle.trace_reader.specs.Traces.{nothing_behind, at_end, events_read, Tells};
 
-use crate::lines::{Names, TraceLine, read_line};
 use crate::TraceFault;
+use crate::lines::{Names, TraceLine, read_line};
 use board_model::Board;
 use board_text::next_line;
 use history_model::Event;

@@ -7,7 +7,7 @@ ghost use Rattle.board_parser.specs.draft.Masters.{add_master, is_aligned, passe
 
 use crate::draft::add::close;
 use crate::draft::lists::{empty, push};
-use crate::draft::{AddFault, Draft, Owner};
+use crate::draft::{AddFault, AgentPlace, Draft};
 use board_model::{Master, Name, Op, tries_of};
 use std::alloc::Global;
 use text_faults::LineFault;
@@ -27,7 +27,7 @@ pub(crate) fn add_master(
     if let Some(fault) = fault {
         return Err(AddFault::Fault(fault));
     }
-    draft.owner = Owner::OfMaster(Master {
+    draft.owner = AgentPlace::OfMaster(Master {
         name,
         bus,
         ops: empty(alloc),
