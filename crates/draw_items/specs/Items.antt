@@ -266,3 +266,11 @@ item_of n lanes = option_and_then (λ touched. option_and_then (λ number. slice
 
 abbrev pub taken_by : ℕ → Lanes → Option Item
 taken_by n lanes = option_and_then (λ touched. option_and_then (λ number. slice_get lanes.items number) touched.taken) (slice_get lanes.touched (n - 1))
+
+-- the item that an event names which did not happen: what would arrive next on its lane, or what its lane presents
+abbrev pub named_number : Event → Lanes → Option ℕ
+named_number (Act on by o step place) lanes = presented by o lanes
+named_number (Arrive lane mark) lanes = oldest (is_in_flight lane) lanes
+
+abbrev pub named_by : Event → Lanes → Option Item
+named_by e lanes = option_and_then (λ number. slice_get lanes.items number) (named_number e lanes)

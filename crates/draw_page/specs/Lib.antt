@@ -1,3 +1,4 @@
+pub mod Closes
 pub mod Tops
 pub mod Pages
 pub mod layers

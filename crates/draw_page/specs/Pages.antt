@@ -1,5 +1,5 @@
 -- The page of a picture.
-use Rattle.std.specs.Prelude.{ℕ, ◌+◌, ◌*◌, min, List, ◌++◌, length, codes}
+use Rattle.std.specs.Prelude.{ℕ, ◌+◌, ◌-◌, ◌*◌, min, List, ◌++◌, length, codes}
 use Rattle.board_model.specs.declared.board.Board.{Board}
 use Rattle.history_model.specs.declared.event.Event.{Event}
 use Rattle.history_model.specs.Runs.{history_of}
@@ -17,7 +17,9 @@ use Rattle.draw_shapes.specs.Shapes.{Shape}
 use Rattle.draw_page.specs.layers.Rows.{rows_of}
 use Rattle.draw_page.specs.layers.Layers.{layers}
 use Rattle.draw_sheets.specs.heads.Names.{names_text}
-use Rattle.draw_page.specs.Tops.{title_text, top_text, told_text}
+use Rattle.draw_page.specs.declared.close.Close.{Close}
+use Rattle.draw_page.specs.Closes.{allowed_in}
+use Rattle.draw_page.specs.Tops.{title_text, close_line, top_text, told_text}
 use Rattle.draw_strips.specs.Strips.{strips_text}
 
 -- the columns with their names, and the strips
@@ -30,11 +32,18 @@ names_part board layout = table_open ++ (names_text board layout ++ codes "\n<tb
 unfoldable pub table_text : Board → Layout → Frame → List Shape → List ℕ
 table_text board layout frame shapes = names_part board layout ++ (strips_text layout frame shapes ++ codes "</table>\n")
 
-unfoldable pub page_with : Board → ℕ → Layout → Frame → List Finding → List Span → List Shape → List ℕ
-page_with board count layout frame found spans shapes =
-    top_text (title_text count (length board.bridges + 1) frame.first frame.last) ++ (told_text board found spans ++ table_text board layout frame shapes)
+-- the number of the last event: the row behind it is the end
+abbrev pub count_in : Frame → ℕ
+count_in frame = frame.end - 1
 
--- of the events of a run those from one number to another are drawn
+abbrev pub title_in : Board → Frame → Close → List ℕ
+title_in board frame close = title_text (count_in frame) (length board.bridges + 1) frame.first frame.last close
+
+unfoldable pub page_with : Board → Close → Layout → Frame → List Finding → List Span → List Shape → List ℕ
+page_with board close layout frame found spans shapes =
+    top_text (title_in board frame close) (close_line (count_in frame) close) ++ (told_text board found spans ++ table_text board layout frame shapes)
+
+-- of a run and what is behind it those from one number to another are drawn
 abbrev pub brackets_end : Board → List Event → Frame → ℕ
 brackets_end board events frame = frame.told_x + (10 * length (brackets_of (spans_of board events)).ends + 10)
 
@@ -45,19 +54,20 @@ unfoldable pub shapes_in : Board → List Event → Layout → Frame → List Ro
 shapes_in board events layout frame rows =
     layers board events layout frame rows (traffic_of events).items (waits_of events) (spans_of board events) (brackets_of (spans_of board events)).tracks
 
-abbrev pub page_on : Board → List Event → Layout → Frame → List Row → List ℕ
-page_on board events layout frame rows =
-    page_with board (length events) layout frame (findings board (history_of events)) (spans_of board events) (shapes_in board events layout frame rows)
+abbrev pub page_on : Board → List Event → Close → Layout → Frame → List Row → List ℕ
+page_on board events close layout frame rows =
+    page_with board close layout frame (findings board (history_of events)) (spans_of board events) (shapes_in board events layout frame rows)
 
-unfoldable pub page_in : Board → List Event → Frame → List Row → List ℕ
-page_in board events frame rows = page_on board events (layout_in board events frame) frame rows
+unfoldable pub page_in : Board → List Event → Close → Frame → List Row → List ℕ
+page_in board events close frame rows = page_on board events close (layout_in board events frame) frame rows
 
-abbrev pub page_of_rows : Board → List Event → ℕ → ℕ → List Row → List ℕ
-page_of_rows board events first last rows = page_in board events (frame_of (length events) first last rows) rows
+abbrev pub page_of_rows : Board → List Event → List Event → Close → ℕ → ℕ → List Row → List ℕ
+page_of_rows board allowed events close first last rows = page_in board allowed close (frame_of (length events) first last rows) rows
 
-unfoldable pub page_from : Board → List Event → ℕ → ℕ → List ℕ
-page_from board events first last = page_of_rows board events first last (rows_of board events (traffic_of events) first last)
+unfoldable pub page_from : Board → List Event → List Event → Close → ℕ → ℕ → List ℕ
+page_from board allowed events close first last =
+    page_of_rows board allowed events close first last (rows_of board allowed (traffic_of allowed) events first last)
 
--- the page; a LAST above the number of events is lowered to it
-unfoldable pub page_of : Board → List Event → ℕ → ℕ → List ℕ
-page_of board events first last = page_from board events first (min last (length events))
+-- the page of these events, which end so; a LAST above their number is lowered to it
+unfoldable pub page_of : Board → List Event → Close → ℕ → ℕ → List ℕ
+page_of board events close first last = page_from board (allowed_in close events) events close first (min last (length events))

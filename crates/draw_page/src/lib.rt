@@ -1,9 +1,11 @@
 //! The page of a picture of a run, in HTML with inline SVG.
 #![tactic(auto)]
 
+mod close;
 mod layers;
 mod page;
 mod style;
 mod top;
 
+pub use close::{Close, allowed_in};
 pub use page::page_of;

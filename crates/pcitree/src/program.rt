@@ -50,7 +50,7 @@ pub fn pcitree<R: Threads + Sync, S: Source, K: Sink, G: Gate + Sync>(
     ensures write_fault { result ≡ Status.WriteFault
         → Rose (K.faults sink.old) (K.faults sink.new) }
 
-    // What the sink has: the whole text with `Done`, and with `NotSafe` of `safe`.
+    // What the sink has: the whole text with `Done`, with `NotSafe` of `safe` and `DrawnTo` of `draw`.
     ensures unwritten { IsBeforeWriting result → sink.new ≡ sink.old }
     ensures front { result ≡ Status.WriteFault → IfSome (form_of (map string_bytes words.now)) (λ form.
         StopsInText form (map string_bytes words.now) (given form (map string_bytes words.now) (S.held source.old)) (left form (map string_bytes words.now) (S.held source.new))

@@ -3,6 +3,7 @@ use board_statements::LineFault;
 use history_model::Why;
 use import_text::LspciFault;
 use program_status::{BoardFault, Status};
+use run_reasons::sentence_of;
 use std::fmt;
 use text_faults::DeviceFault;
 use trace_reader::TraceLineFault;
@@ -38,7 +39,7 @@ impl Fault {
             }),
             Status::BadTrace { fault, .. } => Some(Fault::Trace(*fault)),
             Status::BadMachine { fault, .. } => Some(Fault::Machine(*fault)),
-            Status::NotRun { why, .. } => Some(Fault::Cause(*why)),
+            Status::NotRun { why, .. } | Status::DrawnTo { why, .. } => Some(Fault::Cause(*why)),
             _ => None,
         }
     }
@@ -73,15 +74,5 @@ impl fmt::Display for Code {
             Fault::Machine(fault) => write!(f, "I{}", fault.code()),
             Fault::Cause(why) => write!(f, "{why}"),
         }
-    }
-}
-
-fn sentence_of(why: Why) -> &'static str {
-    match why {
-        Why::NotPresented => "its initiator does not present that operation on that bus now",
-        Why::AnsweredOtherwise => "the operation is answered by another event",
-        Why::GetsRetry => "the operation is answered with Retry",
-        Why::NothingInFlight => "nothing is in flight on the lane",
-        Why::MarkedOtherwise => "the board marks this arrival otherwise",
     }
 }
