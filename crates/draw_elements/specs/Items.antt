@@ -53,6 +53,13 @@ rim_down first route = if nat_lt route.came route.left then 86 ∷ y first route
 abbrev pub item_rim : ℕ → Route → List ℕ
 item_rim first route = codes "<path class=\"g\" d=\"" ++ (route_text first route ++ (rim_down first route ++ codes "\"/>\n"))
 
+-- the rim of what an event that is not allowed stands behind: down along the bar and up again, so that it has no inside
+abbrev pub down_and_up : ℕ → Route → List ℕ
+down_and_up first route = 86 ∷ (y first route.left ++ 86 ∷ y first route.came)
+
+unfoldable pub ahead_rim : ℕ → Route → List ℕ
+ahead_rim first route = codes "<path class=\"z\" d=\"" ++ (route_text first route ++ (down_and_up first route ++ codes "\"/>\n"))
+
 -- the title: what it is, its operation and lane, and its events
 abbrev pub came_text : Item → List ℕ
 came_text item = if nat_lt 0 item.came then codes ", arrived " ++ decimal item.came else []

@@ -274,3 +274,7 @@ named_number (Arrive lane mark) lanes = oldest (is_in_flight lane) lanes
 
 abbrev pub named_by : Event → Lanes → Option Item
 named_by e lanes = option_and_then (λ number. slice_get lanes.items number) (named_number e lanes)
+
+-- the completion of the operation that stands where it would be taken at this place
+abbrev pub completion_at : OpId → Place → Lanes → Option Item
+completion_at o place lanes = option_and_then (λ number. slice_get lanes.items number) (taken_at o place lanes)

@@ -1,9 +1,10 @@
 -- The page of a picture.
-use Rattle.std.specs.Prelude.{ℕ, ◌+◌, ◌-◌, ◌*◌, min, List, ◌++◌, length, codes}
+use Rattle.std.specs.Prelude.{ℕ, ◌+◌, ◌-◌, ◌*◌, min, List, ◌++◌, length, codes, Option}
 use Rattle.board_model.specs.declared.board.Board.{Board}
 use Rattle.history_model.specs.declared.event.Event.{Event}
 use Rattle.history_model.specs.Runs.{history_of}
 use Rattle.law_audit.specs.Audit.{Finding, findings}
+use Rattle.draw_items.specs.declared.item.Item.{Item}
 use Rattle.draw_items.specs.Items.{traffic_of}
 use Rattle.draw_items.specs.Waits.{waits_of}
 use Rattle.draw_told.specs.declared.told.Span.{Span}
@@ -15,6 +16,7 @@ use Rattle.draw_sheets.specs.declared.frame.Frame.{Frame}
 use Rattle.draw_sheets.specs.Frames.{frame_of}
 use Rattle.draw_shapes.specs.Shapes.{Shape}
 use Rattle.draw_page.specs.layers.Rows.{rows_of}
+use Rattle.draw_page.specs.layers.Ahead.{ahead_in}
 use Rattle.draw_page.specs.layers.Layers.{layers}
 use Rattle.draw_sheets.specs.heads.Names.{names_text}
 use Rattle.draw_page.specs.declared.close.Close.{Close}
@@ -50,19 +52,20 @@ brackets_end board events frame = frame.told_x + (10 * length (brackets_of (span
 unfoldable pub layout_in : Board → List Event → Frame → Layout
 layout_in board events frame = layout_of board (traffic_of events).items (brackets_end board events frame)
 
-unfoldable pub shapes_in : Board → List Event → Layout → Frame → List Row → List Shape
-shapes_in board events layout frame rows =
-    layers board events layout frame rows (traffic_of events).items (waits_of events) (spans_of board events) (brackets_of (spans_of board events)).tracks
+unfoldable pub shapes_in : Board → List Event → Layout → Frame → List Row → Option Item → List Shape
+shapes_in board events layout frame rows ahead =
+    layers board events layout frame rows (traffic_of events).items ahead (waits_of events) (spans_of board events) (brackets_of (spans_of board events)).tracks
 
-abbrev pub page_on : Board → List Event → Close → Layout → Frame → List Row → List ℕ
-page_on board events close layout frame rows =
-    page_with board close layout frame (findings board (history_of events)) (spans_of board events) (shapes_in board events layout frame rows)
+abbrev pub page_on : Board → List Event → Close → Layout → Frame → List Row → Option Item → List ℕ
+page_on board events close layout frame rows ahead =
+    page_with board close layout frame (findings board (history_of events)) (spans_of board events) (shapes_in board events layout frame rows ahead)
 
-unfoldable pub page_in : Board → List Event → Close → Frame → List Row → List ℕ
-page_in board events close frame rows = page_on board events close (layout_in board events frame) frame rows
+unfoldable pub page_in : Board → List Event → Close → Frame → List Row → Option Item → List ℕ
+page_in board events close frame rows ahead = page_on board events close (layout_in board events frame) frame rows ahead
 
 abbrev pub page_of_rows : Board → List Event → List Event → Close → ℕ → ℕ → List Row → List ℕ
-page_of_rows board allowed events close first last rows = page_in board allowed close (frame_of (length events) first last rows) rows
+page_of_rows board allowed events close first last rows =
+    page_in board allowed close (frame_of (length events) first last rows) rows (ahead_in board (traffic_of allowed) close events)
 
 unfoldable pub page_from : Board → List Event → List Event → Close → ℕ → ℕ → List ℕ
 page_from board allowed events close first last =

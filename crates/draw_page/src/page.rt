@@ -8,12 +8,12 @@ ghost use Rattle.draw_page.specs.Closes.{allowed_in};
 ghost use Rattle.draw_page.specs.Pages.{table_open, names_part, table_text, page_with, page_in, page_from, page_of};
 
 use crate::close::{Close, allowed_in};
-use crate::layers::{layers_of, rows_of};
+use crate::layers::{ahead_in, layers_of, rows_of};
 use crate::top::{Title, print_told, print_top};
 use board_model::Board;
 use board_tree::Tree;
 use draw_elements::{Columns, columns_of, most_of, product, sum};
-use draw_items::{Traffic, Tries, traffic_of, tries_of, waits_of};
+use draw_items::{Item, Traffic, Tries, traffic_of, tries_of, waits_of};
 use draw_shapes::Element;
 use draw_sheets::{Frame, Row, frame_of, print_names};
 use draw_strips::print_strips;
@@ -64,7 +64,8 @@ fn page_from(
     let rows = rows_of(alloc, board, allowed, &traffic, &tries, told, events, first, last)?;
     let rows = rows.as_slice();
     let frame = frame_of(alloc, events.len() as u32, first, last, rows)?;
-    page_in(alloc, board, allowed, close, told, &traffic, &tries, &frame, rows)
+    let ahead = ahead_in(board, &traffic, close, events);
+    page_in(alloc, board, allowed, close, told, &traffic, &tries, &frame, rows, ahead)
 }
 
 #[tactic(auto, unfolding(crate::specs::Pages::page_in, crate::specs::Pages::layout_in, crate::specs::Pages::shapes_in))]
@@ -78,12 +79,13 @@ fn page_in(
     tries: &Tries,
     frame: &Frame,
     rows: &[Row],
+    ahead: Option<Item>,
 ) -> Result<List<u8>, NoMemory>
     requires few { length events.now < 2 ^ 31 }
     requires told { TellsTold board.now events.now told.now }
     requires traffic { traffic.now ≡ traffic_of events.now }
     requires tries { TellsTries events.now tries.now }
-    ensures { IfOk result (λ page. page ≡ page_in board.now events.now close frame.now rows.now) }
+    ensures { IfOk result (λ page. page ≡ page_in board.now events.now close frame.now rows.now ahead) }
 {
     let brackets = brackets_of(alloc, told.spans())?;
     let columns = columns_in(alloc, board, traffic, &brackets, frame)?;
@@ -95,6 +97,7 @@ fn page_in(
         frame,
         rows,
         traffic.items(),
+        ahead,
         waits.as_slice(),
         tries,
         told,

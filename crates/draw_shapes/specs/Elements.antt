@@ -13,7 +13,7 @@ use Rattle.draw_elements.specs.declared.columns.line.Line.TheVariants as lines
 use Rattle.draw_elements.specs.columns.Places.{Layout, place_of}
 use Rattle.draw_elements.specs.declared.acts.Act.{Act as Ends}
 use Rattle.draw_elements.specs.declared.items.Route.{Route}
-use Rattle.draw_elements.specs.Items.{route_of, item_text, item_rim}
+use Rattle.draw_elements.specs.Items.{route_of, item_text, item_rim, ahead_rim}
 use Rattle.draw_elements.specs.Acts.{act_of, act_text, act_rim, refused_place, refused_text}
 use Rattle.draw_sheets.specs.declared.row.Row.{Row}
 use Rattle.draw_sheets.specs.declared.frame.Frame.{Frame}
@@ -79,6 +79,15 @@ act_rims_of layout frame row (Arrive lane mark) = []
 
 unfoldable pub act_rims : Layout → Frame → Row → List Shape
 act_rims layout frame row = act_rims_of layout frame row row.event
+
+-- and of what an event that is not allowed stands behind
+
+abbrev pub ahead_route : Frame → Route → List Shape
+ahead_route frame route = seen frame route.sent route.left (ahead_rim frame.first route)
+
+unfoldable pub ahead_rims : Layout → Frame → Option Item → List Shape
+ahead_rims layout frame None = []
+ahead_rims layout frame (Some item) = ahead_route frame (route_of layout frame.end item)
 
 -- Layer 3: masters that wait.
 
