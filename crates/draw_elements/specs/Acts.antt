@@ -47,12 +47,14 @@ end_at layout lane taken Stall = face_place (lane_back lane) layout
 end_at layout lane taken MasterAbort = face_place (lane_back lane) layout
 end_at layout lane taken TargetAbort = face_place (lane_back lane) layout
 
+-- the same by what claims it; 0 for nobody
 abbrev pub end_of : Layout → Step → Place → Option Item → ℕ
 end_of layout step (Target target) taken = place_of (lines.Target target) layout
 end_of layout step (Header bus) taken = face_place (record { bus = bus; up = true }) layout
 end_of layout step (Lane lane) taken = end_at layout lane taken step
 end_of layout step Nobody taken = 0
 
+-- where an act begins and ends
 abbrev pub act_of : Layout → By → OpId → Step → Place → Option Item → Option Item → Act
 act_of layout by o step place item taken = record { begin = begin_of layout by o item; end = end_of layout step place taken }
 
@@ -65,6 +67,7 @@ head_text first n x right =
 abbrev pub line_path : ℕ → ℕ → Act → List ℕ
 line_path first n act = 77 ∷ (decimal act.begin ++ (32 ∷ (y first n ++ (72 ∷ decimal act.end))))
 
+-- the line of an act
 unfoldable pub line_element : ℕ → ℕ → Act → List ℕ
 line_element first n act = codes "<path d=\"" ++ (line_path first n act ++ codes "\"/>")
 
@@ -85,6 +88,7 @@ abbrev pub aside : Layout → By → List ℕ
 aside layout Master = codes "12"
 aside layout (ByLane lane) = if is_left lane layout then codes "12" else codes "-12"
 
+-- that line, which is short, with a cross at its end
 abbrev pub nobody_element : Layout → ℕ → ℕ → By → Act → List ℕ
 nobody_element layout first n by act =
     codes "<path d=\"M" ++ (decimal act.begin ++ (32 ∷ (y first n ++ (104 ∷ (aside layout by ++ codes "m-4 -4l8 8m0 -8l-8 8\"/>")))))
@@ -94,6 +98,7 @@ abbrev pub writes_memory : Option Request → Bool
 writes_memory None = false
 writes_memory (Some request) = same_command request.command MemWrite
 
+-- the class of an act: posted, asked, done, or in vain
 abbrev pub act_class : Option Request → Step → List ℕ
 act_class request Land = if writes_memory request then codes "p" else codes "a"
 act_class request (Part phases) = codes "p"
@@ -105,6 +110,7 @@ act_class request Stall = codes "x"
 act_class request MasterAbort = codes "x"
 act_class request TargetAbort = codes "x"
 
+-- what is drawn of an act: its line, and at its end an arrow, a circle or a cross
 abbrev pub act_body : Layout → ℕ → ℕ → By → Act → Step → List ℕ
 act_body layout first n by act Land = round_element first n act 5
 act_body layout first n by act (Part phases) = round_element first n act 3
@@ -116,6 +122,7 @@ act_body layout first n by act Stall = cross_element first n act
 act_body layout first n by act MasterAbort = nobody_element layout first n by act
 act_body layout first n by act TargetAbort = cross_element first n act
 
+-- an act in its row, pale where its try was fruitless
 abbrev pub act_text : Board → Layout → ℕ → ℕ → Bool → ℕ → By → OpId → Step → Act → List ℕ
 act_text board layout first n pale on by o step act =
     codes "<g class=\"" ++ (act_class (request_of board o on) step ++ (faint pale ++ (codes "\">" ++ (act_body layout first n by act step ++ codes "</g>\n"))))
@@ -124,19 +131,21 @@ act_text board layout first n pale on by o step act =
 abbrev pub act_rim : ℕ → ℕ → Act → List ℕ
 act_rim first n act = codes "<path class=\"g\" d=\"" ++ (line_path first n act ++ codes "\"/>\n")
 
--- Where an event that is not allowed has its cross: at the line of the master, at the bar of the item that it names, or at the
--- face of the lane where nothing of it stands.
+-- the bar of an item that a lane presents, or the face of the lane where nothing of the operation stands
 abbrev pub bar_or_face : Layout → BridgeLane → Option Item → ℕ
 bar_or_face layout lane None = face_place lane layout
 bar_or_face layout lane (Some item) = bar_place item.lane item.track layout
 
+-- the line of a master, or that place of a lane
 abbrev pub initiator_place : Layout → By → OpId → Option Item → ℕ
 initiator_place layout Master o item = place_of (lines.Master o.master) layout
 initiator_place layout (ByLane lane) o item = bar_or_face layout lane item
 
+-- where an event that is not allowed has its cross: at its initiator, or at the face where it would arrive
 abbrev pub refused_place : Layout → Option Item → Event → ℕ
 refused_place layout item (ActEvent on by o step place) = initiator_place layout by o item
 refused_place layout item (Arrive lane mark) = face_place lane layout
 
+-- that cross, in the row of this number
 unfoldable pub refused_text : ℕ → ℕ → ℕ → List ℕ
 refused_text first n x = codes "<g class=\"x\"><path d=\"M" ++ (decimal (x - 6) ++ (32 ∷ (height_text first n 2 ++ codes "l12 12m0 -12l-12 12\"/></g>\n")))

@@ -49,6 +49,7 @@ item_note board Completion o = codes "completion " ++ op_word board o
 item_note board Credit o = codes "credit"
 item_note board Gone o = codes "gone " ++ op_word board o
 
+-- the note of what arrives
 abbrev pub arrival_note : Board → Option Item → List ℕ
 arrival_note board None = []
 arrival_note board (Some item) = item_note board item.kind item.op
@@ -64,14 +65,17 @@ abbrev pub phases_note : List Phase → List ℕ
 phases_note [] = []
 phases_note (phase ∷ phases) = phase_text phase ++ (if nat_lt 0 (length phases) then codes " .. " else codes " ")
 
+-- the same of a request: a read writes nothing
 abbrev pub data_note : Request → List ℕ
 data_note request = if is_read request.command then [] else phases_note request.phases
 
+-- what is written, and where
 abbrev pub request_note : Option Request → List ℕ
 request_note None = []
 request_note (Some request) = data_note request ++ (codes "at " ++ space_note (space_of request.command) request.address)
 
 -- The acts that have one: what lands or is read at a target, and what a bridge accepts or latches of a master.
+-- a target takes or gives the data
 abbrev pub reaches : Step → Bool
 reaches Land = true
 reaches (Part phases) = true
@@ -83,6 +87,7 @@ reaches Stall = false
 reaches MasterAbort = false
 reaches TargetAbort = false
 
+-- a bridge takes it over
 abbrev pub enters : Step → Bool
 enters Land = false
 enters (Part phases) = false
@@ -94,16 +99,19 @@ enters Stall = false
 enters MasterAbort = false
 enters TargetAbort = false
 
+-- for the first time: of a master
 abbrev pub is_new : By → Step → Bool
 is_new Master step = enters step
 is_new (ByLane lane) step = false
 
+-- an act that has a note
 abbrev pub tells_request : By → Step → Place → Bool
 tells_request by step (Target target) = reaches step
 tells_request by step (Header bus) = false
 tells_request by step (Lane lane) = is_new by step
 tells_request by step Nobody = false
 
+-- the note of an act
 abbrev pub act_note : Board → ℕ → By → OpId → Step → Place → List ℕ
 act_note board on by o step place = if tells_request by step place then request_note (request_of board o on) else []
 

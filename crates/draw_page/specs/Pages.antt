@@ -28,9 +28,11 @@ use Rattle.draw_strips.specs.Strips.{strips_text}
 unfoldable pub table_open : List ℕ
 table_open = codes "<table>\n<thead><tr><th>"
 
+-- the head of the table: the names of the columns
 unfoldable pub names_part : Board → Layout → List ℕ
 names_part board layout = table_open ++ (names_text board layout ++ codes "\n<tbody>\n")
 
+-- the whole table
 unfoldable pub table_text : Board → Layout → Frame → List Shape → List ℕ
 table_text board layout frame shapes = names_part board layout ++ (strips_text layout frame shapes ++ codes "</table>\n")
 
@@ -38,35 +40,43 @@ table_text board layout frame shapes = names_part board layout ++ (strips_text l
 abbrev pub count_in : Frame → ℕ
 count_in frame = frame.end - 1
 
+-- the title
 abbrev pub title_in : Board → Frame → Close → List ℕ
 title_in board frame close = title_text (count_in frame) (length board.bridges + 1) frame.first frame.last close
 
+-- the page: its top, the lines of the audit, and the table
 unfoldable pub page_with : Board → Close → Layout → Frame → List Finding → List Span → List Shape → List ℕ
 page_with board close layout frame found spans shapes =
     top_text (title_in board frame close) (close_line (count_in frame) close) ++ (told_text board found spans ++ table_text board layout frame shapes)
 
--- of a run and what is behind it those from one number to another are drawn
+-- where the brackets end: the columns begin there
 abbrev pub brackets_end : Board → List Event → Frame → ℕ
 brackets_end board events frame = frame.told_x + (10 * length (brackets_of (spans_of board events)).ends + 10)
 
+-- the columns of a board, as far apart as these events need
 unfoldable pub layout_in : Board → List Event → Frame → Layout
 layout_in board events frame = layout_of board (traffic_of events).items (brackets_end board events frame)
 
+-- all elements of the picture, with what the events tell of items, waits and lines of the audit
 unfoldable pub shapes_in : Board → List Event → Layout → Frame → List Row → Option Item → List Shape
 shapes_in board events layout frame rows ahead =
     layers board events layout frame rows (traffic_of events).items ahead (waits_of events) (spans_of board events) (brackets_of (spans_of board events)).tracks
 
+-- the page of these columns, rows and elements
 abbrev pub page_on : Board → List Event → Close → Layout → Frame → List Row → Option Item → List ℕ
 page_on board events close layout frame rows ahead =
     page_with board close layout frame (findings board (history_of events)) (spans_of board events) (shapes_in board events layout frame rows ahead)
 
+-- the page of this frame
 unfoldable pub page_in : Board → List Event → Close → Frame → List Row → Option Item → List ℕ
 page_in board events close frame rows ahead = page_on board events close (layout_in board events frame) frame rows ahead
 
+-- the page of these rows
 abbrev pub page_of_rows : Board → List Event → List Event → Close → ℕ → ℕ → List Row → List ℕ
 page_of_rows board allowed events close first last rows =
     page_in board allowed close (frame_of (length events) first last rows) rows (ahead_in board (traffic_of allowed) close events)
 
+-- the page from event FIRST to event LAST, which is there
 unfoldable pub page_from : Board → List Event → List Event → Close → ℕ → ℕ → List ℕ
 page_from board allowed events close first last =
     page_of_rows board allowed events close first last (rows_of board allowed (traffic_of allowed) events first last)

@@ -9,13 +9,14 @@ use Rattle.draw_page.specs.declared.close.Close.{Close}
 use Rattle.draw_page.specs.declared.close.Close.TheVariants.{Ended, NotEnded, Refused}
 use Rattle.command_traces.specs.declared.draw.rows.Rows.{Rows}
 
--- The number of the first event that is drawn, of so many: where none is asked for that of all, and of those up to one that is
--- not allowed that of the last 4,096.
+-- the number of the first event that is drawn where no rows are asked for: of all, but of events up to one that is not allowed
+-- the last 4,096
 abbrev pub first_of_all : Close → ℕ → ℕ
 first_of_all Ended count = 1
 first_of_all NotEnded count = 1
 first_of_all (Refused why) count = max (count - 4095) 1
 
+-- the number of the first event that is drawn, of so many
 abbrev pub first_row : Close → Option Rows → ℕ → ℕ
 first_row close None count = first_of_all close count
 first_row close (Some rows) count = rows.first

@@ -22,19 +22,22 @@ use Rattle.draw_items.specs.Items.{Lanes, is_standing, is_completion, named_by, 
 use Rattle.draw_page.specs.declared.close.Close.{Close}
 use Rattle.draw_page.specs.declared.close.Close.TheVariants.{Ended, NotEnded, Refused}
 
--- the item that an event would have to do with: on another bus than that where its lane ends there is none
+-- a lane ends on the bus of the event
 abbrev pub ends_on : Board → ℕ → By → Bool
 ends_on board on Master = false
 ends_on board on (Lane lane) = end_of board lane == on
 
+-- the item that would be presented
 abbrev pub unpresented : Board → Event → Lanes → Option Item
 unpresented board (Act on by o step place) lanes = if ends_on board on by then named_by (Act on by o step place) lanes else None
 unpresented board (Arrive lane mark) lanes = None
 
+-- the completion that would be taken
 abbrev pub retried : Event → Lanes → Option Item
 retried (Act on by o step place) lanes = completion_at o place lanes
 retried (Arrive lane mark) lanes = None
 
+-- the item that waits, where that may be why the event is not allowed
 abbrev pub waiting_in : Board → Why → Event → Lanes → Option Item
 waiting_in board NotPresented e lanes = unpresented board e lanes
 waiting_in board AnsweredOtherwise e lanes = None
@@ -50,6 +53,7 @@ carried_as Completion o = carried.Done o 0 Written
 carried_as Credit o = carried.Room
 carried_as Gone o = carried.Gone 0
 
+-- the same of an item
 abbrev pub carried_of : Item → Carried
 carried_of item = carried_as item.kind item.op
 
@@ -57,6 +61,7 @@ carried_of item = carried_as item.kind item.op
 abbrev pub waits_for : Board → Item → Item → Bool
 waits_for board item older = not (presents board (end_of board item.lane) item.op (carried_of older ∷ carried_of item ∷ []))
 
+-- a posted write
 abbrev pub is_post : Kind → Bool
 is_post Post = true
 is_post Request = false
@@ -77,6 +82,7 @@ abbrev pub first_ahead : Board → List Item → Option Item → Option Item
 first_ahead board items None = None
 first_ahead board items (Some item) = find (is_ahead board item) items
 
+-- the same of what an event would have to do with
 abbrev pub ahead_of_event : Board → Lanes → Why → Option Event → Option Item
 ahead_of_event board lanes why None = None
 ahead_of_event board lanes why (Some e) = first_ahead board lanes.items (waiting_in board why e lanes)

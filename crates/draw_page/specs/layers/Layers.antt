@@ -29,6 +29,7 @@ behind board events layout frame rows items ahead waits =
     ++ (ahead_rims layout frame ahead
     ++ flat_map (λ wait. wait_shapes layout frame (is_pale events wait.op) wait) waits)))
 
+-- layers 4 to 7: items, acts, brackets and the list of events
 unfoldable pub in_front : Board → List Event → Layout → Frame → List Row → List Item → List Span → List (Option ℕ) → List Shape
 in_front board events layout frame rows items spans tracks =
     flat_map (λ item. item_shapes board layout frame (is_pale events item.op) item) items
@@ -36,6 +37,7 @@ in_front board events layout frame rows items spans tracks =
     ++ (flat_map (span_shapes frame) (zip spans tracks)
     ++ flat_map (list_shapes board frame) rows))
 
+-- all seven, in this order
 unfoldable pub layers : Board → List Event → Layout → Frame → List Row → List Item → Option Item → List Wait → List Span → List (Option ℕ) → List Shape
 layers board events layout frame rows items ahead waits spans tracks =
     behind board events layout frame rows items ahead waits ++ in_front board events layout frame rows items spans tracks
