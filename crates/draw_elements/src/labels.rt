@@ -112,7 +112,13 @@ pub fn print_note(
             op,
             step,
             place,
-        } => print_act_note(text, board, bus, by, op, step, place),
+        } => {
+            if tells_request(by, step, place) {
+                print_request_of(text, board, bus, op)
+            } else {
+                Ok(())
+            }
+        }
         Event::Arrive { .. } => print_arriving(text, board, item),
     }
 }
@@ -135,24 +141,6 @@ fn print_item_note(text: &mut String, board: &Board, kind: Kind, op: OpId) -> Re
             print_operation(text, board, &op)
         }
         Kind::Credit => text.push_str("credit"),
-    }
-}
-
-fn print_act_note(
-    text: &mut String,
-    board: &Board,
-    bus: u8,
-    by: By,
-    op: OpId,
-    step: Step,
-    place: Place,
-) -> Result<(), AllocError>
-    ensures { OnOk result (string_bytes text.new ≡ string_bytes text.old ++ act_note board.now bus by op step place) }
-{
-    if tells_request(by, step, place) {
-        print_request_of(text, board, bus, op)
-    } else {
-        Ok(())
     }
 }
 

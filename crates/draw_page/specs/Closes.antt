@@ -8,4 +8,4 @@ use Rattle.draw_page.specs.declared.close.Close.TheVariants.{Ended, NotEnded, Re
 abbrev pub allowed_in : Close → List Event → List Event
 allowed_in Ended events = events
 allowed_in NotEnded events = events
-allowed_in (Refused why) events = take (length events - 1) events
+allowed_in (Refused why sentence) events = take (length events - 1) events

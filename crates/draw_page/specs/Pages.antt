@@ -76,11 +76,15 @@ abbrev pub page_of_rows : Board → List Event → List Event → Close → ℕ 
 page_of_rows board allowed events close first last rows =
     page_in board allowed close (frame_of (length events) first last rows) rows (ahead_in board (traffic_of allowed) close events)
 
--- the page from event FIRST to event LAST, which is there
-unfoldable pub page_from : Board → List Event → List Event → Close → ℕ → ℕ → List ℕ
-page_from board allowed events close first last =
+-- the page from event FIRST to event LAST, which is there, of events of which the first are allowed
+abbrev pub page_after : Board → List Event → List Event → Close → ℕ → ℕ → List ℕ
+page_after board allowed events close first last =
     page_of_rows board allowed events close first last (rows_of board allowed (traffic_of allowed) events first last)
+
+-- the same, by how they end
+unfoldable pub page_from : Board → List Event → Close → ℕ → ℕ → List ℕ
+page_from board events close first last = page_after board (allowed_in close events) events close first last
 
 -- the page of these events, which end so; a LAST above their number is lowered to it
 unfoldable pub page_of : Board → List Event → Close → ℕ → ℕ → List ℕ
-page_of board events close first last = page_from board (allowed_in close events) events close first (min last (length events))
+page_of board events close first last = page_from board events close first (min last (length events))

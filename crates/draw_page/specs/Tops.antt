@@ -8,7 +8,6 @@ use Rattle.history_model.specs.WhyText.{why_text}
 use Rattle.law_audit.specs.Audit.{Finding}
 use Rattle.audit_text.specs.Lines.{finding_words}
 use Rattle.draw_told.specs.declared.told.Span.{Span}
-use Rattle.run_reasons.specs.Sentences.{sentence_of}
 use Rattle.draw_page.specs.declared.close.Close.{Close}
 use Rattle.draw_page.specs.declared.close.Close.TheVariants.{Ended, NotEnded, Refused}
 use Rattle.draw_page.specs.style.Styles.{style, key}
@@ -21,7 +20,7 @@ drawn_words count first last = if first == 1 && last == count then [] else codes
 unfoldable pub close_words : ℕ → Close → List ℕ
 close_words count Ended = []
 close_words count NotEnded = codes ", not ended"
-close_words count (Refused why) = codes ", refused at " ++ decimal count
+close_words count (Refused why sentence) = codes ", refused at " ++ decimal count
 
 -- `events N, buses B`, what is drawn of them, and how they end
 unfoldable pub title_text : ℕ → ℕ → ℕ → ℕ → Close → List ℕ
@@ -29,15 +28,15 @@ title_text count buses first last close =
     codes "events " ++ (decimal count ++ (codes ", buses " ++ (decimal buses ++ (drawn_words count first last ++ close_words count close))))
 
 -- why the last event is not allowed, in a line of its own
-unfoldable pub cause_line : ℕ → Why → List ℕ
-cause_line count why =
-    codes "<p class=\"x\">event " ++ (decimal count ++ (codes " is not allowed: " ++ (why_text why ++ (codes ": " ++ (sentence_of why ++ codes "</p>\n")))))
+unfoldable pub cause_line : ℕ → Why → List ℕ → List ℕ
+cause_line count why sentence =
+    codes "<p class=\"x\">event " ++ (decimal count ++ (codes " is not allowed: " ++ (why_text why ++ (codes ": " ++ (sentence ++ codes "</p>\n")))))
 
 -- that line, where there is such an event
 abbrev pub close_line : ℕ → Close → List ℕ
 close_line count Ended = []
 close_line count NotEnded = []
-close_line count (Refused why) = cause_line count why
+close_line count (Refused why sentence) = cause_line count why sentence.now
 
 -- the begin of the document, up to its title
 unfoldable pub document : List ℕ

@@ -6,4 +6,4 @@ mod rows;
 
 pub use ahead::ahead_in;
 pub use layers::layers_of;
-pub use rows::rows_of;
+pub(crate) use rows::rows_of;

@@ -2,10 +2,11 @@
 #![tactic(auto)]
 
 mod close;
+mod known;
 mod layers;
 mod page;
 mod style;
 mod top;
 
-pub use close::{Close, allowed_in};
+pub use close::Close;
 pub use page::page_of;

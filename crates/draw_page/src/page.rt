@@ -8,12 +8,13 @@ ghost use Rattle.draw_page.specs.Closes.{allowed_in};
 ghost use Rattle.draw_page.specs.Pages.{table_open, names_part, table_text, page_with, page_in, page_from, page_of};
 
 use crate::close::{Close, allowed_in};
+use crate::known::Known;
 use crate::layers::{ahead_in, layers_of, rows_of};
 use crate::top::{Title, print_told, print_top};
 use board_model::Board;
 use board_tree::Tree;
 use draw_elements::{Columns, columns_of, most_of, product, sum};
-use draw_items::{Item, Traffic, Tries, traffic_of, tries_of, waits_of};
+use draw_items::{Item, Traffic, traffic_of, tries_of, waits_of};
 use draw_shapes::Element;
 use draw_sheets::{Frame, Row, frame_of, print_names};
 use draw_strips::print_strips;
@@ -22,8 +23,8 @@ use history_model::Event;
 use pci_command::{List, NoMemory};
 use std::alloc::{AllocError, Global};
 
-/// The page of a run, complete or not, or of one and an event behind it that is not allowed, the oldest first; drawn are the
-/// events from number `first` to number `last`.
+/// The page of a run, complete or not, or of one and an event behind it that is not allowed, the
+/// oldest first; drawn are the events from number `first` to number `last`.
 #[tactic(auto, unfolding(crate::specs::Pages::page_of))]
 pub fn page_of(
     alloc: Global,
@@ -40,14 +41,13 @@ pub fn page_of(
     let allowed = allowed_in(close, events);
     let told = told_of(alloc, tree, allowed)?;
     let last = last.min(events.len() as u32);
-    page_from(alloc, tree.board(), allowed, events, close, &told, first, last)
+    page_from(alloc, tree.board(), events, close, &told, first, last)
 }
 
 #[tactic(auto, unfolding(crate::specs::Pages::page_from))]
 fn page_from(
     alloc: Global,
     board: &Board,
-    allowed: &[Event],
     events: &[Event],
     close: Close,
     told: &Told,
@@ -55,63 +55,67 @@ fn page_from(
     last: u32,
 ) -> Result<List<u8>, NoMemory>
     requires few { length events.now < 2 ^ 31 }
-    requires fewer { length allowed.now < 2 ^ 31 }
-    requires told { TellsTold board.now allowed.now told.now }
-    ensures { IfOk result (λ page. page ≡ page_from board.now allowed.now events.now close first last) }
+    requires told { TellsTold board.now (allowed_in close events.now) told.now }
+    ensures { IfOk result (λ page. page ≡ page_from board.now events.now close first last) }
 {
+    let allowed = allowed_in(close, events);
     let traffic = traffic_of(alloc, allowed)?;
     let tries = tries_of(alloc, allowed)?;
-    let rows = rows_of(alloc, board, allowed, &traffic, &tries, told, events, first, last)?;
+    let known = Known {
+        board,
+        events: allowed,
+        traffic: &traffic,
+        tries: &tries,
+        told,
+    };
+    let rows = rows_of(alloc, &known, events, first, last)?;
     let rows = rows.as_slice();
     let frame = frame_of(alloc, events.len() as u32, first, last, rows)?;
     let ahead = ahead_in(board, &traffic, close, events);
-    page_in(alloc, board, allowed, close, told, &traffic, &tries, &frame, rows, ahead)
+    page_in(alloc, &known, close, &frame, rows, ahead)
 }
 
 #[tactic(auto, unfolding(crate::specs::Pages::page_in, crate::specs::Pages::layout_in, crate::specs::Pages::shapes_in))]
 fn page_in(
     alloc: Global,
-    board: &Board,
-    events: &[Event],
+    known: &Known,
     close: Close,
-    told: &Told,
-    traffic: &Traffic,
-    tries: &Tries,
     frame: &Frame,
     rows: &[Row],
     ahead: Option<Item>,
 ) -> Result<List<u8>, NoMemory>
-    requires few { length events.now < 2 ^ 31 }
-    requires told { TellsTold board.now events.now told.now }
-    requires traffic { traffic.now ≡ traffic_of events.now }
-    requires tries { TellsTries events.now tries.now }
-    ensures { IfOk result (λ page. page ≡ page_in board.now events.now close frame.now rows.now ahead) }
+    requires few { length known.now.events.now < 2 ^ 31 }
+    requires told { TellsTold known.now.board.now known.now.events.now known.now.told.now }
+    requires traffic { known.now.traffic.now ≡ traffic_of known.now.events.now }
+    requires tries { TellsTries known.now.events.now known.now.tries.now }
+    ensures { IfOk result (λ page. page
+        ≡ page_in known.now.board.now known.now.events.now close frame.now rows.now ahead) }
 {
-    let brackets = brackets_of(alloc, told.spans())?;
-    let columns = columns_in(alloc, board, traffic, &brackets, frame)?;
-    let waits = waits_of(alloc, events)?;
+    let brackets = brackets_of(alloc, known.told.spans())?;
+    let columns = columns_in(alloc, known.board, known.traffic, &brackets, frame)?;
+    let waits = waits_of(alloc, known.events)?;
     let elements = layers_of(
         alloc,
-        board,
+        known.board,
         &columns,
         frame,
         rows,
-        traffic.items(),
+        known.traffic.items(),
         ahead,
         waits.as_slice(),
-        tries,
-        told,
+        known.tries,
+        known.told,
         &brackets,
     )?;
     let mut text = String::new(alloc);
     print_page(
         alloc,
         &mut text,
-        board,
+        known.board,
         close,
         &columns,
         frame,
-        told,
+        known.told,
         elements.as_slice(),
     )?;
     Ok(List::from_vec(text.into_bytes()))

@@ -1,13 +1,13 @@
 ghost use Rattle.std.specs.Prelude.{◌≡◌, ◌++◌, length, string_bytes, OnOk};
 ghost use Rattle.std.specs.List.{flat_map, zip};
-ghost use Rattle.draw_page.specs.Tops.{drawn_words, close_words, title_text, cause_line, close_line, document, style_open, style_part, head_text, top_text, link_text, landed_word, landed_text, read_text, links_text, told_line, open_word, told_open, told_lines, told_text};
+ghost use Rattle.draw_page.specs.Tops.{drawn_words, close_words, title_text, cause_line, close_line};
+ghost use Rattle.draw_page.specs.Tops.{document, style_open, style_part, head_text, top_text, link_text, landed_word, landed_text, read_text, links_text, told_line, open_word, told_open, told_lines, told_text};
 
 use crate::close::Close;
 use crate::style::{print_key, print_style};
 use board_model::Board;
 use draw_told::{Found, Span, print_found};
 use history_model::Why;
-use run_reasons::sentence_of;
 use std::alloc::AllocError;
 
 /// What the title tells: how many events and buses there are, which events are drawn, and how they end.
@@ -84,7 +84,7 @@ fn print_close(text: &mut String, count: u32, close: Close) -> Result<(), AllocE
     match close {
         Close::Ended => Ok(()),
         Close::NotEnded => text.push_str(", not ended"),
-        Close::Refused(_) => write!(text, ", refused at {count}"),
+        Close::Refused { .. } => write!(text, ", refused at {count}"),
     }
 }
 
@@ -93,19 +93,19 @@ fn print_close_line(text: &mut String, count: u32, close: Close) -> Result<(), A
 {
     match close {
         Close::Ended | Close::NotEnded => Ok(()),
-        Close::Refused(why) => print_cause(text, count, why),
+        Close::Refused { why, sentence } => print_cause(text, count, why, sentence),
     }
 }
 
 /// Why the last event is not allowed.
 #[tactic(auto, unfolding(crate::specs::Tops::cause_line))]
-fn print_cause(text: &mut String, count: u32, why: Why) -> Result<(), AllocError>
-    ensures { OnOk result (string_bytes text.new ≡ string_bytes text.old ++ cause_line count why) }
+fn print_cause(text: &mut String, count: u32, why: Why, sentence: &str) -> Result<(), AllocError>
+    ensures { OnOk result (string_bytes text.new
+        ≡ string_bytes text.old ++ cause_line count why sentence.now) }
 {
     writeln!(
         text,
-        "<p class=\"x\">event {count} is not allowed: {why}: {}</p>",
-        sentence_of(why)
+        "<p class=\"x\">event {count} is not allowed: {why}: {sentence}</p>"
     )
 }
 

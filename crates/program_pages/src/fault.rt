@@ -1,6 +1,8 @@
+ghost use Rattle.std.specs.Prelude.{◌≡◌};
+ghost use Rattle.program_pages.specs.Sentences.{sentence_of};
+
 use history_model::Why;
 use program_status::{BoardFault, Status};
-use run_reasons::sentence_of;
 use std::fmt;
 use text_faults::{DeviceFault, LineFault, LspciFault, TraceLineFault, TreeFault};
 
@@ -70,5 +72,18 @@ impl fmt::Display for Code {
             Fault::Machine(fault) => write!(f, "I{}", fault.code()),
             Fault::Cause(why) => write!(f, "{why}"),
         }
+    }
+}
+
+/// Why an event is not allowed, as one sentence.
+pub fn sentence_of(why: Why) -> &'static str
+    ensures { result.now ≡ sentence_of why }
+{
+    match why {
+        Why::NotPresented => "its initiator does not present that operation on that bus now",
+        Why::AnsweredOtherwise => "the operation is answered by another event",
+        Why::GetsRetry => "the operation is answered with Retry",
+        Why::NothingInFlight => "nothing is in flight on the lane",
+        Why::MarkedOtherwise => "the board marks this arrival otherwise",
     }
 }

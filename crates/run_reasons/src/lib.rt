@@ -1,6 +1,6 @@
 //! Why the first event of a trace that is not allowed is not, and what is left of a run that has not
 //! ended: sentences for who reads them, of what is so after the events before it. Nothing is claimed of
-//! what they say; but of each cause there is one sentence that is always the same.
+//! what they say.
 #![tactic(auto)]
 
 mod cause;
@@ -11,10 +11,8 @@ mod past;
 mod reason;
 mod retry;
 mod scene;
-mod sentence;
 mod told;
 mod words;
 
 pub use reason::Reason;
-pub use sentence::sentence_of;
 pub use told::{Findings, reasons, reasons_filled};

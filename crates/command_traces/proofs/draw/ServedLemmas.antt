@@ -37,7 +37,7 @@ draw_refusing asked = record { served = drawable_is_answered asked; subject = dr
 ends_well : (count : ℕ) (close : Close) → subject_of (ending_of count close) ≡ Success
 ends_well count Ended = refl
 ends_well count NotEnded = refl
-ends_well count (Refused why) = refl
+ends_well count (Refused why sentence) = refl
 
 pub draw_succeeds : (asked : Asked) (input text : List ℕ) (ending : Status) → AnswersDraw input asked text ending → IsSuccess ending
 draw_succeeds asked input text ending answers = ap subject_of answers.draws.ends ∙ ends_well (length answers.shown) answers.close

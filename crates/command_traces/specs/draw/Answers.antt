@@ -11,6 +11,7 @@ use Rattle.draw_page.specs.declared.close.Close.{Close}
 use Rattle.draw_page.specs.declared.close.Close.TheVariants.{Ended, NotEnded, Refused}
 use Rattle.draw_page.specs.Pages.{page_of}
 use Rattle.command_traces.specs.declared.draw.rows.Rows.{Rows}
+use Rattle.program_pages.specs.Sentences.{sentence_of}
 use Rattle.program_status.specs.declared.status.Status.{Status}
 use Rattle.program_status.specs.declared.status.Status.TheVariants.{Done, TooManyEvents, NoMemory, DrawnTo}
 use Rattle.command_traces.specs.draw.Rows.{Asked, first_row, last_row, drawn_count}
@@ -27,23 +28,24 @@ pub record IsNotEnded (board : Board) (events shown : List Event) : Type 0 where
   pub run : Run board (history_of events)
   pub incomplete : ¬ Complete board (history_of events)
 
--- the last of these events is the first that is not allowed after those before it, for this cause
-pub record EndsRefused (board : Board) (events shown : List Event) (why : Why) : Type 0 where
+-- the last of these events is the first that is not allowed after those before it, for this cause, of which its sentence tells
+pub record EndsRefused (board : Board) (events shown : List Event) (why : Why) (sentence : List ℕ) : Type 0 where
   pub after : List Event
   pub split : events ≡ shown ++ after
   pub refused : FirstRefused board events (length shown) why
+  pub told : sentence ≡ sentence_of why
 
 -- what a picture shows of events, and how that ends: all of a run, or else those up to the first that is not allowed
 abbrev pub Shows : Board → List Event → List Event → Close → Type 0
 Shows board events shown Ended = IsEnded board events shown
 Shows board events shown NotEnded = IsNotEnded board events shown
-Shows board events shown (Refused why) = EndsRefused board events shown why
+Shows board events shown (Refused why sentence) = EndsRefused board events shown why sentence.now
 
 -- the status that a picture ends with, by the number of its last event
 abbrev pub ending_of : ℕ → Close → Status
 ending_of count Ended = Done
 ending_of count NotEnded = Done
-ending_of count (Refused why) = DrawnTo count why
+ending_of count (Refused why sentence) = DrawnTo count why
 
 -- at most 4,096 events are drawn, and the page of them is written
 pub record DrawsRows (board : Board) (shown : List Event) (close : Close) (rows : Option Rows) (text : List ℕ) (ending : Status) : Type 0 where

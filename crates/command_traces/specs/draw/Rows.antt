@@ -14,7 +14,7 @@ use Rattle.command_traces.specs.declared.draw.rows.Rows.{Rows}
 abbrev pub first_of_all : Close → ℕ → ℕ
 first_of_all Ended count = 1
 first_of_all NotEnded count = 1
-first_of_all (Refused why) count = max (count - 4095) 1
+first_of_all (Refused why sentence) count = max (count - 4095) 1
 
 -- the number of the first event that is drawn, of so many
 abbrev pub first_row : Close → Option Rows → ℕ → ℕ

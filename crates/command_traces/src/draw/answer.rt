@@ -86,7 +86,7 @@ fn ending_of(count: u32, close: Close) -> Status
 {
     match close {
         Close::Ended | Close::NotEnded => Status::Done,
-        Close::Refused(why) => Status::DrawnTo { event: count, why },
+        Close::Refused { why, .. } => Status::DrawnTo { event: count, why },
     }
 }
 
@@ -95,7 +95,7 @@ fn first_of_all(close: Close, count: u32) -> u32
 {
     match close {
         Close::Ended | Close::NotEnded => 1,
-        Close::Refused(_) => count.saturating_sub(4095).max(1),
+        Close::Refused { .. } => count.saturating_sub(4095).max(1),
     }
 }
 

@@ -8,6 +8,7 @@ use draw_page::Close;
 use history_model::Event;
 use judge_check::{Verdict, check};
 use law_bound::runs_end;
+use program_pages::sentence_of;
 use program_status::Status;
 use std::alloc::Global;
 
@@ -48,7 +49,10 @@ pub(crate) fn shown_of<'a>(
             let (shown, _) = events.split_at(events.len().min(event as usize));
             Ok(Shown {
                 events: shown,
-                close: Close::Refused(why),
+                close: Close::Refused {
+                    why,
+                    sentence: sentence_of(why),
+                },
             })
         }
         Err(_) => Err(Status::NoMemory),

@@ -91,4 +91,4 @@ ahead_of_event board lanes why (Some e) = first_ahead board lanes.items (waiting
 unfoldable pub ahead_in : Board → Lanes → Close → List Event → Option Item
 ahead_in board lanes Ended events = None
 ahead_in board lanes NotEnded events = None
-ahead_in board lanes (Refused why) events = ahead_of_event board lanes why (slice_get events (length events - 1))
+ahead_in board lanes (Refused why sentence) events = ahead_of_event board lanes why (slice_get events (length events - 1))

@@ -15,7 +15,7 @@ pub fn ahead_in(board: &Board, traffic: &Traffic, close: Close, events: &[Event]
 {
     match close {
         Close::Ended | Close::NotEnded => None,
-        Close::Refused(why) => {
+        Close::Refused { why, .. } => {
             let last = events.get(events.len().saturating_sub(1)).copied();
             ahead_of_event(board, traffic, why, last)
         }
