@@ -4,5 +4,5 @@ mod operation;
 mod rows;
 mod shown;
 
-pub use answer::{PageText, answer_draw, answer_draw_operation};
+pub use answer::{answer_draw, answer_draw_operation};
 pub use rows::{Rows, event_of, names_event, rows_of};

@@ -11,7 +11,7 @@ mod waves;
 
 pub use audit::answer_audit;
 pub use check::answer_check;
-pub use draw::{PageText, Rows, answer_draw, answer_draw_operation, names_event, rows_of};
+pub use draw::{Rows, answer_draw, answer_draw_operation, names_event, rows_of};
 pub use fill::{answer_fill, filled_traces_are_runs};
 pub use report::answer_report;
 pub use untagged::answer_untagged;

@@ -51,17 +51,10 @@ route_text first route = 77 ∷ (decimal route.from ++ 32 ∷ (y first route.sen
 abbrev pub rim_down : ℕ → Route → List ℕ
 rim_down first route = if nat_lt route.came route.left then 86 ∷ y first route.left else []
 
--- the rim of an item, along its line and its bar
-abbrev pub item_rim : ℕ → Route → List ℕ
-item_rim first route = codes "<path class=\"g\" d=\"" ++ (route_text first route ++ (rim_down first route ++ codes "\"/>\n"))
-
--- down along the bar and up again, so that a rim that is filled has no inside
-abbrev pub down_and_up : ℕ → Route → List ℕ
-down_and_up first route = 86 ∷ (y first route.left ++ 86 ∷ y first route.came)
-
--- the rim of what an event that is not allowed stands behind
-unfoldable pub ahead_rim : ℕ → Route → List ℕ
-ahead_rim first route = codes "<path class=\"z\" d=\"" ++ (route_text first route ++ (down_and_up first route ++ codes "\"/>\n"))
+-- the rim of an item, along its line and its bar, of this class
+abbrev pub item_rim : List ℕ → ℕ → Route → List ℕ
+item_rim class first route =
+    codes "<path class=\"" ++ (class ++ (codes "\" d=\"" ++ (route_text first route ++ (rim_down first route ++ codes "\"/>\n"))))
 
 -- the title: what it is, its operation and lane, and its events
 abbrev pub came_text : Item → List ℕ

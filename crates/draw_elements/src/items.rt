@@ -1,5 +1,5 @@
 ghost use Rattle.std.specs.Prelude.{◌≡◌, ◌++◌, string_bytes, IfOk, OnOk};
-ghost use Rattle.draw_elements.specs.Items.{route_of, or_end, route_text, rim_down, item_rim, down_and_up, ahead_rim, title_of, title_text, came_text, left_text, bar_text, cross_sign, sign_text, slant_text, group_text, item_text};
+ghost use Rattle.draw_elements.specs.Items.{route_of, or_end, route_text, rim_down, item_rim, title_of, title_text, came_text, left_text, bar_text, cross_sign, sign_text, slant_text, group_text, item_text};
 
 use crate::columns::Columns;
 use crate::height::{Height, print_circle};
@@ -79,36 +79,20 @@ fn print_route(text: &mut String, first: u32, route: &Route) -> Result<(), Alloc
     )
 }
 
-/// The rim of an item.
-pub fn print_item_rim(text: &mut String, first: u32, route: &Route) -> Result<(), AllocError>
-    ensures { OnOk result (string_bytes text.new ≡ string_bytes text.old ++ item_rim first route.now) }
+/// The rim of an item, of this class.
+pub fn print_item_rim(
+    text: &mut String,
+    class: &str,
+    first: u32,
+    route: &Route,
+) -> Result<(), AllocError>
+    ensures { OnOk result (string_bytes text.new
+        ≡ string_bytes text.old ++ item_rim class.now first route.now) }
 {
-    text.push_str("<path class=\"g\" d=\"")?;
+    write!(text, "<path class=\"{class}\" d=\"")?;
     print_route(text, first, route)?;
     print_down(text, first, route)?;
     text.push_str("\"/>\n")
-}
-
-/// The rim of what an event that is not allowed stands behind.
-#[tactic(auto, unfolding(crate::specs::Items::ahead_rim))]
-pub fn print_ahead_rim(text: &mut String, first: u32, route: &Route) -> Result<(), AllocError>
-    ensures { OnOk result (string_bytes text.new ≡ string_bytes text.old ++ ahead_rim first route.now) }
-{
-    text.push_str("<path class=\"z\" d=\"")?;
-    print_route(text, first, route)?;
-    print_down_and_up(text, first, route)?;
-    text.push_str("\"/>\n")
-}
-
-fn print_down_and_up(text: &mut String, first: u32, route: &Route) -> Result<(), AllocError>
-    ensures { OnOk result (string_bytes text.new ≡ string_bytes text.old ++ down_and_up first route.now) }
-{
-    write!(
-        text,
-        "V{}V{}",
-        y(first, route.left),
-        y(first, route.came)
-    )
 }
 
 fn print_down(text: &mut String, first: u32, route: &Route) -> Result<(), AllocError>

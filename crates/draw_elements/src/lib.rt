@@ -14,7 +14,7 @@ pub use columns::{
     Band, Column, Columns, Line, Most, columns_of, most_of, print_name, product, sum,
 };
 pub use height::{Height, print_circle};
-pub use items::{Route, print_ahead_rim, print_item, print_item_rim};
+pub use items::{Route, print_item, print_item_rim};
 pub use labels::{print_event, print_note};
 pub use refused::{print_refused, refused_place};
 pub use words::faint;

@@ -1,5 +1,2 @@
-pub mod Closes
-pub mod Tops
 pub mod Pages
 pub mod layers
-pub mod style

@@ -16,12 +16,12 @@ use Rattle.draw_sheets.specs.declared.frame.Frame.{Frame}
 use Rattle.draw_sheets.specs.Frames.{frame_of}
 use Rattle.draw_shapes.specs.Shapes.{Shape}
 use Rattle.draw_page.specs.layers.Rows.{rows_of}
-use Rattle.draw_page.specs.layers.Ahead.{ahead_in}
+use Rattle.draw_told.specs.Ahead.{ahead_in}
 use Rattle.draw_page.specs.layers.Layers.{layers}
 use Rattle.draw_sheets.specs.heads.Names.{names_text}
-use Rattle.draw_page.specs.declared.close.Close.{Close}
-use Rattle.draw_page.specs.Closes.{allowed_in}
-use Rattle.draw_page.specs.Tops.{title_text, close_line, top_text, told_text}
+use Rattle.draw_told.specs.declared.close.Close.{Close}
+use Rattle.draw_told.specs.Closes.{allowed_in}
+use Rattle.draw_told.specs.Tops.{title_text, close_line, top_text, told_text}
 use Rattle.draw_strips.specs.Strips.{strips_text}
 
 -- the columns with their names, and the strips

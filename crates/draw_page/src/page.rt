@@ -4,13 +4,11 @@ ghost use Rattle.draw_items.specs.Items.{traffic_of};
 ghost use Rattle.draw_items.specs.Kept.{TellsTries};
 ghost use Rattle.draw_told.specs.Kept.{TellsTold};
 ghost use Rattle.draw_elements.specs.columns.Places.{layout_of};
-ghost use Rattle.draw_page.specs.Closes.{allowed_in};
+ghost use Rattle.draw_told.specs.Closes.{allowed_in};
 ghost use Rattle.draw_page.specs.Pages.{table_open, names_part, table_text, page_with, page_in, page_from, page_of};
 
-use crate::close::{Close, allowed_in};
 use crate::known::Known;
-use crate::layers::{ahead_in, layers_of, rows_of};
-use crate::top::{Title, print_told, print_top};
+use crate::layers::{layers_of, rows_of};
 use board_model::Board;
 use board_tree::Tree;
 use draw_elements::{Columns, columns_of, most_of, product, sum};
@@ -18,7 +16,9 @@ use draw_items::{Item, Traffic, traffic_of, tries_of, waits_of};
 use draw_shapes::Element;
 use draw_sheets::{Frame, Row, frame_of, print_names};
 use draw_strips::print_strips;
-use draw_told::{Brackets, Told, brackets_of, told_of};
+use draw_told::{
+    Brackets, Close, Title, Told, ahead_in, allowed_in, brackets_of, print_told, print_top, told_of,
+};
 use history_model::Event;
 use pci_command::{List, NoMemory};
 use std::alloc::{AllocError, Global};

@@ -13,7 +13,7 @@ use Rattle.draw_elements.specs.declared.columns.line.Line.TheVariants as lines
 use Rattle.draw_elements.specs.columns.Places.{Layout, place_of}
 use Rattle.draw_elements.specs.declared.acts.Act.{Act as Ends}
 use Rattle.draw_elements.specs.declared.items.Route.{Route}
-use Rattle.draw_elements.specs.Items.{route_of, item_text, item_rim, ahead_rim}
+use Rattle.draw_elements.specs.Items.{route_of, item_text, item_rim}
 use Rattle.draw_elements.specs.Acts.{act_of, act_text, act_rim, refused_place, refused_text}
 use Rattle.draw_sheets.specs.declared.row.Row.{Row}
 use Rattle.draw_sheets.specs.declared.frame.Frame.{Frame}
@@ -70,12 +70,12 @@ can_have_rim Credit = false
 can_have_rim Gone = false
 
 -- the rim along the way of an item
-abbrev pub route_rim : Frame → Route → List Shape
-route_rim frame route = seen frame route.sent route.left (item_rim frame.first route)
+abbrev pub route_rim : List ℕ → Frame → Route → List Shape
+route_rim class frame route = seen frame route.sent route.left (item_rim class frame.first route)
 
 -- the rim of an item, where its operation is in a chain
 unfoldable pub item_rims : Layout → Frame → Bool → Item → List Shape
-item_rims layout frame loud item = if can_have_rim item.kind && loud then route_rim frame (route_of layout frame.end item) else []
+item_rims layout frame loud item = if can_have_rim item.kind && loud then route_rim (codes "g") frame (route_of layout frame.end item) else []
 
 -- the rim along an act, in its row
 abbrev pub rim_in : Frame → ℕ → Ends → List Shape
@@ -91,14 +91,14 @@ act_rims_of layout frame row (Arrive lane mark) = []
 unfoldable pub act_rims : Layout → Frame → Row → List Shape
 act_rims layout frame row = act_rims_of layout frame row row.event
 
--- the rim of what an event that is not allowed stands behind, by its route
-abbrev pub ahead_route : Frame → Route → List Shape
-ahead_route frame route = seen frame route.sent route.left (ahead_rim frame.first route)
+-- the class of the rim of what an event that is not allowed stands behind, which has no inside
+abbrev pub ahead_class : List ℕ
+ahead_class = codes "z\" fill-opacity=\"0"
 
--- the same, where there is such an item
+-- that rim, where there is such an item
 unfoldable pub ahead_rims : Layout → Frame → Option Item → List Shape
 ahead_rims layout frame None = []
-ahead_rims layout frame (Some item) = ahead_route frame (route_of layout frame.end item)
+ahead_rims layout frame (Some item) = route_rim ahead_class frame (route_of layout frame.end item)
 
 -- Layer 3: masters that wait.
 

@@ -1,19 +1,22 @@
 ghost use Rattle.std.specs.Prelude.{◌≡◌, ◌++◌, min, OnOk, IfOk};
-ghost use Rattle.draw_shapes.specs.Elements.{is_claimed, dotted_to, dotted_shapes, mark_shapes, refused_marks, key_shapes, can_have_rim, route_rim, item_rims, rim_in, act_rims_of, act_rims, ahead_route, ahead_rims, wait_shapes, routed, item_shapes, act_shapes_of, cross_at, refused_shapes, act_shapes, bracket_on, bracket_shapes, list_shapes};
+ghost use Rattle.draw_shapes.specs.Elements.{is_claimed, dotted_to, dotted_shapes, mark_shapes, refused_marks, key_shapes, can_have_rim, route_rim, item_rims, rim_in, act_rims_of, act_rims, ahead_class, ahead_rims, wait_shapes, routed, item_shapes, act_shapes_of, cross_at, refused_shapes, act_shapes, bracket_on, bracket_shapes, list_shapes};
 
 use crate::element::{Element, add_between, add_in_row, is_seen};
 use crate::keys::{print_bracket, print_dotted, print_mark, print_wait};
 use crate::lists::print_row;
 use board_model::Board;
 use draw_elements::{
-    Act, Columns, Route, print_act, print_act_rim, print_ahead_rim, print_item, print_item_rim,
-    print_refused, product, refused_place, sum,
+    Act, Columns, Route, print_act, print_act_rim, print_item, print_item_rim, print_refused,
+    product, refused_place, sum,
 };
 use draw_items::{Item, Kind, Wait};
 use draw_sheets::{Frame, Row};
 use history_model::{Event, Step};
 use pci_command::NoMemory;
 use std::alloc::Global;
+
+/// The class of the rim of what an event that is not allowed stands behind, which has no inside.
+const AHEAD: &str = "z\" fill-opacity=\"0";
 
 /// The mark of a key, and its dotted line; or that of an event that is not allowed.
 #[tactic(auto, unfolding(crate::specs::Elements::key_shapes))]
@@ -137,7 +140,7 @@ pub fn add_item_rim(
 {
     if can_have_rim(item.kind) && loud {
         let route = Route::of(columns, frame.end, item)?;
-        add_route_rim(alloc, elements, frame, &route)
+        add_route_rim(alloc, elements, "g", frame, &route)
     } else {
         Ok(())
     }
@@ -146,14 +149,16 @@ pub fn add_item_rim(
 fn add_route_rim(
     alloc: Global,
     elements: &mut Vec<Element>,
+    class: &str,
     frame: &Frame,
     route: &Route,
 ) -> Result<(), NoMemory>
-    ensures { OnOk result (elements.new.items ≡ elements.old.items ++ route_rim frame.now route.now) }
+    ensures { OnOk result (elements.new.items
+        ≡ elements.old.items ++ route_rim class.now frame.now route.now) }
 {
     if is_seen(frame, route.sent, route.left) {
         let mut text = String::new(alloc);
-        print_item_rim(&mut text, frame.first, route)?;
+        print_item_rim(&mut text, class, frame.first, route)?;
         add_between(elements, route.sent, route.left, text)
     } else {
         Ok(())
@@ -236,26 +241,9 @@ pub fn add_ahead_rim(
     match item {
         Some(item) => {
             let route = Route::of(columns, frame.end, &item)?;
-            add_ahead_route(alloc, elements, frame, &route)
+            add_route_rim(alloc, elements, AHEAD, frame, &route)
         }
         None => Ok(()),
-    }
-}
-
-fn add_ahead_route(
-    alloc: Global,
-    elements: &mut Vec<Element>,
-    frame: &Frame,
-    route: &Route,
-) -> Result<(), NoMemory>
-    ensures { OnOk result (elements.new.items ≡ elements.old.items ++ ahead_route frame.now route.now) }
-{
-    if is_seen(frame, route.sent, route.left) {
-        let mut text = String::new(alloc);
-        print_ahead_rim(&mut text, frame.first, route)?;
-        add_between(elements, route.sent, route.left, text)
-    } else {
-        Ok(())
     }
 }
 

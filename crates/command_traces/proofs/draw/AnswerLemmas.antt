@@ -1,7 +1,7 @@
 -- What is drawn of the rows of what is shown is drawn of the text.
 use Rattle.std.proofs.Common.{◌≡◌, ℕ, List, Option, sym, subst}
 use Rattle.history_model.specs.declared.event.Event.{Event}
-use Rattle.draw_page.specs.declared.close.Close.{Close}
+use Rattle.draw_told.specs.declared.close.Close.{Close}
 use Rattle.program_input.specs.declared.trace.TreeTrace.{TreeTrace}
 use Rattle.program_input.specs.Traces.{ReadsTree, RefusesTrace}
 use Rattle.program_status.specs.declared.status.Status.{Status}

@@ -2,8 +2,8 @@
 use Rattle.std.proofs.Common.{◌≡◌, ◌<◌, ◌≤◌, ℕ, List, ◌⊎◌, inr, refl, sym, ap, ◌∙◌, length, subst, arith}
 use Rattle.board_model.specs.declared.board.Board.{Board}
 use Rattle.history_model.specs.declared.event.Event.{Event}
-use Rattle.draw_page.specs.declared.close.Close.{Close}
-use Rattle.draw_page.specs.declared.close.Close.TheVariants.{Ended, NotEnded, Refused}
+use Rattle.draw_told.specs.declared.close.Close.{Close}
+use Rattle.draw_told.specs.declared.close.Close.TheVariants.{Ended, NotEnded, Refused}
 use Rattle.program_input.specs.Refusals.{trace_refusal, IsRefusing}
 use Rattle.program_input.proofs.RefusalLemmas.{refusal_subject}
 use Rattle.program_input.proofs.TraceLemmas.{same_trace, read_refused_by_memory}

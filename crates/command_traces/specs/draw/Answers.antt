@@ -7,8 +7,8 @@ use Rattle.history_model.specs.declared.why.Why.{Why}
 use Rattle.history_model.specs.Runs.{Run, Complete, history_of}
 use Rattle.judge_state.specs.Refused.{FirstRefused}
 use Rattle.program_input.specs.Traces.{ReadsTrace, RefusesTrace}
-use Rattle.draw_page.specs.declared.close.Close.{Close}
-use Rattle.draw_page.specs.declared.close.Close.TheVariants.{Ended, NotEnded, Refused}
+use Rattle.draw_told.specs.declared.close.Close.{Close}
+use Rattle.draw_told.specs.declared.close.Close.TheVariants.{Ended, NotEnded, Refused}
 use Rattle.draw_page.specs.Pages.{page_of}
 use Rattle.command_traces.specs.declared.draw.rows.Rows.{Rows}
 use Rattle.program_pages.specs.Sentences.{sentence_of}

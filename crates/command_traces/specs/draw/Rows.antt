@@ -5,8 +5,8 @@ use Rattle.history_model.specs.declared.event.Event.{Event}
 use Rattle.board_text.specs.declared.numbers.NumberFault.{NumberFault}
 use Rattle.board_text.specs.declared.numbers.NumberFault.TheVariants.{TooWide, NotDigits, OutOfRange}
 use Rattle.board_text.specs.Numbers.{decimal_answer}
-use Rattle.draw_page.specs.declared.close.Close.{Close}
-use Rattle.draw_page.specs.declared.close.Close.TheVariants.{Ended, NotEnded, Refused}
+use Rattle.draw_told.specs.declared.close.Close.{Close}
+use Rattle.draw_told.specs.declared.close.Close.TheVariants.{Ended, NotEnded, Refused}
 use Rattle.command_traces.specs.declared.draw.rows.Rows.{Rows}
 
 -- the number of the first event that is drawn where no rows are asked for: of all, but of events up to one that is not allowed

@@ -1,6 +1,6 @@
 ghost use Rattle.std.specs.Prelude.{◌≡◌, ◌<◌, ◌^◌, length, IfOk, IfErr};
 ghost use Rattle.history_model.specs.Runs.{Run, history_of};
-ghost use Rattle.draw_page.specs.Closes.{allowed_in};
+ghost use Rattle.draw_told.specs.Closes.{allowed_in};
 ghost use Rattle.draw_page.specs.Pages.{page_of};
 ghost use Rattle.command_traces.specs.draw.Rows.{first_of_all, first_row, last_row, drawn_count, rows_asked};
 ghost use Rattle.command_traces.specs.draw.Operations.{operation_asked};
@@ -10,25 +10,19 @@ use crate::draw::operation::rows_of_operation;
 use crate::draw::rows::Rows;
 use crate::draw::shown::{Shown, shown_of};
 use board_tree::Tree;
-use draw_page::{Close, page_of};
+use draw_page::page_of;
+use draw_told::Close;
 use pci_command::{List, NoMemory};
 use program_input::{TreeTrace, read_tree_trace};
-use program_status::Status;
+use program_status::{Answered, Status};
 use std::alloc::Global;
 
 /// No more events than these are drawn.
 const MOST: u32 = 4096;
 
-/// The text of a page, and the status that it ends with.
-#[derive(Debug, Drop)]
-pub struct PageText {
-    pub text: Vec<u8>,
-    pub ending: Status,
-}
-
 /// The page of a trace text: of a run, complete or not, or of the events up to the first that is not
 /// allowed; of all of them, or of those in these rows.
-pub fn answer_draw(alloc: Global, input: &[u8], rows: Option<Rows>) -> Result<PageText, Status>
+pub fn answer_draw(alloc: Global, input: &[u8], rows: Option<Rows>) -> Result<Answered, Status>
     requires { length input.now < 2 ^ 31 }
     ensures ok { IfOk result (λ page. AnswersDraw input.now (rows_asked rows) page.text.items page.ending) }
     ensures err { IfErr result (RefusesDraw input.now (rows_asked rows)) }
@@ -43,7 +37,7 @@ pub fn answer_draw_operation(
     alloc: Global,
     input: &[u8],
     word: &[u8],
-) -> Result<PageText, Status>
+) -> Result<Answered, Status>
     requires { length input.now < 2 ^ 31 }
     ensures ok { IfOk result (λ page. AnswersDraw input.now (operation_asked word.now) page.text.items page.ending) }
     ensures err { IfErr result (RefusesDraw input.now (operation_asked word.now)) }
@@ -59,7 +53,7 @@ fn answer_rows(
     tree: &Tree,
     shown: Shown,
     rows: Option<Rows>,
-) -> Result<PageText, Status>
+) -> Result<Answered, Status>
     requires run { Run tree.now (history_of (allowed_in shown.close shown.events.now)) }
     requires few { length shown.events.now < 2 ^ 31 }
     ensures ok { IfOk result (λ page. DrawsRows tree.now shown.events.now shown.close rows page.text.items page.ending) }
@@ -73,7 +67,7 @@ fn answer_rows(
         });
     }
     match page_of_rows(alloc, tree, shown, rows) {
-        Ok(page) => Ok(PageText {
+        Ok(page) => Ok(Answered {
             text: page.into_vec(),
             ending: ending_of(count, shown.close),
         }),

@@ -1,10 +1,10 @@
 ghost use Rattle.std.specs.Prelude.{◌≡◌, ◌<◌, ◌^◌, length, IfOk, IfErr};
 ghost use Rattle.history_model.specs.Runs.{Run, history_of};
-ghost use Rattle.draw_page.specs.Closes.{allowed_in};
+ghost use Rattle.draw_told.specs.Closes.{allowed_in};
 ghost use Rattle.command_traces.specs.draw.Answers.{Shows};
 
 use board_tree::Tree;
-use draw_page::Close;
+use draw_told::Close;
 use history_model::Event;
 use judge_check::{Verdict, check};
 use law_bound::runs_end;

@@ -1,5 +1,5 @@
 ghost use Rattle.std.specs.Prelude.{◌≡◌};
-ghost use Rattle.draw_page.specs.layers.Ahead.{ends_on, unpresented, retried, waiting_in, carried_of, waits_for, is_post, is_held, is_ahead, first_ahead, ahead_of_event, ahead_in};
+ghost use Rattle.draw_told.specs.Ahead.{ends_on, unpresented, retried, waiting_in, carried_of, waits_for, is_post, is_held, is_ahead, first_ahead, ahead_of_event, ahead_in};
 
 use crate::close::Close;
 use board_model::{Board, end_of};
@@ -9,7 +9,7 @@ use machine_steps::may_go;
 use pci_command::Outcome;
 
 /// What stands before the item of the last of these events, where that is why it is not allowed.
-#[tactic(auto, unfolding(crate::specs::layers::Ahead::ahead_in))]
+#[tactic(auto, unfolding(crate::specs::Ahead::ahead_in))]
 pub fn ahead_in(board: &Board, traffic: &Traffic, close: Close, events: &[Event]) -> Option<Item>
     ensures { result ≡ ahead_in board.now traffic.now close events.now }
 {

@@ -8,9 +8,9 @@ use Rattle.history_model.specs.WhyText.{why_text}
 use Rattle.law_audit.specs.Audit.{Finding}
 use Rattle.audit_text.specs.Lines.{finding_words}
 use Rattle.draw_told.specs.declared.told.Span.{Span}
-use Rattle.draw_page.specs.declared.close.Close.{Close}
-use Rattle.draw_page.specs.declared.close.Close.TheVariants.{Ended, NotEnded, Refused}
-use Rattle.draw_page.specs.style.Styles.{style, key}
+use Rattle.draw_told.specs.declared.close.Close.{Close}
+use Rattle.draw_told.specs.declared.close.Close.TheVariants.{Ended, NotEnded, Refused}
+use Rattle.draw_told.specs.style.Styles.{style, key}
 
 -- `events N, buses B`, and `, drawn FIRST to LAST` where these are not all
 unfoldable pub drawn_words : ℕ → ℕ → ℕ → List ℕ

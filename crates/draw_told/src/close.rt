@@ -1,5 +1,5 @@
 ghost use Rattle.std.specs.Prelude.{◌≡◌, ◌≤◌, length};
-ghost use Rattle.draw_page.specs.Closes.{allowed_in};
+ghost use Rattle.draw_told.specs.Closes.{allowed_in};
 
 use history_model::{Event, Why};
 
@@ -18,7 +18,7 @@ pub enum Close {
 }
 
 /// The events that are allowed: all, or those before the last.
-pub(crate) fn allowed_in(close: Close, events: &[Event]) -> &[Event]
+pub fn allowed_in(close: Close, events: &[Event]) -> &[Event]
     ensures value { result.now ≡ allowed_in close events.now }
     ensures few { length result.now ≤ length events.now }
 {

@@ -19,8 +19,8 @@ use Rattle.draw_items.specs.declared.item.Kind.{Kind}
 use Rattle.draw_items.specs.declared.item.Kind.TheVariants.{Post, Request, Completion, Credit, Gone}
 use Rattle.draw_items.specs.declared.item.Item.{Item}
 use Rattle.draw_items.specs.Items.{Lanes, is_standing, is_completion, named_by, completion_at}
-use Rattle.draw_page.specs.declared.close.Close.{Close}
-use Rattle.draw_page.specs.declared.close.Close.TheVariants.{Ended, NotEnded, Refused}
+use Rattle.draw_told.specs.declared.close.Close.{Close}
+use Rattle.draw_told.specs.declared.close.Close.TheVariants.{Ended, NotEnded, Refused}
 
 -- a lane ends on the bus of the event
 abbrev pub ends_on : Board → ℕ → By → Bool
