@@ -11,11 +11,7 @@ use std::alloc::AllocError;
 
 /// Where an event that is not allowed has its cross: at the line of the master, at the bar of the item that it names, or at
 /// the face of the lane where nothing of it stands.
-pub fn refused_place(
-    columns: &Columns,
-    item: Option<Item>,
-    event: &Event,
-) -> Result<u64, NoMemory>
+pub fn refused_place(columns: &Columns, item: Option<Item>, event: &Event) -> Result<u64, NoMemory>
     ensures { IfOk result (λ place. place ≡ refused_place columns.now item event.now) }
 {
     match *event {
@@ -24,12 +20,7 @@ pub fn refused_place(
     }
 }
 
-fn initiator_place(
-    columns: &Columns,
-    by: By,
-    op: OpId,
-    item: Option<Item>,
-) -> Result<u64, NoMemory>
+fn initiator_place(columns: &Columns, by: By, op: OpId, item: Option<Item>) -> Result<u64, NoMemory>
     ensures { IfOk result (λ place. place ≡ initiator_place columns.now by op item) }
 {
     match by {

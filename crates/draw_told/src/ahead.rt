@@ -22,12 +22,7 @@ pub fn ahead_in(board: &Board, traffic: &Traffic, close: Close, events: &[Event]
     }
 }
 
-fn ahead_of_event(
-    board: &Board,
-    traffic: &Traffic,
-    why: Why,
-    event: Option<Event>,
-) -> Option<Item>
+fn ahead_of_event(board: &Board, traffic: &Traffic, why: Why, event: Option<Event>) -> Option<Item>
     ensures { result ≡ ahead_of_event board.now traffic.now why event }
 {
     match event {

@@ -11,10 +11,7 @@ pub enum Close {
     /// They are a run that has not ended.
     NotEnded,
     /// The last of them is not allowed after those before it, for this cause, of which a sentence tells.
-    Refused {
-        why: Why,
-        sentence: &'static str,
-    },
+    Refused { why: Why, sentence: &'static str },
 }
 
 /// The events that are allowed: all, or those before the last.

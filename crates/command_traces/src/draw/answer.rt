@@ -33,11 +33,7 @@ pub fn answer_draw(alloc: Global, input: &[u8], rows: Option<Rows>) -> Result<An
 }
 
 /// The same of the events of one operation.
-pub fn answer_draw_operation(
-    alloc: Global,
-    input: &[u8],
-    word: &[u8],
-) -> Result<Answered, Status>
+pub fn answer_draw_operation(alloc: Global, input: &[u8], word: &[u8]) -> Result<Answered, Status>
     requires { length input.now < 2 ^ 31 }
     ensures ok { IfOk result (λ page. AnswersDraw input.now (operation_asked word.now) page.text.items page.ending) }
     ensures err { IfErr result (RefusesDraw input.now (operation_asked word.now)) }

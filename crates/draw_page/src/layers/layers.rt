@@ -42,7 +42,9 @@ pub fn layers_of(
 {
     let mut elements = Vec::new(alloc);
     let all = &mut elements;
-    add_behind(alloc, all, columns, frame, rows, items, ahead, waits, tries, told)?;
+    add_behind(
+        alloc, all, columns, frame, rows, items, ahead, waits, tries, told,
+    )?;
     add_in_front(
         alloc,
         all,
