@@ -5,4 +5,4 @@ pub mod adverse;
 pub mod safe;
 
 pub use adverse::{adverse_traces_are_complete, answer_adverse, names_operation};
-pub use safe::{SafeText, answer_safe};
+pub use safe::answer_safe;

@@ -4,4 +4,4 @@ mod answer;
 mod counts;
 mod text;
 
-pub use answer::{SafeText, answer_safe};
+pub use answer::answer_safe;

@@ -1,3 +1,4 @@
 pub mod AnswerLemmas
 pub mod OperationLemmas
+pub mod ShownLemmas
 pub mod ServedLemmas

@@ -1,7 +1,8 @@
-//! `draw`: the page that the program writes for a trace text of a run, complete or not, or why it refuses it.
+//! `draw`: the page that the program writes for a trace text, or why it refuses it.
 mod answer;
 mod operation;
 mod rows;
+mod shown;
 
 pub use answer::{answer_draw, answer_draw_operation};
 pub use rows::{Rows, event_of, names_event, rows_of};

@@ -1,5 +1,5 @@
 -- An act in its row of a picture: from the line of its initiator to the line of what answered.
-use Rattle.std.specs.Prelude.{ℕ, Bool, true, false, List, ◌∷◌, ◌++◌, codes, not, nat_lt, Option, Some, None, if◌then◌else◌}
+use Rattle.std.specs.Prelude.{ℕ, ◌-◌, Bool, true, false, List, ◌∷◌, ◌++◌, codes, not, nat_lt, Option, Some, None, if◌then◌else◌}
 use Rattle.std.specs.Fmt.{decimal}
 use Rattle.pci_command.specs.declared.op_id.OpId.{OpId}
 use Rattle.pci_command.specs.declared.command.Command.TheVariants.{MemWrite}
@@ -13,12 +13,14 @@ use Rattle.board_model.specs.Requests.{request_of}
 use Rattle.board_model.specs.Ways.{lane_back}
 use Rattle.history_model.specs.declared.event.By.{By}
 use Rattle.history_model.specs.declared.event.By.TheVariants.{Master, Lane as ByLane}
+use Rattle.history_model.specs.declared.event.Event.{Event}
+use Rattle.history_model.specs.declared.event.Event.TheVariants.{Act as ActEvent, Arrive}
 use Rattle.history_model.specs.declared.event.Step.{Step}
 use Rattle.history_model.specs.declared.event.Step.TheVariants.{Land, Part, Read, Accept, Latch, Take, Stall, MasterAbort, TargetAbort}
 use Rattle.draw_items.specs.declared.item.Item.{Item}
 use Rattle.draw_elements.specs.declared.columns.line.Line.TheVariants as lines
 use Rattle.draw_elements.specs.columns.Places.{Layout, place_of, face_place, bar_place, is_left}
-use Rattle.draw_elements.specs.Heights.{y, circle_element}
+use Rattle.draw_elements.specs.Heights.{height_text, y, circle_element}
 use Rattle.draw_elements.specs.Items.{faint}
 use Rattle.draw_elements.specs.declared.acts.Act.{Act}
 
@@ -128,3 +130,22 @@ act_text board layout first n pale on by o step act =
 -- the rim of an act that somebody claims
 abbrev pub act_rim : ℕ → ℕ → Act → List ℕ
 act_rim first n act = codes "<path class=\"g\" d=\"" ++ (line_path first n act ++ codes "\"/>\n")
+
+-- the bar of an item that a lane presents, or the face of the lane where nothing of the operation stands
+abbrev pub bar_or_face : Layout → BridgeLane → Option Item → ℕ
+bar_or_face layout lane None = face_place lane layout
+bar_or_face layout lane (Some item) = bar_place item.lane item.track layout
+
+-- the line of a master, or that place of a lane
+abbrev pub initiator_place : Layout → By → OpId → Option Item → ℕ
+initiator_place layout Master o item = place_of (lines.Master o.master) layout
+initiator_place layout (ByLane lane) o item = bar_or_face layout lane item
+
+-- where an event that is not allowed has its cross: at its initiator, or at the face where it would arrive
+abbrev pub refused_place : Layout → Option Item → Event → ℕ
+refused_place layout item (ActEvent on by o step place) = initiator_place layout by o item
+refused_place layout item (Arrive lane mark) = face_place lane layout
+
+-- that cross, in the row of this number
+unfoldable pub refused_text : ℕ → ℕ → ℕ → List ℕ
+refused_text first n x = codes "<g class=\"x\"><path d=\"M" ++ (decimal (x - 6) ++ (32 ∷ (height_text first n 2 ++ codes "l12 12m0 -12l-12 12\"/></g>\n")))

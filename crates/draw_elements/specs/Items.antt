@@ -51,9 +51,10 @@ route_text first route = 77 ∷ (decimal route.from ++ 32 ∷ (y first route.sen
 abbrev pub rim_down : ℕ → Route → List ℕ
 rim_down first route = if nat_lt route.came route.left then 86 ∷ y first route.left else []
 
--- the rim of an item, along its line and its bar
-abbrev pub item_rim : ℕ → Route → List ℕ
-item_rim first route = codes "<path class=\"g\" d=\"" ++ (route_text first route ++ (rim_down first route ++ codes "\"/>\n"))
+-- the rim of an item, along its line and its bar, of this class
+abbrev pub item_rim : List ℕ → ℕ → Route → List ℕ
+item_rim class first route =
+    codes "<path class=\"" ++ (class ++ (codes "\" d=\"" ++ (route_text first route ++ (rim_down first route ++ codes "\"/>\n"))))
 
 -- the title: what it is, its operation and lane, and its events
 abbrev pub came_text : Item → List ℕ

@@ -79,11 +79,17 @@ fn print_route(text: &mut String, first: u32, route: &Route) -> Result<(), Alloc
     )
 }
 
-/// The rim of an item.
-pub fn print_item_rim(text: &mut String, first: u32, route: &Route) -> Result<(), AllocError>
-    ensures { OnOk result (string_bytes text.new ≡ string_bytes text.old ++ item_rim first route.now) }
+/// The rim of an item, of this class.
+pub fn print_item_rim(
+    text: &mut String,
+    class: &str,
+    first: u32,
+    route: &Route,
+) -> Result<(), AllocError>
+    ensures { OnOk result (string_bytes text.new
+        ≡ string_bytes text.old ++ item_rim class.now first route.now) }
 {
-    text.push_str("<path class=\"g\" d=\"")?;
+    write!(text, "<path class=\"{class}\" d=\"")?;
     print_route(text, first, route)?;
     print_down(text, first, route)?;
     text.push_str("\"/>\n")

@@ -3,14 +3,14 @@ ghost use Rattle.board_printer.specs.Lines.{spaced};
 ghost use Rattle.trace_text.specs.Words.{place_words};
 ghost use Rattle.trace_text.specs.Events.{result_words, mark_words, act_line, arrival_line};
 ghost use Rattle.board_model.specs.Requests.{request_of};
-ghost use Rattle.draw_elements.specs.Labels.{words_text, event_text, item_note, arrival_note, space_note, phases_note, read_note, write_note, access_note, place_note, note_of};
+ghost use Rattle.draw_elements.specs.Labels.{words_text, event_text, item_note, arrival_note, space_note, phases_note, data_note, request_note, reaches, enters, is_new, tells_request, act_note, note_of};
 
 use crate::words::kind_word;
 use board_model::{Board, Lane, Place, end_of, request_of};
 use board_printer::{Address, DataWord, HexWord};
 use draw_items::{Item, Kind};
 use history_model::{By, Event, Mark, Step};
-use pci_command::{OpId, Outcome, Phase, Space};
+use pci_command::{OpId, Outcome, Phase, Request, Space};
 use std::alloc::AllocError;
 use trace_text::{ByWord, LaneWord, print_operation, step_word, target_name};
 
@@ -96,7 +96,7 @@ fn print_mark(text: &mut String, mark: Mark) -> Result<(), AllocError>
     }
 }
 
-/// What is noted behind an event: what arrives, or the address at a target and what is written.
+/// What is noted behind an event: what arrives, or what is written and the address.
 pub fn print_note(
     text: &mut String,
     board: &Board,
@@ -108,11 +108,17 @@ pub fn print_note(
     match *event {
         Event::Act {
             bus,
+            by,
             op,
             step,
             place,
-            ..
-        } => print_place_note(text, board, bus, op, step, place),
+        } => {
+            if tells_request(by, step, place) {
+                print_request_of(text, board, bus, op)
+            } else {
+                Ok(())
+            }
+        }
         Event::Arrive { .. } => print_arriving(text, board, item),
     }
 }
@@ -138,61 +144,77 @@ fn print_item_note(text: &mut String, board: &Board, kind: Kind, op: OpId) -> Re
     }
 }
 
-fn print_place_note(
-    text: &mut String,
-    board: &Board,
-    bus: u8,
-    op: OpId,
-    step: Step,
-    place: Place,
-) -> Result<(), AllocError>
-    ensures { OnOk result (string_bytes text.new ≡ string_bytes text.old ++ place_note board.now bus op step place) }
+/// Whether the act has a note of its request: a landing or a read at a target, and what a bridge accepts or latches of a
+/// master.
+fn tells_request(by: By, step: Step, place: Place) -> bool
+    ensures { result ≡ tells_request by step place }
 {
     match place {
-        Place::Target(_) => print_access(text, board, bus, op, step),
-        Place::Header(_) | Place::Lane(_) | Place::Nobody => Ok(()),
+        Place::Target(_) => reaches(step),
+        Place::Lane(_) => is_new(by, step),
+        Place::Header(_) | Place::Nobody => false,
     }
 }
 
-fn print_access(
-    text: &mut String,
-    board: &Board,
-    bus: u8,
-    op: OpId,
-    step: Step,
-) -> Result<(), AllocError>
-    ensures { OnOk result (string_bytes text.new ≡ string_bytes text.old ++ access_note step (request_of board.now op bus)) }
+fn reaches(step: Step) -> bool
+    ensures { result ≡ reaches step }
 {
     match step {
-        Step::Land | Step::Part(_) => print_write(text, board, bus, op),
-        Step::Read(_) => print_read(text, board, bus, op),
+        Step::Land | Step::Part(_) | Step::Read(_) => true,
         Step::Accept
         | Step::Latch
         | Step::Take(_)
         | Step::Stall
         | Step::MasterAbort
-        | Step::TargetAbort => Ok(()),
+        | Step::TargetAbort => false,
     }
 }
 
-fn print_write(text: &mut String, board: &Board, bus: u8, op: OpId) -> Result<(), AllocError>
-    ensures { OnOk result (string_bytes text.new ≡ string_bytes text.old ++ write_note (request_of board.now op bus)) }
+fn is_new(by: By, step: Step) -> bool
+    ensures { result ≡ is_new by step }
+{
+    match by {
+        By::Master => enters(step),
+        By::Lane(_) => false,
+    }
+}
+
+fn enters(step: Step) -> bool
+    ensures { result ≡ enters step }
+{
+    match step {
+        Step::Accept | Step::Latch => true,
+        Step::Land
+        | Step::Part(_)
+        | Step::Read(_)
+        | Step::Take(_)
+        | Step::Stall
+        | Step::MasterAbort
+        | Step::TargetAbort => false,
+    }
+}
+
+fn print_request_of(text: &mut String, board: &Board, bus: u8, op: OpId) -> Result<(), AllocError>
+    ensures { OnOk result (string_bytes text.new ≡ string_bytes text.old ++ request_note (request_of board.now op bus)) }
 {
     match request_of(board, op, bus) {
         Some(request) => {
-            print_address(text, request.command.space(), request.address)?;
-            print_phases(text, request.phases.as_slice())
+            print_data(text, &request)?;
+            text.push_str("at ")?;
+            print_address(text, request.command.space(), request.address)
         }
         None => Ok(()),
     }
 }
 
-fn print_read(text: &mut String, board: &Board, bus: u8, op: OpId) -> Result<(), AllocError>
-    ensures { OnOk result (string_bytes text.new ≡ string_bytes text.old ++ read_note (request_of board.now op bus)) }
+/// Of a write the first word.
+fn print_data(text: &mut String, request: &Request) -> Result<(), AllocError>
+    ensures { OnOk result (string_bytes text.new ≡ string_bytes text.old ++ data_note request.now) }
 {
-    match request_of(board, op, bus) {
-        Some(request) => print_address(text, request.command.space(), request.address),
-        None => Ok(()),
+    if request.command.is_read() {
+        Ok(())
+    } else {
+        print_phases(text, request.phases.as_slice())
     }
 }
 
@@ -211,7 +233,7 @@ fn print_phases(text: &mut String, phases: &[Phase]) -> Result<(), AllocError>
 {
     match phases {
         [] => Ok(()),
-        [phase] => write!(text, " {}", DataWord(*phase)),
-        [phase, ..] => write!(text, " {} ..", DataWord(*phase)),
+        [phase] => write!(text, "{} ", DataWord(*phase)),
+        [phase, ..] => write!(text, "{} .. ", DataWord(*phase)),
     }
 }

@@ -6,6 +6,7 @@ mod columns;
 mod height;
 mod items;
 mod labels;
+mod refused;
 mod words;
 
 pub use acts::{Act, print_act, print_act_rim, print_head};
@@ -15,4 +16,5 @@ pub use columns::{
 pub use height::{Height, print_circle};
 pub use items::{Route, print_item, print_item_rim};
 pub use labels::{print_event, print_note};
+pub use refused::{print_refused, refused_place};
 pub use words::faint;

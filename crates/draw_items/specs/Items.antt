@@ -281,3 +281,16 @@ item_of n lanes = option_and_then (λ touched. option_and_then (λ number. slice
 -- the same of the completion that is taken
 abbrev pub taken_by : ℕ → Lanes → Option Item
 taken_by n lanes = option_and_then (λ touched. option_and_then (λ number. slice_get lanes.items number) touched.taken) (slice_get lanes.touched (n - 1))
+
+-- the number of the item that an event names which did not happen: what would arrive next, or what its lane presents
+abbrev pub named_number : Event → Lanes → Option ℕ
+named_number (Act on by o step place) lanes = presented by o lanes
+named_number (Arrive lane mark) lanes = oldest (is_in_flight lane) lanes
+
+-- that item
+abbrev pub named_by : Event → Lanes → Option Item
+named_by e lanes = option_and_then (λ number. slice_get lanes.items number) (named_number e lanes)
+
+-- the completion of the operation that stands where it would be taken at this place
+abbrev pub completion_at : OpId → Place → Lanes → Option Item
+completion_at o place lanes = option_and_then (λ number. slice_get lanes.items number) (taken_at o place lanes)

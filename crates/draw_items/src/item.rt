@@ -65,7 +65,7 @@ impl Item {
     }
 
     /// Whether it stands where the lane ends.
-    pub(crate) fn is_standing(&self, lane: Lane) -> bool
+    pub fn is_standing(&self, lane: Lane) -> bool
         ensures { result ≡ is_standing lane self.now }
     {
         self.lane == lane && (self.has_stood() && self.left == 0)

@@ -55,7 +55,7 @@ impl Traffic {
     ghost use Rattle.std.specs.Prelude.{None};
     ghost use Rattle.std.specs.Option.{option_copied};
     ghost use Rattle.history_model.specs.declared.event.Event.{Event};
-    ghost use Rattle.draw_items.specs.Items.{nothing, item_of, taken_by, happen, arrive, brought, arrived, dropped, act, acted, ended, sent_on, left, left_by, answered, sent, changed, touching, oldest, is_in_flight, is_presented, is_taken, presented, taken, tracks_on};
+    ghost use Rattle.draw_items.specs.Items.{nothing, item_of, taken_by, named_number, named_by, completion_at, taken_at, happen, arrive, brought, arrived, dropped, act, acted, ended, sent_on, left, left_by, answered, sent, changed, touching, oldest, is_in_flight, is_presented, is_taken, presented, taken, tracks_on};
 
     fn new(alloc: Global) -> Traffic
         ensures { result ≡ nothing }
@@ -88,6 +88,40 @@ impl Traffic {
     {
         let touched = self.touched.as_slice().get((n as usize).saturating_sub(1))?;
         self.items.as_slice().get(touched.taken?)
+    }
+
+    /// What an event names that did not happen: what would arrive next, or what its lane presents.
+    pub fn named_by(&self, event: &Event) -> Option<&Item>
+        ensures { option_copied result ≡ named_by event.now self.now }
+    {
+        let number = self.named_number(event)?;
+        self.items.as_slice().get(number)
+    }
+
+    fn named_number(&self, event: &Event) -> Option<usize>
+        ensures { result ≡ named_number event.now self.now }
+    {
+        match *event {
+            Event::Act { by, op, .. } => self.presented(by, op),
+            Event::Arrive { lane, .. } => self.first_in_flight(lane),
+        }
+    }
+
+    /// The completion of the operation that stands where it would be taken at this place.
+    pub fn completion_at(&self, op: OpId, place: Place) -> Option<&Item>
+        ensures { option_copied result ≡ completion_at op place self.now }
+    {
+        let number = self.taken_at(op, place)?;
+        self.items.as_slice().get(number)
+    }
+
+    fn taken_at(&self, op: OpId, place: Place) -> Option<usize>
+        ensures { result ≡ taken_at op place self.now }
+    {
+        match place {
+            Place::Lane(lane) => self.first_taken(lane_back(lane), op),
+            Place::Target(_) | Place::Header(_) | Place::Nobody => None,
+        }
     }
 
     /// Event number n happens.

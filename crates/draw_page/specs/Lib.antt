@@ -1,4 +1,2 @@
-pub mod Tops
 pub mod Pages
 pub mod layers
-pub mod style

@@ -1,9 +1,10 @@
 -- The page of a picture.
-use Rattle.std.specs.Prelude.{ℕ, ◌+◌, ◌*◌, min, List, ◌++◌, length, codes}
+use Rattle.std.specs.Prelude.{ℕ, ◌+◌, ◌-◌, ◌*◌, min, List, ◌++◌, length, codes, Option}
 use Rattle.board_model.specs.declared.board.Board.{Board}
 use Rattle.history_model.specs.declared.event.Event.{Event}
 use Rattle.history_model.specs.Runs.{history_of}
 use Rattle.law_audit.specs.Audit.{Finding, findings}
+use Rattle.draw_items.specs.declared.item.Item.{Item}
 use Rattle.draw_items.specs.Items.{traffic_of}
 use Rattle.draw_items.specs.Waits.{waits_of}
 use Rattle.draw_told.specs.declared.told.Span.{Span}
@@ -15,9 +16,12 @@ use Rattle.draw_sheets.specs.declared.frame.Frame.{Frame}
 use Rattle.draw_sheets.specs.Frames.{frame_of}
 use Rattle.draw_shapes.specs.Shapes.{Shape}
 use Rattle.draw_page.specs.layers.Rows.{rows_of}
+use Rattle.draw_told.specs.Ahead.{ahead_in}
 use Rattle.draw_page.specs.layers.Layers.{layers}
 use Rattle.draw_sheets.specs.heads.Names.{names_text}
-use Rattle.draw_page.specs.Tops.{title_text, top_text, told_text}
+use Rattle.draw_told.specs.declared.close.Close.{Close}
+use Rattle.draw_told.specs.Closes.{allowed_in}
+use Rattle.draw_told.specs.Tops.{title_text, close_line, top_text, told_text}
 use Rattle.draw_strips.specs.Strips.{strips_text}
 
 -- the columns with their names, and the strips
@@ -32,12 +36,20 @@ names_part board layout = table_open ++ (names_text board layout ++ codes "\n<tb
 unfoldable pub table_text : Board → Layout → Frame → List Shape → List ℕ
 table_text board layout frame shapes = names_part board layout ++ (strips_text layout frame shapes ++ codes "</table>\n")
 
--- the page: its top, the lines of the audit, and the table
-unfoldable pub page_with : Board → ℕ → Layout → Frame → List Finding → List Span → List Shape → List ℕ
-page_with board count layout frame found spans shapes =
-    top_text (title_text count (length board.bridges + 1) frame.first frame.last) ++ (told_text board found spans ++ table_text board layout frame shapes)
+-- the number of the last event: the row behind it is the end
+abbrev pub count_in : Frame → ℕ
+count_in frame = frame.end - 1
 
--- of the events of a run those from one number to another are drawn
+-- the title
+abbrev pub title_in : Board → Frame → Close → List ℕ
+title_in board frame close = title_text (count_in frame) (length board.bridges + 1) frame.first frame.last close
+
+-- the page: its top, the lines of the audit, and the table
+unfoldable pub page_with : Board → Close → Layout → Frame → List Finding → List Span → List Shape → List ℕ
+page_with board close layout frame found spans shapes =
+    top_text (title_in board frame close) (close_line (count_in frame) close) ++ (told_text board found spans ++ table_text board layout frame shapes)
+
+-- where the brackets end: the columns begin there
 abbrev pub brackets_end : Board → List Event → Frame → ℕ
 brackets_end board events frame = frame.told_x + (10 * length (brackets_of (spans_of board events)).ends + 10)
 
@@ -46,27 +58,33 @@ unfoldable pub layout_in : Board → List Event → Frame → Layout
 layout_in board events frame = layout_of board (traffic_of events).items (brackets_end board events frame)
 
 -- all elements of the picture, with what the events tell of items, waits and lines of the audit
-unfoldable pub shapes_in : Board → List Event → Layout → Frame → List Row → List Shape
-shapes_in board events layout frame rows =
-    layers board events layout frame rows (traffic_of events).items (waits_of events) (spans_of board events) (brackets_of (spans_of board events)).tracks
+unfoldable pub shapes_in : Board → List Event → Layout → Frame → List Row → Option Item → List Shape
+shapes_in board events layout frame rows ahead =
+    layers board events layout frame rows (traffic_of events).items ahead (waits_of events) (spans_of board events) (brackets_of (spans_of board events)).tracks
 
 -- the page of these columns, rows and elements
-abbrev pub page_on : Board → List Event → Layout → Frame → List Row → List ℕ
-page_on board events layout frame rows =
-    page_with board (length events) layout frame (findings board (history_of events)) (spans_of board events) (shapes_in board events layout frame rows)
+abbrev pub page_on : Board → List Event → Close → Layout → Frame → List Row → Option Item → List ℕ
+page_on board events close layout frame rows ahead =
+    page_with board close layout frame (findings board (history_of events)) (spans_of board events) (shapes_in board events layout frame rows ahead)
 
 -- the page of this frame
-unfoldable pub page_in : Board → List Event → Frame → List Row → List ℕ
-page_in board events frame rows = page_on board events (layout_in board events frame) frame rows
+unfoldable pub page_in : Board → List Event → Close → Frame → List Row → Option Item → List ℕ
+page_in board events close frame rows ahead = page_on board events close (layout_in board events frame) frame rows ahead
 
 -- the page of these rows
-abbrev pub page_of_rows : Board → List Event → ℕ → ℕ → List Row → List ℕ
-page_of_rows board events first last rows = page_in board events (frame_of (length events) first last rows) rows
+abbrev pub page_of_rows : Board → List Event → List Event → Close → ℕ → ℕ → List Row → List ℕ
+page_of_rows board allowed events close first last rows =
+    page_in board allowed close (frame_of (length events) first last rows) rows (ahead_in board (traffic_of allowed) close events)
 
--- the page from event FIRST to event LAST, which is there
-unfoldable pub page_from : Board → List Event → ℕ → ℕ → List ℕ
-page_from board events first last = page_of_rows board events first last (rows_of board events (traffic_of events) first last)
+-- the page from event FIRST to event LAST, which is there, of events of which the first are allowed
+abbrev pub page_after : Board → List Event → List Event → Close → ℕ → ℕ → List ℕ
+page_after board allowed events close first last =
+    page_of_rows board allowed events close first last (rows_of board allowed (traffic_of allowed) events first last)
 
--- the page; a LAST above the number of events is lowered to it
-unfoldable pub page_of : Board → List Event → ℕ → ℕ → List ℕ
-page_of board events first last = page_from board events first (min last (length events))
+-- the same, by how they end
+unfoldable pub page_from : Board → List Event → Close → ℕ → ℕ → List ℕ
+page_from board events close first last = page_after board (allowed_in close events) events close first last
+
+-- the page of these events, which end so; a LAST above their number is lowered to it
+unfoldable pub page_of : Board → List Event → Close → ℕ → ℕ → List ℕ
+page_of board events close first last = page_from board events close first (min last (length events))

@@ -4,4 +4,4 @@ mod layers;
 mod rows;
 
 pub use layers::layers_of;
-pub use rows::rows_of;
+pub(crate) use rows::rows_of;

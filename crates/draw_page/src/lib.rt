@@ -1,9 +1,8 @@
 //! The page of a picture of a run, in HTML with inline SVG.
 #![tactic(auto)]
 
+mod known;
 mod layers;
 mod page;
-mod style;
-mod top;
 
 pub use page::page_of;

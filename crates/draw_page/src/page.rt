@@ -4,39 +4,44 @@ ghost use Rattle.draw_items.specs.Items.{traffic_of};
 ghost use Rattle.draw_items.specs.Kept.{TellsTries};
 ghost use Rattle.draw_told.specs.Kept.{TellsTold};
 ghost use Rattle.draw_elements.specs.columns.Places.{layout_of};
+ghost use Rattle.draw_told.specs.Closes.{allowed_in};
 ghost use Rattle.draw_page.specs.Pages.{table_open, names_part, table_text, page_with, page_in, page_from, page_of};
 
+use crate::known::Known;
 use crate::layers::{layers_of, rows_of};
-use crate::top::{Title, print_told, print_top};
 use board_model::Board;
 use board_tree::Tree;
 use draw_elements::{Columns, columns_of, most_of, product, sum};
-use draw_items::{Traffic, Tries, traffic_of, tries_of, waits_of};
+use draw_items::{Item, Traffic, traffic_of, tries_of, waits_of};
 use draw_shapes::Element;
 use draw_sheets::{Frame, Row, frame_of, print_names};
 use draw_strips::print_strips;
-use draw_told::{Brackets, Told, brackets_of, told_of};
+use draw_told::{
+    Brackets, Close, Title, Told, ahead_in, allowed_in, brackets_of, print_told, print_top, told_of,
+};
 use history_model::Event;
 use pci_command::{List, NoMemory};
 use std::alloc::{AllocError, Global};
 
-/// The page of a run, complete or not, from its events, the oldest first; drawn are those from number `first` to number
-/// `last`.
+/// The page of a run, complete or not, or of one and an event behind it that is not allowed, the
+/// oldest first; drawn are the events from number `first` to number `last`.
 #[tactic(auto, unfolding(crate::specs::Pages::page_of))]
 pub fn page_of(
     alloc: Global,
     tree: &Tree,
     events: &[Event],
+    close: Close,
     first: u32,
     last: u32,
 ) -> Result<List<u8>, NoMemory>
-    requires run { Run tree.now (history_of events.now) }
+    requires run { Run tree.now (history_of (allowed_in close events.now)) }
     requires few { length events.now < 2 ^ 31 }
-    ensures { IfOk result (λ page. page ≡ page_of tree.now events.now first last) }
+    ensures { IfOk result (λ page. page ≡ page_of tree.now events.now close first last) }
 {
-    let told = told_of(alloc, tree, events)?;
+    let allowed = allowed_in(close, events);
+    let told = told_of(alloc, tree, allowed)?;
     let last = last.min(events.len() as u32);
-    page_from(alloc, tree.board(), events, &told, first, last)
+    page_from(alloc, tree.board(), events, close, &told, first, last)
 }
 
 #[tactic(auto, unfolding(crate::specs::Pages::page_from))]
@@ -44,64 +49,73 @@ fn page_from(
     alloc: Global,
     board: &Board,
     events: &[Event],
+    close: Close,
     told: &Told,
     first: u32,
     last: u32,
 ) -> Result<List<u8>, NoMemory>
     requires few { length events.now < 2 ^ 31 }
-    requires told { TellsTold board.now events.now told.now }
-    ensures { IfOk result (λ page. page ≡ page_from board.now events.now first last) }
+    requires told { TellsTold board.now (allowed_in close events.now) told.now }
+    ensures { IfOk result (λ page. page ≡ page_from board.now events.now close first last) }
 {
-    let traffic = traffic_of(alloc, events)?;
-    let tries = tries_of(alloc, events)?;
-    let rows = rows_of(alloc, board, events, &traffic, &tries, told, first, last)?;
+    let allowed = allowed_in(close, events);
+    let traffic = traffic_of(alloc, allowed)?;
+    let tries = tries_of(alloc, allowed)?;
+    let known = Known {
+        board,
+        events: allowed,
+        traffic: &traffic,
+        tries: &tries,
+        told,
+    };
+    let rows = rows_of(alloc, &known, events, first, last)?;
     let rows = rows.as_slice();
     let frame = frame_of(alloc, events.len() as u32, first, last, rows)?;
-    page_in(alloc, board, events, told, &traffic, &tries, &frame, rows)
+    let ahead = ahead_in(board, &traffic, close, events);
+    page_in(alloc, &known, close, &frame, rows, ahead)
 }
 
 #[tactic(auto, unfolding(crate::specs::Pages::page_in, crate::specs::Pages::layout_in, crate::specs::Pages::shapes_in))]
 fn page_in(
     alloc: Global,
-    board: &Board,
-    events: &[Event],
-    told: &Told,
-    traffic: &Traffic,
-    tries: &Tries,
+    known: &Known,
+    close: Close,
     frame: &Frame,
     rows: &[Row],
+    ahead: Option<Item>,
 ) -> Result<List<u8>, NoMemory>
-    requires few { length events.now < 2 ^ 31 }
-    requires told { TellsTold board.now events.now told.now }
-    requires traffic { traffic.now ≡ traffic_of events.now }
-    requires tries { TellsTries events.now tries.now }
-    ensures { IfOk result (λ page. page ≡ page_in board.now events.now frame.now rows.now) }
+    requires few { length known.now.events.now < 2 ^ 31 }
+    requires told { TellsTold known.now.board.now known.now.events.now known.now.told.now }
+    requires traffic { known.now.traffic.now ≡ traffic_of known.now.events.now }
+    requires tries { TellsTries known.now.events.now known.now.tries.now }
+    ensures { IfOk result (λ page. page
+        ≡ page_in known.now.board.now known.now.events.now close frame.now rows.now ahead) }
 {
-    let brackets = brackets_of(alloc, told.spans())?;
-    let columns = columns_in(alloc, board, traffic, &brackets, frame)?;
-    let waits = waits_of(alloc, events)?;
+    let brackets = brackets_of(alloc, known.told.spans())?;
+    let columns = columns_in(alloc, known.board, known.traffic, &brackets, frame)?;
+    let waits = waits_of(alloc, known.events)?;
     let elements = layers_of(
         alloc,
-        board,
+        known.board,
         &columns,
         frame,
         rows,
-        traffic.items(),
+        known.traffic.items(),
+        ahead,
         waits.as_slice(),
-        tries,
-        told,
+        known.tries,
+        known.told,
         &brackets,
     )?;
     let mut text = String::new(alloc);
-    let count = events.len() as u32;
     print_page(
         alloc,
         &mut text,
-        board,
-        count,
+        known.board,
+        close,
         &columns,
         frame,
-        told,
+        known.told,
         elements.as_slice(),
     )?;
     Ok(List::from_vec(text.into_bytes()))
@@ -128,19 +142,20 @@ fn print_page(
     alloc: Global,
     text: &mut String,
     board: &Board,
-    count: u32,
+    close: Close,
     columns: &Columns,
     frame: &Frame,
     told: &Told,
     elements: &[Element],
 ) -> Result<(), NoMemory>
-    ensures { OnOk result (string_bytes text.new ≡ string_bytes text.old ++ page_with board.now count columns.now frame.now told.now.found told.now.spans elements.now) }
+    ensures { OnOk result (string_bytes text.new ≡ string_bytes text.old ++ page_with board.now close columns.now frame.now told.now.found told.now.spans elements.now) }
 {
     let title = Title {
-        count,
+        count: frame.end.saturating_sub(1),
         buses: sum(board.bridges.as_slice().len() as u64, 1)?,
         first: frame.first,
         last: frame.last,
+        close,
     };
     print_top(text, title)?;
     print_told(text, board, told.found(), told.spans())?;

@@ -1,5 +1,5 @@
 -- The elements of a picture, by layers: of a row, an item, an operation that is presented, a bracket.
-use Rattle.std.specs.Prelude.{ℕ, ◌+◌, ◌-◌, ◌*◌, Bool, true, false, ◌&&◌, min, max, nat_lt, List, [], ◌++◌, Option, Some, None, if◌then◌else◌}
+use Rattle.std.specs.Prelude.{ℕ, ◌+◌, ◌-◌, ◌*◌, Bool, true, false, ◌&&◌, min, max, nat_lt, List, [], ◌++◌, codes, Option, Some, None, if◌then◌else◌}
 use Rattle.board_model.specs.declared.board.Board.{Board}
 use Rattle.history_model.specs.declared.event.Step.{Step}
 use Rattle.history_model.specs.declared.event.Step.TheVariants.{Land, Part, Read, Accept, Latch, Take, Stall, MasterAbort, TargetAbort}
@@ -14,7 +14,7 @@ use Rattle.draw_elements.specs.columns.Places.{Layout, place_of}
 use Rattle.draw_elements.specs.declared.acts.Act.{Act as Ends}
 use Rattle.draw_elements.specs.declared.items.Route.{Route}
 use Rattle.draw_elements.specs.Items.{route_of, item_text, item_rim}
-use Rattle.draw_elements.specs.Acts.{act_of, act_text, act_rim}
+use Rattle.draw_elements.specs.Acts.{act_of, act_text, act_rim, refused_place, refused_text}
 use Rattle.draw_sheets.specs.declared.row.Row.{Row}
 use Rattle.draw_sheets.specs.declared.frame.Frame.{Frame}
 use Rattle.draw_shapes.specs.Shapes.{Shape, in_row, seen}
@@ -33,7 +33,8 @@ is_claimed Stall = true
 is_claimed MasterAbort = false
 is_claimed TargetAbort = true
 
--- Layer 1: marks of keys, with a dotted line from the brackets to the nearer end of the act.
+-- Layer 1: marks of keys, with a dotted line from the brackets to the nearer end of the act; and of an event that is not
+-- allowed.
 
 -- the dotted line of a row
 abbrev pub dotted_to : Frame → ℕ → Ends → List Shape
@@ -46,12 +47,17 @@ dotted_shapes layout frame row (Act on by o step place) =
 dotted_shapes layout frame row (Arrive lane mark) = []
 
 -- the mark of a row, behind its line in the list
-abbrev pub mark_shapes : Frame → Row → List Shape
-mark_shapes frame row = in_row row.n (mark_text frame.first row.n (frame.text_x - 4) (row.width + 8))
+abbrev pub mark_shapes : List ℕ → Frame → Row → List Shape
+mark_shapes class frame row = in_row row.n (mark_text class frame.first row.n (frame.text_x - 4) (row.width + 8))
 
--- both, where the row is a key
+-- that of an event that is not allowed
+abbrev pub refused_marks : Frame → Row → List Shape
+refused_marks frame row = if row.refused then mark_shapes (codes "z") frame row else []
+
+-- both, where the row is a key, or else that of an event that is not allowed
 unfoldable pub key_shapes : Layout → Frame → Row → List Shape
-key_shapes layout frame row = if row.key then mark_shapes frame row ++ dotted_shapes layout frame row row.event else []
+key_shapes layout frame row =
+    if row.key then mark_shapes (codes "o") frame row ++ dotted_shapes layout frame row row.event else refused_marks frame row
 
 -- Layer 2: rims of what belongs to an operation in the chain of a line.
 
@@ -64,12 +70,12 @@ can_have_rim Credit = false
 can_have_rim Gone = false
 
 -- the rim along the way of an item
-abbrev pub route_rim : Frame → Route → List Shape
-route_rim frame route = seen frame route.sent route.left (item_rim frame.first route)
+abbrev pub route_rim : List ℕ → Frame → Route → List Shape
+route_rim class frame route = seen frame route.sent route.left (item_rim class frame.first route)
 
 -- the rim of an item, where its operation is in a chain
 unfoldable pub item_rims : Layout → Frame → Bool → Item → List Shape
-item_rims layout frame loud item = if can_have_rim item.kind && loud then route_rim frame (route_of layout frame.end item) else []
+item_rims layout frame loud item = if can_have_rim item.kind && loud then route_rim (codes "g") frame (route_of layout frame.end item) else []
 
 -- the rim along an act, in its row
 abbrev pub rim_in : Frame → ℕ → Ends → List Shape
@@ -84,6 +90,15 @@ act_rims_of layout frame row (Arrive lane mark) = []
 -- the rim of a row
 unfoldable pub act_rims : Layout → Frame → Row → List Shape
 act_rims layout frame row = act_rims_of layout frame row row.event
+
+-- the class of the rim of what an event that is not allowed stands behind, which has no inside
+abbrev pub ahead_class : List ℕ
+ahead_class = codes "z\" fill-opacity=\"0"
+
+-- that rim, where there is such an item
+unfoldable pub ahead_rims : Layout → Frame → Option Item → List Shape
+ahead_rims layout frame None = []
+ahead_rims layout frame (Some item) = route_rim ahead_class frame (route_of layout frame.end item)
 
 -- Layer 3: masters that wait.
 
@@ -104,7 +119,7 @@ routed board frame pale item route = seen frame route.sent route.left (item_text
 unfoldable pub item_shapes : Board → Layout → Frame → Bool → Item → List Shape
 item_shapes board layout frame pale item = routed board frame pale item (route_of layout frame.end item)
 
--- Layer 5: acts.
+-- Layer 5: acts; of an event that is not allowed a cross.
 
 -- the act of a row; an arrival is drawn with its item
 abbrev pub act_shapes_of : Board → Layout → Frame → Row → Event → List Shape
@@ -112,9 +127,18 @@ act_shapes_of board layout frame row (Act on by o step place) =
     in_row row.n (act_text board layout frame.first row.n row.pale on by o step (act_of layout by o step place row.item row.taken))
 act_shapes_of board layout frame row (Arrive lane mark) = []
 
--- the same of a row
+-- a cross in a row
+abbrev pub cross_at : Frame → ℕ → ℕ → List Shape
+cross_at frame n x = in_row n (refused_text frame.first n x)
+
+-- that of an event that is not allowed
+abbrev pub refused_shapes : Layout → Frame → Row → List Shape
+refused_shapes layout frame row = cross_at frame row.n (refused_place layout row.item row.event)
+
+-- the act of a row, or its cross
 unfoldable pub act_shapes : Board → Layout → Frame → Row → List Shape
-act_shapes board layout frame row = act_shapes_of board layout frame row row.event
+act_shapes board layout frame row =
+    if row.refused then refused_shapes layout frame row else act_shapes_of board layout frame row row.event
 
 -- Layer 6: brackets, those that have a track.
 

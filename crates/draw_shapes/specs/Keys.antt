@@ -6,13 +6,13 @@ use Rattle.draw_elements.specs.Heights.{height_text, y, circle_element}
 use Rattle.draw_elements.specs.Items.{faint}
 use Rattle.draw_elements.specs.Acts.{head_text}
 
--- a mark behind the line of an event: where it begins, and how wide it is
+-- a mark behind the line of an event: its class, where it begins, and how wide it is
 unfoldable pub mark_size : ℕ → List ℕ
 mark_size size = 104 ∷ (decimal size ++ (codes "v16h-" ++ (decimal size ++ codes "z\"/>\n")))
 
--- that mark, of this width and in the row of this number
-unfoldable pub mark_text : ℕ → ℕ → ℕ → ℕ → List ℕ
-mark_text first n x size = codes "<path class=\"o\" d=\"M" ++ (decimal x ++ (32 ∷ (height_text first n 0 ++ mark_size size)))
+-- that mark, of this class and width and in the row of this number
+unfoldable pub mark_text : List ℕ → ℕ → ℕ → ℕ → ℕ → List ℕ
+mark_text class first n x size = codes "<path class=\"" ++ (class ++ (codes "\" d=\"M" ++ (decimal x ++ (32 ∷ (height_text first n 0 ++ mark_size size)))))
 
 -- a dotted line in a row from a place to another
 unfoldable pub dotted_text : ℕ → ℕ → ℕ → ℕ → List ℕ

@@ -15,23 +15,24 @@ fn y(first: u32, row: u32) -> Height
     }
 }
 
-/// A mark behind the line of an event, from a place on and so wide.
+/// A mark of this class behind the line of an event, from a place on and so wide.
 #[tactic(auto, unfolding(crate::specs::Keys::mark_text))]
 pub(crate) fn print_mark(
     text: &mut String,
+    class: &str,
     first: u32,
     n: u32,
     x: u64,
     size: u64,
 ) -> Result<(), AllocError>
-    ensures { OnOk result (string_bytes text.new ≡ string_bytes text.old ++ mark_text first n x size) }
+    ensures { OnOk result (string_bytes text.new ≡ string_bytes text.old ++ mark_text class.now first n x size) }
 {
     let top = Height {
         first,
         row: n,
         down: 0,
     };
-    write!(text, "<path class=\"o\" d=\"M{x} {top}")?;
+    write!(text, "<path class=\"{class}\" d=\"M{x} {top}")?;
     print_mark_size(text, size)
 }
 

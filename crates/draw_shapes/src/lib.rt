@@ -9,5 +9,6 @@ mod shapes;
 
 pub use element::Element;
 pub use shapes::{
-    add_act, add_act_rim, add_bracket, add_item, add_item_rim, add_key, add_row, add_wait,
+    add_act, add_act_rim, add_ahead_rim, add_bracket, add_item, add_item_rim, add_key, add_row,
+    add_wait,
 };

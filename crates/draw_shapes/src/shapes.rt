@@ -1,12 +1,13 @@
 ghost use Rattle.std.specs.Prelude.{◌≡◌, ◌++◌, min, OnOk, IfOk};
-ghost use Rattle.draw_shapes.specs.Elements.{is_claimed, dotted_to, dotted_shapes, mark_shapes, key_shapes, can_have_rim, route_rim, item_rims, rim_in, act_rims_of, act_rims, wait_shapes, routed, item_shapes, act_shapes_of, act_shapes, bracket_on, bracket_shapes, list_shapes};
+ghost use Rattle.draw_shapes.specs.Elements.{is_claimed, dotted_to, dotted_shapes, mark_shapes, refused_marks, key_shapes, can_have_rim, route_rim, item_rims, rim_in, act_rims_of, act_rims, ahead_class, ahead_rims, wait_shapes, routed, item_shapes, act_shapes_of, cross_at, refused_shapes, act_shapes, bracket_on, bracket_shapes, list_shapes};
 
 use crate::element::{Element, add_between, add_in_row, is_seen};
 use crate::keys::{print_bracket, print_dotted, print_mark, print_wait};
 use crate::lists::print_row;
 use board_model::Board;
 use draw_elements::{
-    Act, Columns, Route, print_act, print_act_rim, print_item, print_item_rim, product, sum,
+    Act, Columns, Route, print_act, print_act_rim, print_item, print_item_rim, print_refused,
+    product, refused_place, sum,
 };
 use draw_items::{Item, Kind, Wait};
 use draw_sheets::{Frame, Row};
@@ -14,7 +15,10 @@ use history_model::{Event, Step};
 use pci_command::NoMemory;
 use std::alloc::Global;
 
-/// The mark of a key, and its dotted line.
+/// The class of the rim of what an event that is not allowed stands behind, which has no inside.
+const AHEAD: &str = "z\" fill-opacity=\"0";
+
+/// The mark of a key, and its dotted line; or that of an event that is not allowed.
 #[tactic(auto, unfolding(crate::specs::Elements::key_shapes))]
 pub fn add_key(
     alloc: Global,
@@ -26,8 +30,23 @@ pub fn add_key(
     ensures { OnOk result (elements.new.items ≡ elements.old.items ++ key_shapes columns.now frame.now row.now) }
 {
     if row.key {
-        add_mark(alloc, elements, frame, row)?;
+        add_mark(alloc, elements, "o", frame, row)?;
         add_dotted_of(alloc, elements, columns, frame, row, &row.event)
+    } else {
+        add_refused_mark(alloc, elements, frame, row)
+    }
+}
+
+fn add_refused_mark(
+    alloc: Global,
+    elements: &mut Vec<Element>,
+    frame: &Frame,
+    row: &Row,
+) -> Result<(), NoMemory>
+    ensures { OnOk result (elements.new.items ≡ elements.old.items ++ refused_marks frame.now row.now) }
+{
+    if row.refused {
+        add_mark(alloc, elements, "z", frame, row)
     } else {
         Ok(())
     }
@@ -36,14 +55,16 @@ pub fn add_key(
 fn add_mark(
     alloc: Global,
     elements: &mut Vec<Element>,
+    class: &str,
     frame: &Frame,
     row: &Row,
 ) -> Result<(), NoMemory>
-    ensures { OnOk result (elements.new.items ≡ elements.old.items ++ mark_shapes frame.now row.now) }
+    ensures { OnOk result (elements.new.items ≡ elements.old.items ++ mark_shapes class.now frame.now row.now) }
 {
     let mut text = String::new(alloc);
     let x = frame.text_x.saturating_sub(4);
-    print_mark(&mut text, frame.first, row.n, x, sum(row.width, 8)?)?;
+    let size = sum(row.width, 8)?;
+    print_mark(&mut text, class, frame.first, row.n, x, size)?;
     add_in_row(elements, row.n, text)
 }
 
@@ -119,7 +140,7 @@ pub fn add_item_rim(
 {
     if can_have_rim(item.kind) && loud {
         let route = Route::of(columns, frame.end, item)?;
-        add_route_rim(alloc, elements, frame, &route)
+        add_route_rim(alloc, elements, "g", frame, &route)
     } else {
         Ok(())
     }
@@ -128,14 +149,16 @@ pub fn add_item_rim(
 fn add_route_rim(
     alloc: Global,
     elements: &mut Vec<Element>,
+    class: &str,
     frame: &Frame,
     route: &Route,
 ) -> Result<(), NoMemory>
-    ensures { OnOk result (elements.new.items ≡ elements.old.items ++ route_rim frame.now route.now) }
+    ensures { OnOk result (elements.new.items
+        ≡ elements.old.items ++ route_rim class.now frame.now route.now) }
 {
     if is_seen(frame, route.sent, route.left) {
         let mut text = String::new(alloc);
-        print_item_rim(&mut text, frame.first, route)?;
+        print_item_rim(&mut text, class, frame.first, route)?;
         add_between(elements, route.sent, route.left, text)
     } else {
         Ok(())
@@ -204,6 +227,26 @@ fn add_rim(
     add_in_row(elements, n, text)
 }
 
+/// The rim of what an event that is not allowed stands behind.
+#[tactic(auto, unfolding(crate::specs::Elements::ahead_rims))]
+pub fn add_ahead_rim(
+    alloc: Global,
+    elements: &mut Vec<Element>,
+    columns: &Columns,
+    frame: &Frame,
+    item: Option<Item>,
+) -> Result<(), NoMemory>
+    ensures { OnOk result (elements.new.items ≡ elements.old.items ++ ahead_rims columns.now frame.now item) }
+{
+    match item {
+        Some(item) => {
+            let route = Route::of(columns, frame.end, &item)?;
+            add_route_rim(alloc, elements, AHEAD, frame, &route)
+        }
+        None => Ok(()),
+    }
+}
+
 /// The bar of a master that waits.
 #[tactic(auto, unfolding(crate::specs::Elements::wait_shapes))]
 pub fn add_wait(
@@ -263,7 +306,7 @@ fn add_routed(
     }
 }
 
-/// An act.
+/// An act; of an event that is not allowed a cross.
 #[tactic(auto, unfolding(crate::specs::Elements::act_shapes))]
 pub fn add_act(
     alloc: Global,
@@ -275,7 +318,38 @@ pub fn add_act(
 ) -> Result<(), NoMemory>
     ensures { OnOk result (elements.new.items ≡ elements.old.items ++ act_shapes board.now columns.now frame.now row.now) }
 {
-    add_act_of(alloc, elements, board, columns, frame, row, &row.event)
+    if row.refused {
+        add_refused(alloc, elements, columns, frame, row)
+    } else {
+        add_act_of(alloc, elements, board, columns, frame, row, &row.event)
+    }
+}
+
+fn add_refused(
+    alloc: Global,
+    elements: &mut Vec<Element>,
+    columns: &Columns,
+    frame: &Frame,
+    row: &Row,
+) -> Result<(), NoMemory>
+    ensures { OnOk result (elements.new.items ≡ elements.old.items ++ refused_shapes columns.now frame.now row.now) }
+{
+    let x = refused_place(columns, row.item, &row.event)?;
+    add_cross(alloc, elements, frame, row.n, x)
+}
+
+fn add_cross(
+    alloc: Global,
+    elements: &mut Vec<Element>,
+    frame: &Frame,
+    n: u32,
+    x: u64,
+) -> Result<(), NoMemory>
+    ensures { OnOk result (elements.new.items ≡ elements.old.items ++ cross_at frame.now n x) }
+{
+    let mut text = String::new(alloc);
+    print_refused(&mut text, frame.first, n, x)?;
+    add_in_row(elements, n, text)
 }
 
 fn add_act_of(

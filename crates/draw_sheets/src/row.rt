@@ -7,7 +7,7 @@ pub struct Row {
     /// Its number, from 1 on.
     pub n: u32,
     pub event: Event,
-    /// What arrives, or what a lane presents.
+    /// What arrives, or what a lane presents; of one that is not allowed what it names.
     pub item: Option<Item>,
     /// The completion that is taken.
     pub taken: Option<Item>,
@@ -17,6 +17,8 @@ pub struct Row {
     pub loud: bool,
     /// Whether its operation is a fruitless try; that of an act, or of what arrives.
     pub pale: bool,
+    /// Whether it is not allowed after those before it.
+    pub refused: bool,
     /// How wide its line and its note are.
     pub width: u64,
 }

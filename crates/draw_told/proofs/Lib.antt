@@ -4,3 +4,4 @@ pub mod EndLemmas
 pub mod KeyLemmas
 pub mod BracketLemmas
 pub mod ToldLemmas
+pub mod ZipLemmas

@@ -1,3 +1,7 @@
 pub mod Told
 pub mod Brackets
 pub mod Kept
+pub mod Closes
+pub mod Ahead
+pub mod Tops
+pub mod style

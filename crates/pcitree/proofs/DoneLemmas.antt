@@ -4,7 +4,7 @@ use Rattle.std.specs.Prelude.{Vec}
 use Rattle.std.specs.declared.alloc.Global.{Global}
 use Rattle.program_status.specs.declared.status.Status.{Status}
 use Rattle.program_status.specs.declared.status.Status.TheVariants.{Done}
-use Rattle.pcitree.specs.declared.answering.Answered.{Answered}
+use Rattle.program_status.specs.declared.answered.Answered.{Answered}
 
 pub done_answers : (P : List ℕ → Type 0) (text : Result (Vec ℕ Global) Status) (made : Result Answered Status) → IfOk made (λ answer. (text ≡ Ok answer.text) × (answer.ending ≡ Done)) → IfOk text (λ bytes. P bytes.items)
     → IfOk made (λ answer. P answer.text.items × (answer.ending ≡ Done))

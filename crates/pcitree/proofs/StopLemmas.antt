@@ -13,7 +13,7 @@ use Rattle.command_runs.proofs.finish.ServedLemmas.{finish_refusing}
 use Rattle.program_input.proofs.RunLemmas.{run_refusing}
 use Rattle.command_runs.proofs.generate.ServedLemmas.{generate_refusing}
 use Rattle.program_input.proofs.ProtocolLemmas.{protocol_refusing, devices_refusing}
-use Rattle.command_traces.proofs.draw.ServedLemmas.{draw_refusing}
+use Rattle.command_traces.proofs.draw.ServedLemmas.{draw_refusing, draw_succeeds}
 use Rattle.command_traces.specs.draw.Rows.{rows_asked}
 use Rattle.command_traces.specs.draw.Operations.{operation_asked}
 use Rattle.command_traces.proofs.fill.ServedLemmas.{fill_refusing}
@@ -41,6 +41,9 @@ all_of (Some bytes) (Some rest) input taken is read end =
 -- an answer ends well
 pub succeeds : (form : Form) (words : List (List ℕ)) (input text : List ℕ) (ending : Status) → AnswersTo form words input text ending → IsSuccess ending
 succeeds forms.Safe words input text ending answers = safe_succeeds input text ending answers
+succeeds forms.Draw words input text ending answers = draw_succeeds (rows_asked (rows_in words)) input text ending answers
+succeeds forms.DrawRows words input text ending answers = draw_succeeds (rows_asked (rows_in words)) input text ending answers
+succeeds forms.DrawOperation words input text ending answers = draw_succeeds (operation_asked (operation_in words)) input text ending answers
 succeeds form words input text ending answers = ap subject_of answers.1
 
 pub succeeded : (known : Option Form) (words : List (List ℕ)) (held rest before after : Option (List ℕ)) (ending : Status) → IsSome known

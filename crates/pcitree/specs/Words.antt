@@ -160,19 +160,19 @@ command_of forms.Devices words = record {
   writes_run = true;
 }
 command_of forms.Draw words = record {
-  Answers = WithDone (λ input text. AnswersDraw input (rows_asked (rows_in words)) text);
+  Answers = λ input text ending. AnswersDraw input (rows_asked (rows_in words)) text ending;
   Refuses = λ input status. RefusesDraw input (rows_asked (rows_in words)) status;
   IsFaultless = IsDrawable (rows_asked (rows_in words));
   writes_run = false;
 }
 command_of forms.DrawRows words = record {
-  Answers = WithDone (λ input text. AnswersDraw input (rows_asked (rows_in words)) text);
+  Answers = λ input text ending. AnswersDraw input (rows_asked (rows_in words)) text ending;
   Refuses = λ input status. RefusesDraw input (rows_asked (rows_in words)) status;
   IsFaultless = IsDrawable (rows_asked (rows_in words));
   writes_run = false;
 }
 command_of forms.DrawOperation words = record {
-  Answers = WithDone (λ input text. AnswersDraw input (operation_asked (operation_in words)) text);
+  Answers = λ input text ending. AnswersDraw input (operation_asked (operation_in words)) text ending;
   Refuses = λ input status. RefusesDraw input (operation_asked (operation_in words)) status;
   IsFaultless = IsDrawable (operation_asked (operation_in words));
   writes_run = false;

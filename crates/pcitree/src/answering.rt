@@ -1,23 +1,13 @@
 ghost use Rattle.std.specs.Prelude.{◌≡◌, ◌<◌, ◌^◌, Ok, Err, IfOk, IfErr, length, map, string_bytes};
-ghost use Rattle.program_input.specs.Protocols.{RefusesProtocol};
-ghost use Rattle.command_safe.specs.safe.Answers.{AnswersSafe};
 ghost use Rattle.pcitree.specs.Answers.{AnswersTo, Refuses};
 ghost use Rattle.pcitree.specs.Given.{IsGiven};
 
 use crate::words::{operation_in, operations_in, rows_in};
 use command_runs::Gate;
-use command_safe::SafeText;
-use program_status::Status;
+use program_status::{Answered, Status};
 use program_words::Form;
 use std::alloc::Global;
 use std::thread::Threads;
-
-/// The text that answers an input, and the status that it ends with.
-#[derive(Debug, Drop)]
-pub(crate) struct Answered {
-    pub(crate) text: Vec<u8>,
-    pub(crate) ending: Status,
-}
 
 /// The text that answers an input, for words of this form. The gate is told of the work of each bus in `run`.
 pub(crate) fn answer<R: Threads + Sync, G: Gate + Sync>(
@@ -35,7 +25,7 @@ pub(crate) fn answer<R: Threads + Sync, G: Gate + Sync>(
     ensures err { IfErr result (Refuses form (map string_bytes words.now) input.now) }
 {
     match form {
-        Form::Safe => answer_safe(alloc, input),
+        Form::Safe => command_safe::answer_safe(alloc, input),
         Form::Adverse => {
             let (read, write) = operations_in(words);
             done(command_safe::answer_adverse(alloc, input, read, write))
@@ -49,13 +39,11 @@ pub(crate) fn answer<R: Threads + Sync, G: Gate + Sync>(
         Form::Audit => done(command_traces::answer_audit(alloc, input)),
         Form::Report => done(command_traces::answer_report(alloc, input)),
         Form::Waves => done(command_traces::answer_waves(alloc, input)),
-        Form::Draw => done(command_traces::answer_draw(alloc, input, rows_in(words))),
-        Form::DrawRows => done(command_traces::answer_draw(alloc, input, rows_in(words))),
-        Form::DrawOperation => done(command_traces::answer_draw_operation(
-            alloc,
-            input,
-            operation_in(words),
-        )),
+        Form::Draw => command_traces::answer_draw(alloc, input, rows_in(words)),
+        Form::DrawRows => command_traces::answer_draw(alloc, input, rows_in(words)),
+        Form::DrawOperation => {
+            command_traces::answer_draw_operation(alloc, input, operation_in(words))
+        }
         Form::Untagged => done(command_traces::answer_untagged(alloc, input)),
         Form::Combine => done(command_boards::answer_combine(alloc, input)),
         Form::Generate => done(command_runs::answer_generate(alloc, input)),
@@ -63,16 +51,6 @@ pub(crate) fn answer<R: Threads + Sync, G: Gate + Sync>(
         Form::Import => done(command_boards::answer_import(alloc, input)),
         Form::Tree => done(command_boards::answer_tree(alloc, input)),
     }
-}
-
-/// What `safe` says decides the status.
-fn answer_safe(alloc: Global, input: &[u8]) -> Result<Answered, Status>
-    requires { length input.now < 2 ^ 31 }
-    ensures ok { IfOk result (λ answer. AnswersSafe input.now answer.text.items answer.ending) }
-    ensures err { IfErr result (RefusesProtocol input.now) }
-{
-    let SafeText { text, ending } = command_safe::answer_safe(alloc, input)?;
-    Ok(Answered { text, ending })
 }
 
 /// Of the other words each text ends with `Done`.

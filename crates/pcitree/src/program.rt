@@ -9,7 +9,7 @@ ghost use Rattle.pcitree.specs.Ends.{ReadsInput, AnswersInput, RefusesInput, Fin
 ghost use Rattle.pcitree.specs.Stops.{StopsAnswering, StopsServing, StopsRunning};
 ghost use Rattle.program_words.specs.Shapes.{parts_of};
 
-use crate::answering::{Answered, answer};
+use crate::answering::answer;
 use crate::reading::{ReadError, read_all};
 use crate::words::{form_of, misfit, number_of};
 use crate::writing::write_all;
@@ -17,7 +17,7 @@ use command_runs::{
     Gate, finished_traces_are_complete, written_devices_are_complete, written_runs_are_complete,
 };
 use io_ports::{Sink, Source};
-use program_status::Status;
+use program_status::{Answered, Status};
 use program_words::Form;
 use std::alloc::Global;
 use std::thread::Threads;
@@ -50,7 +50,7 @@ pub fn pcitree<R: Threads + Sync, S: Source, K: Sink, G: Gate + Sync>(
     ensures write_fault { result ≡ Status.WriteFault
         → Rose (K.faults sink.old) (K.faults sink.new) }
 
-    // What the sink has: the whole text with `Done`, and with `NotSafe` of `safe`.
+    // What the sink has: the whole text with `Done`, with `NotSafe` of `safe` and `DrawnTo` of `draw`.
     ensures unwritten { IsBeforeWriting result → sink.new ≡ sink.old }
     ensures front { result ≡ Status.WriteFault → IfSome (form_of (map string_bytes words.now)) (λ form.
         StopsInText form (map string_bytes words.now) (given form (map string_bytes words.now) (S.held source.old)) (left form (map string_bytes words.now) (S.held source.new))

@@ -1,6 +1,6 @@
 -- Of which statuses nothing is said behind the first line.
 use Rattle.program_status.specs.declared.status.Status.{Status}
-use Rattle.program_status.specs.declared.status.Status.TheVariants.{Done, NoMemory, Usage, ReadFault, WriteFault, TooLong, BadBoard, BadTrace, BadMachine, TooManyEvents, NotRun, Incomplete, NotSafe, NotShown}
+use Rattle.program_status.specs.declared.status.Status.TheVariants.{Done, NoMemory, Usage, ReadFault, WriteFault, TooLong, BadBoard, BadTrace, BadMachine, TooManyEvents, NotRun, Incomplete, NotSafe, NotShown, DrawnTo}
 
 -- nothing is said of an input that ends so
 abbrev pub IsQuiet : Status → Type 0
@@ -18,3 +18,4 @@ IsQuiet (NotRun _ _) = ⊥
 IsQuiet (Incomplete _) = ⊥
 IsQuiet (NotSafe _ _ _) = Unit {0}
 IsQuiet NotShown = Unit {0}
+IsQuiet (DrawnTo _ _) = ⊥

@@ -31,6 +31,7 @@ pub fn message(
         | Status::BadTrace { .. }
         | Status::BadMachine { .. }
         | Status::NotRun { .. }
+        | Status::DrawnTo { .. }
         | Status::Incomplete { .. } => told(alloc, name, input, status, form),
         _ => Ok(Message::new(alloc)),
     }
@@ -72,7 +73,7 @@ fn told(
         Status::BadMachine { line, fault } => {
             tell_machine_line(&mut teller, input, line, fault)?;
         }
-        Status::NotRun { .. } | Status::Incomplete { .. } => {
+        Status::NotRun { .. } | Status::DrawnTo { .. } | Status::Incomplete { .. } => {
             tell_event(&mut teller, input, form)?;
         }
         _ => {}

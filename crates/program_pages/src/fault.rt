@@ -1,3 +1,6 @@
+ghost use Rattle.std.specs.Prelude.{◌≡◌};
+ghost use Rattle.program_pages.specs.Sentences.{sentence_of};
+
 use history_model::Why;
 use program_status::{BoardFault, Status};
 use std::fmt;
@@ -34,7 +37,7 @@ impl Fault {
             }),
             Status::BadTrace { fault, .. } => Some(Fault::Trace(*fault)),
             Status::BadMachine { fault, .. } => Some(Fault::Machine(*fault)),
-            Status::NotRun { why, .. } => Some(Fault::Cause(*why)),
+            Status::NotRun { why, .. } | Status::DrawnTo { why, .. } => Some(Fault::Cause(*why)),
             _ => None,
         }
     }
@@ -72,7 +75,10 @@ impl fmt::Display for Code {
     }
 }
 
-fn sentence_of(why: Why) -> &'static str {
+/// Why an event is not allowed, as one sentence.
+pub fn sentence_of(why: Why) -> &'static str
+    ensures { result.now ≡ sentence_of why }
+{
     match why {
         Why::NotPresented => "its initiator does not present that operation on that bus now",
         Why::AnsweredOtherwise => "the operation is answered by another event",

@@ -12,7 +12,7 @@ mod shown;
 
 pub use codes::Codes;
 pub use device_pages::DEVICE_PAGES;
-pub use fault::Fault;
+pub use fault::{Fault, sentence_of};
 pub use machine_pages::MACHINE_PAGES;
 pub use page::{Page, explain};
 pub use pages::PAGES;

@@ -10,7 +10,7 @@ use Rattle.history_model.specs.WhyText.{why_text}
 use Rattle.text_faults.specs.Lspci.{code_of as machine_code_of}
 use Rattle.text_faults.specs.TraceLine.{code_of as trace_code_of}
 use Rattle.program_status.specs.declared.status.Status.{Status}
-use Rattle.program_status.specs.declared.status.Status.TheVariants.{Done, NoMemory, Usage, ReadFault, WriteFault, TooLong, BadBoard, BadTrace, BadMachine, TooManyEvents, NotRun, Incomplete, NotSafe, NotShown}
+use Rattle.program_status.specs.declared.status.Status.TheVariants.{Done, NoMemory, Usage, ReadFault, WriteFault, TooLong, BadBoard, BadTrace, BadMachine, TooManyEvents, NotRun, Incomplete, NotSafe, NotShown, DrawnTo}
 use Rattle.program_status.specs.declared.status.BoardFault.{BoardFault}
 use Rattle.program_status.specs.declared.status.BoardFault.TheVariants.{Line, Tree, Bound, Device}
 
@@ -30,6 +30,7 @@ number_of (NotRun _ _) = 8
 number_of (Incomplete _) = 9
 number_of (NotSafe _ _ _) = 10
 number_of NotShown = 11
+number_of (DrawnTo _ _) = 8
 
 -- the letter by which the fault of a line is told
 abbrev pub letter_of : Family → List ℕ
@@ -62,3 +63,4 @@ status_text (Incomplete left) = codes "pcitree: incomplete, at most " ++ (decima
 status_text (NotSafe unsafe_reads lost vain) =
     codes "pcitree: " ++ (decimal unsafe_reads ++ (codes " unsafe, " ++ (decimal lost ++ (codes " lost, " ++ (decimal vain ++ codes " vain")))))
 status_text NotShown = codes "pcitree: READ did not read before WRITE landed"
+status_text (DrawnTo event why) = codes "pcitree: event " ++ (decimal event ++ (codes " is not allowed: " ++ why_text why))

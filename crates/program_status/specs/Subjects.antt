@@ -1,7 +1,7 @@
 -- What each status speaks of.
 use Rattle.std.specs.Prelude.{◌≡◌, ◌≢◌}
 use Rattle.program_status.specs.declared.status.Status.{Status}
-use Rattle.program_status.specs.declared.status.Status.TheVariants.{Done, NoMemory, Usage, ReadFault, WriteFault, TooLong, BadBoard, BadTrace, BadMachine, TooManyEvents, NotRun, Incomplete, NotSafe, NotShown}
+use Rattle.program_status.specs.declared.status.Status.TheVariants.{Done, NoMemory, Usage, ReadFault, WriteFault, TooLong, BadBoard, BadTrace, BadMachine, TooManyEvents, NotRun, Incomplete, NotSafe, NotShown, DrawnTo}
 
 -- of a text that is whole in the sink, of memory, of the words, of a failing source or sink, of the length of the input, or of
 -- what the input says
@@ -30,6 +30,7 @@ subject_of (NotRun event why) = Input
 subject_of (Incomplete left) = Input
 subject_of (NotSafe unsafe_reads lost vain) = Success
 subject_of NotShown = Input
+subject_of (DrawnTo event why) = Success
 
 -- the words are of no form
 abbrev pub IsUsage : Status → Type 0

@@ -1,7 +1,9 @@
 //! How a call of the program ends: its status, the number that the process ends with, and the line
-//! that it prints.
+//! that it prints; and what an input is answered with.
 #![tactic(auto)]
 
+mod answered;
 mod status;
 
+pub use answered::Answered;
 pub use status::{BoardFault, Status};

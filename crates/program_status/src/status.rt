@@ -74,6 +74,12 @@ pub enum Status {
     },
     /// The read that was named did not read before the write that was named landed.
     NotShown,
+    /// The text is whole in the sink: it shows the events before this one, from 1 on, and then this
+    /// one, which is not allowed after them.
+    DrawnTo {
+        event: u32,
+        why: Why,
+    },
 }
 
 impl Status {
@@ -99,6 +105,7 @@ impl Status {
             Status::Incomplete { .. } => 9,
             Status::NotSafe { .. } => 10,
             Status::NotShown => 11,
+            Status::DrawnTo { .. } => 8,
         }
     }
 }
@@ -168,7 +175,7 @@ impl fmt::Display for Status {
             Status::TooManyEvents { events } => {
                 write!(f, "pcitree: {events} events are too many to draw")
             }
-            Status::NotRun { event, why } => {
+            Status::NotRun { event, why } | Status::DrawnTo { event, why } => {
                 write!(f, "pcitree: event {event} is not allowed: {why}")
             }
             Status::Incomplete { left } => {

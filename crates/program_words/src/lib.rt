@@ -201,7 +201,8 @@ const DRAW: FormRow = FormRow {
     limit: TRACE,
     line: "draws a trace as a page for a browser",
     more: "The trace is of a run, complete or not, of at most 4,096 events. Writes one page of HTML: a row for each\n\
-        event, the buses side by side, what travels and what waits, and the lines of `audit` as brackets.",
+        event, the buses side by side, what travels and what waits, and the lines of `audit` as brackets. Of a\n\
+        trace that is no run it draws the events up to the first that is not allowed, and ends with 8.",
 };
 
 const DRAW_ROWS: FormRow = FormRow {

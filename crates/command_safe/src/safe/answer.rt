@@ -15,21 +15,14 @@ use board_tree::Tree;
 use law_safe::{said_safe_returns, said_vain_is_not_met, unreached_is_never_done};
 use law_untagged::{apart_is_tested, apart_runs_are_alike};
 use program_input::read_protocol;
-use program_status::Status;
+use program_status::{Answered, Status};
 use safe_table::{ClockTable, OpSaid, largest_table, said_of_all};
 use std::alloc::Global;
 use untagged_apart::apart;
 
-/// What is said of a board's operations, as a text, and the status that it ends with.
-#[derive(Debug, Drop)]
-pub struct SafeText {
-    pub text: Vec<u8>,
-    pub ending: Status,
-}
-
 /// What is said of the operations of the board whose text these bytes are, or of the board of the
 /// devices that they tell.
-pub fn answer_safe(alloc: Global, input: &[u8]) -> Result<SafeText, Status>
+pub fn answer_safe(alloc: Global, input: &[u8]) -> Result<Answered, Status>
     requires { length input.now < 2 ^ 31 }
     ensures ok { IfOk result (λ answer. AnswersSafe input.now answer.text.items answer.ending) }
     ensures err { IfErr result (RefusesProtocol input.now) }
@@ -39,7 +32,7 @@ pub fn answer_safe(alloc: Global, input: &[u8]) -> Result<SafeText, Status>
 }
 
 /// By the largest consistent table of the board.
-fn said_of_tree(alloc: Global, tree: &Tree) -> Result<SafeText, Status>
+fn said_of_tree(alloc: Global, tree: &Tree) -> Result<Answered, Status>
     ensures ok { IfOk result (λ answer. SaysSafe tree.now answer.text.items answer.ending) }
     ensures err { IfErr result (λ status. status ≡ Status.NoMemory) }
 {
@@ -49,7 +42,7 @@ fn said_of_tree(alloc: Global, tree: &Tree) -> Result<SafeText, Status>
     }
 }
 
-fn said_by_table(alloc: Global, tree: &Tree, table: &ClockTable) -> Result<SafeText, Status>
+fn said_by_table(alloc: Global, tree: &Tree, table: &ClockTable) -> Result<Answered, Status>
     requires largest { IsLargest tree.now (table_of table.now) }
     requires polls { KeepsPolls tree.now table.now }
     ensures ok { IfOk result (λ answer. SaysSafe tree.now answer.text.items answer.ending) }
@@ -68,7 +61,7 @@ fn said_by_table(alloc: Global, tree: &Tree, table: &ClockTable) -> Result<SafeT
     }
 }
 
-fn text_of(alloc: Global, tree: &Tree, said: &[OpSaid]) -> Result<SafeText, Status>
+fn text_of(alloc: Global, tree: &Tree, said: &[OpSaid]) -> Result<Answered, Status>
     requires { length said.now < 2 ^ 32 }
     ensures written { IfOk result (λ answer. answer.text.items
         ≡ lines_of tree.now (map line said.now) (is_apart tree.now)) }
@@ -83,7 +76,7 @@ fn text_of(alloc: Global, tree: &Tree, said: &[OpSaid]) -> Result<SafeText, Stat
     }
 }
 
-fn text_with(alloc: Global, board: &Board, said: &[OpSaid], apart: bool) -> Result<SafeText, Status>
+fn text_with(alloc: Global, board: &Board, said: &[OpSaid], apart: bool) -> Result<Answered, Status>
     requires { length said.now < 2 ^ 32 }
     ensures written { IfOk result (λ answer. answer.text.items
         ≡ lines_of board.now (map line said.now) apart) }
@@ -93,7 +86,7 @@ fn text_with(alloc: Global, board: &Board, said: &[OpSaid], apart: bool) -> Resu
 {
     let counts = counts_of(said);
     let text = safe_text(alloc, board, said, apart, counts)?;
-    Ok(SafeText {
+    Ok(Answered {
         text,
         ending: ending_of(counts),
     })

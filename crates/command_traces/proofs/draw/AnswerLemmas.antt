@@ -1,31 +1,40 @@
--- What is drawn of the rows of a run is drawn of its text.
+-- What is drawn of the rows of what is shown is drawn of the text.
 use Rattle.std.proofs.Common.{◌≡◌, ℕ, List, Option, sym, subst}
 use Rattle.history_model.specs.declared.event.Event.{Event}
+use Rattle.draw_told.specs.declared.close.Close.{Close}
 use Rattle.program_input.specs.declared.trace.TreeTrace.{TreeTrace}
-use Rattle.program_input.specs.Traces.{ReadsRun, RefusesRun}
+use Rattle.program_input.specs.Traces.{ReadsTree, RefusesTrace}
 use Rattle.program_status.specs.declared.status.Status.{Status}
 use Rattle.program_status.specs.declared.status.Status.TheVariants.{TooManyEvents}
 use Rattle.command_traces.specs.declared.draw.rows.Rows.{Rows}
 use Rattle.command_traces.specs.draw.Rows.{Asked}
-use Rattle.command_traces.specs.draw.Answers.{AnswersDraw, RefusesDraw, DrawsRows, CountsTooMany, HidesRows}
+use Rattle.command_traces.specs.draw.Answers.{AnswersDraw, RefusesDraw, DrawsRows, CountsTooMany, HidesRows, Shows}
 
-pub answered : (input : List ℕ) (asked : Asked) (read : TreeTrace) (events : List Event) (rows : Option Rows) (text : List ℕ) → ReadsRun input read → events ≡ read.events → rows ≡ asked read.tree read.events
-    → DrawsRows read.tree events rows text → AnswersDraw input asked text
-answered input asked read events rows text reads same is draws =
+pub answered : (input : List ℕ) (asked : Asked) (read : TreeTrace) (events shown : List Event) (close : Close) (rows : Option Rows) (text : List ℕ) (ending : Status) → ReadsTree input read → events ≡ read.events
+    → Shows read.tree events shown close → rows ≡ asked read.tree shown → DrawsRows read.tree shown close rows text ending → AnswersDraw input asked text ending
+answered input asked read events shown close rows text ending reads same shows is draws =
     record {
       board = read.tree;
       events = read.events;
-      read = record { reads = reads.reads; valid = reads.valid; run = reads.run };
-      draws = subst (λ (r : Option Rows). DrawsRows read.tree read.events r text) is (subst (λ (l : List Event). DrawsRows read.tree l rows text) same draws);
+      shown = shown;
+      close = close;
+      reads = reads.reads;
+      valid = reads.valid;
+      shows = subst (λ (l : List Event). Shows read.tree l shown close) same shows;
+      draws = subst (λ (r : Option Rows). DrawsRows read.tree shown close r text ending) is draws;
     }
 
-pub hidden : (input : List ℕ) (asked : Asked) (read : TreeTrace) (events : List Event) (rows : Option Rows) (status : Status) → ReadsRun input read → events ≡ read.events → rows ≡ asked read.tree read.events
-    → HidesRows events rows status → RefusesDraw input asked status
-hidden input asked read events rows (TooManyEvents count) reads same is hides =
+pub hidden : (input : List ℕ) (asked : Asked) (read : TreeTrace) (events shown : List Event) (close : Close) (rows : Option Rows) (status : Status) → ReadsTree input read → events ≡ read.events
+    → Shows read.tree events shown close → rows ≡ asked read.tree shown → HidesRows shown close rows status → RefusesDraw input asked status
+hidden input asked read events shown close rows (TooManyEvents count) reads same shows is hides =
     record {
       board = read.tree;
       events = read.events;
-      read = record { reads = reads.reads; valid = reads.valid; run = reads.run };
-      counts = subst (λ (r : Option Rows). CountsTooMany read.events r count) is (subst (λ (l : List Event). CountsTooMany l rows count) same hides);
+      shown = shown;
+      close = close;
+      reads = reads.reads;
+      valid = reads.valid;
+      shows = subst (λ (l : List Event). Shows read.tree l shown close) same shows;
+      counts = subst (λ (r : Option Rows). CountsTooMany shown close r count) is hides;
     }
-hidden input asked read events rows status reads same is hides = subst (λ (s : Status). RefusesRun input s) (sym hides) tt
+hidden input asked read events shown close rows status reads same shows is hides = subst (λ (s : Status). RefusesDraw input asked s) (sym hides) tt

@@ -1,18 +1,27 @@
 -- Which events of a run are drawn.
-use Rattle.std.specs.Prelude.{ℕ, ◌+◌, ◌-◌, ◌^◌, min, Bool, List, Option, Some, None, Result, Ok, Err, nat_lt, is_some, if◌then◌else◌}
+use Rattle.std.specs.Prelude.{ℕ, ◌+◌, ◌-◌, ◌^◌, min, max, Bool, List, Option, Some, None, Result, Ok, Err, nat_lt, is_some, if◌then◌else◌}
 use Rattle.board_model.specs.declared.board.Board.{Board}
 use Rattle.history_model.specs.declared.event.Event.{Event}
 use Rattle.board_text.specs.declared.numbers.NumberFault.{NumberFault}
 use Rattle.board_text.specs.declared.numbers.NumberFault.TheVariants.{TooWide, NotDigits, OutOfRange}
 use Rattle.board_text.specs.Numbers.{decimal_answer}
+use Rattle.draw_told.specs.declared.close.Close.{Close}
+use Rattle.draw_told.specs.declared.close.Close.TheVariants.{Ended, NotEnded, Refused}
 use Rattle.command_traces.specs.declared.draw.rows.Rows.{Rows}
 
--- all, or those from one number to another; a LAST above the number of events is lowered to it
-abbrev pub first_row : Option Rows → ℕ
-first_row None = 1
-first_row (Some rows) = rows.first
+-- the number of the first event that is drawn where no rows are asked for: of all, but of events up to one that is not allowed
+-- the last 4,096
+abbrev pub first_of_all : Close → ℕ → ℕ
+first_of_all Ended count = 1
+first_of_all NotEnded count = 1
+first_of_all (Refused why sentence) count = max (count - 4095) 1
 
--- the number of the last event that is drawn, of so many
+-- the number of the first event that is drawn, of so many
+abbrev pub first_row : Close → Option Rows → ℕ → ℕ
+first_row close None count = first_of_all close count
+first_row close (Some rows) count = rows.first
+
+-- the number of the last event that is drawn, of so many; a LAST above that is lowered to it
 abbrev pub last_row : Option Rows → ℕ → ℕ
 last_row None count = count
 last_row (Some rows) count = min rows.last count
@@ -26,8 +35,8 @@ abbrev pub rows_asked : Option Rows → Asked
 rows_asked rows board events = rows
 
 -- how many that are
-abbrev pub drawn_count : Option Rows → ℕ → ℕ
-drawn_count rows count = last_row rows count + 1 - first_row rows
+abbrev pub drawn_count : Close → Option Rows → ℕ → ℕ
+drawn_count close rows count = last_row rows count + 1 - first_row close rows count
 
 -- the number of an event that a word tells: a decimal of 1 to 10 digits, from 1 on; one of 2^32 or above is lowered to the
 -- number before, which no event has

@@ -1,107 +1,135 @@
 ghost use Rattle.std.specs.Prelude.{◌≡◌, ◌<◌, ◌^◌, length, IfOk, IfErr};
 ghost use Rattle.history_model.specs.Runs.{Run, history_of};
+ghost use Rattle.draw_told.specs.Closes.{allowed_in};
 ghost use Rattle.draw_page.specs.Pages.{page_of};
-ghost use Rattle.command_traces.specs.draw.Rows.{first_row, last_row, drawn_count, rows_asked};
+ghost use Rattle.command_traces.specs.draw.Rows.{first_of_all, first_row, last_row, drawn_count, rows_asked};
 ghost use Rattle.command_traces.specs.draw.Operations.{operation_asked};
-ghost use Rattle.command_traces.specs.draw.Answers.{AnswersDraw, RefusesDraw, DrawsRows, HidesRows};
+ghost use Rattle.command_traces.specs.draw.Answers.{AnswersDraw, RefusesDraw, DrawsRows, HidesRows, ending_of};
 
 use crate::draw::operation::rows_of_operation;
 use crate::draw::rows::Rows;
+use crate::draw::shown::{Shown, shown_of};
 use board_tree::Tree;
 use draw_page::page_of;
-use history_model::Event;
-use law_bound::runs_end;
+use draw_told::Close;
 use pci_command::{List, NoMemory};
-use program_input::{TreeTrace, read_run};
-use program_status::Status;
+use program_input::{TreeTrace, read_tree_trace};
+use program_status::{Answered, Status};
 use std::alloc::Global;
 
 /// No more events than these are drawn.
-const MOST: u64 = 4096;
+const MOST: u32 = 4096;
 
-/// The page of a run, complete or not, for its trace text: of all its events, or of those in these rows.
-pub fn answer_draw(alloc: Global, input: &[u8], rows: Option<Rows>) -> Result<Vec<u8>, Status>
+/// The page of a trace text: of a run, complete or not, or of the events up to the first that is not
+/// allowed; of all of them, or of those in these rows.
+pub fn answer_draw(alloc: Global, input: &[u8], rows: Option<Rows>) -> Result<Answered, Status>
     requires { length input.now < 2 ^ 31 }
-    ensures ok { IfOk result (λ text. AnswersDraw input.now (rows_asked rows) text.items) }
+    ensures ok { IfOk result (λ page. AnswersDraw input.now (rows_asked rows) page.text.items page.ending) }
     ensures err { IfErr result (RefusesDraw input.now (rows_asked rows)) }
 {
-    let TreeTrace { tree, events } = read_run(alloc, input)?;
-    answer_rows(alloc, &tree, events.as_slice(), rows)
+    let TreeTrace { tree, events } = read_tree_trace(alloc, input)?;
+    let shown = shown_of(alloc, &tree, events.as_slice())?;
+    answer_rows(alloc, &tree, shown, rows)
 }
 
 /// The same of the events of one operation.
-pub fn answer_draw_operation(alloc: Global, input: &[u8], word: &[u8]) -> Result<Vec<u8>, Status>
+pub fn answer_draw_operation(alloc: Global, input: &[u8], word: &[u8]) -> Result<Answered, Status>
     requires { length input.now < 2 ^ 31 }
-    ensures ok { IfOk result (λ text. AnswersDraw input.now (operation_asked word.now) text.items) }
+    ensures ok { IfOk result (λ page. AnswersDraw input.now (operation_asked word.now) page.text.items page.ending) }
     ensures err { IfErr result (RefusesDraw input.now (operation_asked word.now)) }
 {
-    let TreeTrace { tree, events } = read_run(alloc, input)?;
-    let events = events.as_slice();
-    let rows = rows_of_operation(alloc, &tree, events, word)?;
-    answer_rows(alloc, &tree, events, Some(rows))
+    let TreeTrace { tree, events } = read_tree_trace(alloc, input)?;
+    let shown = shown_of(alloc, &tree, events.as_slice())?;
+    let rows = rows_of_operation(alloc, &tree, shown.events, word)?;
+    answer_rows(alloc, &tree, shown, Some(rows))
 }
 
 fn answer_rows(
     alloc: Global,
     tree: &Tree,
-    events: &[Event],
+    shown: Shown,
     rows: Option<Rows>,
-) -> Result<Vec<u8>, Status>
-    requires { Run tree.now (history_of events.now) }
-    ensures ok { IfOk result (λ text. DrawsRows tree.now events.now rows text.items) }
-    ensures err { IfErr result (HidesRows events.now rows) }
+) -> Result<Answered, Status>
+    requires run { Run tree.now (history_of (allowed_in shown.close shown.events.now)) }
+    requires few { length shown.events.now < 2 ^ 31 }
+    ensures ok { IfOk result (λ page. DrawsRows tree.now shown.events.now shown.close rows page.text.items page.ending) }
+    ensures err { IfErr result (HidesRows shown.events.now shown.close rows) }
 {
-    let drawn = drawn_count(rows, events);
+    let count = shown.events.len() as u32;
+    let drawn = drawn_count(shown.close, rows, count);
     if drawn > MOST {
-        return Err(Status::TooManyEvents { events: drawn });
+        return Err(Status::TooManyEvents {
+            events: u64::from(drawn),
+        });
     }
-    match page_of_rows(alloc, tree, events, rows) {
-        Ok(page) => Ok(page.into_vec()),
+    match page_of_rows(alloc, tree, shown, rows) {
+        Ok(page) => Ok(Answered {
+            text: page.into_vec(),
+            ending: ending_of(count, shown.close),
+        }),
         Err(_) => Err(Status::NoMemory),
     }
 }
 
-fn first_row(rows: Option<Rows>) -> u32
-    ensures { result ≡ first_row rows }
+fn ending_of(count: u32, close: Close) -> Status
+    ensures { result ≡ ending_of count close }
+{
+    match close {
+        Close::Ended | Close::NotEnded => Status::Done,
+        Close::Refused { why, .. } => Status::DrawnTo { event: count, why },
+    }
+}
+
+fn first_of_all(close: Close, count: u32) -> u32
+    ensures { result ≡ first_of_all close count }
+{
+    match close {
+        Close::Ended | Close::NotEnded => 1,
+        Close::Refused { .. } => count.saturating_sub(4095).max(1),
+    }
+}
+
+fn first_row(close: Close, rows: Option<Rows>, count: u32) -> u32
+    ensures { result ≡ first_row close rows count }
 {
     match rows {
-        None => 1,
+        None => first_of_all(close, count),
         Some(rows) => rows.first,
     }
 }
 
 /// The number of the last event that is drawn.
-fn last_row(rows: Option<Rows>, events: &[Event]) -> u64
-    ensures { result ≡ last_row rows (length events.now) }
+fn last_row(rows: Option<Rows>, count: u32) -> u32
+    ensures { result ≡ last_row rows count }
 {
-    let count = events.len() as u64;
     match rows {
         None => count,
-        Some(rows) => u64::from(rows.last).min(count),
+        Some(rows) => rows.last.min(count),
     }
 }
 
 /// How many events are drawn.
-fn drawn_count(rows: Option<Rows>, events: &[Event]) -> u64
-    ensures { result ≡ drawn_count rows (length events.now) }
+fn drawn_count(close: Close, rows: Option<Rows>, count: u32) -> u32
+    requires { count < 2 ^ 31 }
+    ensures { result ≡ drawn_count close rows count }
 {
-    let last = last_row(rows, events);
-    (last + 1).saturating_sub(u64::from(first_row(rows)))
+    let last = last_row(rows, count);
+    (last + 1).saturating_sub(first_row(close, rows, count))
 }
 
 fn page_of_rows(
     alloc: Global,
     tree: &Tree,
-    events: &[Event],
+    shown: Shown,
     rows: Option<Rows>,
 ) -> Result<List<u8>, NoMemory>
-    requires { Run tree.now (history_of events.now) }
-    ensures { IfOk result (λ page. page
-        ≡ page_of tree.now events.now (first_row rows) (last_row rows (length events.now))) }
+    requires run { Run tree.now (history_of (allowed_in shown.close shown.events.now)) }
+    requires few { length shown.events.now < 2 ^ 31 }
+    ensures { IfOk result (λ page. page ≡ page_of tree.now shown.events.now shown.close
+        (first_row shown.close rows (length shown.events.now)) (last_row rows (length shown.events.now))) }
 {
-    // The board of a tree is valid, so that a run of it has at most 500,000 events.
-    runs_end();
-    let _valid = tree.board();
-    let last = last_row(rows, events);
-    page_of(alloc, tree, events, first_row(rows), last as u32)
+    let count = shown.events.len() as u32;
+    let first = first_row(shown.close, rows, count);
+    let last = last_row(rows, count);
+    page_of(alloc, tree, shown.events, shown.close, first, last)
 }

@@ -1,12 +1,10 @@
-ghost use Rattle.std.specs.Prelude.{◌≡◌, string_bytes, IfOk};
-ghost use Rattle.history_model.specs.Runs.{Run, history_of};
+ghost use Rattle.std.specs.Prelude.{◌≡◌, ◌<◌, ◌^◌, length, string_bytes, IfOk};
 ghost use Rattle.command_traces.specs.draw.Operations.{operation_word, names_word, with_event, rows_of_operation};
 
 use crate::draw::rows::Rows;
 use board_model::Board;
 use board_tree::Tree;
 use history_model::Event;
-use law_bound::runs_end;
 use pci_command::OpId;
 use std::alloc::{AllocError, Global};
 use trace_text::master_name;
@@ -19,11 +17,9 @@ pub(crate) fn rows_of_operation(
     events: &[Event],
     word: &[u8],
 ) -> Result<Rows, AllocError>
-    requires { Run tree.now (history_of events.now) }
+    requires { length events.now < 2 ^ 31 }
     ensures { IfOk result (λ rows. rows ≡ rows_of_operation tree.now events.now word.now) }
 {
-    // The board of a tree is valid, so that a run of it has at most 500,000 events.
-    runs_end();
     let board = tree.board();
     let mut rows = Rows {
         first: events.len() as u32 + 1,

@@ -1,10 +1,10 @@
 -- The rows of a picture: the events that are drawn, with what is to be known of each.
-use Rattle.std.specs.Prelude.{ℕ, ◌+◌, ◌-◌, Bool, false, List, [], ◌∷◌, take, drop, Option, Some, None}
+use Rattle.std.specs.Prelude.{ℕ, ◌+◌, ◌-◌, Bool, true, false, nat_lt, List, [], ◌∷◌, length, take, drop, Option, Some, None, if◌then◌else◌}
 use Rattle.board_model.specs.declared.board.Board.{Board}
 use Rattle.history_model.specs.declared.event.Event.{Event}
 use Rattle.history_model.specs.declared.event.Event.TheVariants.{Act, Arrive}
 use Rattle.draw_items.specs.declared.item.Item.{Item}
-use Rattle.draw_items.specs.Items.{Lanes, item_of, taken_by}
+use Rattle.draw_items.specs.Items.{Lanes, item_of, taken_by, named_by}
 use Rattle.draw_items.specs.Tries.{is_pale}
 use Rattle.draw_told.specs.Told.{is_loud, is_key}
 use Rattle.draw_sheets.specs.declared.row.Row.{Row}
@@ -36,6 +36,7 @@ row_with board events n e item taken =
       key = is_key board events n;
       loud = is_event_loud board events e;
       pale = is_event_pale events item e;
+      refused = false;
       width = width_of board item e;
     }
 
@@ -43,15 +44,34 @@ row_with board events n e item taken =
 abbrev pub row_of : Board → List Event → Lanes → ℕ → Event → Row
 row_of board events lanes n e = row_with board events n e (item_of n lanes) (taken_by n lanes)
 
+-- event n, which is not allowed after these
+abbrev pub refused_row : Board → List Event → ℕ → Event → Option Item → Row
+refused_row board events n e item =
+    record {
+      n = n;
+      event = e;
+      item = item;
+      taken = None;
+      key = false;
+      loud = false;
+      pale = is_event_pale events item e;
+      refused = true;
+      width = width_of board item e;
+    }
+
+-- event n: one of these, or one that is not allowed after them
+abbrev pub row_at : Board → List Event → Lanes → ℕ → Event → Row
+row_at board events lanes n e = if nat_lt (length events) n then refused_row board events n e (named_by e lanes) else row_of board events lanes n e
+
 -- so many events are before these
 abbrev pub rows_after : Board → List Event → Lanes → ℕ → List Event → List Row
 rows_after board events lanes n [] = []
-rows_after board events lanes n (e ∷ rest) = row_of board events lanes (n + 1) e ∷ rows_after board events lanes (n + 1) rest
+rows_after board events lanes n (e ∷ rest) = row_at board events lanes (n + 1) e ∷ rows_after board events lanes (n + 1) rest
 
 -- the events from one number to another
 abbrev pub drawn : List Event → ℕ → ℕ → List Event
 drawn events before last = drop before (take last events)
 
--- the rows of these events
-unfoldable pub rows_of : Board → List Event → Lanes → ℕ → ℕ → List Row
-rows_of board events lanes first last = rows_after board events lanes (first - 1) (drawn events (first - 1) last)
+-- the rows of these events, of which the first are allowed
+unfoldable pub rows_of : Board → List Event → Lanes → List Event → ℕ → ℕ → List Row
+rows_of board allowed lanes events first last = rows_after board allowed lanes (first - 1) (drawn events (first - 1) last)

@@ -13,7 +13,8 @@ use board_model::Board;
 use draw_elements::Columns;
 use draw_items::{Item, Tries, Wait};
 use draw_shapes::{
-    Element, add_act, add_act_rim, add_bracket, add_item, add_item_rim, add_key, add_row, add_wait,
+    Element, add_act, add_act_rim, add_ahead_rim, add_bracket, add_item, add_item_rim, add_key,
+    add_row, add_wait,
 };
 use draw_sheets::{Frame, Row};
 use draw_told::{Brackets, Span, Told};
@@ -21,7 +22,7 @@ use pci_command::NoMemory;
 use std::alloc::Global;
 
 /// All that is drawn in these rows of a run on the board, layer by layer: its items, the waiting of its masters, and what the
-/// lines of its audit tell.
+/// lines of its audit tell; and the rim of what an event that is not allowed stands behind.
 #[tactic(auto, unfolding(crate::specs::layers::Layers::layers))]
 pub fn layers_of(
     alloc: Global,
@@ -30,17 +31,20 @@ pub fn layers_of(
     frame: &Frame,
     rows: &[Row],
     items: &[Item],
+    ahead: Option<Item>,
     waits: &[Wait],
     tries: &Tries,
     told: &Told,
     brackets: &Brackets,
 ) -> Result<Vec<Element>, NoMemory>
     ensures { (events : List Event) → TellsTries events tries.now → TellsTold board.now events told.now →
-        IfOk result (λ elements. elements.items ≡ layers board.now events columns.now frame.now rows.now items.now waits.now told.now.spans brackets.now.tracks) }
+        IfOk result (λ elements. elements.items ≡ layers board.now events columns.now frame.now rows.now items.now ahead waits.now told.now.spans brackets.now.tracks) }
 {
     let mut elements = Vec::new(alloc);
     let all = &mut elements;
-    add_behind(alloc, all, columns, frame, rows, items, waits, tries, told)?;
+    add_behind(
+        alloc, all, columns, frame, rows, items, ahead, waits, tries, told,
+    )?;
     add_in_front(
         alloc,
         all,
@@ -65,16 +69,18 @@ fn add_behind(
     frame: &Frame,
     rows: &[Row],
     items: &[Item],
+    ahead: Option<Item>,
     waits: &[Wait],
     tries: &Tries,
     told: &Told,
 ) -> Result<(), NoMemory>
     ensures { (board : Board) (events : List Event) → TellsTries events tries.now → TellsTold board events told.now →
-        OnOk result (elements.new.items ≡ elements.old.items ++ behind board events columns.now frame.now rows.now items.now waits.now) }
+        OnOk result (elements.new.items ≡ elements.old.items ++ behind board events columns.now frame.now rows.now items.now ahead waits.now) }
 {
     add_keys(alloc, elements, columns, frame, rows)?;
     add_item_rims(alloc, elements, columns, frame, told, items)?;
     add_act_rims(alloc, elements, columns, frame, rows)?;
+    add_ahead_rim(alloc, elements, columns, frame, ahead)?;
     add_waits(alloc, elements, columns, frame, tries, waits)
 }
 

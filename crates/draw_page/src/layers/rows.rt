@@ -1,41 +1,41 @@
 ghost use Rattle.std.specs.Prelude.{◌≡◌, ◌+◌, ◌-◌, ◌<◌, ◌≤◌, ◌^◌, List, length, IfOk};
 ghost use Rattle.board_model.specs.declared.board.Board.{Board};
 ghost use Rattle.history_model.specs.declared.event.Event.{Event};
+ghost use Rattle.draw_items.specs.Items.{named_by};
 ghost use Rattle.draw_items.specs.Kept.{TellsTries};
 ghost use Rattle.draw_told.specs.Kept.{TellsTold};
-ghost use Rattle.draw_page.specs.layers.Rows.{is_item_pale, is_event_pale, is_event_loud, row_with, row_of, rows_after, drawn, rows_of};
+ghost use Rattle.draw_page.specs.layers.Rows.{is_item_pale, is_event_pale, is_event_loud};
+ghost use Rattle.draw_page.specs.layers.Rows.{row_with, row_of, refused_row, row_at, rows_after, drawn, rows_of};
 
-use board_model::Board;
-use draw_items::{Item, Traffic, Tries};
+use crate::known::Known;
+use draw_items::{Item, Tries};
 use draw_sheets::{Row, width_of};
 use draw_told::Told;
 use history_model::Event;
 use pci_command::NoMemory;
 use std::alloc::Global;
 
-/// The events from number `first` to number `last`.
+/// The events from number `first` to number `last`: those that are known, and what is behind them.
 #[tactic(auto, unfolding(crate::specs::layers::Rows::rows_of))]
-pub fn rows_of(
+pub(crate) fn rows_of(
     alloc: Global,
-    board: &Board,
+    known: &Known,
     events: &[Event],
-    traffic: &Traffic,
-    tries: &Tries,
-    told: &Told,
     first: u32,
     last: u32,
 ) -> Result<Vec<Row>, NoMemory>
     requires few { length events.now < 2 ^ 31 }
-    requires tries { TellsTries events.now tries.now }
-    requires told { TellsTold board.now events.now told.now }
-    ensures { IfOk result (λ rows. rows.items ≡ rows_of board.now events.now traffic.now first last) }
+    requires tries { TellsTries known.now.events.now known.now.tries.now }
+    requires told { TellsTold known.now.board.now known.now.events.now known.now.told.now }
+    ensures { IfOk result (λ rows. rows.items
+        ≡ rows_of known.now.board.now known.now.events.now known.now.traffic.now events.now first last) }
 {
     let before = first.saturating_sub(1);
     let shown = drawn(events, before, last);
     let mut rows = Vec::new(alloc);
     for (row, event) in shown.iter().enumerate() {
         let n = before + row as u32 + 1;
-        rows.push(row_of(alloc, board, traffic, tries, told, n, event)?)?;
+        rows.push(row_at(alloc, known, n, event)?)?;
     }
     Ok(rows)
 }
@@ -49,34 +49,64 @@ fn drawn(events: &[Event], before: u32, last: u32) -> &[Event]
     shown
 }
 
-fn row_of(
-    alloc: Global,
-    board: &Board,
-    traffic: &Traffic,
-    tries: &Tries,
-    told: &Told,
-    n: u32,
-    event: &Event,
-) -> Result<Row, NoMemory>
-    ensures { (events : List Event) → TellsTries events tries.now → TellsTold board.now events told.now → 0 < n → n ≤ length events → IfOk result (λ row. row ≡ row_of board.now events traffic.now n event.now) }
+fn row_at(alloc: Global, known: &Known, n: u32, event: &Event) -> Result<Row, NoMemory>
+    requires some { 0 < n }
+    requires tries { TellsTries known.now.events.now known.now.tries.now }
+    requires told { TellsTold known.now.board.now known.now.events.now known.now.told.now }
+    ensures { IfOk result (λ row. row
+        ≡ row_at known.now.board.now known.now.events.now known.now.traffic.now n event.now) }
 {
-    let item = traffic.item_of(n).copied();
-    let taken = traffic.taken_by(n).copied();
+    if known.events.len() < n as usize {
+        refused_row(alloc, known, n, event)
+    } else {
+        row_of(alloc, known, n, event)
+    }
+}
+
+/// An event that is not allowed.
+fn refused_row(alloc: Global, known: &Known, n: u32, event: &Event) -> Result<Row, NoMemory>
+    ensures { (events : List Event) → TellsTries events known.now.tries.now
+        → IfOk result (λ row. row ≡ refused_row known.now.board.now events n event.now
+        (named_by event.now known.now.traffic.now)) }
+{
+    let item = known.traffic.named_by(event).copied();
+    Ok(Row {
+        n,
+        event: *event,
+        item,
+        taken: None,
+        key: false,
+        loud: false,
+        pale: is_pale(known.tries, item, event),
+        refused: true,
+        width: width_of(alloc, known.board, item, event)?,
+    })
+}
+
+fn row_of(alloc: Global, known: &Known, n: u32, event: &Event) -> Result<Row, NoMemory>
+    ensures { (events : List Event) → TellsTries events known.now.tries.now
+        → TellsTold known.now.board.now events known.now.told.now → 0 < n → n ≤ length events
+        → IfOk result (λ row. row ≡ row_of known.now.board.now events known.now.traffic.now n event.now) }
+{
+    let item = known.traffic.item_of(n).copied();
+    let taken = known.traffic.taken_by(n).copied();
     Ok(Row {
         n,
         event: *event,
         item,
         taken,
-        key: told.is_key(n),
-        loud: is_loud(told, event),
-        pale: is_pale(tries, item, event),
-        width: width_of(alloc, board, item, event)?,
+        key: known.told.is_key(n),
+        loud: is_loud(known.told, event),
+        pale: is_pale(known.tries, item, event),
+        refused: false,
+        width: width_of(alloc, known.board, item, event)?,
     })
 }
 
 #[tactic(auto, unfolding(crate::specs::layers::Rows::is_event_loud))]
 fn is_loud(told: &Told, event: &Event) -> bool
-    ensures { (board : Board) (events : List Event) → TellsTold board events told.now → result ≡ is_event_loud board events event.now }
+    ensures { (board : Board) (events : List Event) → TellsTold board events told.now
+        → result ≡ is_event_loud board events event.now }
 {
     match *event {
         Event::Act { op, .. } => told.is_loud(op),
@@ -86,7 +116,8 @@ fn is_loud(told: &Told, event: &Event) -> bool
 
 #[tactic(auto, unfolding(crate::specs::layers::Rows::is_event_pale))]
 fn is_pale(tries: &Tries, item: Option<Item>, event: &Event) -> bool
-    ensures { (events : List Event) → TellsTries events tries.now → result ≡ is_event_pale events item event.now }
+    ensures { (events : List Event) → TellsTries events tries.now
+        → result ≡ is_event_pale events item event.now }
 {
     match *event {
         Event::Act { op, .. } => tries.is_pale(op),
@@ -95,7 +126,8 @@ fn is_pale(tries: &Tries, item: Option<Item>, event: &Event) -> bool
 }
 
 fn is_item_pale(tries: &Tries, item: Option<Item>) -> bool
-    ensures { (events : List Event) → TellsTries events tries.now → result ≡ is_item_pale events item }
+    ensures { (events : List Event) → TellsTries events tries.now
+        → result ≡ is_item_pale events item }
 {
     match item {
         Some(item) => tries.is_pale(item.op),

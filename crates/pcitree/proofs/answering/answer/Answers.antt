@@ -84,20 +84,18 @@ pub returns-in-Tree-clause-ok : goal.returns-in-Tree-clause-ok
 returns-in-Tree-clause-ok g c = subst (λ (form : Form). IfOk c.done-in-Tree.result (λ answer. AnswersTo form (map string_bytes c.args.words.now) c.args.input.now answer.text.items answer.ending)) (sym c.in-Tree.is)
     (done_answers (AnswersTree c.args.input.now) _ _ c.done-in-Tree.ensures.ok c.answer_tree.ensures.ok)
 
+-- of `draw` with the status that its page has
 pub returns-in-Draw-clause-ok : goal.returns-in-Draw-clause-ok
-returns-in-Draw-clause-ok g c = subst (λ (form : Form). IfOk c.done-in-Draw.result (λ answer. AnswersTo form (map string_bytes c.args.words.now) c.args.input.now answer.text.items answer.ending)) (sym c.in-Draw.is)
-    (done_answers (AnswersDraw c.args.input.now _) _ _ c.done-in-Draw.ensures.ok
-    (subst (λ rows. IfOk c.answer_draw.result (λ text. AnswersDraw c.args.input.now (rows_asked rows) text.items)) c.rows_in.ensures c.answer_draw.ensures.ok))
+returns-in-Draw-clause-ok g c = subst (λ (form : Form). IfOk c.answer_draw.result (λ answer. AnswersTo form (map string_bytes c.args.words.now) c.args.input.now answer.text.items answer.ending)) (sym c.in-Draw.is)
+    (subst (λ rows. IfOk c.answer_draw.result (λ answer. AnswersDraw c.args.input.now (rows_asked rows) answer.text.items answer.ending)) c.rows_in.ensures c.answer_draw.ensures.ok)
 
 pub returns-in-DrawRows-clause-ok : goal.returns-in-DrawRows-clause-ok
-returns-in-DrawRows-clause-ok g c = subst (λ (form : Form). IfOk c.done-in-DrawRows.result (λ answer. AnswersTo form (map string_bytes c.args.words.now) c.args.input.now answer.text.items answer.ending)) (sym c.in-DrawRows.is)
-    (done_answers (AnswersDraw c.args.input.now _) _ _ c.done-in-DrawRows.ensures.ok
-    (subst (λ rows. IfOk c.answer_draw-in-DrawRows.result (λ text. AnswersDraw c.args.input.now (rows_asked rows) text.items)) c.rows_in-in-DrawRows.ensures c.answer_draw-in-DrawRows.ensures.ok))
+returns-in-DrawRows-clause-ok g c = subst (λ (form : Form). IfOk c.answer_draw-in-DrawRows.result (λ answer. AnswersTo form (map string_bytes c.args.words.now) c.args.input.now answer.text.items answer.ending)) (sym c.in-DrawRows.is)
+    (subst (λ rows. IfOk c.answer_draw-in-DrawRows.result (λ answer. AnswersDraw c.args.input.now (rows_asked rows) answer.text.items answer.ending)) c.rows_in-in-DrawRows.ensures c.answer_draw-in-DrawRows.ensures.ok)
 
 pub returns-in-DrawOperation-clause-ok : goal.returns-in-DrawOperation-clause-ok
-returns-in-DrawOperation-clause-ok g c = subst (λ (form : Form). IfOk c.done-in-DrawOperation.result (λ answer. AnswersTo form (map string_bytes c.args.words.now) c.args.input.now answer.text.items answer.ending)) (sym c.in-DrawOperation.is)
-    (done_answers (AnswersDraw c.args.input.now _) _ _ c.done-in-DrawOperation.ensures.ok
-    (subst (λ (word : List ℕ). IfOk c.answer_draw_operation.result (λ text. AnswersDraw c.args.input.now (operation_asked word) text.items)) c.operation_in.ensures c.answer_draw_operation.ensures.ok))
+returns-in-DrawOperation-clause-ok g c = subst (λ (form : Form). IfOk c.answer_draw_operation.result (λ answer. AnswersTo form (map string_bytes c.args.words.now) c.args.input.now answer.text.items answer.ending)) (sym c.in-DrawOperation.is)
+    (subst (λ (word : List ℕ). IfOk c.answer_draw_operation.result (λ answer. AnswersDraw c.args.input.now (operation_asked word) answer.text.items answer.ending)) c.operation_in.ensures c.answer_draw_operation.ensures.ok)
 
 -- a number is answered only where it names rounds
 pub answer_generate-requires : goal.answer_generate-requires

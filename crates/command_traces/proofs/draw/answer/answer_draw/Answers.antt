@@ -7,11 +7,11 @@ use Rattle.command_traces.proofs.draw.answer.answer_draw.Goals as goal
 pub returns-clause-ok : goal.returns-clause-ok
 returns-clause-ok c =
     IfOk-weaker _ _ _
-    (λ text. answered c.args.input.now (rows_asked c.args.rows) c.in_ok-tree.field-0 c.as_slice.result.now c.args.rows text.items c.in_ok-tree.ensures.ok c.as_slice.ensures refl)
+    (λ page. answered c.args.input.now (rows_asked c.args.rows) c.in_ok-tree.field-0 c.as_slice.result.now c.in_ok-shown.shown.events.now c.in_ok-shown.shown.close c.args.rows page.text.items page.ending c.in_ok-tree.ensures.ok c.as_slice.ensures c.in_ok-shown.ensures.shows refl)
     c.answer_rows.ensures.ok
 
 pub returns-clause-err : goal.returns-clause-err
 returns-clause-err c =
     IfErr-weaker _ _ _
-    (λ status. hidden c.args.input.now (rows_asked c.args.rows) c.in_ok-tree.field-0 c.as_slice.result.now c.args.rows status c.in_ok-tree.ensures.ok c.as_slice.ensures refl)
+    (λ status. hidden c.args.input.now (rows_asked c.args.rows) c.in_ok-tree.field-0 c.as_slice.result.now c.in_ok-shown.shown.events.now c.in_ok-shown.shown.close c.args.rows status c.in_ok-tree.ensures.ok c.as_slice.ensures c.in_ok-shown.ensures.shows refl)
     c.answer_rows.ensures.err

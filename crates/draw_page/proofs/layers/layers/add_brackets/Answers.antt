@@ -3,7 +3,7 @@ use Rattle.std.specs.Slice.Iter.{iter_rest}
 use Rattle.std.specs.Iterator.Adapters.{zip_first, zip_second}
 use Rattle.draw_told.specs.declared.told.Span.{Span}
 use Rattle.draw_page.specs.layers.Layers.{span_shapes}
-use Rattle.draw_page.proofs.layers.ZipLemmas.{zip_more, zip_end}
+use Rattle.draw_told.proofs.ZipLemmas.{zip_more, zip_end}
 use Rattle.draw_page.proofs.layers.layers.add_brackets.Goals as goal
 
 pub loop-span-preserved : goal.loop-span-preserved

@@ -3,18 +3,40 @@ use Rattle.std.specs.Prelude.{ℕ, ◌&&◌, ◌==◌, nat_le, List, [], ◌++�
 use Rattle.std.specs.Fmt.{decimal}
 use Rattle.std.specs.List.{flat_map, zip}
 use Rattle.board_model.specs.declared.board.Board.{Board}
+use Rattle.history_model.specs.declared.why.Why.{Why}
+use Rattle.history_model.specs.WhyText.{why_text}
 use Rattle.law_audit.specs.Audit.{Finding}
 use Rattle.audit_text.specs.Lines.{finding_words}
 use Rattle.draw_told.specs.declared.told.Span.{Span}
-use Rattle.draw_page.specs.style.Styles.{style, key}
+use Rattle.draw_told.specs.declared.close.Close.{Close}
+use Rattle.draw_told.specs.declared.close.Close.TheVariants.{Ended, NotEnded, Refused}
+use Rattle.draw_told.specs.style.Styles.{style, key}
 
 -- `events N, buses B`, and `, drawn FIRST to LAST` where these are not all
 unfoldable pub drawn_words : ℕ → ℕ → ℕ → List ℕ
 drawn_words count first last = if first == 1 && last == count then [] else codes ", drawn " ++ (decimal first ++ (codes " to " ++ decimal last))
 
--- `events N, buses B`, and what is drawn of them
-unfoldable pub title_text : ℕ → ℕ → ℕ → ℕ → List ℕ
-title_text count buses first last = codes "events " ++ (decimal count ++ (codes ", buses " ++ (decimal buses ++ drawn_words count first last)))
+-- `, not ended` of a run that is not complete, and `, refused at N` where the last event is not allowed
+unfoldable pub close_words : ℕ → Close → List ℕ
+close_words count Ended = []
+close_words count NotEnded = codes ", not ended"
+close_words count (Refused why sentence) = codes ", refused at " ++ decimal count
+
+-- `events N, buses B`, what is drawn of them, and how they end
+unfoldable pub title_text : ℕ → ℕ → ℕ → ℕ → Close → List ℕ
+title_text count buses first last close =
+    codes "events " ++ (decimal count ++ (codes ", buses " ++ (decimal buses ++ (drawn_words count first last ++ close_words count close))))
+
+-- why the last event is not allowed, in a line of its own
+unfoldable pub cause_line : ℕ → Why → List ℕ → List ℕ
+cause_line count why sentence =
+    codes "<p class=\"x\">event " ++ (decimal count ++ (codes " is not allowed: " ++ (why_text why ++ (codes ": " ++ (sentence ++ codes "</p>\n")))))
+
+-- that line, where there is such an event
+abbrev pub close_line : ℕ → Close → List ℕ
+close_line count Ended = []
+close_line count NotEnded = []
+close_line count (Refused why sentence) = cause_line count why sentence.now
 
 -- the begin of the document, up to its title
 unfoldable pub document : List ℕ
@@ -32,9 +54,9 @@ style_part = style_open ++ (style ++ codes "</style>\n")
 unfoldable pub head_text : List ℕ → List ℕ
 head_text title = document ++ (title ++ style_part)
 
--- the same with the title as a heading, and the key of signs
-unfoldable pub top_text : List ℕ → List ℕ
-top_text title = head_text title ++ (codes "<h1>" ++ (title ++ (codes "</h1>\n" ++ key)))
+-- the same with the title as a heading, that line, and the key of signs
+unfoldable pub top_text : List ℕ → List ℕ → List ℕ
+top_text title line = head_text title ++ (codes "<h1>" ++ (title ++ (codes "</h1>\n" ++ (line ++ key))))
 
 -- a line of the audit, with links to its rows
 unfoldable pub link_text : ℕ → List ℕ

@@ -2,8 +2,8 @@ use Rattle.std.proofs.Common.{◌≡◌, ◌++◌, string_bytes}
 use Rattle.std.specs.List.{flat_map, zip}
 use Rattle.std.specs.Slice.Iter.{iter_rest}
 use Rattle.std.specs.Iterator.Adapters.{zip_first, zip_second}
-use Rattle.draw_page.specs.Tops.{told_line}
-use Rattle.draw_page.proofs.top.print_each.Given as goal
+use Rattle.draw_told.specs.Tops.{told_line}
+use Rattle.draw_told.proofs.top.print_each.Given as goal
 
 -- the lines so far, and those to come
 abbrev pub invariant-loop-one : goal.invariant-loop-one

@@ -1,5 +1,5 @@
 ghost use Rattle.std.specs.Prelude.{◌≡◌, ◌++◌, string_bytes, OnOk};
-ghost use Rattle.draw_page.specs.style.Styles.{colours, page, classes, marks, style, lines, signs, key};
+ghost use Rattle.draw_told.specs.style.Styles.{colours, page, classes, marks, style, lines, signs, key};
 
 use std::alloc::AllocError;
 
@@ -43,7 +43,9 @@ const CLASSES: &str = "\
     .a{stroke:var(--a);fill:var(--a)}\n\
     .d{stroke:var(--d);fill:var(--d)}\n\
     .x{stroke:var(--x);fill:var(--x)}\n\
-    .r{stroke:var(--r);fill:var(--r)}\n";
+    .r{stroke:var(--r);fill:var(--r)}\n\
+    .z{fill:var(--x);stroke:var(--x);stroke-width:8;opacity:.25}\n\
+    p.x{font-weight:bold}\n";
 
 /// What is drawn within a group, and the page in print.
 const MARKS: &str = "\

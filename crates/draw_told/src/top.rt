@@ -1,36 +1,42 @@
 ghost use Rattle.std.specs.Prelude.{◌≡◌, ◌++◌, length, string_bytes, OnOk};
 ghost use Rattle.std.specs.List.{flat_map, zip};
-ghost use Rattle.draw_page.specs.Tops.{drawn_words, title_text, document, style_open, style_part, head_text, top_text, link_text, landed_word, landed_text, read_text, links_text, told_line, open_word, told_open, told_lines, told_text};
+ghost use Rattle.draw_told.specs.Tops.{drawn_words, close_words, title_text, cause_line, close_line};
+ghost use Rattle.draw_told.specs.Tops.{document, style_open, style_part, head_text, top_text, link_text, landed_word, landed_text, read_text, links_text, told_line, open_word, told_open, told_lines, told_text};
 
+use crate::close::Close;
 use crate::style::{print_key, print_style};
+use crate::told::Span;
+use audit_text::{Found, print_found};
 use board_model::Board;
-use draw_told::{Found, Span, print_found};
+use history_model::Why;
 use std::alloc::AllocError;
 
-/// What the title tells: how many events and buses there are, and which events are drawn.
+/// What the title tells: how many events and buses there are, which events are drawn, and how they end.
 #[derive(Clone, Copy, Debug)]
-pub(crate) struct Title {
-    pub(crate) count: u32,
-    pub(crate) buses: u64,
-    pub(crate) first: u32,
-    pub(crate) last: u32,
+pub struct Title {
+    pub count: u32,
+    pub buses: u64,
+    pub first: u32,
+    pub last: u32,
+    pub close: Close,
 }
 
-/// The head of the page, its title, and the key of signs.
+/// The head of the page, its title, why an event is not allowed, and the key of signs.
 #[tactic(auto, unfolding(crate::specs::Tops::top_text))]
-pub(crate) fn print_top(text: &mut String, title: Title) -> Result<(), AllocError>
-    ensures { OnOk result (string_bytes text.new ≡ string_bytes text.old ++ top_text (title_text title.count title.buses title.first title.last)) }
+pub fn print_top(text: &mut String, title: Title) -> Result<(), AllocError>
+    ensures { OnOk result (string_bytes text.new ≡ string_bytes text.old ++ top_text (title_text title.count title.buses title.first title.last title.close) (close_line title.count title.close)) }
 {
     print_head(text, title)?;
     text.push_str("<h1>")?;
     print_title(text, title)?;
     text.push_str("</h1>\n")?;
+    print_close_line(text, title.count, title.close)?;
     print_key(text)
 }
 
 #[tactic(auto, unfolding(crate::specs::Tops::head_text))]
 fn print_head(text: &mut String, title: Title) -> Result<(), AllocError>
-    ensures { OnOk result (string_bytes text.new ≡ string_bytes text.old ++ head_text (title_text title.count title.buses title.first title.last)) }
+    ensures { OnOk result (string_bytes text.new ≡ string_bytes text.old ++ head_text (title_text title.count title.buses title.first title.last title.close)) }
 {
     print_document(text)?;
     print_title(text, title)?;
@@ -64,10 +70,44 @@ fn print_document(text: &mut String) -> Result<(), AllocError>
 
 #[tactic(auto, unfolding(crate::specs::Tops::title_text))]
 fn print_title(text: &mut String, title: Title) -> Result<(), AllocError>
-    ensures { OnOk result (string_bytes text.new ≡ string_bytes text.old ++ title_text title.count title.buses title.first title.last) }
+    ensures { OnOk result (string_bytes text.new ≡ string_bytes text.old ++ title_text title.count title.buses title.first title.last title.close) }
 {
     write!(text, "events {}, buses {}", title.count, title.buses)?;
-    print_drawn(text, title.count, title.first, title.last)
+    print_drawn(text, title.count, title.first, title.last)?;
+    print_close(text, title.count, title.close)
+}
+
+/// How the run ends, where it does not end well.
+#[tactic(auto, unfolding(crate::specs::Tops::close_words))]
+fn print_close(text: &mut String, count: u32, close: Close) -> Result<(), AllocError>
+    ensures { OnOk result (string_bytes text.new ≡ string_bytes text.old ++ close_words count close) }
+{
+    match close {
+        Close::Ended => Ok(()),
+        Close::NotEnded => text.push_str(", not ended"),
+        Close::Refused { .. } => write!(text, ", refused at {count}"),
+    }
+}
+
+fn print_close_line(text: &mut String, count: u32, close: Close) -> Result<(), AllocError>
+    ensures { OnOk result (string_bytes text.new ≡ string_bytes text.old ++ close_line count close) }
+{
+    match close {
+        Close::Ended | Close::NotEnded => Ok(()),
+        Close::Refused { why, sentence } => print_cause(text, count, why, sentence),
+    }
+}
+
+/// Why the last event is not allowed.
+#[tactic(auto, unfolding(crate::specs::Tops::cause_line))]
+fn print_cause(text: &mut String, count: u32, why: Why, sentence: &str) -> Result<(), AllocError>
+    ensures { OnOk result (string_bytes text.new
+        ≡ string_bytes text.old ++ cause_line count why sentence.now) }
+{
+    writeln!(
+        text,
+        "<p class=\"x\">event {count} is not allowed: {why}: {sentence}</p>"
+    )
 }
 
 /// Which events are drawn, where these are not all.
@@ -84,7 +124,7 @@ fn print_drawn(text: &mut String, count: u32, first: u32, last: u32) -> Result<(
 
 /// The lines of the audit, where there is one.
 #[tactic(auto, unfolding(crate::specs::Tops::told_text))]
-pub(crate) fn print_told(
+pub fn print_told(
     text: &mut String,
     board: &Board,
     found: &[Found],

@@ -3,9 +3,9 @@ use Rattle.std.specs.Slice.Iter.{iter_rest}
 use Rattle.std.specs.Iterator.Adapters.{zip_first, zip_second}
 use Rattle.law_audit.specs.Audit.{Finding}
 use Rattle.draw_told.specs.declared.told.Span.{Span}
-use Rattle.draw_page.proofs.layers.ZipLemmas.{zip_more, zip_end}
-use Rattle.draw_page.specs.Tops.{told_line}
-use Rattle.draw_page.proofs.top.print_each.Goals as goal
+use Rattle.draw_told.proofs.ZipLemmas.{zip_more, zip_end}
+use Rattle.draw_told.specs.Tops.{told_line}
+use Rattle.draw_told.proofs.top.print_each.Goals as goal
 
 pub loop-one-preserved : goal.loop-one-preserved
 loop-one-preserved c =

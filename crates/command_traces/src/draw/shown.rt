@@ -1,0 +1,60 @@
+ghost use Rattle.std.specs.Prelude.{◌≡◌, ◌<◌, ◌^◌, length, IfOk, IfErr};
+ghost use Rattle.history_model.specs.Runs.{Run, history_of};
+ghost use Rattle.draw_told.specs.Closes.{allowed_in};
+ghost use Rattle.command_traces.specs.draw.Answers.{Shows};
+
+use board_tree::Tree;
+use draw_told::Close;
+use history_model::Event;
+use judge_check::{Verdict, check};
+use law_bound::runs_end;
+use program_pages::sentence_of;
+use program_status::Status;
+use std::alloc::Global;
+
+/// What a picture shows of the events of a trace.
+#[derive(Clone, Copy, Debug)]
+pub(crate) struct Shown<'a> {
+    /// All events of a run, or else those up to the first that is not allowed.
+    pub(crate) events: &'a [Event],
+    /// How they end.
+    pub(crate) close: Close,
+}
+
+/// What is shown of these events.
+pub(crate) fn shown_of<'a>(
+    alloc: Global,
+    tree: &Tree,
+    events: &'a [Event],
+) -> Result<Shown<'a>, Status>
+    requires { length events.now < 2 ^ 32 }
+    ensures shows { IfOk result (λ shown. Shows tree.now events.now shown.events.now shown.close) }
+    ensures run { IfOk result (λ shown. Run tree.now (history_of (allowed_in shown.close shown.events.now))) }
+    ensures few { IfOk result (λ shown. length shown.events.now < 2 ^ 31) }
+    ensures err { IfErr result (λ status. status ≡ Status.NoMemory) }
+{
+    // The board of a tree is valid, so that a run of it has at most 500,000 events.
+    runs_end();
+    let _valid = tree.board();
+    match check(alloc, tree, events) {
+        Ok(Verdict::Complete) => Ok(Shown {
+            events,
+            close: Close::Ended,
+        }),
+        Ok(Verdict::Incomplete { .. }) => Ok(Shown {
+            events,
+            close: Close::NotEnded,
+        }),
+        Ok(Verdict::NotRun { event, why }) => {
+            let (shown, _) = events.split_at(events.len().min(event as usize));
+            Ok(Shown {
+                events: shown,
+                close: Close::Refused {
+                    why,
+                    sentence: sentence_of(why),
+                },
+            })
+        }
+        Err(_) => Err(Status::NoMemory),
+    }
+}

@@ -1,0 +1,56 @@
+ghost use Rattle.std.specs.Prelude.{◌≡◌, ◌++◌, string_bytes, IfOk, OnOk};
+ghost use Rattle.draw_elements.specs.Acts.{bar_or_face, initiator_place, refused_place, refused_text};
+
+use crate::columns::Columns;
+use crate::height::Height;
+use board_model::Lane;
+use draw_items::Item;
+use history_model::{By, Event};
+use pci_command::{NoMemory, OpId};
+use std::alloc::AllocError;
+
+/// Where an event that is not allowed has its cross: at the line of the master, at the bar of the item that it names, or at
+/// the face of the lane where nothing of it stands.
+pub fn refused_place(columns: &Columns, item: Option<Item>, event: &Event) -> Result<u64, NoMemory>
+    ensures { IfOk result (λ place. place ≡ refused_place columns.now item event.now) }
+{
+    match *event {
+        Event::Act { by, op, .. } => initiator_place(columns, by, op, item),
+        Event::Arrive { lane, .. } => Ok(columns.face(lane)),
+    }
+}
+
+fn initiator_place(columns: &Columns, by: By, op: OpId, item: Option<Item>) -> Result<u64, NoMemory>
+    ensures { IfOk result (λ place. place ≡ initiator_place columns.now by op item) }
+{
+    match by {
+        By::Master => Ok(columns.master(op.master)),
+        By::Lane(lane) => bar_or_face(columns, lane, item),
+    }
+}
+
+fn bar_or_face(columns: &Columns, lane: Lane, item: Option<Item>) -> Result<u64, NoMemory>
+    ensures { IfOk result (λ place. place ≡ bar_or_face columns.now lane item) }
+{
+    match item {
+        Some(item) => columns.bar(item.lane, item.track),
+        None => Ok(columns.face(lane)),
+    }
+}
+
+/// The cross of an event that is not allowed, in row n.
+#[tactic(auto, unfolding(crate::specs::Acts::refused_text))]
+pub fn print_refused(text: &mut String, first: u32, n: u32, x: u64) -> Result<(), AllocError>
+    ensures { OnOk result (string_bytes text.new ≡ string_bytes text.old ++ refused_text first n x) }
+{
+    let top = Height {
+        first,
+        row: n,
+        down: 2,
+    };
+    writeln!(
+        text,
+        "<g class=\"x\"><path d=\"M{} {top}l12 12m0 -12l-12 12\"/></g>",
+        x.saturating_sub(6)
+    )
+}

@@ -1,0 +1,14 @@
+use board_model::Board;
+use draw_items::{Traffic, Tries};
+use draw_told::Told;
+use history_model::Event;
+
+/// What is known of the events of a picture that are allowed: what travels by them, which tries of
+/// polls were fruitless, and what the lines of their audit tell.
+pub(crate) struct Known<'a> {
+    pub(crate) board: &'a Board,
+    pub(crate) events: &'a [Event],
+    pub(crate) traffic: &'a Traffic,
+    pub(crate) tries: &'a Tries,
+    pub(crate) told: &'a Told,
+}
