@@ -8,6 +8,7 @@ mod form;
 mod machine;
 mod refused;
 mod telling;
+mod texts;
 mod trace;
 mod unclear;
 mod unshown;
