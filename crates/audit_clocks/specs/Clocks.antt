@@ -4,6 +4,7 @@ use Rattle.pci_command.specs.declared.op_id.OpId.{OpId}
 use Rattle.audit_clocks.specs.Rows.{number, own, row, reached, since_in}
 use Rattle.audit_clocks.specs.Tables.{value_of, list_in, Puts}
 
+-- all that is kept between two events
 pub record ClockState : Type 0 where
   -- by each master of each author
   pub known : List (List (List OpId))

@@ -9,6 +9,7 @@ use Rattle.board_model.specs.declared.word.Word.{Word}
 abbrev pub value_of : {V : Type 0} → OpId → List (OpId × V) → Option V
 value_of o entries = lookup (same_op o) entries
 
+-- the list, empty where there is none
 abbrev pub list_in : {X : Type 0} → Option (List X) → List X
 list_in None = []
 list_in (Some xs) = xs
@@ -17,6 +18,7 @@ list_in (Some xs) = xs
 abbrev pub numbers_of : OpId → List (OpId × List ℕ) → List ℕ
 numbers_of o entries = list_in (value_of o entries)
 
+-- the same dword of the same target
 abbrev pub same_word : Word → Word → Bool
 same_word a b = a.target == b.target && same_space a.space b.space && a.address == b.address
 

@@ -12,6 +12,7 @@ in_order_at None q = false
 in_order_at (Some p) None = false
 in_order_at (Some p) (Some q) = in_order p q
 
+-- the place of this index on a track
 abbrev pub place : List ℕ → ℕ → ℕ
 place track index = get_or track index 0
 
@@ -21,6 +22,7 @@ pub record Rises (ops : List OpId) (track : List ℕ) : Type 0 where
   pub later : (a b : ℕ) → a < b → b < length track → place track a < place track b
   pub order : (a b : ℕ) → a ≤ b → b < length track → in_order_at (slice_get ops (place track a)) (slice_get ops (place track b)) ≡ true
 
+-- the track of this number
 abbrev pub track_at : List (List ℕ) → ℕ → List ℕ
 track_at tracks number = get_or tracks number []
 

@@ -28,6 +28,7 @@ dword word = record { target = word.target; space = word.space; address = word.a
 
 -- How much went through.
 
+-- the number, 0 where there is none
 abbrev pub or_zero : Option ℕ → ℕ
 or_zero None = 0
 or_zero (Some n) = n
@@ -59,6 +60,7 @@ request_hits gone o step target request word =
     let space = space_of request.command in
     hits word o target space (address_in space (without gone request).address) (length (brings step (without gone request).phases))
 
+-- the same where the request is there
 abbrev pub found_hits : ℕ → OpId → Step → ℕ → Option Request → Word → List OpId
 found_hits gone o step target None word = []
 found_hits gone o step target (Some request) word = request_hits gone o step target request word
@@ -75,6 +77,7 @@ lands Stall = false
 lands MasterAbort = false
 lands TargetAbort = false
 
+-- the same of a step at a place: only a target takes data phases
 abbrev pub place_hits : Board → ℕ → ℕ → OpId → Step → Place → Word → List OpId
 place_hits board gone on o step (Target target) word = if lands step then found_hits gone o step target (request_of board o on) word else []
 place_hits board gone on o step (Header bus) word = []

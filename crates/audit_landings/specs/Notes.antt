@@ -10,6 +10,7 @@ use Rattle.audit_landings.specs.declared.told.Told.{Told}
 use Rattle.audit_landings.specs.Hits.{count_of, op_of_landing, dword, whole_at}
 use Rattle.audit_landings.specs.Told.{ToldsFor}
 
+-- what is noted of the landings of a run
 pub record LandingNotes : Type 0 where
   -- how many data phases of each write went through
   pub gone : List (OpId × ℕ)

@@ -55,23 +55,28 @@ abbrev pub first_shown : Notes → Reading → OpId → List OpId → Option OpI
 first_shown notes reading w [] = None
 first_shown notes reading w (v ∷ writes) = if shows_it notes reading w v then Some v else first_shown notes reading w writes
 
+-- the first of those that landed before what the read got
 abbrev pub shown_by : Notes → OpId → Option Reading → Option OpId
 shown_by notes w None = None
 shown_by notes w (Some reading) = first_shown notes reading w (landed_before notes reading)
 
+-- the same by what the operation got
 abbrev pub shown_to : Notes → OpId → OpId → Option OpId
 shown_to notes w q = shown_by notes w (got_in notes q)
 
+-- the chain from the write to an operation that knows of it, over at most so many masters
 abbrev pub chain_to : ℕ → Notes → OpId → OpId → List OpId
 chain_to zero notes w q = []
 chain_to (suc n) notes w q =
     if same_op q w then w ∷ []
     else to_reader (λ p. chain_to n notes w p) (λ master. since_of notes w master) q (shown_to notes w q)
 
+-- the chain to a read behind the operation with which its master came to know of the write
 abbrev pub chain_from : ℕ → Notes → OpId → OpId → Option OpId → List OpId
 chain_from n notes w r None = []
 chain_from n notes w r (Some q) = joined (chain_to n notes w q) q r
 
+-- the finding of a read that knows of a write which landed before; nothing where there is none
 abbrev pub finding_of : ℕ → Notes → OpId → Reading → Option OpId → List Finding
 finding_of n notes r reading None = []
 finding_of n notes r reading (Some w) =
@@ -83,14 +88,17 @@ finding_of n notes r reading (Some w) =
       chain = chain_from n notes w r (since_of notes w r.master);
     } ∷ []
 
+-- the same by what the read got: of what landed before, the last that it knows of
 abbrev pub findings_by : ℕ → Notes → OpId → Option Reading → List Finding
 findings_by n notes r None = []
 findings_by n notes r (Some reading) = finding_of n notes r reading (last_known notes r None (landed_before notes reading))
 
+-- the same where the read ended with a value
 abbrev pub findings_as : ℕ → Notes → OpId → Option ℕ → List Finding
 findings_as n notes r None = []
 findings_as n notes r (Some value) = findings_by n notes r (got_in notes r)
 
+-- the findings of what an event ended
 abbrev pub findings_in : ℕ → Notes → Option Ended → List Finding
 findings_in n notes None = []
 findings_in n notes (Some ended) = findings_as n notes ended.op ended.value

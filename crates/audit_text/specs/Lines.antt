@@ -34,6 +34,7 @@ finding_words board found =
     ++ (known_words board found.value found.write
     ++ codes "by" ∷ map (op_word board) found.chain)) []
 
+-- all lines, without the count behind them
 abbrev pub findings_text : Board → List Finding → List ℕ
 findings_text board found = text_of (map (finding_line board) found)
 

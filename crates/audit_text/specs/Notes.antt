@@ -19,6 +19,7 @@ use Rattle.audit_text.specs.declared.readings.Reading.{Reading}
 use Rattle.audit_text.specs.declared.readings.Read.{Read as ReadAt}
 use Rattle.audit_text.specs.declared.ends.Ended.{Ended as EndedOp}
 
+-- all that an audit keeps between two events
 pub record Notes : Type 0 where
   -- what landed in each dword
   pub landings : LandingNotes
@@ -46,12 +47,15 @@ flat (Some x) = x
 
 -- What was read.
 
+-- the dword of a target at the address
 abbrev pub word_of : ℕ → Space → ℕ → Word
 word_of target space address = record { target = target; space = space; address = address }
 
+-- what the operation read, by the reading of the model
 abbrev pub read_of : OpId → WordReading → ReadAt
 read_of o reading = record { op = o; target = reading.word.target; space = reading.word.space; address = reading.word.address; value = reading.value }
 
+-- the dword that was read
 abbrev pub word_read : ReadAt → Word
 word_read read = word_of read.target read.space read.address
 
@@ -73,20 +77,24 @@ pub record ReadSo (masters index : ℕ) (notes : LandingNotes) (read : ReadAt) (
   pub taught : Puts read.op told old.taught new.taught
   pub reading : Puts read.op (reading_of read (length (writes_in (word_read read) notes.landed)) index) readings readings_new
 
+-- so it is where the event reads; else nothing changes
 abbrev pub Reads : ℕ → ℕ → LandingNotes → Option ReadAt → ClockState → ClockState → List (OpId × Reading) → List (OpId × Reading) → Type 0
 Reads masters index notes None old new readings readings_new = (new ≡ old) × (readings_new ≡ readings)
 Reads masters index notes (Some read) old new readings readings_new = ReadSo masters index notes read old new readings readings_new
 
 -- Who presents, and what ends.
 
+-- what the master knows is noted as it presents; a lane knows nothing
 abbrev pub PresentsBy : By → OpId → ClockState → ClockState → Type 0
 PresentsBy Master o old new = Presented o old new
 PresentsBy (ByLane lane) o old new = new ≡ old
 
+-- the same of an event; an arrival is no presenting
 abbrev pub Presents : Event → ClockState → ClockState → Type 0
 Presents (Act on by o step place) old new = PresentsBy by o old new
 Presents (Arrive lane mark) old new = new ≡ old
 
+-- an end with its value, if it has one
 abbrev pub ended_of : Ending → EndedOp
 ended_of ending = record { op = ending.op; value = value_in ending.outcome }
 
@@ -99,10 +107,12 @@ abbrev pub Gets : Option ℕ → OpId → List (OpId × Reading) → List (OpId 
 Gets None o readings old new = new ≡ old
 Gets (Some value) o readings old new = Puts o (value_of o readings) old new
 
+-- what the end of an operation adds
 pub record EndsSo (end : EndedOp) (readings : List (OpId × Reading)) (old new : ClockState) (gots gots_new : List (OpId × Option Reading)) : Type 0 where
   pub gets : Gets end.value end.op readings gots gots_new
   pub ended : Ended end.op (is_some end.value) old new
 
+-- so it is where the event ends one; else nothing changes
 abbrev pub Ends : Option EndedOp → List (OpId × Reading) → ClockState → ClockState → List (OpId × Option Reading) → List (OpId × Option Reading) → Type 0
 Ends None readings old new gots gots_new = (new ≡ old) × (gots_new ≡ gots)
 Ends (Some end) readings old new gots gots_new = EndsSo end readings old new gots gots_new

@@ -32,6 +32,7 @@ is_whole notes reading (Some v) = landed_whole notes reading v
 abbrev pub KnowsEarlier : Notes → OpId → List OpId → Type 0
 KnowsEarlier notes r writes = (i j : ℕ) → in_order_at (slice_get writes i) (slice_get writes j) ≡ true → is_known notes r (slice_get writes j) ≡ true → is_known notes r (slice_get writes i) ≡ true
 
+-- so it is in every dword
 abbrev pub KnowsAlways : Notes → OpId → Type 0
 KnowsAlways notes r = (word : Word) → KnowsEarlier notes r (writes_in word notes.landings.landed)
 
@@ -39,6 +40,7 @@ KnowsAlways notes r = (word : Word) → KnowsEarlier notes r (writes_in word not
 abbrev pub TellsLater : Notes → OpId → List OpId → Type 0
 TellsLater notes w writes = (i j : ℕ) → in_order_at (slice_get writes i) (slice_get writes j) ≡ true → tells_of notes w (slice_get writes i) ≡ true → tells_of notes w (slice_get writes j) ≡ true
 
+-- so it is in every dword
 abbrev pub TellsAlways : Notes → OpId → Type 0
 TellsAlways notes w = (word : Word) → TellsLater notes w (writes_in word notes.landings.landed)
 
@@ -60,6 +62,7 @@ pub record IsLastOn (test : ℕ → Bool) (places : List ℕ) (at : ℕ) : Type 
   pub passes : test at ≡ true
   pub last : (a : ℕ) → a < length places → test (place places a) ≡ true → place places a ≤ at
 
+-- that place, or that none passes
 abbrev pub LastOn : (ℕ → Bool) → List ℕ → Option ℕ → Type 0
 LastOn test places None = (a : ℕ) → a < length places → test (place places a) ≡ false
 LastOn test places (Some at) = IsLastOn test places at
@@ -72,6 +75,7 @@ pub record IsFirstOn (test : ℕ → Bool) (places : List ℕ) (at : ℕ) : Type
   pub passes : test at ≡ true
   pub first : (a : ℕ) → a < length places → test (place places a) ≡ true → at ≤ place places a
 
+-- that place, or that none passes
 abbrev pub FirstOn : (ℕ → Bool) → List ℕ → Option ℕ → Type 0
 FirstOn test places None = (a : ℕ) → a < length places → test (place places a) ≡ false
 FirstOn test places (Some at) = IsFirstOn test places at
@@ -82,6 +86,7 @@ later None other = other
 later (Some a) None = Some a
 later (Some a) (Some b) = Some (max a b)
 
+-- the same of the less
 abbrev pub earlier : Option ℕ → Option ℕ → Option ℕ
 earlier None other = other
 earlier (Some a) None = Some a

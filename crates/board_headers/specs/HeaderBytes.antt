@@ -8,6 +8,7 @@ use Rattle.board_model.specs.declared.bridge.Window.{Window}
 abbrev pub bytes_2 : ℕ → List ℕ
 bytes_2 n = (n % 2 ^ 8) ∷ (n / 2 ^ 8 % 2 ^ 8) ∷ []
 
+-- the same of four bytes
 abbrev pub bytes_4 : ℕ → List ℕ
 bytes_4 n = bytes_2 n ++ bytes_2 (n / 2 ^ 16)
 
@@ -20,6 +21,7 @@ abbrev pub io_base : Option Window → ℕ
 io_base None = 0xf1
 io_base (Some window) = 16 * bits 12 4 window.base + 1
 
+-- the same of I/O Limit
 abbrev pub io_limit : Option Window → ℕ
 io_limit None = 0x01
 io_limit (Some window) = 16 * bits 12 4 window.limit + 1
@@ -29,6 +31,7 @@ abbrev pub io_base_upper : Option Window → ℕ
 io_base_upper None = 0
 io_base_upper (Some window) = bits 16 16 window.base
 
+-- the same of the limit
 abbrev pub io_limit_upper : Option Window → ℕ
 io_limit_upper None = 0
 io_limit_upper (Some window) = bits 16 16 window.limit
@@ -38,6 +41,7 @@ abbrev pub memory_base : Option Window → ℕ
 memory_base None = 0xfff0
 memory_base (Some window) = 16 * bits 20 12 window.base
 
+-- the same of the limit
 abbrev pub memory_limit : Option Window → ℕ
 memory_limit None = 0x0000
 memory_limit (Some window) = 16 * bits 20 12 window.limit
@@ -46,6 +50,7 @@ memory_limit (Some window) = 16 * bits 20 12 window.limit
 abbrev pub is_wide : Window → Bool
 is_wide window = nat_le (2 ^ 32) window.limit
 
+-- the lowest bit of both registers, which says so
 abbrev pub wide_bit : Window → ℕ
 wide_bit window = if is_wide window then 1 else 0
 
@@ -54,6 +59,7 @@ abbrev pub prefetchable_base : Option Window → ℕ
 prefetchable_base None = 0xfff0
 prefetchable_base (Some window) = 16 * bits 20 12 window.base + wide_bit window
 
+-- the same of the limit
 abbrev pub prefetchable_limit : Option Window → ℕ
 prefetchable_limit None = 0x0000
 prefetchable_limit (Some window) = 16 * bits 20 12 window.limit + wide_bit window
@@ -63,6 +69,7 @@ abbrev pub prefetchable_base_upper : Option Window → ℕ
 prefetchable_base_upper None = 0
 prefetchable_base_upper (Some window) = if is_wide window then bits 32 32 window.base else 0
 
+-- the same of the limit
 abbrev pub prefetchable_limit_upper : Option Window → ℕ
 prefetchable_limit_upper None = 0
 prefetchable_limit_upper (Some window) = if is_wide window then bits 32 32 window.limit else 0
@@ -106,6 +113,7 @@ header_bytes bridge =
 abbrev pub register_2 : List ℕ → ℕ → ℕ
 register_2 bytes offset = slice_index bytes offset + 2 ^ 8 * slice_index bytes (offset + 1)
 
+-- the same of four bytes
 abbrev pub register_4 : List ℕ → ℕ → ℕ
 register_4 bytes offset = register_2 bytes offset + 2 ^ 16 * register_2 bytes (offset + 2)
 

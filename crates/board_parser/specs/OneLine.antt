@@ -4,8 +4,8 @@ use Rattle.board_text.specs.Lines.{line_fault}
 use Rattle.board_text.specs.declared.reader.BadLine.{BadLine}
 use Rattle.board_text.specs.declared.reader.BadLine.TheVariants as bad_lines
 use Rattle.board_text.specs.Tokens.{words_of}
-use Rattle.board_statements.specs.declared.fault.LineFault.{LineFault}
-use Rattle.board_statements.specs.declared.fault.LineFault.TheVariants.{BadByte, TooLong, NoFirstLine}
+use Rattle.text_faults.specs.declared.board_line.LineFault.{LineFault}
+use Rattle.text_faults.specs.declared.board_line.LineFault.TheVariants.{BadByte, TooLong, NoFirstLine}
 use Rattle.board_statements.specs.Statements.{statement_of, first_line_of}
 use Rattle.board_parser.specs.declared.draft.draft.Draft.{Draft}
 use Rattle.board_parser.specs.draft.Steps.{◌>>=◌}
@@ -26,6 +26,7 @@ abbrev pub some_of : Result Draft LineFault → Result (Option Draft) LineFault
 some_of (Ok draft) = Ok (Some draft)
 some_of (Err fault) = Err fault
 
+-- the words of a line: of the first line of the text, or of a statement
 abbrev pub read_words : Option Draft → List (List ℕ) → Result (Option Draft) LineFault
 read_words None words = begin (first_line_of words)
 read_words (Some draft) words = some_of (read_statement draft words)
@@ -39,6 +40,7 @@ abbrev pub text_fault : BadLine → LineFault
 text_fault bad_lines.TooLong = TooLong
 text_fault bad_lines.BadByte = BadByte
 
+-- a fault of the line itself comes before what its words say
 abbrev pub read_unless : Option BadLine → Option Draft → List ℕ → Result (Option Draft) LineFault
 read_unless None draft line = read_more draft (words_of line)
 read_unless (Some fault) draft line = Err (text_fault fault)

@@ -27,6 +27,7 @@ abbrev pub is_short_window : Option Window → Bool
 is_short_window None = true
 is_short_window (Some window) = is_short window.base && is_short window.limit
 
+-- the same of a bridge
 abbrev pub is_short_bridge : Bridge → Bool
 is_short_bridge bridge = is_short_window bridge.mem && (is_short_window bridge.pref && is_short_window bridge.io)
 
@@ -34,11 +35,13 @@ is_short_bridge bridge = is_short_window bridge.mem && (is_short_window bridge.p
 abbrev pub is_short_range : Range → Bool
 is_short_range range = is_short range.base && (is_short range.size && is_short (range.base + range.size - 1))
 
+-- the same of a target: its ranges, its abort ranges and its words
 abbrev pub is_short_target : Target → Bool
 is_short_target target =
     list_all is_short_range target.ranges && (list_all is_short_range target.aborts
     && list_all (λ opening. is_short opening.address) target.openings)
 
+-- the same of an operation
 abbrev pub is_short_op : Op → Bool
 is_short_op (Read command address) = is_short address
 is_short_op (Write command address phases) = is_short address
@@ -46,6 +49,7 @@ is_short_op (CfgRead bus device register) = true
 is_short_op (CfgWrite bus device register phase) = true
 is_short_op (Poll space address mask value tries) = is_short address
 
+-- the same of a board
 abbrev pub is_short_board : Board → Bool
 is_short_board board =
     list_all is_short_bridge board.bridges && (list_all is_short_target board.targets
@@ -60,6 +64,7 @@ first_line board = codes "pciboard" ∷ (if is_short_board board then codes "1" 
 abbrev pub planned_line : List ℕ → Planned → Line
 planned_line word planned = word ∷ decimal planned.bus ∷ direction_word planned.up ∷ decimal planned.count ∷ []
 
+-- all lines, in this order
 abbrev pub board_lines : Board → List Line
 board_lines board =
     first_line board
@@ -69,5 +74,6 @@ board_lines board =
     ++ (map (planned_line (codes "discard")) board.discards
     ++ map (planned_line (codes "drop")) board.drops))))
 
+-- the text of these lines
 unfoldable pub board_text : Board → List ℕ
 board_text board = text_of (board_lines board)

@@ -20,11 +20,13 @@ depth_words word depth = if depth == 4 then [] else word ∷ decimal depth ∷ [
 abbrev pub mode_words : Bool → Line
 mode_words mode = if mode then codes "abort" ∷ codes "1" ∷ [] else []
 
+-- all that a `bridge` line may leave out, in this order
 abbrev pub option_words : Bridge → Line
 option_words bridge =
     window_words (codes "mem") bridge.mem ++ (window_words (codes "pref") bridge.pref ++ (window_words (codes "io") bridge.io
     ++ (depth_words (codes "posted") bridge.posted ++ (depth_words (codes "delayed") bridge.delayed ++ mode_words bridge.mode))))
 
+-- the whole line of a bridge
 abbrev pub bridge_line : Bridge → Line
 bridge_line bridge =
     codes "bridge" ∷ decimal bridge.bus ∷ codes "on" ∷ decimal bridge.parent ∷ codes "dev" ∷ decimal bridge.device

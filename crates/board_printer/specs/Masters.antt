@@ -15,6 +15,7 @@ use Rattle.board_printer.specs.Spaces.{command_word, poll_word}
 abbrev pub write_line : Command → ℕ → List Phase → Line
 write_line command address phases = command_word command ∷ address_text address ∷ map phase_text phases
 
+-- an operation, by the word of its command
 abbrev pub op_line : Op → Line
 op_line (Read command address) = command_word command ∷ address_text address ∷ []
 op_line (Write command address phases) = write_line command address phases
@@ -25,8 +26,10 @@ op_line (CfgWrite bus device register phase) =
 op_line (Poll space address mask value tries) =
     poll_word space ∷ address_text address ∷ word_text mask ∷ word_text value ∷ decimal tries ∷ []
 
+-- `master NAME on B`
 abbrev pub master_line : Master → Line
 master_line master = codes "master" ∷ master.name ∷ codes "on" ∷ decimal master.bus ∷ []
 
+-- the line of a master, then its program
 abbrev pub master_lines : Master → List Line
 master_lines master = master_line master ∷ map op_line master.ops

@@ -8,6 +8,7 @@ use Rattle.board_printer.specs.Lines.{Line}
 use Rattle.board_printer.specs.Numbers.{word_text, half_text, address_text}
 use Rattle.board_printer.specs.Spaces.{space_word}
 
+-- `target NAME on B dev D`
 abbrev pub target_line : Target → Line
 target_line target = codes "target" ∷ target.name ∷ codes "on" ∷ decimal target.bus ∷ codes "dev" ∷ decimal target.device ∷ []
 
@@ -34,6 +35,7 @@ range_line word range = word ∷ space_word range.space ∷ address_text range.b
 abbrev pub opening_line : Opening → Line
 opening_line opening = codes "word" ∷ space_word opening.space ∷ address_text opening.address ∷ word_text opening.value ∷ []
 
+-- the line of a target, then its details
 abbrev pub target_lines : Target → List Line
 target_lines target =
     target_line target

@@ -3,6 +3,7 @@ use Rattle.std.specs.Prelude.{ℕ, Bool, not, List, length, nat_lt}
 use Rattle.std.specs.List.{slice_split, filter}
 use Rattle.board_text.specs.Tokens.{is_separator}
 
+-- any byte but a space and a tab
 abbrev pub is_no_separator : ℕ → Bool
 is_no_separator byte = not (is_separator byte)
 

@@ -4,8 +4,8 @@ use Rattle.std.specs.Str.{bytes_eq}
 use Rattle.pci_command.specs.declared.command.Space.{Space}
 use Rattle.pci_command.specs.declared.command.Space.TheVariants.{Mem, Io, Cfg}
 use Rattle.board_model.specs.declared.agents.Range.{Range}
-use Rattle.board_statements.specs.declared.fault.LineFault.{LineFault}
-use Rattle.board_statements.specs.declared.fault.LineFault.TheVariants.{WrongWord}
+use Rattle.text_faults.specs.declared.board_line.LineFault.{LineFault}
+use Rattle.text_faults.specs.declared.board_line.LineFault.TheVariants.{WrongWord}
 use Rattle.board_statements.specs.declared.statement.Statement.{Statement}
 use Rattle.board_statements.specs.declared.statement.Statement.TheVariants.{NewTarget, Identifies, Stalls, Bursts, Claims, Aborts, Opens}
 use Rattle.board_statements.specs.Words.{◌>>=◌, ◌>>◌, Reader, give, one_word, hex, decimal, fixed, name, long}
@@ -23,6 +23,7 @@ space_of_word word =
     else if bytes_eq word (codes "io") then Ok Io
     else Err WrongWord
 
+-- the next word as a space
 abbrev pub space_word : Reader Space
 space_word = one_word space_of_word
 
@@ -63,11 +64,13 @@ range_form wide = do
   size ← long (is_wide_in wide space)
   give (record { space = space; base = base; size = size })
 
+-- `range SPACE BASE SIZE`
 unfoldable pub claim_form : Bool → Reader Statement
 claim_form wide = do
   range ← range_form wide
   give (Claims range)
 
+-- `abort SPACE BASE SIZE`
 unfoldable pub abort_form : Bool → Reader Statement
 abort_form wide = do
   range ← range_form wide

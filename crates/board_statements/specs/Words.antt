@@ -7,15 +7,15 @@ use Rattle.std.specs.Char.{digit_value, is_digit}
 use Rattle.pci_command.specs.declared.phases.Phase.{Phase}
 use Rattle.board_model.specs.Names.{is_name}
 use Rattle.board_text.specs.declared.numbers.NumberFault.{NumberFault}
-use Rattle.board_text.specs.declared.numbers.NumberFault.TheVariants as number_faults
 use Rattle.board_text.specs.Numbers.{hex_answer, decimal_answer}
-use Rattle.board_statements.specs.declared.fault.LineFault.{LineFault}
-use Rattle.board_statements.specs.declared.fault.LineFault.TheVariants.{TooWide, WrongWord, Missing, TooMany, IllFormed}
+use Rattle.text_faults.specs.declared.board_line.LineFault.{LineFault}
+use Rattle.text_faults.specs.declared.board_line.LineFault.TheVariants.{TooWide, WrongWord, Missing, TooMany, IllFormed}
 
 infixl 10 ◌>>=◌
 infixl 10 ◌>>◌
 -- Readers.
 
+-- takes words, and gives a value of this kind
 abbrev pub Reader : Type 0 → Type 0
 Reader A = List (List ℕ) → Result (A × List (List ℕ)) LineFault
 
@@ -24,9 +24,11 @@ abbrev pub read_on : {A B : Type 0} → Result (A × List (List ℕ)) LineFault 
 read_on (Ok read) next = next read.0 read.1
 read_on (Err fault) next = Err fault
 
+-- one reader, and behind it another that may go by the value
 abbrev pub ◌>>=◌ : {A B : Type 0} → Reader A → (A → Reader B) → Reader B
 (reader >>= next) words = read_on (reader words) next
 
+-- the same of one that does not go by it
 abbrev pub ◌>>◌ : {A B : Type 0} → Reader A → Reader B → Reader B
 (reader >> next) words = read_on (reader words) (λ _. next)
 
@@ -49,6 +51,7 @@ abbrev pub begins_with : List ℕ → List (List ℕ) → Bool
 begins_with expected [] = false
 begins_with expected (word ∷ words) = bytes_eq word expected
 
+-- the words behind the first
 abbrev pub behind_first : List (List ℕ) → List (List ℕ)
 behind_first [] = []
 behind_first (word ∷ words) = words
@@ -73,12 +76,7 @@ Gives (Err fault) words read = read ≡ Err fault
 
 -- Kinds of words.
 
--- the fault of a number: too many digits, and else it is none of its kind
-abbrev pub number_fault : NumberFault → LineFault
-number_fault number_faults.TooWide = TooWide
-number_fault number_faults.NotDigits = IllFormed
-number_fault number_faults.OutOfRange = IllFormed
-
+-- a number that was read, or that fault
 abbrev pub number_of : Result ℕ NumberFault → Result ℕ LineFault
 number_of (Ok n) = Ok n
 number_of (Err fault) = Err (number_fault fault)
@@ -108,9 +106,11 @@ name_of word = if is_name word then Ok word else Err IllFormed
 abbrev pub has_mark : ℕ → List ℕ → Bool
 has_mark mark word = list_any (λ byte. byte == mark) word
 
+-- the part before the first mark
 abbrev pub before_mark : ℕ → List ℕ → List ℕ
 before_mark mark word = before_first (λ byte. byte == mark) word
 
+-- the part behind it
 abbrev pub behind_mark : ℕ → List ℕ → List ℕ
 behind_mark mark word = after_first (λ byte. byte == mark) word
 
@@ -153,29 +153,37 @@ in_pairs [] = []
 in_pairs (high ∷ []) = []
 in_pairs (high ∷ low ∷ word) = (16 * digit_value high + digit_value low) ∷ in_pairs word
 
+-- the bytes of a header: 128 hexadecimal digits
 unfoldable pub header_of : List ℕ → Result (List ℕ) LineFault
 header_of word =
     if length word == 128 && list_all (λ byte. is_digit byte 16) word then Ok (in_pairs word) else Err IllFormed
 
 -- The readers of one word of each kind.
 
+-- a number of at most so many hexadecimal digits
 abbrev pub hex : ℕ → Reader ℕ
 hex digits = one_word (hex_of digits)
 
+-- a decimal number within these bounds
 abbrev pub decimal : ℕ → ℕ → Reader ℕ
 decimal low high = one_word (decimal_of low high)
 
+-- this word
 abbrev pub fixed : List ℕ → Reader (Unit {0})
 fixed expected = one_word (fixed_of expected)
 
+-- a name
 abbrev pub name : Reader (List ℕ)
 name = one_word name_of
 
+-- an address or a size, with 64 bits where the text may have them
 abbrev pub long : Bool → Reader ℕ
 long wide = one_word (long_of wide)
 
+-- the data phase that a word says
 abbrev pub data_word : Reader Phase
 data_word = one_word data_word_of
 
+-- the bytes of a header
 abbrev pub header_bytes : Reader (List ℕ)
 header_bytes = one_word header_of

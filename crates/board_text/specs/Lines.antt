@@ -4,6 +4,7 @@ use Rattle.std.specs.List.{list_all, slice_split}
 use Rattle.board_text.specs.declared.reader.BadLine.{BadLine}
 use Rattle.board_text.specs.declared.reader.BadLine.TheVariants.{TooLong, BadByte}
 
+-- the byte 10, with which a line ends
 abbrev pub is_newline : ℕ → Bool
 is_newline byte = byte == 10
 

@@ -11,6 +11,7 @@ is_separator byte = byte == 32 || byte == 9
 abbrev pub is_comment : ℕ → Bool
 is_comment byte = byte == 35
 
+-- a line up to its comment
 abbrev pub uncommented : List ℕ → List ℕ
 uncommented line = before_first is_comment line
 

@@ -4,6 +4,7 @@ use Rattle.board_model.specs.declared.agents.Target.{Target}
 use Rattle.board_model.specs.declared.board.Board.{Board}
 use Rattle.board_model.specs.WellFormed.{is_well_formed}
 
+-- what of a valid board is enough to follow a request to who claims it
 pub record IsDecodable (board : Board) : Type 0 where
   -- a text can be of it
   pub formed : IsTrue (is_well_formed board)

@@ -15,6 +15,7 @@ use Rattle.history_model.specs.declared.event.Event.TheVariants.{Act}
 use Rattle.history_model.specs.Words.{through}
 use Rattle.machine_steps.specs.Counts.{or_zero, none_of_any}
 
+-- the list, empty where there is none
 abbrev pub list_in : {X : Type 0} → Option (List X) → List X
 list_in None = []
 list_in (Some xs) = xs
@@ -23,6 +24,7 @@ list_in (Some xs) = xs
 abbrev pub count_at : List (List ℕ) → OpId → Option ℕ
 count_at gone o = slice_get (list_in (slice_get gone o.master)) o.index
 
+-- the count of an operation; 0 where it is not there
 abbrev pub count_in : List (List ℕ) → OpId → ℕ
 count_in gone o = or_zero (count_at gone o)
 

@@ -11,6 +11,7 @@ use Rattle.history_model.specs.declared.event.Event.{Event}
 use Rattle.history_model.specs.declared.event.Event.TheVariants.{Act}
 use Rattle.history_model.specs.Program.{Ending, master_outcome, follows, turn_of}
 
+-- what is kept of a master
 pub record MasterView : Type 0 where
   -- its place on the board
   pub master : ℕ

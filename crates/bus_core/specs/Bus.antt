@@ -27,6 +27,7 @@ use Rattle.bus_agents.specs.Through.{ThroughStands}
 use Rattle.bus_targets.specs.State.{TargetView}
 use Rattle.bus_targets.specs.Stands.{TargetStands}
 
+-- what a bus keeps
 pub record BusView : Type 0 where
   pub bus : ℕ
   -- its bridges: that to the bus itself first, then those below
@@ -43,6 +44,7 @@ pub record Shape : Type 0 where
   pub masters : List ℕ
   pub targets : List ℕ
 
+-- who is on the bus, by what it keeps
 abbrev pub shape_of : BusView → Shape
 shape_of s =
     record {

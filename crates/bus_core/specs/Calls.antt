@@ -72,6 +72,7 @@ pub record Answered (board : Board) (tags : By → OpId → ℕ) (world : World)
   pub stands : BusStandsAt board tags (after_answer board old.bus by o answer world) p (past_after old.bus by o answer p) new
   pub flights : Flights (shape_of old) world (after_answer board old.bus by o answer world) (items_at over)
 
+-- whatever the bus stands for, who has this request line and presents the operation is answered so
 pub record BusAnswers (board : Board) (old : BusView) (line : ℕ) (o : OpId) (answer : Answer) (over : Option Sent) (new : BusView) : Type 0 where
   pub answers : (tags : By → OpId → ℕ) (world : World) (p : List Event) (by : By) → IsLine board old.bus tags by o line → BusStands board tags world p old
       → Answered board tags world p by o old answer over new
@@ -84,6 +85,7 @@ pub record ClaimedBack (board : Board) (bus : ℕ) (p : List Event) (by : By) (o
   pub is_request : request_of board o bus ≡ Some request
   pub claims : claim board bus (without (through p o) request) ≡ Lane (lane_back lane)
 
+-- so it is of what the initiator with this request line presents, whatever the bus stands for
 pub record TurnsBack (board : Board) (old : BusView) (line : ℕ) (o : OpId) : Type 0 where
   pub turns : (tags : By → OpId → ℕ) (world : World) (p : List Event) (by : By) → IsLine board old.bus tags by o line → BusStands board tags world p old
       → ClaimedBack board old.bus p by o

@@ -34,10 +34,12 @@ pub record IsClaimed (board : Board) (bus : ℕ) (p : List Event) (o : OpId) (re
   pub is_rest : rest ≡ without (through p o) request
   pub claims : claim board bus rest ≡ place
 
+-- the bus answers so wherever this place claims what is left of the request
 pub record PlaceAnswers (board : Board) (old : BusView) (place : Place) (line : ℕ) (o : OpId) (request rest : Request) (answer : Answer) (over : Option Sent) (new : BusView) : Type 0 where
   pub answers : (tags : By → OpId → ℕ) (world : World) (p : List Event) (by : By) → IsLine board old.bus tags by o line → BusStands board tags world p old
       → IsClaimed board old.bus p o request rest place → Answered board tags world p by o old answer over new
 
+-- the operation turns back wherever this place claims what is left of the request
 pub record PlaceTurns (board : Board) (old : BusView) (place : Place) (line : ℕ) (o : OpId) (request rest : Request) : Type 0 where
   pub turns : (tags : By → OpId → ℕ) (world : World) (p : List Event) (by : By) → IsLine board old.bus tags by o line → BusStands board tags world p old
       → IsClaimed board old.bus p o request rest place → ClaimedBack board old.bus p by o
@@ -47,6 +49,7 @@ pub record RequestAnswers (board : Board) (old : BusView) (line : ℕ) (o : OpId
   pub answers : (tags : By → OpId → ℕ) (world : World) (p : List Event) (by : By) → IsLine board old.bus tags by o line → BusStands board tags world p old
       → request_of board o old.bus ≡ Some request → Answered board tags world p by o old answer over new
 
+-- the same of an operation that turns back
 pub record RequestTurns (board : Board) (old : BusView) (line : ℕ) (o : OpId) (request : Request) : Type 0 where
   pub turns : (tags : By → OpId → ℕ) (world : World) (p : List Event) (by : By) → IsLine board old.bus tags by o line → BusStands board tags world p old
       → request_of board o old.bus ≡ Some request → ClaimedBack board old.bus p by o

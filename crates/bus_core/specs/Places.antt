@@ -38,11 +38,13 @@ pub record OneChanged {X : Type 0} (place : ℕ) (old new : List X) (before afte
   pub is : slice_get new place ≡ Some after
   pub others : (n : ℕ) → n ≢ place → slice_get new n ≡ slice_get old n
 
+-- the port at the place offers these
 pub record OffersAt (place : ℕ) (ports : List PortView) (offers : List Offer) : Type 0 where
   pub port : PortView
   pub there : slice_get ports place ≡ Some port
   pub offers_are : offers ≡ offers_of port.face
 
+-- the port at the place replies so to the request, and no other changed
 pub record RespondsAt (place : ℕ) (old : List PortView) (line : ℕ) (o : OpId) (request : Request) (reply : Reply) (new : List PortView) : Type 0 where
   pub before : PortView
   pub after : PortView
@@ -51,6 +53,7 @@ pub record RespondsAt (place : ℕ) (old : List PortView) (line : ℕ) (o : OpId
   pub arrivals : after.face.arrivals ≡ before.face.arrivals
   pub replies : PortReplies before line o request reply after
 
+-- the target at the place answers the request so, and no other changed
 pub record AccessesAt (board : Board) (place : ℕ) (old : List TargetView) (request : Request) (access : Access) (new : List TargetView) : Type 0 where
   pub before : TargetView
   pub after : TargetView
@@ -64,11 +67,13 @@ pub record NotesPart (old : List (List ℕ)) (o : OpId) (access : Access) (new :
   pub stands : (board : Board) (p : List Event) (on : ℕ) (by : By) (place : Place) (op : Op) → ThroughStands board p old → op_of board o ≡ Some op
       → ((phases : ℕ) → access ≡ Part phases → tries_of op ≡ 1) → ThroughStands board (Act on by o (step_of access) place ∷ p) new
 
+-- the master at the place has this turn
 pub record WantsAt (place : ℕ) (masters : List MasterView) (turn : Option OpId) : Type 0 where
   pub master : MasterView
   pub there : slice_get masters place ≡ Some master
   pub turn_is : master.turn ≡ turn
 
+-- the turn of the master at the place ended with this outcome, and no other changed
 pub record EndsTurnAt (board : Board) (place : ℕ) (old : List MasterView) (outcome : Outcome) (new : List MasterView) : Type 0 where
   pub before : MasterView
   pub after : MasterView
@@ -85,6 +90,7 @@ pub record TellsMaster (board : Board) (place : ℕ) (step : Step) (old new : Li
       → ((n : ℕ) (m : MasterView) → slice_get old n ≡ Some m → MasterStands board p m)
       → (n : ℕ) (m : MasterView) → slice_get new n ≡ Some m → MasterStands board (Act on Master o step at ∷ p) m
 
+-- what the port at the place offered ended so and this item goes back; no other port changed
 pub record EndsAt (place : ℕ) (old : List PortView) (offer : Offer) (outcome : Outcome) (new : List PortView) (back : Item) : Type 0 where
   pub before : PortView
   pub after : PortView

@@ -31,8 +31,8 @@ use Rattle.bus_face.specs.Arrivals.{carried}
 use Rattle.bus_face.specs.Offers.{is_offer_of}
 use Rattle.bus_core.specs.declared.given.Sent.{Sent}
 use Rattle.bus_core.specs.declared.given.Acted.{Acted}
-use Rattle.bus_core.specs.declared.given.Presented.{Presented}
-use Rattle.bus_core.specs.declared.given.Presented.TheVariants.{Nothing, Retried, TurnsBack as Back, Did}
+use Rattle.bus_core.specs.declared.given.Served.{Served}
+use Rattle.bus_core.specs.declared.given.Served.TheVariants.{Nothing, Retried, TurnsBack as Back, Did}
 use Rattle.bus_agents.specs.Turns.{MasterView}
 use Rattle.bus_core.specs.Bus.{BusView, shape_of, BusStands}
 use Rattle.bus_core.specs.Places.{OneChanged, TestsAt}
@@ -53,6 +53,7 @@ pub record Presents (board : Board) (tags : By → OpId → ℕ) (world : World)
   pub stands : BusStands board tags (lanes_after board old.bus by o answer world) (past_after old.bus by o answer p) new
   pub flights : Flights (shape_of old) world (lanes_after board old.bus by o answer world) (λ n. items_at over n ++ items_at back n)
 
+-- so it is whatever the bus stands for
 pub record BusPresents (board : Board) (by : By) (o : OpId) (old : BusView) (answer : Answer) (over back : Option Sent) (new : BusView) : Type 0 where
   pub presents : (tags : By → OpId → ℕ) (world : World) (p : List Event) → BusStands board tags world p old → Presents board tags world p by o old answer over back new
 
@@ -69,14 +70,14 @@ pub record IsAct (board : Board) (by : By) (o : OpId) (old : BusView) (acted : A
   pub presents : BusPresents board by o old (Gives step place) acted.over acted.back new
 
 -- what comes of an operation that is presented
-abbrev pub Serves : Board → By → OpId → BusView → Presented → BusView → Type 0
+abbrev pub Serves : Board → By → OpId → BusView → Served → BusView → Type 0
 Serves board by o old Nothing new = ⊥
 Serves board by o old Retried new = (cause : Cause) × BusPresents board by o old (Retry cause) None None new
 Serves board by o old Back new = BusTurnsBack board by o old
 Serves board by o old (Did acted) new = IsAct board by o old acted new
 
 -- what is sent has this stamp
-abbrev pub SendsStamped : ℕ → Presented → Type 0
+abbrev pub SendsStamped : ℕ → Served → Type 0
 SendsStamped stamp Nothing = Unit {0}
 SendsStamped stamp Retried = Unit {0}
 SendsStamped stamp Back = Unit {0}
@@ -88,7 +89,7 @@ IsAt place None = Unit {0}
 IsAt place (Some sent) = sent.place ≡ place
 
 -- what goes back is sent at another port than what goes on
-abbrev pub SendsApart : Presented → Type 0
+abbrev pub SendsApart : Served → Type 0
 SendsApart Nothing = Unit {0}
 SendsApart Retried = Unit {0}
 SendsApart Back = Unit {0}
@@ -100,11 +101,12 @@ pub record BusOffers (place : ℕ) (s : BusView) (offers : List Offer) : Type 0 
       → wants_in board world p s.bus (ByLane lane) o ≡ list_any (is_offer_of o) offers
 
 -- a master presents its turn, if its program did not end
-abbrev pub ServesTurn : Board → Option OpId → BusView → Presented → BusView → Type 0
+abbrev pub ServesTurn : Board → Option OpId → BusView → Served → BusView → Type 0
 ServesTurn board None old presented new = (presented ≡ Nothing) × (new ≡ old)
 ServesTurn board (Some o) old presented new = Serves board Master o old presented new
 
-pub record ServesMaster (board : Board) (place : ℕ) (old : BusView) (presented : Presented) (new : BusView) : Type 0 where
+-- the same of the master at the place
+pub record ServesMaster (board : Board) (place : ℕ) (old : BusView) (presented : Served) (new : BusView) : Type 0 where
   pub master : MasterView
   pub there : slice_get old.masters place ≡ Some master
   pub serves : ServesTurn board master.turn old presented new
@@ -162,6 +164,7 @@ pub record ArrivesAt (board : Board) (tags : By → OpId → ℕ) (world : World
   pub from_bus : (n : ℕ) (l : BridgeLane) → slice_get (shape_of old).lanes n ≡ Some l
       → (moved (arrives mark) lane world (lane_back l)).flight ≡ (world (lane_back l)).flight ++ (if place == n then map carried (option_to_list back) else [])
 
+-- so it is whatever the bus stands for, if the item is the next on the lane of this port
 pub record BusArrives (board : Board) (place : ℕ) (old : BusView) (item : Item) (mark : Mark) (back : Option Item) (new : BusView) : Type 0 where
   pub arrives : (tags : By → OpId → ℕ) (world : World) (p : List Event) (rest : List Carried) (lane : BridgeLane) → slice_get (shape_of old).lanes place ≡ Some lane → BusStands board tags world p old
       → (world lane).flight ≡ carried item ∷ rest → ArrivesAt board tags world p lane place old item mark back new

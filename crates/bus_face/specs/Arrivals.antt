@@ -12,7 +12,7 @@ use Rattle.history_model.specs.declared.event.Mark.TheVariants.{Plain, Discard, 
 use Rattle.history_model.specs.declared.item.Carried.{Carried}
 use Rattle.history_model.specs.declared.item.Carried.TheVariants.{Post, Ask, Done, Room, Gone}
 use Rattle.bus_face.specs.declared.requests.ask_table.Ask.{Ask as AskEntry}
-use Rattle.bus_face.specs.declared.requests.slot_table.Slot.{Slot as SlotEntry}
+use Rattle.bus_face.specs.declared.requests.slot_table.SlotEntry.{SlotEntry}
 use Rattle.bus_face.specs.requests.Slots.{slot_at, without as without_slot}
 use Rattle.bus_face.specs.completions.Completions.{done_at}
 use Rattle.bus_face.specs.State.{FaceState}
@@ -25,10 +25,12 @@ carried (DoneItem op slot outcome stamp) = Done op slot outcome
 carried (RoomItem stamp) = Room
 carried (GoneItem slot stamp) = Gone slot
 
+-- the slot is held, and for this operation
 abbrev pub is_for : OpId → Option SlotEntry → Bool
 is_for op None = false
 is_for op (Some slot) = same_op slot.op op
 
+-- it is the delayed request of this slot
 abbrev pub has_slot : ℕ → AskEntry → Bool
 has_slot slot ask = ask.slot == slot
 
@@ -40,26 +42,32 @@ is_taken face (Done op slot outcome) = is_for op (slot_at slot face.slots.slots)
 is_taken face Room = nat_lt 0 face.owed
 is_taken face (Gone slot) = is_some (slot_at slot face.slots.slots) && not (is_some (done_at slot face.dones.dones))
 
+-- the face with one arrival more
 abbrev pub counted : FaceState → FaceState
 counted face = record face { arrivals = face.arrivals + 1 }
 
+-- the face without the held slot of this number
 abbrev pub freed : FaceState → ℕ → FaceState
 freed face slot = record face { slots = record (face.slots) { slots = without_slot slot face.slots.slots } }
 
+-- the face with the delayed request in its table, numbered by its arrival
 abbrev pub asks_arrived : FaceState → OpId → ℕ → Option Request → FaceState
 asks_arrived face op slot None = face
 asks_arrived face op slot (Some request) =
     record face { asks = record (face.asks) { asks = face.asks.asks ++ record { op = op; slot = slot; request = request; arrival = face.arrivals } ∷ [] } }
 
+-- the same by the mark: a request that is dropped does not stand
 abbrev pub ask_marked : FaceState → OpId → ℕ → Option Request → Mark → FaceState
 ask_marked face op slot request Plain = asks_arrived face op slot request
 ask_marked face op slot request Discard = asks_arrived face op slot request
 ask_marked face op slot request Drop = face
 
+-- the face with the completion in its table, numbered by its arrival
 abbrev pub dones_arrived : FaceState → OpId → ℕ → Outcome → FaceState
 dones_arrived face op slot outcome =
     record face { dones = record (face.dones) { dones = face.dones.dones ++ record { slot = slot; op = op; outcome = outcome; arrival = face.arrivals } ∷ [] } }
 
+-- the same by the mark: a completion that is discarded only frees its slot
 abbrev pub done_marked : FaceState → OpId → ℕ → Outcome → Mark → FaceState
 done_marked face op slot outcome Plain = dones_arrived face op slot outcome
 done_marked face op slot outcome Discard = freed face slot
@@ -79,6 +87,7 @@ word_of slot stamp Plain = None
 word_of slot stamp Discard = None
 word_of slot stamp Drop = Some (GoneItem slot stamp)
 
+-- what goes back for an item with this mark; for any other item than a delayed request nothing does
 abbrev pub sent_back : Carried → Mark → ℕ → Option Item
 sent_back (Post op) mark stamp = None
 sent_back (Ask op slot) mark stamp = word_of slot stamp mark

@@ -29,6 +29,7 @@ has_equal request asks = list_any (λ other. same_request request other.request)
 abbrev pub is_offered : List PostEntry → List AskEntry → AskEntry → Bool
 is_offered posts older ask = came_before ask.arrival posts && not (has_equal ask.request older)
 
+-- a delayed request as it is offered
 abbrev pub ask_offer : AskEntry → Offer
 ask_offer ask = record { op = ask.op; ask = true; slot = ask.slot }
 
@@ -54,6 +55,7 @@ offers_of face = ask_offers face.posts.posts [] face.asks.asks ++ post_offers fa
 abbrev pub offered_item : Offer → Carried
 offered_item offer = if offer.ask then Ask offer.op offer.slot else Post offer.op
 
+-- it is an offer of this operation
 abbrev pub is_offer_of : OpId → Offer → Bool
 is_offer_of o offer = same_op o offer.op
 

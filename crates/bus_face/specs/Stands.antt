@@ -16,7 +16,7 @@ use Rattle.law_lanes.specs.Kinds.{RightKind}
 use Rattle.law_lanes.specs.Standing.{CanStand}
 use Rattle.bus_face.specs.declared.posts.posted_table.Post.{Post as PostEntry}
 use Rattle.bus_face.specs.declared.requests.ask_table.Ask.{Ask as AskEntry}
-use Rattle.bus_face.specs.declared.requests.slot_table.Slot.{Slot as SlotEntry}
+use Rattle.bus_face.specs.declared.requests.slot_table.SlotEntry.{SlotEntry}
 use Rattle.bus_face.specs.declared.completions.done_table.Done.{Done as DoneEntry}
 use Rattle.bus_face.specs.State.{FaceState}
 
@@ -33,6 +33,7 @@ post_entry (Done op slot outcome) arrival = []
 post_entry Room arrival = []
 post_entry (Gone slot) arrival = []
 
+-- the same of the table of completions
 abbrev pub done_entry : Carried → ℕ → List DoneEntry
 done_entry (Post op) arrival = []
 done_entry (Ask op slot) arrival = []
@@ -46,9 +47,11 @@ pub record AskKey : Type 0 where
   pub slot : ℕ
   pub arrival : ℕ
 
+-- the entry without its request
 abbrev pub ask_key : AskEntry → AskKey
 ask_key ask = record { op = ask.op; slot = ask.slot; arrival = ask.arrival }
 
+-- the same of the table of delayed requests
 abbrev pub ask_entry : Carried → ℕ → List AskKey
 ask_entry (Post op) arrival = []
 ask_entry (Ask op slot) arrival = record { op = op; slot = slot; arrival = arrival } ∷ []
@@ -56,14 +59,17 @@ ask_entry (Done op slot outcome) arrival = []
 ask_entry Room arrival = []
 ask_entry (Gone slot) arrival = []
 
+-- the posted writes among the items that stand, by their arrivals
 abbrev pub post_entries : List Arrived → List PostEntry
 post_entries [] = []
 post_entries (one ∷ later) = post_entry one.item one.arrival ++ post_entries later
 
+-- the same of delayed requests
 abbrev pub ask_entries : List Arrived → List AskKey
 ask_entries [] = []
 ask_entries (one ∷ later) = ask_entry one.item one.arrival ++ ask_entries later
 
+-- the same of completions
 abbrev pub done_entries : List Arrived → List DoneEntry
 done_entries [] = []
 done_entries (one ∷ later) = done_entry one.item one.arrival ++ done_entries later
@@ -81,6 +87,7 @@ pub record IsEntry (board : Board) (bus : ℕ) (tags : By → OpId → ℕ) (hel
   pub request : request_of board held.op bus ≡ Some entry.request
   pub initiator : IsAt board bus held.by held.op
 
+-- held slots and their entries, one for one
 abbrev pub AreEntries : Board → ℕ → (By → OpId → ℕ) → List HeldSlot → List SlotEntry → Type 0
 AreEntries board bus tags [] [] = Unit {0}
 AreEntries board bus tags [] (entry ∷ entries) = ⊥

@@ -5,6 +5,7 @@ use Rattle.bus_face.specs.requests.Asks.{Asks}
 use Rattle.bus_face.specs.requests.Slots.{Slots}
 use Rattle.bus_face.specs.completions.Completions.{Completions}
 
+-- what the half of a bridge on one of its buses keeps
 pub record FaceState : Type 0 where
   -- the posted writes, delayed requests and completions that came to this bus, in three tables
   pub posts : Posted

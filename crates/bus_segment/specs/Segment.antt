@@ -22,6 +22,7 @@ use Rattle.bus_core.specs.Calls.{stamp_of}
 abbrev pub all_carried : (BridgeLane → List Item) → BridgeLane → List Carried
 all_carried came lane = map carried (came lane)
 
+-- the same of their stamps
 abbrev pub all_stamps : (BridgeLane → List Item) → BridgeLane → List ℕ
 all_stamps came lane = map stamp_of (came lane)
 
@@ -29,6 +30,7 @@ all_stamps came lane = map stamp_of (came lane)
 abbrev pub lanes_known : Board → (BridgeLane → List Item) → List Stamped → World
 lanes_known board came p = local_world board (all_carried came) (events_of p)
 
+-- what a segment is, but for its ends of lanes and the events that it recorded
 pub record SegmentView : Type 0 where
   pub bus : BusView
   -- the stamp of its last event, or what it began with

@@ -28,8 +28,8 @@ use Rattle.bus_core.specs.Bus.{BusView, shape_of}
 use Rattle.bus_core.specs.declared.port.port.Arrival.{Arrival}
 use Rattle.bus_core.specs.declared.given.Sent.{Sent}
 use Rattle.bus_core.specs.declared.given.Acted.{Acted}
-use Rattle.bus_core.specs.declared.given.Presented.{Presented}
-use Rattle.bus_core.specs.declared.given.Presented.TheVariants.{Nothing, Retried, TurnsBack as Back, Did}
+use Rattle.bus_core.specs.declared.given.Served.{Served}
+use Rattle.bus_core.specs.declared.given.Served.TheVariants.{Nothing, Retried, TurnsBack as Back, Did}
 use Rattle.bus_core.specs.Calls.{stamp_of}
 use Rattle.bus_core.specs.Serves.{is_taken_on, HasStamp, BusRefuses, BusArrives}
 use Rattle.bus_segment.specs.Segment.{SegmentView, SegmentPast, SegmentGoes, all_carried, lanes_known}
@@ -61,9 +61,11 @@ abbrev pub Refuses : Board → ℕ → World → BridgeLane → Option Item → 
 Refuses board bus world lane None = ⊥
 Refuses board bus world lane (Some item) = is_allowed_on board bus world lane item ≡ false
 
+-- the end keeps 32 items, and an event that is allowed now would send one more there
 abbrev pub HasNoRoom : Board → ℕ → (BridgeLane → List Item) → List Stamped → BridgeLane → ℕ → Type 0
 HasNoRoom board bus came p lane kept = (kept ≡ 32) × ((e : Event) × Sends board bus (all_carried came) (events_of p) lane e)
 
+-- the segment stops at the port of this lane for one of these causes
 pub record StopsAt (board : Board) (bus : ℕ) (came : BridgeLane → List Item) (p : List Stamped) (lane : BridgeLane) (refused : Option Item) (kept : ℕ) : Type 0 where
   pub cause : Refuses board bus (lanes_known board came p) lane refused ⊎ TurnsBack board bus (lanes_known board came p) (events_of p) lane ⊎ HasNoRoom board bus came p lane kept
 
@@ -106,17 +108,19 @@ pub record IsRecorded {End : Type 0} (had sent got : End → List Item) (paired 
   pub event : kept_events ≡ events ++ record { stamp = stamp; event = acted.event } ∷ []
   pub sends : SendsBoth had sent got paired ends acted.over acted.back after
 
+-- the act is not recorded, since some end has no room for what it sends
 pub record IsUnrecorded {End : Type 0} (kept : End → ℕ) (acted : Acted) (ends after : List End) (events kept_events : List Stamped) : Type 0 where
   pub same_ends : after ≡ ends
   pub same_events : kept_events ≡ events
   pub full : LacksRoom kept ends acted.over ⊎ LacksRoom kept ends acted.back
 
+-- one or the other, as the segment stopped or not
 abbrev pub Records : {End : Type 0} → (End → List Item) → (End → List Item) → (End → List Item) → (End → ℕ) → (End → End → Type 0) → Acted → ℕ → List End → List End → List Stamped → List Stamped → Bool → Type 0
 Records had sent got kept paired acted stamp ends after events kept_events false = IsRecorded had sent got paired acted stamp ends after events kept_events
 Records had sent got kept paired acted stamp ends after events kept_events true = IsUnrecorded kept acted ends after events kept_events
 
 -- what comes of an initiator, at the ends and among the events
-abbrev pub Finishes : {End : Type 0} → (End → List Item) → (End → List Item) → (End → List Item) → (End → ℕ) → (End → End → Type 0) → Presented → ℕ → List End → List End → List Stamped → List Stamped → Bool → Type 0
+abbrev pub Finishes : {End : Type 0} → (End → List Item) → (End → List Item) → (End → List Item) → (End → ℕ) → (End → End → Type 0) → Served → ℕ → List End → List End → List Stamped → List Stamped → Bool → Type 0
 Finishes had sent got kept paired Nothing stamp ends after events kept_events stopped = (after ≡ ends) × (kept_events ≡ events) × (stopped ≡ false)
 Finishes had sent got kept paired Retried stamp ends after events kept_events stopped = (after ≡ ends) × (kept_events ≡ events) × (stopped ≡ false)
 Finishes had sent got kept paired Back stamp ends after events kept_events stopped = (after ≡ ends) × (kept_events ≡ events) × (stopped ≡ true)
@@ -128,12 +132,14 @@ pub record IsKept {End : Type 0} (had sent got : End → List Item) (paired : En
   pub stamp : new_stamp ≡ later
   pub sends : SendsAt had sent got paired ends (sent_at place arrival.back) after
 
+-- the arrival is not recorded, since the end has no room for what goes back
 pub record IsNotKept {End : Type 0} (kept : End → ℕ) (place : ℕ) (arrival : Arrival) (stamp : ℕ) (ends : List End) (events : List Stamped) (new_stamp : ℕ) (after : List End) (kept_events : List Stamped) : Type 0 where
   pub same_ends : after ≡ ends
   pub same_events : kept_events ≡ events
   pub same_stamp : new_stamp ≡ stamp
   pub full : LacksRoom kept ends (sent_at place arrival.back)
 
+-- one or the other, as the segment stopped or not
 abbrev pub Keeps : {End : Type 0} → (End → List Item) → (End → List Item) → (End → List Item) → (End → ℕ) → (End → End → Type 0) → BridgeLane → ℕ → ℕ → Arrival → ℕ → List End → List Stamped → ℕ → List End → List Stamped → Bool → Type 0
 Keeps had sent got kept paired lane place later arrival stamp ends events new_stamp after kept_events false = IsKept had sent got paired lane place later arrival ends events new_stamp after kept_events
 Keeps had sent got kept paired lane place later arrival stamp ends events new_stamp after kept_events true = IsNotKept kept place arrival stamp ends events new_stamp after kept_events
@@ -159,6 +165,7 @@ IsStopped kept board place item old ends new =
     (2 ^ 31 ≤ stamp_of item) ⊎ BusRefuses board place old item
     ⊎ ((mark : Mark) × (back : Item) × BusArrives board place old item mark (Some back) new × LacksRoom kept ends (sent_at place (Some back)))
 
+-- the item did not arrive, and the segment stopped
 pub record IsNotArrived {End : Type 0} (kept : End → ℕ) (board : Board) (place : ℕ) (item : Item) (old : SegmentView) (ends : List End) (events : List Stamped) (new : SegmentView) (after : List End) (kept_events : List Stamped) : Type 0 where
   pub same_ends : after ≡ ends
   pub same_events : kept_events ≡ events

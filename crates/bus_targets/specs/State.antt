@@ -17,6 +17,7 @@ use Rattle.bus_targets.specs.declared.access.Access.{Access}
 use Rattle.bus_targets.specs.declared.access.Access.TheVariants.{Stall, Abort, Value, Part, Landed}
 use Rattle.bus_targets.specs.Words.{WordsOfSpace, value_at, landed_at}
 
+-- what is kept of a target
 pub record TargetView : Type 0 where
   -- its place on the board
   pub target : ℕ
@@ -27,6 +28,7 @@ pub record TargetView : Type 0 where
   pub ports : WordsOfSpace
   pub registers : WordsOfSpace
 
+-- its words of this space
 abbrev pub words_in : Space → TargetView → WordsOfSpace
 words_in Mem t = t.memory
 words_in Io t = t.ports
@@ -55,9 +57,11 @@ step_of (Value value) = Read value
 step_of (Part phases) = PartStep phases
 step_of Landed = Land
 
+-- the words of a space after what the step brings of the request landed, from its address on
 abbrev pub with_landed : Space → Request → Step → WordsOfSpace → WordsOfSpace
 with_landed space request step words = record words { values = landed_at space words.addresses (address_in space request.address) (brings step request.phases) words.values }
 
+-- the target after that
 abbrev pub landed_in : TargetView → Request → Step → Space → TargetView
 landed_in t request step Mem = record t { memory = with_landed Mem request step t.memory }
 landed_in t request step Io = record t { ports = with_landed Io request step t.ports }
@@ -82,6 +86,7 @@ IsElsewhere target (Header bus) = Unit {0}
 IsElsewhere target (Lane lane) = Unit {0}
 IsElsewhere target Nobody = Unit {0}
 
+-- the same of an event; an arrival is at no target
 abbrev pub HappensElsewhere : ℕ → Event → Type 0
 HappensElsewhere target (Act on by o step place) = IsElsewhere target place
 HappensElsewhere target (Arrive lane mark) = Unit {0}

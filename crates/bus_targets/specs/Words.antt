@@ -8,6 +8,7 @@ use Rattle.board_headers.specs.device.Registers.{merge_of}
 use Rattle.history_model.specs.Words.{mask_in}
 use Rattle.machine_steps.specs.Counts.{or_zero}
 
+-- the addresses of the words, and what each holds, in the same order
 pub record WordsOfSpace : Type 0 where
   pub addresses : List ℕ
   pub values : List ℕ
@@ -16,6 +17,7 @@ pub record WordsOfSpace : Type 0 where
 abbrev pub place_in : List ℕ → ℕ → Option ℕ
 place_in addresses address = position_from (λ kept. kept == address) 0 addresses
 
+-- what the word at the place holds; 0 where there is none
 abbrev pub value_in : List ℕ → Option ℕ → ℕ
 value_in values None = 0
 value_in values (Some place) = or_zero (slice_get values place)

@@ -6,20 +6,20 @@ use Rattle.board_model.specs.declared.board.Board.{Board}
 use Rattle.board_text.specs.declared.reader.BadLine.{BadLine}
 use Rattle.board_text.specs.Lines.{lines_of, line_fault}
 use Rattle.board_text.specs.Tokens.{words_of}
-use Rattle.board_statements.specs.declared.fault.LineFault.{LineFault}
-use Rattle.board_statements.specs.declared.fault.LineFault.TheVariants.{NoFirstLine}
+use Rattle.text_faults.specs.declared.board_line.LineFault.{LineFault}
+use Rattle.text_faults.specs.declared.board_line.LineFault.TheVariants.{NoFirstLine}
 use Rattle.board_parser.specs.declared.draft.draft.Draft.{Draft}
 use Rattle.board_parser.specs.draft.Drafts.{board_of}
 use Rattle.board_parser.specs.Boards.{read_lines}
-use Rattle.law_delivered.specs.Clear.{is_clear}
-use Rattle.text_faults.specs.declared.DeviceFault.{DeviceFault}
-use Rattle.text_faults.specs.declared.DeviceFault.TheVariants.{Misshapen}
+use Rattle.history_model.specs.Clear.{is_clear}
+use Rattle.text_faults.specs.declared.device.DeviceFault.{DeviceFault}
+use Rattle.text_faults.specs.declared.device.DeviceFault.TheVariants.{Misshapen}
 use Rattle.dma_agents.specs.declared.line.Flag.{Flag}
 use Rattle.dma_agents.specs.declared.line.Waiting.{Waiting}
 use Rattle.dma_agents.specs.declared.line.DeviceLine.{DeviceLine}
 use Rattle.dma_agents.specs.declared.line.DeviceLine.TheVariants.{Device, Handler, Puts, Gets, Sends, Looks, Waits, Writes}
-use Rattle.dma_agents.specs.declared.line.Owner.{Owner}
-use Rattle.dma_agents.specs.declared.line.Owner.TheVariants.{Nobody, Device as OfDevice, Handler as OfHandler}
+use Rattle.dma_agents.specs.declared.line.DeviceOwner.{DeviceOwner}
+use Rattle.dma_agents.specs.declared.line.DeviceOwner.TheVariants.{Nobody, Device as OfDevice, Handler as OfHandler}
 use Rattle.dma_agents.specs.declared.making.Making.{Making}
 use Rattle.dma_agents.specs.declared.fault.MakeFault.{MakeFault}
 use Rattle.dma_agents.specs.declared.fault.MakeFault.TheVariants.{Board as OfBoard, Device as OfLine, NotClear, NoMemory}
@@ -29,10 +29,12 @@ use Rattle.dma_agents.specs.Unclear.{why_unclear}
 
 -- The marks of a text.
 
+-- the line has no fault of the text
 abbrev pub is_faultless : Option BadLine → Bool
 is_faultless None = true
 is_faultless (Some fault) = false
 
+-- the same words in the same order
 abbrev pub same_words : List (List ℕ) → List (List ℕ) → Bool
 same_words [] [] = true
 same_words [] (word ∷ words) = false
@@ -46,7 +48,7 @@ is_line words line = is_faultless (line_fault line) && same_words (words_of line
 -- The lines of devices, one after another.
 
 -- whose operations may follow a line
-abbrev pub owner_behind : Owner → DeviceLine → Owner
+abbrev pub owner_behind : DeviceOwner → DeviceLine → DeviceOwner
 owner_behind owner (Device name target bell) = OfDevice
 owner_behind owner (Handler name bus wait) = OfHandler
 owner_behind owner (Puts put) = owner
@@ -72,11 +74,13 @@ abbrev pub waits_behind : List Waiting → ℕ → Option Flag → List Waiting
 waits_behind waits number None = waits
 waits_behind waits number (Some flag) = waits ++ record { line = number; flag = flag } ∷ []
 
+-- what is made behind a line: its board, its owner and the flags; or its fault
 abbrev pub with_draft : Making → ℕ → DeviceLine → Result Draft DeviceFault → Result Making DeviceFault
 with_draft making number line (Ok draft) =
     Ok (record { sheet = draft; owner = owner_behind making.owner line; waits = waits_behind making.waits number (flag_of line) })
 with_draft making number line (Err fault) = Err fault
 
+-- what the line of this number adds, by what its words say
 abbrev pub by_form : Making → ℕ → Result DeviceLine LineFault → Result Making DeviceFault
 by_form making number (Ok line) = with_draft making number line (line_added making.owner making.sheet line)
 by_form making number (Err fault) = Err Misshapen
@@ -86,6 +90,7 @@ abbrev pub form_of : Result DeviceLine LineFault → Result (Option DeviceLine) 
 form_of (Ok line) = Ok (Some line)
 form_of (Err fault) = Err Misshapen
 
+-- what a line says, nothing where it has no words; or its fault
 abbrev pub said_by : List ℕ → Result (Option DeviceLine) DeviceFault
 said_by line =
     if is_faultless (line_fault line)
@@ -99,6 +104,7 @@ line_read making number line =
     then (if nat_lt 0 (length (words_of line)) then by_form making number (device_line (words_of line)) else Ok making)
     else Err Misshapen
 
+-- the line has no words
 abbrev pub is_blank : List ℕ → Bool
 is_blank line = length (words_of line) == 0
 
@@ -108,10 +114,12 @@ fault_behind number [] = None
 fault_behind number (line ∷ lines) =
     if is_faultless (line_fault line) then fault_behind (number + 1) lines else Some number
 
+-- a fault behind `end` is the fault of the text
 abbrev pub behind_end : Making → Option ℕ → Result Making MakeFault
 behind_end making None = Ok making
 behind_end making (Some number) = Err (OfLine number Misshapen)
 
+-- the lines that follow, unless this one ended with a fault
 abbrev pub then_lines : Result Making DeviceFault → ℕ → (Making → Result Making MakeFault) → Result Making MakeFault
 then_lines (Ok making) number later = later making
 then_lines (Err fault) number later = Err (OfLine number fault)
@@ -145,10 +153,12 @@ pub record Made : Type 0 where
   pub board : Board
   pub first : ℕ
 
+-- the board is made where all flags are clear; else the first that is not is told, with its line
 abbrev pub by_flags : Board → ℕ → Option Waiting → Result Made MakeFault
 by_flags board first None = Ok (record { board = board; first = first })
 by_flags board first (Some wait) = Err (NotClear wait.line wait.flag (why_unclear board wait.flag))
 
+-- the same behind the lines of devices
 abbrev pub by_lines : ℕ → Result Making MakeFault → Result Made MakeFault
 by_lines first (Ok making) =
     let board = board_of making.sheet in by_flags board first (unclear board making.waits)
@@ -167,11 +177,13 @@ abbrev pub with_before : List ℕ → Option (List (List ℕ) × List (List ℕ)
 with_before line None = None
 with_before line (Some parts) = Some (line ∷ parts.0, parts.1)
 
+-- so the lines are parted, if one is `devices`
 abbrev pub until_devices : List (List ℕ) → Option (List (List ℕ) × List (List ℕ))
 until_devices [] = None
 until_devices (line ∷ lines) =
     if is_line (codes "devices" ∷ []) line then Some ([], lines) else with_before line (until_devices lines)
 
+-- the same of the whole, with the number of the line past the last, where a missing line is told
 abbrev pub by_parts : ℕ → Option (List (List ℕ) × List (List ℕ)) → Result Made MakeFault
 by_parts past None = Err (OfLine past Misshapen)
 by_parts past (Some parts) = by_board (length parts.0 + 3) parts.1 (read_lines None 1 parts.0)
@@ -215,6 +227,7 @@ abbrev pub IsMade : Board → Result Made MakeFault → Type 0
 IsMade board (Ok made) = made.board ≡ board
 IsMade board (Err fault) = ⊥
 
+-- the number of the first master of devices; 0 where there is no board
 abbrev pub first_of : Result Made MakeFault → ℕ
 first_of (Ok made) = made.first
 first_of (Err fault) = 0

@@ -45,12 +45,14 @@ end_at layout lane taken Stall = face_place (lane_back lane) layout
 end_at layout lane taken MasterAbort = face_place (lane_back lane) layout
 end_at layout lane taken TargetAbort = face_place (lane_back lane) layout
 
+-- the same by what claims it; 0 for nobody
 abbrev pub end_of : Layout → Step → Place → Option Item → ℕ
 end_of layout step (Target target) taken = place_of (lines.Target target) layout
 end_of layout step (Header bus) taken = face_place (record { bus = bus; up = true }) layout
 end_of layout step (Lane lane) taken = end_at layout lane taken step
 end_of layout step Nobody taken = 0
 
+-- where an act begins and ends
 abbrev pub act_of : Layout → By → OpId → Step → Place → Option Item → Option Item → Act
 act_of layout by o step place item taken = record { begin = begin_of layout by o item; end = end_of layout step place taken }
 
@@ -63,6 +65,7 @@ head_text first n x right =
 abbrev pub line_path : ℕ → ℕ → Act → List ℕ
 line_path first n act = 77 ∷ (decimal act.begin ++ (32 ∷ (y first n ++ (72 ∷ decimal act.end))))
 
+-- the line of an act
 unfoldable pub line_element : ℕ → ℕ → Act → List ℕ
 line_element first n act = codes "<path d=\"" ++ (line_path first n act ++ codes "\"/>")
 
@@ -83,6 +86,7 @@ abbrev pub aside : Layout → By → List ℕ
 aside layout Master = codes "12"
 aside layout (ByLane lane) = if is_left lane layout then codes "12" else codes "-12"
 
+-- that line, which is short, with a cross at its end
 abbrev pub nobody_element : Layout → ℕ → ℕ → By → Act → List ℕ
 nobody_element layout first n by act =
     codes "<path d=\"M" ++ (decimal act.begin ++ (32 ∷ (y first n ++ (104 ∷ (aside layout by ++ codes "m-4 -4l8 8m0 -8l-8 8\"/>")))))
@@ -92,6 +96,7 @@ abbrev pub writes_memory : Option Request → Bool
 writes_memory None = false
 writes_memory (Some request) = same_command request.command MemWrite
 
+-- the class of an act: posted, asked, done, or in vain
 abbrev pub act_class : Option Request → Step → List ℕ
 act_class request Land = if writes_memory request then codes "p" else codes "a"
 act_class request (Part phases) = codes "p"
@@ -103,6 +108,7 @@ act_class request Stall = codes "x"
 act_class request MasterAbort = codes "x"
 act_class request TargetAbort = codes "x"
 
+-- what is drawn of an act: its line, and at its end an arrow, a circle or a cross
 abbrev pub act_body : Layout → ℕ → ℕ → By → Act → Step → List ℕ
 act_body layout first n by act Land = round_element first n act 5
 act_body layout first n by act (Part phases) = round_element first n act 3
@@ -114,6 +120,7 @@ act_body layout first n by act Stall = cross_element first n act
 act_body layout first n by act MasterAbort = nobody_element layout first n by act
 act_body layout first n by act TargetAbort = cross_element first n act
 
+-- an act in its row, pale where its try was fruitless
 abbrev pub act_text : Board → Layout → ℕ → ℕ → Bool → ℕ → By → OpId → Step → Act → List ℕ
 act_text board layout first n pale on by o step act =
     codes "<g class=\"" ++ (act_class (request_of board o on) step ++ (faint pale ++ (codes "\">" ++ (act_body layout first n by act step ++ codes "</g>\n"))))

@@ -15,5 +15,6 @@ y first row = height_text first row 8
 unfoldable pub circle_rest : ℕ → ℕ → ℕ → List ℕ
 circle_rest first row radius = y first row ++ (codes "\" r=\"" ++ (decimal radius ++ codes "\"/>"))
 
+-- a circle at a place of a row
 unfoldable pub circle_element : ℕ → ℕ → ℕ → ℕ → List ℕ
 circle_element first row x radius = codes "<circle cx=\"" ++ (decimal x ++ (codes "\" cy=\"" ++ circle_rest first row radius))

@@ -14,6 +14,7 @@ use Rattle.draw_elements.specs.Heights.{y, height_text, circle_element}
 use Rattle.draw_elements.specs.Labels.{kind_word}
 use Rattle.draw_elements.specs.declared.items.Route.{Route}
 
+-- the class of an item: posted, asked, done, a credit, or in vain
 abbrev pub kind_class : Kind → List ℕ
 kind_class Post = codes "p"
 kind_class Request = codes "a"
@@ -50,6 +51,7 @@ route_text first route = 77 ∷ (decimal route.from ++ 32 ∷ (y first route.sen
 abbrev pub rim_down : ℕ → Route → List ℕ
 rim_down first route = if nat_lt route.came route.left then 86 ∷ y first route.left else []
 
+-- the rim of an item, along its line and its bar
 abbrev pub item_rim : ℕ → Route → List ℕ
 item_rim first route = codes "<path class=\"g\" d=\"" ++ (route_text first route ++ (rim_down first route ++ codes "\"/>\n"))
 
@@ -57,9 +59,11 @@ item_rim first route = codes "<path class=\"g\" d=\"" ++ (route_text first route
 abbrev pub came_text : Item → List ℕ
 came_text item = if nat_lt 0 item.came then codes ", arrived " ++ decimal item.came else []
 
+-- the same of the event in which it left
 abbrev pub left_text : Item → List ℕ
 left_text item = if nat_lt 0 item.left then codes ", left " ++ decimal item.left else []
 
+-- the title of an item
 unfoldable pub title_text : Board → Item → List ℕ
 title_text board item =
     codes "<title>" ++ (kind_word item.kind ++ (32 ∷ (op_word board item.op ++ (codes " on " ++ (lane_word item.lane ++ (codes ": sent " ++ (decimal item.sent ++ (came_text item ++ (left_text item ++ codes "</title>")))))))))
@@ -84,6 +88,7 @@ unfoldable pub cross_sign : ℕ → Route → List ℕ
 cross_sign first route =
     codes "<path class=\"x\" d=\"M" ++ (decimal (route.to - 4) ++ (32 ∷ (height_text first route.came 4 ++ codes "l8 8m0 -8l-8 8\"/>")))
 
+-- the sign where an item arrived: a cross, a circle, or none
 unfoldable pub sign_text : ℕ → Item → Route → List ℕ
 sign_text first item route = if item.marked then cross_sign first route else if has_stood item then circle_element first route.came route.to 3 else []
 
@@ -95,6 +100,7 @@ slant_text first route = codes "<path d=\"" ++ (route_text first route ++ codes 
 unfoldable pub group_text : Kind → Bool → List ℕ
 group_text kind pale = codes "<g class=\"" ++ (kind_class kind ++ (faint pale ++ codes "\">"))
 
+-- an item: its title, its line, its bar, its sign
 abbrev pub item_text : Board → ℕ → Bool → Item → Route → List ℕ
 item_text board first pale item route =
     group_text item.kind pale

@@ -47,6 +47,7 @@ item_note board Completion o = codes "completion " ++ op_word board o
 item_note board Credit o = codes "credit"
 item_note board Gone o = codes "gone " ++ op_word board o
 
+-- the note of what arrives
 abbrev pub arrival_note : Board → Option Item → List ℕ
 arrival_note board None = []
 arrival_note board (Some item) = item_note board item.kind item.op
@@ -62,14 +63,17 @@ abbrev pub phases_note : List Phase → List ℕ
 phases_note [] = []
 phases_note (phase ∷ phases) = 32 ∷ (phase_text phase ++ (if nat_lt 0 (length phases) then codes " .." else []))
 
+-- the note of a read at a target
 abbrev pub read_note : Option Request → List ℕ
 read_note None = []
 read_note (Some request) = space_note (space_of request.command) request.address
 
+-- the same of a write
 abbrev pub write_note : Option Request → List ℕ
 write_note None = []
 write_note (Some request) = space_note (space_of request.command) request.address ++ phases_note request.phases
 
+-- the note of what a step brings or returns; other steps have none
 abbrev pub access_note : Step → Option Request → List ℕ
 access_note Land request = write_note request
 access_note (Part phases) request = write_note request
@@ -81,6 +85,7 @@ access_note Stall request = []
 access_note MasterAbort request = []
 access_note TargetAbort request = []
 
+-- the note of an act: only one at a target has any
 abbrev pub place_note : Board → ℕ → OpId → Step → Place → List ℕ
 place_note board on o step (Target target) = access_note step (request_of board o on)
 place_note board on o step (Header bus) = []

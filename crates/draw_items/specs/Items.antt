@@ -50,6 +50,7 @@ is_standing lane item = same_lane item.lane lane && (has_stood item && item.left
 abbrev pub is_done : Item → Bool
 is_done item = not (has_stood item) || nat_lt 0 item.left
 
+-- a completion
 abbrev pub is_completion : Kind → Bool
 is_completion Post = false
 is_completion Request = false
@@ -61,6 +62,7 @@ is_completion Gone = false
 abbrev pub is_presented : BridgeLane → OpId → Item → Bool
 is_presented lane o item = is_standing lane item && (not (is_completion item.kind) && same_op item.op o)
 
+-- the completion of this operation stands there
 abbrev pub is_taken : BridgeLane → OpId → Item → Bool
 is_taken lane o item = is_standing lane item && (is_completion item.kind && same_op item.op o)
 
@@ -71,6 +73,7 @@ pub record Lanes : Type 0 where
   pub under_way : List ℕ
   pub touched : List Touched
 
+-- nothing was sent yet
 abbrev pub nothing : Lanes
 nothing = record { items = []; under_way = []; touched = [] }
 
@@ -108,6 +111,7 @@ touching item taken lanes =
 
 -- Tracks.
 
+-- the track of an item that stands on the lane
 abbrev pub track_on : BridgeLane → Option Item → List ℕ
 track_on lane None = []
 track_on lane (Some item) = if is_standing lane item then item.track ∷ [] else []
@@ -116,6 +120,7 @@ track_on lane (Some item) = if is_standing lane item then item.track ∷ [] else
 abbrev pub tracks_on : BridgeLane → Lanes → List ℕ
 tracks_on lane lanes = flat_map (λ number. track_on lane (slice_get lanes.items number)) lanes.under_way
 
+-- the track is one of these
 abbrev pub is_in : List ℕ → ℕ → Bool
 is_in tracks track = list_any (λ other. other == track) tracks
 
@@ -130,6 +135,7 @@ least_free tracks = free_from tracks 0 (length tracks)
 
 -- Arrivals.
 
+-- an arrival that the board marks
 abbrev pub is_marked : Mark → Bool
 is_marked Plain = false
 is_marked Discard = true
@@ -146,11 +152,13 @@ abbrev pub with_arrival : ℕ → Mark → ℕ → Item → Item
 with_arrival n mark track item =
     record { kind = item.kind; op = item.op; lane = item.lane; sent = item.sent; came = n; left = item.left; marked = is_marked mark; track = track }
 
+-- the item is there, and arrives
 abbrev pub arrived : ℕ → BridgeLane → Mark → ℕ → Option Item → Lanes → Lanes
 arrived n lane mark number None lanes = lanes
 arrived n lane mark number (Some item) lanes =
     dropped n lane item.op mark (changed number (with_arrival n mark (least_free (tracks_on lane lanes)) item) lanes)
 
+-- the same where the lane has an item in flight
 abbrev pub brought : ℕ → BridgeLane → Mark → Option ℕ → Lanes → Lanes
 brought n lane mark None lanes = lanes
 brought n lane mark (Some number) lanes = arrived n lane mark number (slice_get lanes.items number) lanes
@@ -174,6 +182,7 @@ taken_at o (Header bus) lanes = None
 taken_at o (Lane lane) lanes = oldest (is_taken (lane_back lane) o) lanes
 taken_at o Nobody lanes = None
 
+-- the completion that a Take takes; other steps take none
 abbrev pub taken : OpId → Step → Place → Lanes → Option ℕ
 taken o Land place lanes = None
 taken o (Part phases) place lanes = None
@@ -185,6 +194,7 @@ taken o Stall place lanes = None
 taken o MasterAbort place lanes = None
 taken o TargetAbort place lanes = None
 
+-- the act sends an item on the lane that claimed it
 abbrev pub sent_at : ℕ → Kind → OpId → Place → Lanes → Lanes
 sent_at n kind o (Target target) lanes = lanes
 sent_at n kind o (Header bus) lanes = lanes
@@ -223,10 +233,12 @@ answered n Completion o lane lanes = lanes
 answered n Credit o lane lanes = lanes
 answered n Gone o lane lanes = lanes
 
+-- an item that left in event n
 abbrev pub with_leave : ℕ → Item → Item
 with_leave n item =
     record { kind = item.kind; op = item.op; lane = item.lane; sent = item.sent; came = item.came; left = n; marked = item.marked; track = item.track }
 
+-- an item that is there leaves, and is answered
 abbrev pub left_by : ℕ → ℕ → Option Item → Lanes → Lanes
 left_by n number None lanes = lanes
 left_by n number (Some item) lanes = answered n item.kind item.op item.lane (changed number (with_leave n item) lanes)
@@ -236,6 +248,7 @@ abbrev pub left : ℕ → Option ℕ → Lanes → Lanes
 left n None lanes = lanes
 left n (Some number) lanes = left_by n number (slice_get lanes.items number) lanes
 
+-- what is presented leaves, where the step ends it
 abbrev pub ended : ℕ → Step → Option ℕ → Lanes → Lanes
 ended n step item lanes = if ends step then left n item lanes else lanes
 
@@ -243,6 +256,7 @@ ended n step item lanes = if ends step then left n item lanes else lanes
 abbrev pub acted : ℕ → OpId → Step → Place → Option ℕ → Option ℕ → Lanes → Lanes
 acted n o step place item given lanes = left n given (ended n step item (sent_on n o step place (touching item given lanes)))
 
+-- the same with what is presented and taken
 abbrev pub act : ℕ → By → OpId → Step → Place → Lanes → Lanes
 act n by o step place lanes = acted n o step place (presented by o lanes) (taken o step place lanes) lanes
 
@@ -264,5 +278,6 @@ traffic_of events = after 0 events nothing
 abbrev pub item_of : ℕ → Lanes → Option Item
 item_of n lanes = option_and_then (λ touched. option_and_then (λ number. slice_get lanes.items number) touched.item) (slice_get lanes.touched (n - 1))
 
+-- the same of the completion that is taken
 abbrev pub taken_by : ℕ → Lanes → Option Item
 taken_by n lanes = option_and_then (λ touched. option_and_then (λ number. slice_get lanes.items number) touched.taken) (slice_get lanes.touched (n - 1))

@@ -8,6 +8,7 @@ use Rattle.audit_clocks.specs.Tables.{value_of}
 use Rattle.draw_items.specs.declared.waits.Wait.{Wait}
 use Rattle.draw_items.specs.Tries.{is_pale}
 
+-- the number, 0 where there is none
 abbrev pub or_zero : Option ℕ → ℕ
 or_zero None = 0
 or_zero (Some n) = n
@@ -28,6 +29,7 @@ pub record TellsTries (events : List Event) (entries : List (OpId × ℕ)) : Typ
 pub record Raises (o : OpId) (old new : List (OpId × ℕ)) : Type 0 where
   pub each : (q : OpId) → last_of new q ≡ (if same_op (first_try o) (first_try q) then max (last_of old q) o.attempt else last_of old q)
 
+-- what is kept of how long an operation was presented
 abbrev pub is_wait_of : OpId → Wait → Bool
 is_wait_of o wait = same_op wait.op o
 

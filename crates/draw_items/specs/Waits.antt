@@ -14,10 +14,12 @@ presented n o [] = record { op = o; first = n; last = n } ∷ []
 presented n o (wait ∷ waits) =
     if same_op wait.op o then record { op = wait.op; first = wait.first; last = n } ∷ waits else wait ∷ presented n o waits
 
+-- a master waits, a lane does not
 abbrev pub presented_by : ℕ → By → OpId → List Wait → List Wait
 presented_by n Master o waits = presented n o waits
 presented_by n (ByLane lane) o waits = waits
 
+-- the same of an event; an arrival is no presenting
 abbrev pub waited : ℕ → Event → List Wait → List Wait
 waited n (Act on by o step place) waits = presented_by n by o waits
 waited n (Arrive lane mark) waits = waits

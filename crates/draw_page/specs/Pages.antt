@@ -24,12 +24,15 @@ use Rattle.draw_strips.specs.Strips.{strips_text}
 unfoldable pub table_open : List ℕ
 table_open = codes "<table>\n<thead><tr><th>"
 
+-- the head of the table: the names of the columns
 unfoldable pub names_part : Board → Layout → List ℕ
 names_part board layout = table_open ++ (names_text board layout ++ codes "\n<tbody>\n")
 
+-- the whole table
 unfoldable pub table_text : Board → Layout → Frame → List Shape → List ℕ
 table_text board layout frame shapes = names_part board layout ++ (strips_text layout frame shapes ++ codes "</table>\n")
 
+-- the page: its top, the lines of the audit, and the table
 unfoldable pub page_with : Board → ℕ → Layout → Frame → List Finding → List Span → List Shape → List ℕ
 page_with board count layout frame found spans shapes =
     top_text (title_text count (length board.bridges + 1) frame.first frame.last) ++ (told_text board found spans ++ table_text board layout frame shapes)
@@ -38,23 +41,29 @@ page_with board count layout frame found spans shapes =
 abbrev pub brackets_end : Board → List Event → Frame → ℕ
 brackets_end board events frame = frame.told_x + (10 * length (brackets_of (spans_of board events)).ends + 10)
 
+-- the columns of a board, as far apart as these events need
 unfoldable pub layout_in : Board → List Event → Frame → Layout
 layout_in board events frame = layout_of board (traffic_of events).items (brackets_end board events frame)
 
+-- all elements of the picture, with what the events tell of items, waits and lines of the audit
 unfoldable pub shapes_in : Board → List Event → Layout → Frame → List Row → List Shape
 shapes_in board events layout frame rows =
     layers board events layout frame rows (traffic_of events).items (waits_of events) (spans_of board events) (brackets_of (spans_of board events)).tracks
 
+-- the page of these columns, rows and elements
 abbrev pub page_on : Board → List Event → Layout → Frame → List Row → List ℕ
 page_on board events layout frame rows =
     page_with board (length events) layout frame (findings board (history_of events)) (spans_of board events) (shapes_in board events layout frame rows)
 
+-- the page of this frame
 unfoldable pub page_in : Board → List Event → Frame → List Row → List ℕ
 page_in board events frame rows = page_on board events (layout_in board events frame) frame rows
 
+-- the page of these rows
 abbrev pub page_of_rows : Board → List Event → ℕ → ℕ → List Row → List ℕ
 page_of_rows board events first last rows = page_in board events (frame_of (length events) first last rows) rows
 
+-- the page from event FIRST to event LAST, which is there
 unfoldable pub page_from : Board → List Event → ℕ → ℕ → List ℕ
 page_from board events first last = page_of_rows board events first last (rows_of board events (traffic_of events) first last)
 

@@ -12,21 +12,27 @@ use Rattle.draw_page.specs.style.Styles.{style, key}
 unfoldable pub drawn_words : ℕ → ℕ → ℕ → List ℕ
 drawn_words count first last = if first == 1 && last == count then [] else codes ", drawn " ++ (decimal first ++ (codes " to " ++ decimal last))
 
+-- `events N, buses B`, and what is drawn of them
 unfoldable pub title_text : ℕ → ℕ → ℕ → ℕ → List ℕ
 title_text count buses first last = codes "events " ++ (decimal count ++ (codes ", buses " ++ (decimal buses ++ drawn_words count first last)))
 
+-- the begin of the document, up to its title
 unfoldable pub document : List ℕ
 document = codes "<!DOCTYPE html>\n<html lang=\"en\">\n<meta charset=\"utf-8\">\n<meta name=\"viewport\" content=\"width=device-width\">\n<title>pcitree: "
 
+-- what stands between the title and the style
 unfoldable pub style_open : List ℕ
 style_open = codes "</title>\n<style>\n"
 
+-- the style, behind the title
 unfoldable pub style_part : List ℕ
 style_part = style_open ++ (style ++ codes "</style>\n")
 
+-- the begin of the document with this title
 unfoldable pub head_text : List ℕ → List ℕ
 head_text title = document ++ (title ++ style_part)
 
+-- the same with the title as a heading, and the key of signs
 unfoldable pub top_text : List ℕ → List ℕ
 top_text title = head_text title ++ (codes "<h1>" ++ (title ++ (codes "</h1>\n" ++ key)))
 
@@ -34,18 +40,23 @@ top_text title = head_text title ++ (codes "<h1>" ++ (title ++ (codes "</h1>\n" 
 unfoldable pub link_text : ℕ → List ℕ
 link_text n = codes "<a href=\"#e" ++ (decimal n ++ (codes "\">" ++ (decimal n ++ codes "</a>")))
 
+-- what stands before the event in which a write landed
 unfoldable pub landed_word : List ℕ
 landed_word = codes "</code>: landed at "
 
+-- where a write landed
 unfoldable pub landed_text : ℕ → List ℕ
 landed_text n = landed_word ++ link_text n
 
+-- where a word was read
 unfoldable pub read_text : ℕ → List ℕ
 read_text n = codes ", read at " ++ (link_text n ++ codes "\n")
 
+-- both, of a line of the audit
 abbrev pub links_text : Span → List ℕ
 links_text span = landed_text span.landed ++ read_text span.read
 
+-- a line of the audit, as its text has it and with links
 unfoldable pub told_line : Board → Finding × Span → List ℕ
 told_line board line = codes "<li><code>" ++ (finding_words board line.0 ++ links_text line.1)
 
@@ -53,11 +64,14 @@ told_line board line = codes "<li><code>" ++ (finding_words board line.0 ++ link
 abbrev pub open_word : ℕ → List ℕ
 open_word count = if nat_le count 8 then codes " open" else []
 
+-- the begin of the list, with the number of its lines
 unfoldable pub told_open : ℕ → List ℕ
 told_open count = codes "<details" ++ (open_word count ++ (codes "><summary>told " ++ (decimal count ++ codes "</summary>\n<ol>\n")))
 
+-- the list
 unfoldable pub told_lines : Board → List Finding → List Span → List ℕ
 told_lines board found spans = told_open (length found) ++ (flat_map (told_line board) (zip found spans) ++ codes "</ol></details>\n")
 
+-- the list, or nothing where the audit has no line
 unfoldable pub told_text : Board → List Finding → List Span → List ℕ
 told_text board found spans = if length found == 0 then [] else told_lines board found spans

@@ -35,22 +35,27 @@ is_claimed TargetAbort = true
 
 -- Layer 1: marks of keys, with a dotted line from the brackets to the nearer end of the act.
 
+-- the dotted line of a row
 abbrev pub dotted_to : Frame → ℕ → Ends → List Shape
 dotted_to frame n act = in_row n (dotted_text frame.first n frame.told_x (min act.begin act.end))
 
+-- the same of an act that somebody claims
 abbrev pub dotted_shapes : Layout → Frame → Row → Event → List Shape
 dotted_shapes layout frame row (Act on by o step place) =
     if is_claimed step then dotted_to frame row.n (act_of layout by o step place row.item row.taken) else []
 dotted_shapes layout frame row (Arrive lane mark) = []
 
+-- the mark of a row, behind its line in the list
 abbrev pub mark_shapes : Frame → Row → List Shape
 mark_shapes frame row = in_row row.n (mark_text frame.first row.n (frame.text_x - 4) (row.width + 8))
 
+-- both, where the row is a key
 unfoldable pub key_shapes : Layout → Frame → Row → List Shape
 key_shapes layout frame row = if row.key then mark_shapes frame row ++ dotted_shapes layout frame row row.event else []
 
 -- Layer 2: rims of what belongs to an operation in the chain of a line.
 
+-- a post, a request and a completion belong to an operation
 abbrev pub can_have_rim : Kind → Bool
 can_have_rim Post = true
 can_have_rim Request = true
@@ -58,25 +63,31 @@ can_have_rim Completion = true
 can_have_rim Credit = false
 can_have_rim Gone = false
 
+-- the rim along the way of an item
 abbrev pub route_rim : Frame → Route → List Shape
 route_rim frame route = seen frame route.sent route.left (item_rim frame.first route)
 
+-- the rim of an item, where its operation is in a chain
 unfoldable pub item_rims : Layout → Frame → Bool → Item → List Shape
 item_rims layout frame loud item = if can_have_rim item.kind && loud then route_rim frame (route_of layout frame.end item) else []
 
+-- the rim along an act, in its row
 abbrev pub rim_in : Frame → ℕ → Ends → List Shape
 rim_in frame n act = in_row n (act_rim frame.first n act)
 
+-- the same where the operation is in a chain and somebody claims it
 abbrev pub act_rims_of : Layout → Frame → Row → Event → List Shape
 act_rims_of layout frame row (Act on by o step place) =
     if is_claimed step && row.loud then rim_in frame row.n (act_of layout by o step place row.item row.taken) else []
 act_rims_of layout frame row (Arrive lane mark) = []
 
+-- the rim of a row
 unfoldable pub act_rims : Layout → Frame → Row → List Shape
 act_rims layout frame row = act_rims_of layout frame row row.event
 
 -- Layer 3: masters that wait.
 
+-- the bar of a master that presented an operation more than once
 unfoldable pub wait_shapes : Layout → Frame → Bool → Wait → List Shape
 wait_shapes layout frame pale wait =
     if nat_lt wait.first wait.last
@@ -85,34 +96,41 @@ wait_shapes layout frame pale wait =
 
 -- Layer 4: items.
 
+-- an item along its way
 abbrev pub routed : Board → Frame → Bool → Item → Route → List Shape
 routed board frame pale item route = seen frame route.sent route.left (item_text board frame.first pale item route)
 
+-- an item, from where it was sent to where it left
 unfoldable pub item_shapes : Board → Layout → Frame → Bool → Item → List Shape
 item_shapes board layout frame pale item = routed board frame pale item (route_of layout frame.end item)
 
 -- Layer 5: acts.
 
+-- the act of a row; an arrival is drawn with its item
 abbrev pub act_shapes_of : Board → Layout → Frame → Row → Event → List Shape
 act_shapes_of board layout frame row (Act on by o step place) =
     in_row row.n (act_text board layout frame.first row.n row.pale on by o step (act_of layout by o step place row.item row.taken))
 act_shapes_of board layout frame row (Arrive lane mark) = []
 
+-- the same of a row
 unfoldable pub act_shapes : Board → Layout → Frame → Row → List Shape
 act_shapes board layout frame row = act_shapes_of board layout frame row row.event
 
 -- Layer 6: brackets, those that have a track.
 
+-- a bracket on its track, between the rows where the write landed and was read
 abbrev pub bracket_on : Frame → ℕ → ℕ → ℕ → List Shape
 bracket_on frame landed read track =
     seen frame (min landed read) (max landed read)
     (bracket_text frame.first frame.told_x (frame.told_x + (10 * track + 10)) landed read (frame.told_x + 4))
 
+-- the same, where the bracket has a track
 unfoldable pub bracket_shapes : Frame → ℕ → ℕ → Option ℕ → List Shape
 bracket_shapes frame landed read None = []
 bracket_shapes frame landed read (Some track) = bracket_on frame landed read track
 
 -- Layer 7: the list.
 
+-- the number, line and note of a row
 unfoldable pub list_shapes : Board → Frame → Row → List Shape
 list_shapes board frame row = in_row row.n (row_text board frame row)

@@ -10,6 +10,7 @@ use Rattle.draw_elements.specs.Acts.{head_text}
 unfoldable pub mark_size : ℕ → List ℕ
 mark_size size = 104 ∷ (decimal size ++ (codes "v16h-" ++ (decimal size ++ codes "z\"/>\n")))
 
+-- that mark, of this width and in the row of this number
 unfoldable pub mark_text : ℕ → ℕ → ℕ → ℕ → List ℕ
 mark_text first n x size = codes "<path class=\"o\" d=\"M" ++ (decimal x ++ (32 ∷ (height_text first n 0 ++ mark_size size)))
 
@@ -21,6 +22,7 @@ dotted_text first n x to = codes "<path class=\"u\" d=\"M" ++ (decimal x ++ (32 
 unfoldable pub wait_bar : ℕ → ℕ → Wait → List ℕ
 wait_bar first x wait = codes "\" d=\"M" ++ (decimal x ++ (32 ∷ (y first wait.first ++ (86 ∷ (y first wait.last ++ codes "\"/>\n")))))
 
+-- that bar, pale where the try was fruitless
 unfoldable pub wait_text : ℕ → ℕ → Bool → Wait → List ℕ
 wait_text first x pale wait = codes "<path class=\"w" ++ (faint pale ++ wait_bar first x wait)
 
@@ -28,12 +30,15 @@ wait_text first x pale wait = codes "<path class=\"w" ++ (faint pale ++ wait_bar
 unfoldable pub bracket_title : ℕ → ℕ → List ℕ
 bracket_title landed read = codes "<g class=\"b\"><title>landed " ++ (decimal landed ++ (codes ", read " ++ (decimal read ++ codes "</title>")))
 
+-- the way from the row of the landing to that of the read
 unfoldable pub bracket_down : ℕ → ℕ → ℕ → ℕ → List ℕ
 bracket_down first right read tip = 72 ∷ (decimal right ++ (86 ∷ (y first read ++ (72 ∷ (decimal tip ++ codes "\"/>")))))
 
+-- the whole line of a bracket
 unfoldable pub bracket_path : ℕ → ℕ → ℕ → ℕ → ℕ → ℕ → List ℕ
 bracket_path first x right landed read tip = codes "<path d=\"M" ++ (decimal x ++ (32 ∷ (y first landed ++ bracket_down first right read tip)))
 
+-- a bracket: its title, its line, a circle where the write landed and an arrow where it was read
 unfoldable pub bracket_text : ℕ → ℕ → ℕ → ℕ → ℕ → ℕ → List ℕ
 bracket_text first x right landed read tip =
     bracket_title landed read

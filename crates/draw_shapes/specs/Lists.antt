@@ -12,6 +12,7 @@ use Rattle.draw_elements.specs.Labels.{event_text, note_of}
 use Rattle.draw_sheets.specs.declared.row.Row.{Row}
 use Rattle.draw_sheets.specs.declared.frame.Frame.{Frame}
 
+-- a credit
 abbrev pub is_credit : Kind → Bool
 is_credit Post = false
 is_credit Request = false
@@ -19,10 +20,12 @@ is_credit Completion = false
 is_credit Credit = true
 is_credit Gone = false
 
+-- what arrives is a credit
 abbrev pub brings_credit : Option Item → Bool
 brings_credit None = false
 brings_credit (Some item) = is_credit item.kind
 
+-- a credit arrives in the event
 abbrev pub is_credit_event : Option Item → Event → Bool
 is_credit_event item (Act on by o step place) = false
 is_credit_event item (Arrive lane mark) = brings_credit item
@@ -32,10 +35,12 @@ abbrev pub row_class : Row → List ℕ
 row_class row =
     if row.key then codes " class=\"h\"" else if row.pale || is_credit_event row.item row.event then codes " class=\"c\"" else []
 
+-- the number of an event, and the place that links lead to
 unfoldable pub number_text : ℕ → ℕ → ℕ → List ℕ
 number_text first n x =
     codes "<text id=\"e" ++ (decimal n ++ (codes "\" class=\"n\" x=\"" ++ (decimal x ++ (codes "\" y=\"" ++ (height_text first n 12 ++ (codes "\">" ++ (decimal n ++ codes "</text>")))))))
 
+-- the begin of the line of an event
 unfoldable pub line_open : ℕ → ℕ → ℕ → List ℕ → List ℕ
 line_open first n x class = codes "<text" ++ (class ++ (codes " x=\"" ++ (decimal x ++ (codes "\" y=\"" ++ (height_text first n 12 ++ codes "\">")))))
 
@@ -43,6 +48,7 @@ line_open first n x class = codes "<text" ++ (class ++ (codes " x=\"" ++ (decima
 unfoldable pub noted : List ℕ → List ℕ
 noted note = if length note == 0 then [] else codes "<tspan class=\"c\"> " ++ (note ++ codes "</tspan>")
 
+-- number, line and note of a row
 unfoldable pub row_text : Board → Frame → Row → List ℕ
 row_text board frame row =
     number_text frame.first row.n frame.number_x

@@ -9,6 +9,7 @@ pub record Shape : Type 0 where
   pub to : ℕ
   pub text : List ℕ
 
+-- an element of one row
 abbrev pub in_row : ℕ → List ℕ → List Shape
 in_row n text = record { from = n; to = n; text = text } ∷ []
 

@@ -5,6 +5,7 @@ use Rattle.list_facts.specs.Lists.{greatest}
 use Rattle.draw_sheets.specs.declared.row.Row.{Row}
 use Rattle.draw_sheets.specs.declared.frame.Frame.{Frame}
 
+-- how wide the line of a row is
 abbrev pub row_width : Row → ℕ
 row_width row = row.width
 
@@ -12,6 +13,7 @@ row_width row = row.width
 abbrev pub number_x : ℕ → ℕ
 number_x count = 8 + 6 * length (decimal count)
 
+-- a frame with the list of events at this place, and the brackets behind its widest line
 abbrev pub frame_with : ℕ → ℕ → ℕ → ℕ → ℕ → Frame
 frame_with count first last number wide =
     record { first = first; last = last; end = count + 1; number_x = number; text_x = number + 10; told_x = number + 10 + (wide + 14) }

@@ -9,5 +9,6 @@ use Rattle.draw_elements.specs.Labels.{event_text, note_of}
 abbrev pub noted_length : ℕ → ℕ → ℕ
 noted_length line note = if note == 0 then line else line + (note + 1)
 
+-- 6 for each byte of the line of an event and its note
 unfoldable pub width_of : Board → Option Item → Event → ℕ
 width_of board item e = 6 * noted_length (length (event_text board e)) (length (note_of board item e))

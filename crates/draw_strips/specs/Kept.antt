@@ -5,6 +5,7 @@ use Rattle.draw_sheets.specs.declared.frame.Frame.{Frame}
 use Rattle.draw_shapes.specs.Shapes.{Shape}
 use Rattle.draw_strips.specs.Strips.{strips_count, passing}
 
+-- the text of strip k; nothing where there is none
 abbrev pub text_at : List (List ℕ) → ℕ → List ℕ
 text_at texts k = slice_index_or texts k []
 
@@ -22,6 +23,7 @@ pub record Draws (frame : Frame) (shape : Shape) (old new : List (List ℕ)) : T
 abbrev pub is_between : ℕ → ℕ → ℕ → Bool
 is_between begin end k = nat_le begin k && nat_lt k end
 
+-- the same of the texts, of which there are as many as before
 pub record AddsTo (begin end : ℕ) (text : List ℕ) (old new : List (List ℕ)) : Type 0 where
   pub all : length new ≡ length old
   pub each : (k : ℕ) → k < length old → text_at new k ≡ (if is_between begin end k then text_at old k ++ text else text_at old k)

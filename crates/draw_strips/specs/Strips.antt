@@ -11,6 +11,7 @@ use Rattle.draw_sheets.specs.heads.Sheets.{sheet_text}
 abbrev pub low_row : Frame → ℕ → ℕ
 low_row frame k = frame.first + 32 * k
 
+-- the same of the last row
 abbrev pub high_row : Frame → ℕ → ℕ
 high_row frame k = min (low_row frame k + 31) frame.last
 
@@ -26,15 +27,19 @@ passing frame k shape = if nat_le shape.from (high_row frame k) && nat_le (low_r
 unfoldable pub strip_top : Frame → ℕ → ℕ
 strip_top frame k = 16 * (low_row frame k - frame.first)
 
+-- the height at which a strip ends
 unfoldable pub strip_foot : Frame → ℕ → ℕ
 strip_foot frame k = 16 * (high_row frame k - frame.first) + 16
 
+-- a strip: its begin, and these elements
 unfoldable pub strip_around : Layout → Frame → ℕ → List ℕ → List ℕ
 strip_around layout frame k drawn =
     codes "<tr><td>" ++ (sheet_text layout (strip_top frame k) (strip_foot frame k) ++ (drawn ++ codes "</svg>\n"))
 
+-- strip k, with the elements that pass it
 abbrev pub strip_text : Layout → Frame → List Shape → ℕ → List ℕ
 strip_text layout frame shapes k = strip_around layout frame k (flat_map (passing frame k) shapes)
 
+-- all strips from top to bottom
 unfoldable pub strips_text : Layout → Frame → List Shape → List ℕ
 strips_text layout frame shapes = flat_map (strip_text layout frame shapes) (range_with_len 0 (strips_count frame))

@@ -16,6 +16,7 @@ with_new high standing =
     then record { tracks = standing.tracks ++ Some (length standing.ends) ∷ []; ends = standing.ends ++ high ∷ [] }
     else record { tracks = standing.tracks ++ None ∷ []; ends = standing.ends }
 
+-- the track of that number is used again; where there is none a new one is tried
 abbrev pub with_found : ℕ → Option ℕ → Standing → Standing
 with_found high None standing = with_new high standing
 with_found high (Some track) standing = record { tracks = standing.tracks ++ Some track ∷ []; ends = set standing.ends track high }
@@ -25,6 +26,7 @@ abbrev pub with_bracket : Span → Standing → Standing
 with_bracket span standing =
     with_found (max span.landed span.read) (position_from (λ end. nat_lt end (min span.landed span.read)) 0 standing.ends) standing
 
+-- these brackets, one behind the other
 abbrev pub with_brackets : List Span → Standing → Standing
 with_brackets [] standing = standing
 with_brackets (span ∷ spans) standing = with_brackets spans (with_bracket span standing)

@@ -25,10 +25,12 @@ use Rattle.draw_told.specs.declared.told.Span.{Span}
 use Rattle.law_audit.specs.Audit.{Finding, findings}
 use Rattle.history_model.specs.Runs.{history_of}
 
+-- the number, 0 where there is none
 abbrev pub or_zero : Option ℕ → ℕ
 or_zero None = 0
 or_zero (Some n) = n
 
+-- the number that is kept for an operation; 0 where none is
 abbrev pub number_of : OpId → List (OpId × ℕ) → ℕ
 number_of o entries = or_zero (value_of o entries)
 
@@ -37,6 +39,7 @@ pub record EndTables : Type 0 where
   pub reads : List (OpId × ℕ)
   pub lands : List (OpId × ℕ)
 
+-- the tables tell that of every operation
 pub record TellsEnds (h : List Event) (ends : EndTables) : Type 0 where
   pub reads : (o : OpId) → number_of o ends.reads ≡ read_event h o
   pub lands : (o : OpId) → number_of o ends.lands ≡ land_event h o
@@ -58,6 +61,7 @@ pub record LandsNow (n : ℕ) (o : OpId) (old new : EndTables) : Type 0 where
 
 -- The data phases of each write that landed.
 
+-- those of an operation; none where nothing is kept
 abbrev pub touches_in : OpId → List (OpId × List Touch) → List Touch
 touches_in o entries = list_in (value_of o entries)
 
@@ -76,20 +80,24 @@ abbrev pub request_touches : ℕ → ℕ → Step → ℕ → Request → List T
 request_touches n gone step target request =
     touches_from n target (space_of request.command) (address_in (space_of request.command) (without gone request).address) (length (brings step (without gone request).phases))
 
+-- the same where the request is there
 abbrev pub found_touches : ℕ → ℕ → Step → ℕ → Option Request → List Touch
 found_touches n gone step target None = []
 found_touches n gone step target (Some request) = request_touches n gone step target request
 
+-- the same of a step at a place: only a target takes data phases
 abbrev pub place_touches : Board → ℕ → ℕ → ℕ → OpId → Step → Place → List Touch
 place_touches board n gone on o step (Target target) = if lands step then found_touches n gone step target (request_of board o on) else []
 place_touches board n gone on o step (Header bus) = []
 place_touches board n gone on o step (Lane lane) = []
 place_touches board n gone on o step Nobody = []
 
+-- the same of an event, for each operation
 abbrev pub event_touches : Board → ℕ → List (OpId × ℕ) → Event → OpId → List Touch
 event_touches board n gone (Act on by p step place) o = if same_op p o then place_touches board n (few_of p gone) on p step place else []
 event_touches board n gone (Arrive lane mark) o = []
 
+-- what is kept of the data phases of writes
 pub record TouchTables : Type 0 where
   -- how many data phases of each write went through
   pub gone : List (OpId × ℕ)
@@ -106,6 +114,7 @@ last_before word n [] found = found
 last_before word n (touch ∷ touches) found =
     last_before word n touches (if same_word touch.word word && nat_lt touch.event n then touch.event else found)
 
+-- the tables tell the last landing of each write in each dword
 pub record TellsTouches (board : Board) (h : List Event) (touches : TouchTables) : Type 0 where
   pub gone : (o : OpId) → count_of o touches.gone ≡ through h o
   pub few : (o : OpId) → through h o ≤ 255 * length h
@@ -113,6 +122,7 @@ pub record TellsTouches (board : Board) (h : List Event) (touches : TouchTables)
 
 -- Keys.
 
+-- the event is a key; one that is not kept is none
 abbrev pub key_at : List Bool → ℕ → Bool
 key_at keys n = option_map_or (λ key. key) (slice_get keys n) false
 

@@ -25,6 +25,7 @@ is_target (Header bus) = false
 is_target (Lane lane) = false
 is_target Nobody = false
 
+-- the step that returns a value
 abbrev pub is_read : Step → Bool
 is_read Land = false
 is_read (Part phases) = false
@@ -36,6 +37,7 @@ is_read Stall = false
 is_read MasterAbort = false
 is_read TargetAbort = false
 
+-- the event is a Read of this operation at a target
 abbrev pub is_read_of : OpId → Event → Bool
 is_read_of o (Act on by p step place) = same_op p o && (is_read step && is_target place)
 is_read_of o (Arrive lane mark) = false
@@ -69,9 +71,11 @@ abbrev pub span_of : Board → List Event → Finding → Span
 span_of board h found =
     record { landed = landing_event board h (read_event h found.read) found.write found.word; read = read_event h found.read }
 
+-- those of all lines
 abbrev pub spans_in : Board → List Event → List Finding → List Span
 spans_in board h found = map (span_of board h) found
 
+-- the same by the events of a trace
 unfoldable pub spans_of : Board → List Event → List Span
 spans_of board events = spans_in board (history_of events) (findings board (history_of events))
 
@@ -79,9 +83,11 @@ spans_of board events = spans_in board (history_of events) (findings board (hist
 abbrev pub is_in_chain : OpId → Finding → Bool
 is_in_chain o found = list_any (λ p. same_op p o) found.chain
 
+-- it is in the chain of one of these lines
 abbrev pub is_loud_in : List Finding → OpId → Bool
 is_loud_in found o = list_any (is_in_chain o) found
 
+-- it is in the chain of some line of the run
 unfoldable pub is_loud : Board → List Event → OpId → Bool
 is_loud board events o = is_loud_in (findings board (history_of events)) o
 
@@ -89,12 +95,15 @@ is_loud board events o = is_loud_in (findings board (history_of events)) o
 abbrev pub is_event_of : List Event → ℕ → OpId → Bool
 is_event_of h n o = read_event h o == n || land_event h o == n
 
+-- the same of one line
 abbrev pub is_key_of : Board → List Event → ℕ → Finding → Bool
 is_key_of board h n found =
     ((span_of board h found).landed == n || (span_of board h found).read == n) || list_any (is_event_of h n) found.chain
 
+-- the same of these lines
 abbrev pub is_key_in : Board → List Event → List Finding → ℕ → Bool
 is_key_in board h found n = list_any (is_key_of board h n) found
 
+-- the same of all lines of the run
 unfoldable pub is_key : Board → List Event → ℕ → Bool
 is_key board events n = is_key_in board (history_of events) (findings board (history_of events)) n

@@ -20,6 +20,7 @@ abbrev pub at_port : (BridgeLane → List Item) → Option BridgeLane → List I
 at_port items None = []
 at_port items (Some lane) = items lane
 
+-- those of the lane at the port of this number of a worker
 abbrev pub at_ports : {End : Type 0} → WorkerView End → (BridgeLane → List Item) → ℕ → List Item
 at_ports w items n = at_port items (slice_get (shape_of w.segment.bus).lanes n)
 

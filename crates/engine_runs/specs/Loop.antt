@@ -16,6 +16,7 @@ seen w =
       events = w.segment.events.items;
     }
 
+-- the same of all workers
 abbrev pub all_seen : {End : Type 0} → List (Worker End) → List (WorkerView End)
 all_seen {End} workers = map (λ (w : Worker End). seen w) workers
 
@@ -27,6 +28,7 @@ pub record IsReady {End : Type 0} (w : WorkerView End) : Type 0 where
   pub few_masters : length w.segment.bus.masters ≤ 8
   pub counts : ArrivedUpTo (length w.events) w.segment.bus
 
+-- so may all
 pub record AreReady {End : Type 0} (workers : List (WorkerView End)) : Type 0 where
   pub each : (k : ℕ) (w : WorkerView End) → slice_get workers k ≡ Some w → IsReady w
 

@@ -31,6 +31,7 @@ children_of board bus = filter (is_below board bus) (range_with_len 0 256)
 abbrev pub down_to : ℕ → BridgeLane
 down_to bus = record { bus = bus; up = false }
 
+-- the same of the lane up
 abbrev pub up_from : ℕ → BridgeLane
 up_from bus = record { bus = bus; up = true }
 
@@ -46,6 +47,7 @@ lanes_to board bus = own_lane board bus ++ map up_from (children_of board bus)
 abbrev pub masters_on : Board → ℕ → List ℕ
 masters_on board bus = filter (λ master. is_on bus (slice_get board.masters master)) (range_with_len 0 (length board.masters))
 
+-- the target is there, and is on the bus
 abbrev pub has_target : ℕ → Option Target → Bool
 has_target bus None = false
 has_target bus (Some target) = target.bus == bus

@@ -43,6 +43,7 @@ pub record TargetsAtFirst (board : Board) (bus : ℕ) (targets : List TargetView
   pub targets_are : map (λ (t : TargetView). t.target) targets ≡ targets_on board bus
   pub each : AllByRecursion (TargetStands board []) targets
 
+-- a bus before the first event, with all that is on it
 pub record BusAtFirst (board : Board) (bus : ℕ) (s : BusView) : Type 0 where
   pub number : s.bus ≡ bus
   pub ports : PortsAtFirst board (lanes_to board bus) s.ports

@@ -23,15 +23,18 @@ capped count = min count (2 ^ 64 - 1)
 
 -- Bridges.
 
+-- the board has the bridge
 abbrev pub is_taken : BridgeFate → Bool
 is_taken (Taken bridge) = true
 is_taken (LeftOut reason) = false
 
+-- the board does not have the window, which the bridge has
 abbrev pub is_closed : WindowFate → Bool
 is_closed Absent = false
 is_closed (Open window) = false
 is_closed (Closed window reason) = true
 
+-- 1 where it holds: what is counted
 abbrev pub one_if : Bool → ℕ
 one_if true = 1
 one_if false = 0
@@ -48,9 +51,11 @@ own_ranges functions fates = 0
 
 -- Devices.
 
+-- how many of these ranges the board has
 abbrev pub ranges_placed : List Judged → ℕ
 ranges_placed judged = count_by (λ (one : Judged). is_placed one.fate) judged
 
+-- how many it does not have
 abbrev pub ranges_not_placed : List Judged → ℕ
 ranges_not_placed judged = count_by (λ (one : Judged). not (is_placed one.fate)) judged
 
@@ -79,14 +84,17 @@ functions_left device =
 
 -- Addresses and sizes from 2^32 on.
 
+-- its last address is 2^32 or above
 abbrev pub is_far : Window → Bool
 is_far window = nat_le (2 ^ 32) window.limit
 
+-- an open window that reaches so far
 abbrev pub has_far_window : WindowFate → Bool
 has_far_window Absent = false
 has_far_window (Open window) = is_far window
 has_far_window (Closed window reason) = false
 
+-- a bridge of the board with such a window
 abbrev pub is_far_bridge : BridgeFate → Bool
 is_far_bridge (LeftOut reason) = false
 is_far_bridge (Taken bridge) = has_far_window bridge.mem || (has_far_window bridge.pref || has_far_window bridge.io)
@@ -96,8 +104,10 @@ abbrev pub is_far_range : RangeFate → Bool
 is_far_range (Placed span) = is_far span || nat_le (2 ^ 32 - 1) (span.limit - span.base)
 is_far_range (NotPlaced reason) = false
 
+-- one of these ranges is
 abbrev pub has_far_range : List Judged → Bool
 has_far_range judged = list_any (λ (one : Judged). is_far_range one.fate) judged
 
+-- a target of the board with such a range
 abbrev pub is_far_device : Device → Bool
 is_far_device device = is_target device.fate && list_any has_far_range device.functions

@@ -1,7 +1,7 @@
 -- From what `lspci` wrote to a board text.
 use Rattle.std.specs.Prelude.{◌≡◌, ℕ, List, Option, Result, Ok, Err}
 use Rattle.import_text.specs.declared.function.Function.{Function}
-use Rattle.import_text.specs.declared.fault.LspciFault.{LspciFault}
+use Rattle.text_faults.specs.declared.lspci.LspciFault.{LspciFault}
 use Rattle.import_text.specs.declared.fault.ReadFault.{ReadFault}
 use Rattle.import_text.specs.declared.fault.ReadFault.TheVariants.{Fault, NoMemory}
 use Rattle.import_text.specs.Functions.{functions_read}
@@ -13,6 +13,7 @@ use Rattle.import_bridges.specs.Bridges.{bridge_fates, taken_among}
 use Rattle.import_targets.specs.Devices.{devices_of}
 use Rattle.import_board.specs.Text.{import_text}
 
+-- the board text of a machine, once it is known what becomes of its bridges
 abbrev pub text_of : Machine → List BridgeFate → List ℕ
 text_of machine fates = import_text machine fates (devices_of machine (taken_among fates))
 
@@ -20,6 +21,7 @@ text_of machine fates = import_text machine fates (devices_of machine (taken_amo
 abbrev pub board_of : Option Root → List Function → List ℕ
 board_of root functions = let machine : Machine = machine_by (root_by root functions) functions in text_of machine (bridge_fates machine)
 
+-- the same of functions that were read, or the fault of reading them
 abbrev pub with_functions : Option Root → Result (List Function) (ℕ × LspciFault) → Result (List ℕ) (ℕ × LspciFault)
 with_functions root (Ok functions) = Ok (board_of root functions)
 with_functions root (Err fault) = Err fault

@@ -13,6 +13,7 @@ use Rattle.import_bridges.specs.Windows.{memory_fate, prefetchable_fate, io_fate
 
 -- Device numbers: one that another function of the bus has in the text is left to that.
 
+-- the function has this bus and device number
 abbrev pub has_device : ℕ → ℕ → Function → Bool
 has_device bus device function = function.slot.bus == bus && function.slot.device == device
 
@@ -24,9 +25,11 @@ is_in_text machine bus device = list_any (has_device bus device) machine.bridges
 abbrev pub is_place : ℕ → ℕ → DevicePlace → Bool
 is_place bus device place = place.bus == bus && place.device == device
 
+-- an agent of the board got the device number on the bus
 abbrev pub is_given : List DevicePlace → ℕ → ℕ → Bool
 is_given given bus device = list_any (is_place bus device) given
 
+-- the device number is in the text nowhere on the bus, and nobody got it
 abbrev pub is_free : Machine → List DevicePlace → ℕ → ℕ → Bool
 is_free machine given bus device = not (is_in_text machine bus device) && not (is_given given bus device)
 
@@ -42,15 +45,19 @@ device_number machine given bus own =
 
 -- Bridges.
 
+-- the device number that a bridge got, on its primary bus
 abbrev pub place_of : TakenBridge → DevicePlace
 place_of bridge = record { bus = bridge.parent; device = bridge.device }
 
+-- the secondary bus of a bridge
 abbrev pub secondary_of : Function → ℕ
 secondary_of function = slice_index function.header 0x19
 
+-- the subordinate bus: the last behind it
 abbrev pub subordinate_of : Function → ℕ
 subordinate_of function = slice_index function.header 0x1a
 
+-- the last bus behind the bridge, if there is one
 abbrev pub last_by : Option TakenBridge → Option ℕ
 last_by None = None
 last_by (Some bridge) = Some bridge.last
@@ -100,6 +107,7 @@ bridge_behind machine taken function (Some last) =
 abbrev pub bridge_fate : Machine → List TakenBridge → Function → BridgeFate
 bridge_fate machine taken function = bridge_behind machine taken function (last_behind machine taken function.slot.bus)
 
+-- the bridge, if the board has it
 abbrev pub taken_of : BridgeFate → List TakenBridge
 taken_of (LeftOut reason) = []
 taken_of (Taken bridge) = bridge ∷ []
@@ -111,6 +119,7 @@ fates_behind machine taken (function ∷ functions) =
     let fate : BridgeFate = bridge_fate machine taken function in
     fate ∷ fates_behind machine (taken ++ taken_of fate) functions
 
+-- what becomes of each bridge of the machine
 abbrev pub bridge_fates : Machine → List BridgeFate
 bridge_fates machine = fates_behind machine [] machine.bridges
 

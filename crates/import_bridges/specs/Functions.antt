@@ -12,12 +12,15 @@ abbrev pub least : (Function → ℕ) → ℕ → List Function → ℕ
 least number most [] = most
 least number most (function ∷ functions) = least number (min most (number function)) functions
 
+-- the function is in the domain
 abbrev pub is_in : ℕ → Function → Bool
 is_in domain function = function.slot.domain == domain
 
+-- the domain of a function
 abbrev pub domain_of : Function → ℕ
 domain_of function = function.slot.domain
 
+-- the bus of a function
 abbrev pub bus_of : Function → ℕ
 bus_of function = function.slot.bus
 
@@ -25,6 +28,7 @@ bus_of function = function.slot.bus
 abbrev pub least_domain : List Function → ℕ
 least_domain functions = least domain_of (2 ^ 32 - 1) functions
 
+-- where no root is asked for: the least bus of the least domain
 abbrev pub first_root : List Function → Root
 first_root functions =
     record { domain = least_domain functions; bus = least bus_of 255 (filter (is_in (least_domain functions)) functions) }
@@ -38,6 +42,7 @@ root_by (Some root) functions = root
 abbrev pub header_type : Function → ℕ
 header_type function = bits 0 7 (slice_index function.header 0x0e)
 
+-- the header is that of a bridge
 abbrev pub is_bridge : Function → Bool
 is_bridge function = header_type function == 1
 
@@ -53,6 +58,7 @@ bridge_number function = 2 ^ 24 * slice_index function.header 0x19 + slot_number
 abbrev pub place_in : (Function → ℕ) → ℕ → List Function → ℕ
 place_in number own functions = position_or_len (λ other. nat_lt own (number other)) functions
 
+-- the functions with this one in its place
 abbrev pub put_in_order : (Function → ℕ) → Function → List Function → List Function
 put_in_order number function functions = insert functions (place_in number (number function) functions) function
 
@@ -68,5 +74,6 @@ abbrev pub with_functions : List Function → Machine → Machine
 with_functions [] machine = machine
 with_functions (function ∷ functions) machine = with_functions functions (with_function function machine)
 
+-- the machine of these functions, as its root sees it
 abbrev pub machine_by : Root → List Function → Machine
 machine_by root functions = with_functions functions (record { root = root; elsewhere = 0; bridges = []; others = [] })

@@ -7,12 +7,15 @@ use Rattle.import_bridges.specs.declared.fate.NoBridge.TheVariants.{NoWay, Wrong
 use Rattle.import_bridges.specs.declared.fate.NoWindow.{NoWindow}
 use Rattle.import_bridges.specs.declared.fate.NoWindow.TheVariants.{Zero, Off, InNone, Meets}
 
+-- a bridge's buses, `S to U`
 abbrev pub buses_words : Buses → List ℕ
 buses_words buses = decimal buses.first ++ (codes " to " ++ decimal buses.last)
 
+-- they lie outside those behind the bridge above
 abbrev pub not_behind_words : ℕ → List ℕ
 not_behind_words q = codes " are not those behind bus " ++ decimal q
 
+-- why the board does not have a bridge
 abbrev pub no_bridge_words : NoBridge → List ℕ
 no_bridge_words (NoWay q) = codes "no bridge of this board leads to bus " ++ decimal q
 no_bridge_words (WrongBuses buses) = codes "its buses are " ++ buses_words buses
@@ -21,6 +24,7 @@ no_bridge_words (SharedBuses buses) = codes "another bridge has buses of " ++ bu
 no_bridge_words Full = codes "there are 8 bridges on its bus or 31 on the board"
 no_bridge_words NoDevice = codes "no device number is free"
 
+-- why the board does not have a window
 abbrev pub no_window_words : NoWindow → List ℕ
 no_window_words Zero = codes "its registers are zero"
 no_window_words Off = codes "its decoding is off"

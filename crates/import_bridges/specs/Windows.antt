@@ -30,6 +30,7 @@ windows_in Cfg bridge = []
 abbrev pub lies_in : Window → Window → Bool
 lies_in window outer = nat_le outer.base window.base && nat_le window.limit outer.limit
 
+-- the two have an address in common
 abbrev pub shares : Window → Window → Bool
 shares window other = nat_le window.base other.limit && nat_le other.base window.limit
 
@@ -37,6 +38,7 @@ shares window other = nat_le window.base other.limit && nat_le other.base window
 abbrev pub leads_to : ℕ → Space → Window → TakenBridge → Bool
 leads_to bus space window bridge = bridge.bus == bus && list_any (lies_in window) (windows_in space bridge)
 
+-- whatever the window holds passes down to the bus
 abbrev pub is_reached : ℕ → List TakenBridge → ℕ → Space → Window → Bool
 is_reached root taken bus space window = bus == root || list_any (leads_to bus space window) taken
 
@@ -44,6 +46,7 @@ is_reached root taken bus space window = bus == root || list_any (leads_to bus s
 abbrev pub passes_some : ℕ → Space → Window → TakenBridge → Bool
 passes_some bus space window bridge = bridge.parent == bus && list_any (shares window) (windows_in space bridge)
 
+-- a bridge that was found is what the window meets
 abbrev pub meeting : Option TakenBridge → Option NoWindow
 meeting None = None
 meeting (Some bridge) = Some (Meets bridge.bus)
@@ -57,6 +60,7 @@ why_closed root taken bus space is_zero is_on window =
     else if not (is_reached root taken bus space window) then Some (InNone bus)
     else meeting (find (passes_some bus space window) taken)
 
+-- the window is open where nothing is against it
 abbrev pub open_or : Window → Option NoWindow → WindowFate
 open_or window None = Open window
 open_or window (Some reason) = Closed window reason
@@ -75,15 +79,18 @@ decodes Cfg function = false
 
 -- the three windows of a bridge on a bus; one in prefetchable memory or in I/O is not there where both its registers are zero
 
+-- the window of memory
 abbrev pub memory_fate : ℕ → List TakenBridge → Function → WindowFate
 memory_fate root taken function =
     window_fate root taken function.slot.bus Mem 0xfffff (decodes Mem function) (memory_window function.header)
 
+-- the same of prefetchable memory
 abbrev pub prefetchable_fate : ℕ → List TakenBridge → Function → WindowFate
 prefetchable_fate root taken function =
     if register_2 function.header 0x24 == 0 && register_2 function.header 0x26 == 0 then Absent
     else window_fate root taken function.slot.bus Mem 0xfffff (decodes Mem function) (prefetchable_window function.header)
 
+-- the same of I/O
 abbrev pub io_fate : ℕ → List TakenBridge → Function → WindowFate
 io_fate root taken function =
     if slice_index function.header 0x1c == 0 && slice_index function.header 0x1d == 0 then Absent

@@ -6,11 +6,13 @@ use Rattle.import_targets.specs.declared.found.Flaw.TheVariants.{NoHalf, NoAddre
 use Rattle.import_targets.specs.declared.fate.NoRange.{NoRange}
 use Rattle.import_targets.specs.declared.fate.NoRange.TheVariants.{Flawed, OfBridge, Off, PassesEnd, SixRegisters, InNone, MeetsBridge, MeetsRange}
 
+-- what keeps a register from being a range
 abbrev pub flaw_words : Flaw → List ℕ
 flaw_words NoHalf = codes "its upper half is missing"
 flaw_words NoAddress = codes "it has no address"
 flaw_words NoSize = codes "its size is not told"
 
+-- why the board does not have a range
 abbrev pub no_range_words : NoRange → List ℕ
 no_range_words (Flawed flaw) = flaw_words flaw
 no_range_words OfBridge = codes "a bridge has no ranges here"

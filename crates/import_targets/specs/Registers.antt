@@ -7,16 +7,18 @@ use Rattle.import_text.specs.declared.function.Function.{Function}
 use Rattle.import_bridges.specs.Functions.{header_type}
 use Rattle.import_targets.specs.declared.found.Flaw.{Flaw}
 use Rattle.import_targets.specs.declared.found.Flaw.TheVariants.{NoHalf, NoAddress, NoSize}
-use Rattle.import_targets.specs.declared.found.Found.{Found}
+use Rattle.import_targets.specs.declared.found.FoundFunction.{FoundFunction}
 
 -- the register with that number, and the size that the text tells of it
 abbrev pub value_at : Function → ℕ → ℕ
 value_at function n = register_4 function.header (16 + 4 * n)
 
+-- a size, where there is a register and a size of it
 abbrev pub flat : Option (Option ℕ) → Option ℕ
 flat None = None
 flat (Some size) = size
 
+-- the size that the text tells of the register, if it does
 abbrev pub size_at : Function → ℕ → Option ℕ
 size_at function n = flat (slice_get function.sizes n)
 
@@ -24,12 +26,15 @@ size_at function n = flat (slice_get function.sizes n)
 abbrev pub is_io : ℕ → Bool
 is_io value = bits 0 1 value == 1
 
+-- the register and the next are one address of 64 bits
 abbrev pub is_wide : ℕ → Bool
 is_wide value = not (is_io value) && bits 1 2 value == 2
 
+-- the space of the register
 abbrev pub space_by : ℕ → Space
 space_by value = if is_io value then Io else Mem
 
+-- the address without the bits that tell the kind
 abbrev pub low_base : ℕ → ℕ
 low_base value = if is_io value then 2 ^ 2 * bits 2 30 value else 2 ^ 4 * bits 4 28 value
 
@@ -51,7 +56,8 @@ flaw_at function many n =
     else if is_none (size_at function n) then Some NoSize
     else None
 
-abbrev pub found_at : Function → ℕ → ℕ → List Found
+-- the range that the register asks for, or none where it is not there
+abbrev pub found_at : Function → ℕ → ℕ → List FoundFunction
 found_at function many n =
     if is_there (value_at function n) (size_at function n)
     then record {
@@ -68,7 +74,7 @@ abbrev pub behind : Function → ℕ → ℕ
 behind function n = if is_wide (value_at function n) then n + 2 else n + 1
 
 -- of so many registers those from n on, in so many steps at most
-abbrev pub found_from : ℕ → Function → ℕ → ℕ → List Found
+abbrev pub found_from : ℕ → Function → ℕ → ℕ → List FoundFunction
 found_from zero function many n = []
 found_from (suc steps) function many n =
     if nat_lt n many then found_at function many n ++ found_from steps function many (behind function n) else []
@@ -77,5 +83,6 @@ found_from (suc steps) function many n =
 abbrev pub registers_of : Function → ℕ
 registers_of function = if header_type function == 0 then 6 else if header_type function == 1 then 2 else 0
 
-unfoldable pub found_in : Function → List Found
+-- the ranges that a function asks for, by its registers
+unfoldable pub found_in : Function → List FoundFunction
 found_in function = found_from 6 function (registers_of function) 0

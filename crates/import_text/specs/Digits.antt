@@ -6,6 +6,7 @@ use Rattle.std.specs.List.{position_or_len}
 abbrev pub is_hex : ℕ → Bool
 is_hex byte = (nat_le 48 byte && nat_le byte 57) || (nat_le 97 byte && nat_le byte 102)
 
+-- any other byte
 abbrev pub is_no_hex : ℕ → Bool
 is_no_hex byte = not (is_hex byte)
 

@@ -5,6 +5,7 @@ use Rattle.std.specs.List.{starts_with, position_or_len}
 use Rattle.std.specs.Str.Parse.{digits_value}
 use Rattle.board_text.specs.Numbers.{is_numeral}
 
+-- the text begins with the word
 abbrev pub begins_with : List ℕ → List ℕ → Bool
 begins_with word text = starts_with (λ a b. a == b) text word
 
@@ -26,6 +27,7 @@ size_by digits unit =
 abbrev pub size_between : List ℕ → ℕ → Option ℕ
 size_between text unit = if unit == 1 then size_by text 1 else size_by (take (length text - 1) text) unit
 
+-- the byte `]`
 abbrev pub is_close : ℕ → Bool
 is_close byte = byte == 93
 
@@ -40,6 +42,7 @@ size_in text =
 abbrev pub size_at : List ℕ → Option ℕ
 size_at text = if begins_with (codes "[size=") text then size_in (take 12 (drop 6 text)) else None
 
+-- the first of the two that is there
 abbrev pub or_else : Option ℕ → Option ℕ → Option ℕ
 or_else None other = other
 or_else (Some size) other = Some size
@@ -59,8 +62,10 @@ is_region text =
 abbrev pub indented : List ℕ → List ℕ
 indented line = if indent line == 0 then [] else drop (indent line) line
 
+-- the size that a line tells, if it is a line of a region
 abbrev pub region_size : List ℕ → Option ℕ
 region_size line = if is_region (indented line) then last_size (drop 10 (indented line)) else None
 
+-- the number in a line of a region, 0 to 5
 abbrev pub region_number : List ℕ → ℕ
 region_number line = slice_index (indented line) 7 - 48

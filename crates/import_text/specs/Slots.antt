@@ -6,6 +6,7 @@ use Rattle.board_text.specs.Numbers.{hex_answer}
 use Rattle.import_text.specs.declared.slot.Slot.{Slot}
 use Rattle.import_text.specs.Digits.{is_hex, hex_value, two_digits, hex_length}
 
+-- the line begins with a domain
 abbrev pub has_domain : List ℕ → Bool
 has_domain line = nat_le 4 (hex_length line) && (nat_le (hex_length line) 8 && slice_index line (hex_length line) == 58)
 
@@ -29,6 +30,7 @@ is_place text =
     && (is_hex (slice_index text 3) && (is_hex (slice_index text 4) && (slice_index text 5 == 46
     && (nat_le 48 (slice_index text 6) && (nat_le (slice_index text 6) 55 && slice_index text 7 == 32)))))))
 
+-- the slot that such a text says, in this domain
 abbrev pub slot_in : ℕ → List ℕ → Slot
 slot_in given text = record {
   domain = given;
@@ -37,6 +39,7 @@ slot_in given text = record {
   function = hex_value (slice_index text 6);
 }
 
+-- the slot that a line begins with, if it is a slot line
 abbrev pub slot_of : List ℕ → Option Slot
 slot_of line =
     if is_place (drop (place_start line) line) then Some (slot_in (domain_in line) (drop (place_start line) line)) else None

@@ -4,6 +4,7 @@ use Rattle.std.specs.Io.KnownBytes.{Consumes, IsAtEnd}
 use Rattle.io_ports.specs.declared.failed.Failed.{Failed}
 use Rattle.io_ports.specs.Faults.{next_count, Rose}
 
+-- what such a source holds
 pub record HeldState : Type 0 where
   -- all its bytes, and those that it still gives
   pub bytes : List ℕ

@@ -28,16 +28,19 @@ turned true x = record { here = x.back; back = x.here }
 abbrev pub moved_on : (Both → Both) → BridgeLane → ℕ → Both → Both
 moved_on move lane bus x = if lane.bus == bus then turned lane.up (move (turned lane.up x)) else x
 
+-- what the claim of an act does to the lanes of the bridge to the bus
 abbrev pub place_on : Board → ℕ → By → OpId → Step → Place → ℕ → Both → Both
 place_on board on by o step (Target target) bus x = x
 place_on board on by o step (Header number) bus x = x
 place_on board on by o step (Lane lane) bus x = moved_on (enters board on by o step) lane bus x
 place_on board on by o step Nobody bus x = x
 
+-- what the end of an item does to them
 abbrev pub leaves_on : BridgeLane → OpId → Option Outcome → ℕ → Both → Both
 leaves_on lane o None bus x = x
 leaves_on lane o (Some outcome) bus x = moved_on (item_ends o outcome) lane bus x
 
+-- what the act does to them at its initiator
 abbrev pub initiator_on : Board → By → OpId → Step → ℕ → Both → Both
 initiator_on board Master o step bus x = x
 initiator_on board (ByLane lane) o step bus x = leaves_on lane o (lane_outcome board lane o step) bus x

@@ -11,5 +11,6 @@ pub record HasRoom (more : ℕ) (lane : LaneState) : Type 0 where
   pub held : length lane.held + more ≤ 10
   pub owed : lane.owed + more ≤ 10
 
+-- the same of both lanes of a bridge
 abbrev pub HaveRoom : ℕ → Both → Type 0
 HaveRoom more x = HasRoom more x.here × HasRoom more x.back

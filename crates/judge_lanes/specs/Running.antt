@@ -10,6 +10,7 @@ use Rattle.history_model.specs.World.{world_of}
 use Rattle.history_model.specs.Runs.{Run}
 use Rattle.law_lanes.specs.Depths.{Within}
 
+-- a run, with bounds: few events, few lines that discard or drop, and little on each lane
 pub record IsRunning (board : Board) (h : List Event) : Type 0 where
   pub well_formed : IsTrue (is_well_formed board)
   pub decodable : IsDecodable board

@@ -43,6 +43,7 @@ abbrev pub turn_now : Board → KeptState → ℕ → Option OpId → Option Eve
 turn_now board k on None = None
 turn_now board k on (Some o) = act_now board k on Master o
 
+-- the act of a master, if it presents its turn and gets no Retry
 abbrev pub master_now : Board → KeptState → ℕ → ℕ → Option Event
 master_now board k on master = turn_now board k on (turn_in k.turns master)
 

@@ -41,6 +41,7 @@ abbrev pub taught_by : Board → Clocks → (ℕ → ℕ) → Option Reading →
 taught_by board clocks old None author = old author
 taught_by board clocks old (Some reading) author = word_tells board clocks reading.before reading.word author
 
+-- the same of the event behind a history, and what it reads there
 abbrev pub taught_after : Board → Clocks → List Event → Event → OpId → ℕ → ℕ
 taught_after board clocks h e o = taught_by board clocks (clocks.taught o) (reading_in board h o e)
 
@@ -61,10 +62,12 @@ abbrev pub start_by : Clocks → By → OpId → OpId → ℕ → ℕ
 start_by clocks Master o q = if same_op o q then clocks.known o.master else clocks.start q
 start_by clocks (ByLane lane) o q = clocks.start q
 
+-- the same of an event; an arrival is no presenting
 abbrev pub start_after : Clocks → Event → OpId → ℕ → ℕ
 start_after clocks (Act on by o step place) q = start_by clocks by o q
 start_after clocks (Arrive lane mark) q = clocks.start q
 
+-- what is known after the event
 abbrev pub clocks_after : Board → Clocks → List Event → Event → Clocks
 clocks_after board clocks h e =
     record {
@@ -73,6 +76,7 @@ clocks_after board clocks h e =
       taught = taught_after board clocks h e;
     }
 
+-- what is known after a history; at first nothing
 abbrev pub clocks_of : Board → List Event → Clocks
 clocks_of board [] = record { known = λ master author. 0; start = λ o author. 0; taught = λ o author. 0 }
 clocks_of board (e ∷ h) = clocks_after board (clocks_of board h) h e

@@ -26,6 +26,7 @@ enters_by bus Stall place = false
 enters_by bus MasterAbort place = false
 enters_by bus TargetAbort place = false
 
+-- an event by which something enters the bridge; an arrival is none
 abbrev pub enters_at : ℕ → Event → Bool
 enters_at bus (Act on by o step place) = enters_by bus step place
 enters_at bus (Arrive lane mark) = false

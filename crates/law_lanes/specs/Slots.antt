@@ -28,6 +28,7 @@ ask_weight weight (Done op slot outcome) = 0
 ask_weight weight Room = 0
 ask_weight weight (Gone slot) = 0
 
+-- the same of a completion
 abbrev pub done_weight : (ℕ → ℕ) → Carried → ℕ
 done_weight weight (Post op) = 0
 done_weight weight (Ask op slot) = 0
@@ -35,6 +36,7 @@ done_weight weight (Done op slot outcome) = weight slot
 done_weight weight Room = 0
 done_weight weight (Gone slot) = 0
 
+-- the same of the word that a request was dropped
 abbrev pub gone_weight : (ℕ → ℕ) → Carried → ℕ
 gone_weight weight (Post op) = 0
 gone_weight weight (Ask op slot) = 0
@@ -65,6 +67,7 @@ AskNamed held (Done op slot outcome) = Unit {0}
 AskNamed held Room = Unit {0}
 AskNamed held (Gone slot) = Unit {0}
 
+-- the same of a completion
 abbrev pub DoneNamed : List Slot → Carried → Type 0
 DoneNamed held (Post op) = Unit {0}
 DoneNamed held (Ask op slot) = Unit {0}

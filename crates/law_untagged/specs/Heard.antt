@@ -15,6 +15,7 @@ use Rattle.law_untagged.specs.Origins.{ending_reading, untagged_got}
 abbrev pub Since : Type 0
 Since = ℕ → Option OpId
 
+-- the operation stands behind the one that is there, of its master
 abbrev pub is_behind : Option OpId → OpId → Bool
 is_behind None q = false
 is_behind (Some p) q = stands_after p q
@@ -32,6 +33,7 @@ abbrev pub heard : Board → OpId → Since → Option Reading → Bool
 heard board w since None = false
 heard board w since (Some reading) = list_any (speaks w since reading.before) (landed board reading.before reading.word)
 
+-- the first that was known stays; else what this event ended, if it is the write or was told of it
 abbrev pub first_known : Option OpId → ℕ → OpId → Bool → Option Ending → Option OpId
 first_known (Some p) master w heard_it ending = Some p
 first_known None master w heard_it None = None

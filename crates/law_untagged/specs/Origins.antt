@@ -28,6 +28,7 @@ use Rattle.law_untagged.specs.Untagged.{untagged_world}
 abbrev pub Origins : Type 0
 Origins = BridgeLane → ℕ → Option Reading
 
+-- the origin of the completion of this slot, if there is one
 abbrev pub origin_in : Origins → BridgeLane → Option Slot → Option Reading
 origin_in origins lane None = None
 origin_in origins lane (Some slot) = origins lane slot.number
@@ -39,6 +40,7 @@ taken_from board world origins on o (Header bus) = None
 taken_from board world origins on o (Lane lane) = origin_in origins lane (find (is_own board on anyone o) (world lane).held)
 taken_from board world origins on o Nobody = None
 
+-- the same by the step: only a completion that is taken has one
 abbrev pub taken_in : Board → World → Origins → ℕ → OpId → Step → Place → Option Reading
 taken_in board world origins on o Land place = None
 taken_in board world origins on o (Part phases) place = None
@@ -60,6 +62,7 @@ abbrev pub asks_for : ℕ → Option Carried → Bool
 asks_for number None = false
 asks_for number (Some item) = is_ask_of number item
 
+-- the step ends the item
 abbrev pub ends_item : Option Outcome → Bool
 ends_item None = false
 ends_item (Some outcome) = true
@@ -69,11 +72,13 @@ abbrev pub answers : Board → World → BridgeLane → OpId → Step → ℕ �
 answers board world lane o step number =
     ends_item (lane_outcome board lane o step) && asks_for number (find (is_of o) (world lane).standing)
 
+-- what the act makes of the origin at this lane and number: where it answers that request, its own source
 abbrev pub origin_by : Board → List Event → World → Origins → ℕ → By → OpId → Step → Place → Origins
 origin_by board h world origins on Master o step place lane number = origins lane number
 origin_by board h world origins on (ByLane k) o step place lane number =
     if same_lane k lane && answers board world k o step number then source_of board h world origins on o step place else origins lane number
 
+-- the same of an event; an arrival changes no origin
 abbrev pub origin_after : Board → List Event → World → Origins → Event → Origins
 origin_after board h world origins (Act on by o step place) = origin_by board h world origins on by o step place
 origin_after board h world origins (Arrive lane mark) = origins
@@ -108,6 +113,7 @@ pub data UntaggedChain (board : Board) (h : List Event) : OpId → OpId → Type
   one : (p q : OpId) → untagged_tells board h p q ≡ true → UntaggedChain board h p q
   more : (p q r : OpId) → untagged_tells board h p q ≡ true → UntaggedChain board h q r → UntaggedChain board h p r
 
+-- a write told an operation, by steps of telling
 abbrev pub UntaggedTold : Board → List Event → OpId → OpId → Type 0
 UntaggedTold board h w r = (is_write board w ≡ true) × UntaggedChain board h w r
 

@@ -18,6 +18,7 @@ pub record StaleRead : Type 0 where
   pub write : OpId
   pub event : ℕ
 
+-- the same of what the read got, as a test
 abbrev pub breaks_in : Board → List Event → OpId → OpId → Option Reading → Bool
 breaks_in board h w r None = false
 breaks_in board h w r (Some reading) =
@@ -35,22 +36,27 @@ pub record Breaks (board : Board) (h : List Event) (w r : OpId) : Type 0 where
   pub of_word : Contains (words_named board w) reading.word
   pub not_landed : has_landed reading.before w ≡ false
 
+-- the read with its write and event, where there is such a write
 abbrev pub stale_by : OpId → Option OpId → Option Reading → List StaleRead
 stale_by r None reading = []
 stale_by r (Some w) None = []
 stale_by r (Some w) (Some reading) = record { read = r; write = w; event = length reading.before + 1 } ∷ []
 
+-- the read as it is listed, if it breaks freshness
 abbrev pub stale_at : Board → List Event → OpId → List StaleRead
 stale_at board h r = stale_by r (find (λ w. breaks board h w r) (ops_by 0 board.masters)) (untagged_got board h r)
 
+-- the same of the operation that an event ended
 abbrev pub stale_ending : Board → List Event → Option Ending → List StaleRead
 stale_ending board h None = []
 stale_ending board h (Some ending) = stale_at board h ending.op
 
+-- those that the events of a front ended, by the whole history
 abbrev pub stale_in : Board → List Event → List Event → List StaleRead
 stale_in board h [] = []
 stale_in board h (e ∷ g) = stale_in board h g ++ stale_ending board h (ended e)
 
+-- all of a history
 abbrev pub stale_of : Board → List Event → List StaleRead
 stale_of board h = stale_in board h h
 

@@ -20,6 +20,7 @@ abbrev pub IsNotPresentedBy : Rule → Board → List Event → Event → Type 0
 IsNotPresentedBy rule board h (Act on by o step place) = wants_by rule board h on by o ≡ false
 IsNotPresentedBy rule board h (Arrive lane mark) = ⊥
 
+-- the same of bridges that keep the local master
 abbrev pub IsNotPresented : Board → List Event → Event → Type 0
 IsNotPresented board h e = IsNotPresentedBy Tagged board h e
 
@@ -33,9 +34,11 @@ abbrev pub IsAnsweredOtherwiseBy : Rule → Board → List Event → Event → T
 IsAnsweredOtherwiseBy rule board h (Act on by o step place) = (wants_by rule board h on by o ≡ true) × GivesOther step place (answer_by_rule rule board h on by o)
 IsAnsweredOtherwiseBy rule board h (Arrive lane mark) = ⊥
 
+-- the same of bridges that keep the local master
 abbrev pub IsAnsweredOtherwise : Board → List Event → Event → Type 0
 IsAnsweredOtherwise board h e = IsAnsweredOtherwiseBy Tagged board h e
 
+-- an answer that is no event
 abbrev pub IsRetry : Answer → Type 0
 IsRetry (Gives step place) = ⊥
 IsRetry (Retry cause) = Unit {0}
@@ -45,6 +48,7 @@ abbrev pub IsRetriedBy : Rule → Board → List Event → Event → Type 0
 IsRetriedBy rule board h (Act on by o step place) = (wants_by rule board h on by o ≡ true) × IsRetry (answer_by_rule rule board h on by o)
 IsRetriedBy rule board h (Arrive lane mark) = ⊥
 
+-- the same of bridges that keep the local master
 abbrev pub IsRetried : Board → List Event → Event → Type 0
 IsRetried board h e = IsRetriedBy Tagged board h e
 
@@ -53,9 +57,11 @@ abbrev pub HasNothingInFlightBy : Rule → Board → List Event → Event → Ty
 HasNothingInFlightBy rule board h (Act on by o step place) = ⊥
 HasNothingInFlightBy rule board h (Arrive lane mark) = next_mark_in board (world_by rule board h) lane ≡ None
 
+-- the same of bridges that keep the local master
 abbrev pub HasNothingInFlight : Board → List Event → Event → Type 0
 HasNothingInFlight board h e = HasNothingInFlightBy Tagged board h e
 
+-- something is in flight, and the board marks it otherwise
 abbrev pub IsOtherMark : Mark → Option Mark → Type 0
 IsOtherMark mark None = ⊥
 IsOtherMark mark (Some given) = given ≢ mark
@@ -65,5 +71,6 @@ abbrev pub IsMarkedOtherwiseBy : Rule → Board → List Event → Event → Typ
 IsMarkedOtherwiseBy rule board h (Act on by o step place) = ⊥
 IsMarkedOtherwiseBy rule board h (Arrive lane mark) = IsOtherMark mark (next_mark_in board (world_by rule board h) lane)
 
+-- the same of bridges that keep the local master
 abbrev pub IsMarkedOtherwise : Board → List Event → Event → Type 0
 IsMarkedOtherwise board h e = IsMarkedOtherwiseBy Tagged board h e

@@ -6,7 +6,7 @@ use Rattle.board_model.specs.Valid.{IsValid}
 use Rattle.dma_agents.specs.declared.fault.MakeFault.{MakeFault}
 use Rattle.dma_agents.specs.declared.fault.MakeFault.TheVariants as faults
 use Rattle.dma_agents.specs.Made.{Made, IsMade, made_read}
-use Rattle.text_faults.specs.declared.DeviceFault.TheVariants.{NotClear}
+use Rattle.text_faults.specs.declared.device.DeviceFault.TheVariants.{NotClear}
 use Rattle.program_status.specs.declared.status.Status.{Status}
 use Rattle.program_status.specs.declared.status.Status.TheVariants.{BadBoard}
 use Rattle.program_status.specs.declared.status.BoardFault.TheVariants.{Line, Device}
@@ -25,6 +25,7 @@ making_refusal (Err (faults.NotClear line flag why)) = Some (BadBoard line (Devi
 making_refusal (Err faults.NoMemory) = None
 making_refusal (Ok made) = option_map (BadBoard 0) (tree_fault made.board)
 
+-- the same of the input
 abbrev pub devices_refusal : List ℕ → Option Status
 devices_refusal input = making_refusal (made_read input)
 

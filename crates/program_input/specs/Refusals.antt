@@ -3,9 +3,9 @@ use Rattle.std.specs.Prelude.{◌≡◌, ℕ, ◌⊎◌, List, Option, Some, Non
 use Rattle.std.specs.Option.{option_map}
 use Rattle.board_model.specs.declared.board.Board.{Board}
 use Rattle.board_model.specs.Ways.{bound_of}
-use Rattle.board_statements.specs.declared.fault.LineFault.{LineFault}
+use Rattle.text_faults.specs.declared.board_line.LineFault.{LineFault}
 use Rattle.board_parser.specs.Boards.{board_read}
-use Rattle.board_checks.specs.declared.fault.TreeFault.{TreeFault}
+use Rattle.text_faults.specs.declared.tree.TreeFault.{TreeFault}
 use Rattle.board_checks.specs.Faults.{first_fault_of}
 use Rattle.history_model.specs.declared.event.Event.{Event}
 use Rattle.trace_reader.specs.declared.fault.TraceFault.{TraceFault}
@@ -23,6 +23,7 @@ abbrev pub tree_fault_by : ℕ → Option TreeFault → Option BoardFault
 tree_fault_by bound (Some fault) = Some (Tree fault)
 tree_fault_by bound None = if nat_lt 500000 bound then Some (Bound bound) else None
 
+-- the fault of the tree of a board, if it has one
 abbrev pub tree_fault : Board → Option BoardFault
 tree_fault board = tree_fault_by (bound_of board) (first_fault_of board)
 
@@ -31,6 +32,7 @@ abbrev pub reading_refusal : Result Board (ℕ × LineFault) → Option Status
 reading_refusal (Err fault) = Some (BadBoard fault.0 (Line fault.1))
 reading_refusal (Ok board) = option_map (BadBoard 0) (tree_fault board)
 
+-- the same of the input
 abbrev pub board_refusal : List ℕ → Option Status
 board_refusal input = reading_refusal (board_read input)
 
@@ -41,6 +43,7 @@ trace_reading_refusal (Err (faults.Board line fault)) = Some (BadBoard line (Lin
 trace_reading_refusal (Err faults.NoMemory) = None
 trace_reading_refusal (Ok read) = option_map (BadBoard 0) (tree_fault read.0)
 
+-- the same of the input
 abbrev pub trace_refusal : List ℕ → Option Status
 trace_refusal input = trace_reading_refusal (trace_read input)
 
@@ -54,6 +57,7 @@ RefusesAs Writing cause status = ⊥
 RefusesAs Length cause status = ⊥
 RefusesAs Input cause status = cause ≡ Some status
 
+-- the status refuses an input for this cause
 abbrev pub RefusesBy : Option Status → Status → Type 0
 RefusesBy cause status = RefusesAs (subject_of status) cause status
 

@@ -6,12 +6,11 @@ use crate::refused::{
 };
 use crate::texts::{Case, Pointed, Text, bus_not_there, text_of_device, text_of_line};
 use crate::unclear::tell_unclear;
-use board_statements::LineFault;
 use pci_command::NoMemory;
 use program_pages::{Fault, Teller};
 use program_status::{BoardFault, Status};
 use std::alloc::Global;
-use text_faults::DeviceFault;
+use text_faults::{DeviceFault, LineFault, TreeFault};
 
 /// How many lines are shown of one fault.
 const MOST_SHOWN: u32 = 8;
@@ -41,7 +40,7 @@ pub(crate) fn tell_board(
                 sentence.as_str(),
             )
         }
-        BoardFault::Tree(_) => {
+        BoardFault::Tree(fault) => {
             tell_tree(teller, text.as_slice(), status, fault, sentence.as_str())
         }
         BoardFault::Bound(bound) => {
@@ -196,11 +195,10 @@ fn tell_tree(
     teller: &mut Teller,
     text: &[u8],
     status: &Status,
-    fault: BoardFault,
+    fault: TreeFault,
     sentence: &str,
 ) -> Result<(), NoMemory> {
-    let code = format!(in teller.alloc(); "{fault}")?;
-    if code.as_str() == "V1" {
+    if fault == TreeFault::LacksABus {
         if let Some((number, bus)) = bus_not_there(text) {
             let line = match line_at(text, number) {
                 Some((_, line)) => line,

@@ -11,7 +11,8 @@ use pci_command::NoMemory;
 use program_pages::{Fault, Teller};
 use std::alloc::Global;
 use std::str::from_utf8;
-use trace_reader::{Names, TraceLineFault, read_line};
+use text_faults::TraceLineFault;
+use trace_reader::{Names, read_line};
 
 /// A line of a trace outside its board is at fault.
 pub(crate) fn tell_trace_line(

@@ -14,6 +14,7 @@ pub data Subject : Type 0 where
   Length : Subject
   Input : Subject
 
+-- what a status speaks of
 abbrev pub subject_of : Status → Subject
 subject_of Done = Success
 subject_of NoMemory = Memory

@@ -40,6 +40,7 @@ abbrev pub spent_after : ℕ → ℕ → ℕ → Option Outcome → Option Lapse
 spent_after mask wanted tries None = None
 spent_after mask wanted tries (Some outcome) = if meets mask wanted outcome then None else Some (Spent tries)
 
+-- the same by the step with which a try ended, if it ended it
 abbrev pub spent_by : ℕ → ℕ → ℕ → Step → Option Lapse
 spent_by mask wanted tries step = spent_after mask wanted tries (master_outcome step)
 
@@ -57,6 +58,7 @@ lapse_of o by step (Some (CfgRead bus device register)) = None
 lapse_of o by step (Some (CfgWrite bus device register phase)) = lost_by step
 lapse_of o by step (Some (Poll space address mask wanted tries)) = last_by o by mask wanted tries step
 
+-- what an event tells, with its operation
 abbrev pub lapse_told : Board → Event → Option Lapsed
 lapse_told board (Act on by o step place) = option_map (λ lapse. record { op = o; lapse = lapse }) (lapse_of o by step (op_of board o))
 lapse_told board (Arrive lane mark) = None

@@ -26,6 +26,7 @@ pub record ProgramRows : Type 0 where
 abbrev pub no_rows : ProgramRows
 no_rows = record { rows = []; lasts = []; end = 0 }
 
+-- what is kept of the program of a master
 abbrev pub rows_of : List ProgramRows → ℕ → ProgramRows
 rows_of programs master = get_or programs master no_rows
 

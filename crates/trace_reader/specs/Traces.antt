@@ -4,14 +4,14 @@ use Rattle.std.specs.Str.{bytes_eq}
 use Rattle.board_model.specs.declared.board.Board.{Board}
 use Rattle.history_model.specs.declared.event.Event.{Event}
 use Rattle.board_text.specs.Lines.{lines_of}
-use Rattle.board_statements.specs.declared.fault.LineFault.{LineFault as BoardFault}
+use Rattle.text_faults.specs.declared.board_line.LineFault.{LineFault as BoardFault}
 use Rattle.board_parser.specs.Boards.{read_lines, ended}
 use Rattle.trace_reader.specs.declared.lines.line.TraceLine.{TraceLine}
 use Rattle.trace_reader.specs.declared.lines.line.TraceLine.TheVariants.{Happens, Ends}
 use Rattle.trace_reader.specs.declared.lines.line.LineFault.{LineFault}
 use Rattle.trace_reader.specs.lines.Lines.{line_of}
 use Rattle.trace_reader.specs.Faults.{fault_of_line}
-use Rattle.trace_reader.specs.declared.fault.TraceLineFault.TheVariants.{NoFirstLine, NoEventsLine, WrongCount, BehindEnd}
+use Rattle.text_faults.specs.declared.trace_line.TraceLineFault.TheVariants.{NoFirstLine, NoEventsLine, WrongCount, BehindEnd}
 use Rattle.trace_reader.specs.declared.fault.TraceFault.{TraceFault}
 use Rattle.trace_reader.specs.declared.fault.TraceFault.TheVariants.{Trace, Board as OfBoard, NoMemory}
 
@@ -33,6 +33,7 @@ events_by later number events lines (Ok (Happens event)) = later (events ++ even
 events_by later number events lines (Ok (Ends count)) = at_end number events count lines
 events_by later number events lines (Err fault) = Err (Trace number (fault_of_line fault))
 
+-- the events of these lines, one after another
 abbrev pub events_read : Board → ℕ → List Event → List (List ℕ) → Result (List Event) TraceFault
 events_read board number events [] = Err (Trace number WrongCount)
 events_read board number events (line ∷ lines) =
@@ -40,6 +41,7 @@ events_read board number events (line ∷ lines) =
 
 -- The board, before the first line that is `events`.
 
+-- one line more before it
 abbrev pub with_before : List ℕ → Option (List (List ℕ) × List (List ℕ)) → Option (List (List ℕ) × List (List ℕ))
 with_before line None = None
 with_before line (Some parts) = Some (line ∷ parts.0, parts.1)
@@ -50,6 +52,7 @@ until_events [] = None
 until_events (line ∷ lines) =
     if bytes_eq line (codes "events") then Some ([], lines) else with_before line (until_events lines)
 
+-- the board with its events, or their fault
 abbrev pub with_events : Board → Result (List Event) TraceFault → Result (Board × List Event) TraceFault
 with_events board (Ok events) = Ok (board, events)
 with_events board (Err fault) = Err fault
@@ -59,6 +62,7 @@ abbrev pub by_board : ℕ → List (List ℕ) → Result Board (ℕ × BoardFaul
 by_board number lines (Ok board) = with_events board (events_read board number [] lines)
 by_board number lines (Err fault) = Err (OfBoard (fault.0 + 1) fault.1)
 
+-- the board and events of the lines that were parted; a missing `events` line is told behind the last
 abbrev pub by_parts : ℕ → Option (List (List ℕ) × List (List ℕ)) → Result (Board × List Event) TraceFault
 by_parts past None = Err (Trace past NoEventsLine)
 by_parts past (Some parts) = by_board (length parts.0 + 3) parts.1 (ended (read_lines None 1 parts.0))

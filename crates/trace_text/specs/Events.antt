@@ -47,6 +47,7 @@ result_words Stall = []
 result_words MasterAbort = []
 result_words TargetAbort = []
 
+-- `discard` or `drop`, where an arrival is marked
 abbrev pub mark_words : Mark → Line
 mark_words Plain = []
 mark_words Discard = codes "discard" ∷ []
@@ -61,6 +62,7 @@ act_line board bus by op step place =
 abbrev pub arrival_line : Board → BridgeLane → Mark → Line
 arrival_line board lane mark = decimal (end_of board lane) ∷ codes "arrive" ∷ lane_word lane ∷ mark_words mark
 
+-- the line of an event
 abbrev pub event_line : Board → Event → Line
 event_line board (Act bus by op step place) = act_line board bus by op step place
 event_line board (Arrive lane mark) = arrival_line board lane mark
@@ -70,24 +72,28 @@ abbrev pub has_initiator : Board → By → Bool
 has_initiator board Master = true
 has_initiator board (FromLane lane) = has_bridge_to board lane.bus
 
+-- the same of what claimed, if anything did
 abbrev pub has_place : Board → Place → Bool
 has_place board (Target index) = nat_lt index (length board.targets)
 has_place board (Header bus) = has_bridge_to board bus
 has_place board (Lane lane) = has_bridge_to board lane.bus
 has_place board Nobody = true
 
+-- the place is a target
 abbrev pub is_target : Place → Bool
 is_target (Target index) = true
 is_target (Header bus) = false
 is_target (Lane lane) = false
 is_target Nobody = false
 
+-- the place is the header of a bridge
 abbrev pub is_header : Place → Bool
 is_header (Target index) = false
 is_header (Header bus) = true
 is_header (Lane lane) = false
 is_header Nobody = false
 
+-- nobody claimed it
 abbrev pub is_nobody : Place → Bool
 is_nobody (Target index) = false
 is_nobody (Header bus) = false
@@ -119,5 +125,6 @@ has_line board (Act bus by op step place) =
     is_bus board bus && (has_initiator board by && (is_some (op_of board op) && (has_place board place && is_step_at step place)))
 has_line board (Arrive lane mark) = has_bridge_to board lane.bus
 
+-- the same as a fact
 abbrev pub HasLine : Board → Event → Type 0
 HasLine board event = IsTrue (has_line board event)

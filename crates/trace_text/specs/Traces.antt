@@ -7,6 +7,7 @@ use Rattle.board_printer.specs.Lines.{line_text, text_of}
 use Rattle.board_printer.specs.Boards.{board_text}
 use Rattle.trace_text.specs.Events.{event_line}
 
+-- `pcitrace 1`, the board, `events`, the events, `end N`
 unfoldable pub trace_of : Board → List Event → List ℕ
 trace_of board events =
     line_text (codes "pcitrace" ∷ codes "1" ∷ [])

@@ -29,6 +29,7 @@ by_word (FromLane lane) = lane_word lane
 abbrev pub master_name : Board → ℕ → List ℕ
 master_name board index = option_map_or (λ master. master.name) (slice_get board.masters index) []
 
+-- the same of a target
 abbrev pub target_name : Board → ℕ → List ℕ
 target_name board index = option_map_or (λ target. target.name) (slice_get board.targets index) []
 
@@ -40,6 +41,7 @@ is_poll (CfgRead bus device register) = false
 is_poll (CfgWrite bus device register phase) = false
 is_poll (Poll space address mask value tries) = true
 
+-- the same of an operation of the board
 abbrev pub names_poll : Board → OpId → Bool
 names_poll board o =
     option_map_or is_poll (option_and_then (λ master. slice_get master.ops o.index) (slice_get board.masters o.master)) false

@@ -77,6 +77,7 @@ abbrev pub program_drawn : ℕ → ℕ → ℕ
 program_drawn zero state = state
 program_drawn (suc rounds) state = program_drawn rounds (round_drawn state)
 
+-- bus 2 below bus 1, and bus 4 below bus 3
 abbrev pub generated_bridges : List Bridge
 generated_bridges =
     bridge_to 1 0 1 2 0x80000000 0x801fffff ∷
@@ -85,6 +86,7 @@ generated_bridges =
     bridge_to 4 3 1 4 0x90100000 0x901fffff ∷
     []
 
+-- one target on bus 0, and one at the end of each chain
 abbrev pub generated_targets : List Target
 generated_targets =
     target_on (codes "t0") 0 3 0x10000000 ∷

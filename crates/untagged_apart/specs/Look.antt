@@ -10,6 +10,7 @@ use Rattle.untagged_apart.specs.declared.meet.Register.{Register}
 pub record Differ (op other : Op) : Type 0 where
   pub each : (bus : ℕ) → same_request (request_on op bus) (request_on other bus) ≡ false
 
+-- where the look says so, they differ; else nothing is known
 abbrev pub NeverSame : Bool → Op → Op → Type 0
 NeverSame true op other = Unit {0}
 NeverSame false op other = Differ op other
@@ -18,6 +19,7 @@ NeverSame false op other = Differ op other
 pub record OtherAddress (op other : Op) : Type 0 where
   pub each : (bus : ℕ) → (address_on op bus == address_on other bus) ≡ false
 
+-- the same of addresses
 abbrev pub AddressesDiffer : Bool → Op → Op → Type 0
 AddressesDiffer true op other = OtherAddress op other
 AddressesDiffer false op other = Unit {0}
@@ -33,6 +35,7 @@ pub record AreTwo (a b : Register) : Type 0 where
   pub second : IsThere b
   pub other : a ≢ b
 
+-- the same of registers
 abbrev pub RegistersDiffer : Bool → Register → Register → Type 0
 RegistersDiffer true a b = AreTwo a b
 RegistersDiffer false a b = Unit {0}

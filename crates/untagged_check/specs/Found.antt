@@ -29,6 +29,7 @@ pub record IndexesRun (board : Board) (h : List Event) (index : List (Word × Li
   pub whole : (w : OpId) → value_of w landed ≡ whole_at h w
   pub indexes : Indexes board landed index
 
+-- the read with this write, if one was found
 abbrev pub found_by : OpId → ℕ → Option OpId → List StaleRead
 found_by read event None = []
 found_by read event (Some w) = record { read = read; write = w; event = event } ∷ []
@@ -38,6 +39,7 @@ abbrev pub found_with : Board → List Event → OpId → List ℕ → Option Go
 found_with board h read numbers None = []
 found_with board h read numbers (Some got) = found_by read got.event (first_unlanded board h got.word (got.event - 1) numbers)
 
+-- the same where the master of the read is one of the board
 abbrev pub found_at : Board → List Event → OpId → Option Got → Option (List ℕ) → List StaleRead
 found_at board h read got None = []
 found_at board h read got (Some numbers) = found_with board h read numbers got

@@ -19,6 +19,7 @@ use Rattle.untagged_check.specs.declared.verdict.Untagged.TheVariants.{NotRun, R
 abbrev pub read_of : Stale → StaleRead
 read_of stale = record { read = stale.read; write = stale.write; event = stale.event }
 
+-- all that are listed
 abbrev pub reads_of : List Stale → List StaleRead
 reads_of stale = map read_of stale
 

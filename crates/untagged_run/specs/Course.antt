@@ -16,6 +16,7 @@ use Rattle.untagged_run.specs.declared.made.Made.{Made}
 use Rattle.untagged_run.specs.Flat.{flat}
 use Rattle.untagged_run.specs.Table.{Table, SameGot, KeepsOrigins, origin_at, same_key}
 
+-- what is kept of such a run
 pub record CourseState : Type 0 where
   pub kept : KeptState
   pub origins : Table
@@ -36,6 +37,7 @@ abbrev pub NotedAt : Option Key → Option Got → Table → Table → Type 0
 NotedAt None source old new = new ≡ old
 NotedAt (Some slot) source old new = (q : Key) → origin_at new q ≡ (if same_key slot q then source else origin_at old q)
 
+-- the same of what an event made
 abbrev pub Noted : Made → Table → Table → Type 0
 Noted made old new = NotedAt made.slot made.source old new
 

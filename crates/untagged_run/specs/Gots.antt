@@ -51,6 +51,7 @@ taken_at board table lanes on o (Header bus) = None
 taken_at board table lanes on o (Lane lane) = slot_origin table lane (find (is_own board on anyone o) (lane_in board lanes lane).held)
 taken_at board table lanes on o Nobody = None
 
+-- what an act has its value from: a reading at a target, or the origin of the completion that is taken
 abbrev pub source_now : Board → Table → List Both → ℕ → ℕ → OpId → Step → Place → Option Got
 source_now board table lanes event on o Land place = None
 source_now board table lanes event on o (Part phases) place = None

@@ -24,6 +24,7 @@ SameGot None (Some reading) = ⊥
 SameGot (Some got) None = ⊥
 SameGot (Some got) (Some reading) = IsGot got reading
 
+-- what is noted of each slot: the origin of its completion, if it has one
 abbrev pub Table : Type 0
 Table = List (Key × Option Got)
 
@@ -31,6 +32,7 @@ Table = List (Key × Option Got)
 abbrev pub same_key : Key → Key → Bool
 same_key a b = a.bus == b.bus && same_direction a.up b.up && a.number == b.number
 
+-- the slot of this number of the lane
 abbrev pub key_of : BridgeLane → ℕ → Key
 key_of lane number = record { bus = lane.bus; up = lane.up; number = number }
 

@@ -7,9 +7,11 @@ use Rattle.law_audit.specs.Audit.{Finding}
 abbrev op : ℕ → ℕ → ℕ → OpId
 op master index attempt = record { master = master; index = index; attempt = attempt }
 
+-- how the read of the third master knows of the first write: over both flags
 abbrev pub relay_chain : List OpId
 relay_chain = op 0 0 0 ∷ op 0 1 0 ∷ op 1 0 1 ∷ op 1 1 0 ∷ op 2 0 2 ∷ op 2 1 0 ∷ []
 
+-- the audit of the relay: that read alone
 abbrev pub relay_findings : List Finding
 relay_findings =
     record {
@@ -20,6 +22,7 @@ relay_findings =
       chain = relay_chain;
     } ∷ []
 
+-- the audit of the run on one bus: the read behind its own master's write
 abbrev pub one_word_findings : List Finding
 one_word_findings =
     record {

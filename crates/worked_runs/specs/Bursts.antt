@@ -46,6 +46,7 @@ burst_board =
       drops = [];
     }
 
+-- its run: the write lands whole
 abbrev pub burst_events : List Event
 burst_events =
     Act 0 Master (op 0 0 0) Accept (Lane (record { bus = 1; up = false })) ∷
@@ -87,6 +88,7 @@ parted_board =
       drops = [];
     }
 
+-- its run: three data phases, three more, and the rest
 abbrev pub parted_events : List Event
 parted_events =
     Act 0 Master (op 0 0 0) Accept (Lane (record { bus = 1; up = false })) ∷
@@ -133,6 +135,7 @@ between_board =
       drops = [];
     }
 
+-- its run: each read comes between two parts
 abbrev pub between_events : List Event
 between_events =
     Act 0 Master (op 0 0 0) (Part 1) (Target 0) ∷
@@ -146,5 +149,6 @@ between_events =
 abbrev pub parted_write : OpId
 parted_write = op 0 0 0
 
+-- the same of the read
 abbrev pub read_between : OpId
 read_between = op 1 0 0

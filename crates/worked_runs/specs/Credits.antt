@@ -55,6 +55,7 @@ credits_board =
       drops = [];
     }
 
+-- its run: each writer waits for the credit of the one before
 abbrev pub credits_events : List Event
 credits_events =
     Act 0 Master (op 0 0 0) Accept (Lane (record { bus = 1; up = false })) ∷

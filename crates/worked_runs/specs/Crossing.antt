@@ -79,6 +79,7 @@ crossing further =
 abbrev pub crossing_board : Board
 crossing_board = crossing []
 
+-- its run, in which every read ends
 abbrev pub crossing_events : List Event
 crossing_events =
     Act 0 Master (op 0 0 0) Latch (Lane (record { bus = 1; up = false })) ∷
@@ -121,6 +122,7 @@ crossing_posted_board =
       ops = WriteOp MemWrite 0x80000040 (record { value = 0x1; enables = 15 } ∷ []) ∷ [];
     } ∷ [])
 
+-- its run, in which every read ends and the write lands
 abbrev pub crossing_posted_events : List Event
 crossing_posted_events =
     Act 0 Master (op 0 0 0) Latch (Lane (record { bus = 1; up = false })) ∷

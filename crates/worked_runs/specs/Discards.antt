@@ -47,6 +47,7 @@ discarded_board =
       drops = [];
     }
 
+-- its run: the read is asked for once more, and its second completion is taken
 abbrev pub discarded_events : List Event
 discarded_events =
     Act 0 Master (op 0 0 0) Latch (Lane (record { bus = 1; up = false })) ∷
@@ -97,6 +98,7 @@ landed_twice_board =
       drops = [];
     }
 
+-- its run: the write is latched once more, and lands once more
 abbrev pub landed_twice_events : List Event
 landed_twice_events =
     Act 0 Master (op 0 0 0) Latch (Lane (record { bus = 1; up = false })) ∷
@@ -139,6 +141,7 @@ dropped_board =
       drops = record { bus = 1; up = false; count = 1 } ∷ [];
     }
 
+-- its run: the word that the request was dropped frees the slot, and the read is latched again
 abbrev pub dropped_events : List Event
 dropped_events =
     Act 0 Master (op 0 0 0) Latch (Lane (record { bus = 1; up = false })) ∷

@@ -64,6 +64,7 @@ flag_board =
       drops = [];
     }
 
+-- its run: the completion of the poll waits behind the data
 abbrev pub flag_events : List Event
 flag_events =
     Act 1 Master (op 0 0 0) Accept (Lane (record { bus = 1; up = true })) ∷

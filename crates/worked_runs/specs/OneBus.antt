@@ -43,6 +43,7 @@ one_word_board =
       drops = [];
     }
 
+-- its run: the read returns what was written
 abbrev pub one_word_events : List Event
 one_word_events =
     Act 0 Master (op 0 0 0) Land (Target 0) ∷
@@ -77,6 +78,7 @@ answers_board =
       drops = [];
     }
 
+-- its run: of the dword that opens as 11223344 two bytes are written
 abbrev pub answers_events : List Event
 answers_events =
     Act 0 Master (op 0 0 0) Stall (Target 0) ∷

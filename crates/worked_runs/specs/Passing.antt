@@ -116,9 +116,11 @@ behind_board second =
 abbrev pub read_behind : Op
 read_behind = ReadOp MemRead 0x10000000
 
+-- the same of the write in I/O space
 abbrev pub io_write_behind : Op
 io_write_behind = WriteOp IoWrite 0x1000 (record { value = 0x1; enables = 15 } ∷ [])
 
+-- the same of the second posted write
 abbrev pub write_behind : Op
 write_behind = WriteOp MemWrite 0x10000004 (record { value = 0xa; enables = 15 } ∷ [])
 

@@ -49,9 +49,11 @@ down = record { bus = 1; up = false }
 abbrev pub bare_op : Op
 bare_op = WriteOp MemWrite 0x100040 []
 
+-- a board whose program is that write
 abbrev pub bare_board : Board
 bare_board = record one_word_board { masters = record { name = codes "cpu"; bus = 0; ops = bare_op ∷ [] } ∷ [] }
 
+-- the write of no data phase
 abbrev pub bare_write : OpId
 bare_write = record { master = 0; index = 0; attempt = 0 }
 
@@ -92,6 +94,7 @@ flagged_board opening =
 abbrev pub flag_poll : OpId
 flag_poll = record { master = 1; index = 0; attempt = 0 }
 
+-- the same of the read behind it
 abbrev pub data_read : OpId
 data_read = record { master = 1; index = 1; attempt = 0 }
 
@@ -99,6 +102,7 @@ data_read = record { master = 1; index = 1; attempt = 0 }
 abbrev pub early_events : List Event
 early_events = Act 0 Master flag_poll (Read 0x1) (Target 0) ∷ Act 0 Master data_read (Read 0x0) (Target 0) ∷ []
 
+-- the same as a history
 abbrev pub early_history : List Event
 early_history = history_of early_events
 
@@ -106,8 +110,10 @@ early_history = history_of early_events
 abbrev pub relay_history : List Event
 relay_history = history_of relay_events
 
+-- the first so many events of the relay
 abbrev pub relay_after : ℕ → List Event
 relay_after n = history_of (take n relay_events)
 
+-- the first so many events of the three writers
 abbrev pub credits_after : ℕ → List Event
 credits_after n = history_of (take n credits_events)

@@ -46,6 +46,7 @@ registers_board =
       drops = [];
     }
 
+-- its run: the registers of the device, of bridge 2 and of bridge 1, and all ones of nobody
 abbrev pub registers_events : List Event
 registers_events =
     Act 0 Master (op 0 0 0) Latch (Lane (record { bus = 1; up = false })) ∷

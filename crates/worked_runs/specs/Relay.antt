@@ -53,6 +53,7 @@ relay_board =
       drops = [];
     }
 
+-- its run: each master polls until it sees its flag
 abbrev pub relay_events : List Event
 relay_events =
     Act 0 Master (op 0 0 0) Land (Target 0) ∷
@@ -70,6 +71,7 @@ relay_events =
 abbrev pub first_write : OpId
 first_write = op 0 0 0
 
+-- the same of the read
 abbrev pub last_read : OpId
 last_read = op 2 1 0
 
@@ -77,5 +79,6 @@ last_read = op 2 1 0
 abbrev pub first_flag : OpId
 first_flag = op 0 1 0
 
+-- the same of the second master's
 abbrev pub second_write : OpId
 second_write = op 1 1 0

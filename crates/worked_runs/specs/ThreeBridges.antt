@@ -48,6 +48,7 @@ three_bridges_board =
       drops = [];
     }
 
+-- its run: the request goes up two bridges and down one, and its completion back
 abbrev pub three_bridges_events : List Event
 three_bridges_events =
     Act 2 Master (op 0 0 0) Latch (Lane (record { bus = 2; up = true })) ∷

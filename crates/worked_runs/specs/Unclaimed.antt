@@ -33,6 +33,7 @@ unclaimed_board =
       drops = [];
     }
 
+-- its run: the read returns all ones, and the write is lost
 abbrev pub unclaimed_events : List Event
 unclaimed_events =
     Act 0 Master (op 0 0 0) Latch (Lane (record { bus = 1; up = false })) ∷
@@ -63,6 +64,7 @@ aborted_board =
       drops = [];
     }
 
+-- its run: the read ends with an abort, and the write is lost
 abbrev pub aborted_events : List Event
 aborted_events =
     Act 0 Master (op 0 0 0) Latch (Lane (record { bus = 1; up = false })) ∷

@@ -46,6 +46,7 @@ wide_board =
       drops = [];
     }
 
+-- its run: the read comes behind the posted write
 abbrev pub wide_events : List Event
 wide_events =
     Act 0 Master (op 0 0 0) Accept (Lane (record { bus = 1; up = false })) ∷

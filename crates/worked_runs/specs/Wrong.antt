@@ -26,8 +26,10 @@ second_accept = Act 0 Master (record { master = 1; index = 0; attempt = 0 }) Acc
 abbrev pub all_at_once : Event
 all_at_once = Act 0 Master (record { master = 0; index = 0; attempt = 0 }) Land (Target 0)
 
+-- what goes up from bus 1 arrives with no mark
 abbrev pub plain_arrival : Event
 plain_arrival = Arrive (record { bus = 1; up = true }) Plain
 
+-- the same arrives marked as discarded
 abbrev pub marked_arrival : Event
 marked_arrival = Arrive (record { bus = 1; up = true }) Discard

@@ -16,6 +16,7 @@ use Rattle.write_combining.specs.Writes.{MemoryWrite, memory_write, op_of_write}
 abbrev pub byte_of : ℕ → ℕ → ℕ
 byte_of value byte = value / 2 ^ (8 * byte) % 2 ^ 8
 
+-- the data phase writes that byte
 abbrev pub is_enabled : ℕ → ℕ → Bool
 is_enabled enables byte = enables / 2 ^ byte % 2 == 1
 
@@ -26,6 +27,7 @@ may_combine earlier later =
     later.address == earlier.address + 4 * length earlier.phases
     && is_burst_in Mem earlier.address (length earlier.phases + length later.phases)
 
+-- the dwords of both, one behind the other
 abbrev pub combined_write : MemoryWrite → MemoryWrite → MemoryWrite
 combined_write earlier later = record { address = earlier.address; phases = earlier.phases ++ later.phases }
 
@@ -52,6 +54,7 @@ merged_byte last first byte =
     else if is_enabled first.enables byte then byte_of first.value byte
     else 0
 
+-- one data phase with the bytes of both
 abbrev pub merged_phase : Phase → Phase → Phase
 merged_phase last first =
     record {
@@ -59,6 +62,7 @@ merged_phase last first =
       enables = bit_or last.enables first.enables;
     }
 
+-- the dwords of both, with the one that they share merged
 abbrev pub merged_write : MemoryWrite → MemoryWrite → Phase → Phase → MemoryWrite
 merged_write earlier later last first =
     record {
@@ -66,6 +70,7 @@ merged_write earlier later last first =
       phases = take (length earlier.phases - 1) earlier.phases ++ merged_phase last first ∷ drop 1 later.phases;
     }
 
+-- the merged write, where both have a dword and the rule allows it
 abbrev pub merge_by : Board → MemoryWrite → MemoryWrite → Option Phase → Option Phase → Option MemoryWrite
 merge_by board earlier later (Some last) (Some first) =
     if may_merge board earlier later last first then Some (merged_write earlier later last first) else None
@@ -79,6 +84,7 @@ join_writes board earlier later =
     then Some (combined_write earlier later)
     else merge_by board earlier later (slice_get earlier.phases (length earlier.phases - 1)) (slice_get later.phases 0)
 
+-- the same of operations that may be memory writes
 abbrev pub join_by : Board → Option MemoryWrite → Option MemoryWrite → Option MemoryWrite
 join_by board (Some earlier) (Some later) = join_writes board earlier later
 join_by board (Some earlier) None = None

@@ -19,6 +19,7 @@ base_registers range =
     then bit_or range.base (io_bit range.space) ∷ []
     else bit_or (range.base % 2 ^ 32) 4 ∷ (range.base / 2 ^ 32) ∷ []
 
+-- those of all ranges of a target, in their order
 abbrev pub all_base_registers : List Range → List ℕ
 all_base_registers [] = []
 all_base_registers (range ∷ ranges) = base_registers range ++ all_base_registers ranges
@@ -44,6 +45,7 @@ write_mask_of register =
 abbrev pub byte_enabled : ℕ → ℕ → ℕ
 byte_enabled enables byte = if enables / 2 ^ byte % 2 == 1 then 0xff * 2 ^ (8 * byte) else 0
 
+-- the bits of all four bytes of a dword
 abbrev pub enabled_bits : ℕ → ℕ
 enabled_bits enables = byte_enabled enables 0 + byte_enabled enables 1 + byte_enabled enables 2 + byte_enabled enables 3
 

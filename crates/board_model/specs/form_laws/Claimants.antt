@@ -25,6 +25,7 @@ decodes_up bus space address bridge = bridge.bus == bus && not (bridge_holds spa
 abbrev pub is_target_device : ℕ → ℕ → TargetAgent → Bool
 is_target_device bus device target = target.bus == bus && target.device == device
 
+-- the same of a bridge, whose primary bus it is
 abbrev pub is_bridge_device : ℕ → ℕ → Bridge → Bool
 is_bridge_device bus device bridge = bridge.parent == bus && bridge.device == device
 
@@ -38,6 +39,7 @@ targets_from test place [] = []
 targets_from test place (target ∷ targets) =
     if test target then Target place ∷ targets_from test (place + 1) targets else targets_from test (place + 1) targets
 
+-- the targets of the board that pass, by their places
 abbrev pub targets_that : (TargetAgent → Bool) → Board → List Place
 targets_that test board = targets_from test 0 board.targets
 
@@ -45,9 +47,11 @@ targets_that test board = targets_from test 0 board.targets
 abbrev pub lanes_down_that : (Bridge → Bool) → Board → List Place
 lanes_down_that test board = map (λ (bridge : Bridge). Lane (record { bus = bridge.bus; up = false })) (filter test board.bridges)
 
+-- the same of the lanes up
 abbrev pub lanes_up_that : (Bridge → Bool) → Board → List Place
 lanes_up_that test board = map (λ (bridge : Bridge). Lane (record { bus = bridge.bus; up = true })) (filter test board.bridges)
 
+-- the same of the headers
 abbrev pub headers_that : (Bridge → Bool) → Board → List Place
 headers_that test board = map (λ (bridge : Bridge). Header bridge.bus) (filter test board.bridges)
 
@@ -65,11 +69,13 @@ claimants_in_configuration board bus address =
     then targets_that (is_target_device bus (device_in address)) board ++ headers_that (is_bridge_device bus (device_in address)) board
     else lanes_down_that (leads_to bus (bus_in address)) board
 
+-- who would claim the address in this space
 abbrev pub claimants_in : Board → ℕ → Space → ℕ → List Place
 claimants_in board bus Mem address = claimants_by_address board bus Mem address
 claimants_in board bus Io address = claimants_by_address board bus Io address
 claimants_in board bus Cfg address = claimants_in_configuration board bus address
 
+-- who would claim the request, by the space of its command
 abbrev pub claimants : Board → ℕ → Request → List Place
 claimants board bus request = claimants_in board bus (space_of request.command) request.address
 

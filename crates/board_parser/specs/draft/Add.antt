@@ -1,6 +1,6 @@
 -- A statement is added to a draft, or is refused by the first of its faults.
 use Rattle.std.specs.Prelude.{ℕ, Result}
-use Rattle.board_statements.specs.declared.fault.LineFault.{LineFault}
+use Rattle.text_faults.specs.declared.board_line.LineFault.{LineFault}
 use Rattle.board_statements.specs.declared.statement.Statement.{Statement}
 use Rattle.board_statements.specs.declared.statement.Statement.TheVariants.{NewBridge, NewHeader, NewTarget, Identifies, Stalls, Bursts, Claims, Aborts, Opens, NewMaster, Does, Discards, Drops}
 use Rattle.board_parser.specs.declared.draft.draft.Draft.{Draft}
@@ -11,6 +11,7 @@ use Rattle.board_parser.specs.draft.Masters.{add_master, does}
 use Rattle.board_parser.specs.draft.Plans.{add_discard, add_drop}
 use Rattle.board_model.specs.Requests.{tries_of}
 
+-- the draft behind the statement, or the first of its faults
 abbrev pub add : Draft → Statement → Result Draft LineFault
 add draft (NewBridge bridge) = add_bridge draft.wide (board_of draft) bridge
 add draft (NewHeader device bytes posted delayed) = add_header draft.wide (board_of draft) device bytes posted delayed

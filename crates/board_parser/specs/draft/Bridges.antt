@@ -9,8 +9,8 @@ use Rattle.board_headers.specs.declared.windows.Windows.{Windows}
 use Rattle.board_headers.specs.declared.fault.HeaderFault.{HeaderFault}
 use Rattle.board_headers.specs.declared.fault.HeaderFault.TheVariants.{H1, H2, H3}
 use Rattle.board_headers.specs.Windows.{reading_of}
-use Rattle.board_statements.specs.declared.fault.LineFault.{LineFault}
-use Rattle.board_statements.specs.declared.fault.LineFault.TheVariants.{Unaligned, PastItsSpace, BusUsed, OverLimit, NotTypeOne, NotServed, NoBridgeNumbers, WideWindow}
+use Rattle.text_faults.specs.declared.board_line.LineFault.{LineFault}
+use Rattle.text_faults.specs.declared.board_line.LineFault.TheVariants.{Unaligned, PastItsSpace, BusUsed, OverLimit, NotTypeOne, NotServed, NoBridgeNumbers, WideWindow}
 use Rattle.board_parser.specs.declared.draft.draft.Draft.{Draft}
 use Rattle.board_parser.specs.draft.Drafts.{draft_of}
 
@@ -23,10 +23,12 @@ is_whole unit (Some window) = window.base % unit == 0 && (window.limit + 1) % un
 abbrev pub are_windows_whole : Bridge → Bool
 are_windows_whole bridge = is_whole (2 ^ 20) bridge.mem && is_whole (2 ^ 20) bridge.pref && is_whole (2 ^ 12) bridge.io
 
+-- the window does not end before it begins
 abbrev pub is_ordered : Option Window → Bool
 is_ordered None = true
 is_ordered (Some window) = nat_le window.base window.limit
 
+-- the same of all windows of a bridge
 abbrev pub are_windows_ordered : Bridge → Bool
 are_windows_ordered bridge = is_ordered bridge.mem && is_ordered bridge.pref && is_ordered bridge.io
 
@@ -44,6 +46,7 @@ add_bridge wide board bridge =
     else if not (are_windows_ordered bridge) then Err PastItsSpace
     else put_bridge wide board bridge
 
+-- the fault of the line whose header has this fault
 abbrev pub fault_of : HeaderFault → LineFault
 fault_of H1 = NotTypeOne
 fault_of H2 = NotServed

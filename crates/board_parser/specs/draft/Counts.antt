@@ -5,8 +5,8 @@ use Rattle.std.specs.Str.{bytes_eq}
 use Rattle.std.specs.HashSet.{contains_text}
 use Rattle.board_model.specs.declared.board.Board.{Board}
 use Rattle.board_model.specs.WellFormed.{agents_on, operations_in}
-use Rattle.board_statements.specs.declared.fault.LineFault.{LineFault}
-use Rattle.board_statements.specs.declared.fault.LineFault.TheVariants.{NameUsed, OverLimit}
+use Rattle.text_faults.specs.declared.board_line.LineFault.{LineFault}
+use Rattle.text_faults.specs.declared.board_line.LineFault.TheVariants.{NameUsed, OverLimit}
 use Rattle.board_statements.specs.declared.statement.Statement.{Statement}
 use Rattle.board_statements.specs.declared.statement.Statement.TheVariants.{NewBridge, NewHeader, NewTarget, Identifies, Stalls, Bursts, Claims, Aborts, Opens, NewMaster, Does, Discards, Drops}
 use Rattle.board_parser.specs.declared.draft.counts.Counts.{Counts}
@@ -44,6 +44,7 @@ agent_in (Does op too_many) = None
 agent_in (Discards planned) = None
 agent_in (Drops planned) = None
 
+-- a target or master, by what is counted of it
 abbrev pub name_and_bus : Option Agent → Option (List ℕ × ℕ)
 name_and_bus None = None
 name_and_bus (Some agent) = Some (string_bytes agent.name, agent.bus)
@@ -53,6 +54,7 @@ abbrev pub used_with : Option (List ℕ × ℕ) → List ℕ → Bool → Bool
 used_with None name before = before
 used_with (Some agent) name before = if bytes_eq agent.0 name then true else before
 
+-- 1 where the agent is on the bus
 abbrev pub more_on : Option (List ℕ × ℕ) → ℕ → ℕ
 more_on None bus = 0
 more_on (Some agent) bus = if agent.1 == bus then 1 else 0

@@ -17,11 +17,13 @@ abbrev pub ends_within : ℕ → Option Window → Bool
 ends_within end None = true
 ends_within end (Some window) = nat_lt window.limit end
 
+-- a bridge as its words give it: its bus, device number, depths and windows
 abbrev pub is_formed_bridge : Bridge → Bool
 is_formed_bridge bridge =
     nat_le 1 bridge.bus && nat_le bridge.device 31 && is_within 1 8 bridge.posted && is_within 1 8 bridge.delayed
     && ends_within (2 ^ 32) bridge.mem && ends_within (2 ^ 64) bridge.pref && ends_within (2 ^ 32) bridge.io
 
+-- a number below 256
 abbrev pub is_byte : ℕ → Bool
 is_byte byte = nat_lt byte 256
 
@@ -43,6 +45,7 @@ is_size Mem size = nat_lt size (2 ^ 64)
 is_size Io size = nat_lt size (2 ^ 32)
 is_size Cfg size = false
 
+-- an address of the space that the command reads; a command that reads none is not formed
 abbrev pub is_formed_read : ℕ → Option Space → Bool
 is_formed_read address None = false
 is_formed_read address (Some space) = is_address space address
@@ -53,11 +56,13 @@ is_phase_count Mem phases = is_within 1 8 phases
 is_phase_count Io phases = phases == 1
 is_phase_count Cfg phases = false
 
+-- the same of a write, and so many dwords as its space takes at once
 abbrev pub is_formed_write : ℕ → List Phase → Option Space → Bool
 is_formed_write address phases None = false
 is_formed_write address phases (Some space) =
     is_address space address && is_phase_count space (length phases) && list_all is_well_formed_phase phases
 
+-- an operation as its words give it
 abbrev pub is_formed_op : Op → Bool
 is_formed_op (Read command address) = is_formed_read address (read_space command)
 is_formed_op (Write command address phases) = is_formed_write address phases (write_space command)
@@ -65,6 +70,7 @@ is_formed_op (CfgRead bus device register) = nat_le device 31 && nat_le register
 is_formed_op (CfgWrite bus device register phase) = nat_le device 31 && nat_le register 63 && is_well_formed_phase phase
 is_formed_op (Poll space address mask value tries) = is_address space address && is_within 1 65536 tries
 
+-- a statement as its words give it
 abbrev pub is_formed : Statement → Bool
 is_formed (NewBridge bridge) = is_formed_bridge bridge
 is_formed (NewHeader device bytes posted delayed) =

@@ -1,11 +1,12 @@
 -- Steps that may end with a fault of the line, one after the other.
 use Rattle.std.specs.Prelude.{◌≡◌, Result, Ok, Err}
-use Rattle.board_statements.specs.declared.fault.LineFault.{LineFault}
+use Rattle.text_faults.specs.declared.board_line.LineFault.{LineFault}
 use Rattle.board_parser.specs.declared.draft.fault.AddFault.{AddFault}
 use Rattle.board_parser.specs.declared.draft.fault.AddFault.TheVariants.{Fault, NoMemory}
 
 -- the next step, unless this one ended with a fault
 infixl 10 ◌>>=◌
+-- what this one answered goes on to the next
 abbrev pub ◌>>=◌ : {A B : Type 0} → Result A LineFault → (A → Result B LineFault) → Result B LineFault
 (Ok x) >>= next = next x
 (Err fault) >>= next = Err fault

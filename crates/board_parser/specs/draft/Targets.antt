@@ -9,11 +9,11 @@ use Rattle.board_model.specs.declared.agents.Opening.{Opening}
 use Rattle.board_model.specs.declared.agents.Target.{Target}
 use Rattle.board_model.specs.declared.board.Board.{Board}
 use Rattle.board_model.specs.WellFormed.{registers_of, is_target_named, is_master_named, agents_on}
-use Rattle.board_statements.specs.declared.fault.LineFault.{LineFault}
-use Rattle.board_statements.specs.declared.fault.LineFault.TheVariants.{NoOwner, Unaligned, PastItsSpace, NameUsed, OverLimit}
+use Rattle.text_faults.specs.declared.board_line.LineFault.{LineFault}
+use Rattle.text_faults.specs.declared.board_line.LineFault.TheVariants.{NoOwner, Unaligned, PastItsSpace, NameUsed, OverLimit}
 use Rattle.board_parser.specs.declared.draft.draft.Draft.{Draft}
-use Rattle.board_parser.specs.declared.draft.draft.Owner.{Owner}
-use Rattle.board_parser.specs.declared.draft.draft.Owner.TheVariants.{Nobody, OfTarget, OfMaster}
+use Rattle.board_parser.specs.declared.draft.draft.AgentPlace.{AgentPlace}
+use Rattle.board_parser.specs.declared.draft.draft.AgentPlace.TheVariants.{Nobody, OfTarget, OfMaster}
 use Rattle.board_parser.specs.draft.Steps.{◌>>=◌}
 
 -- a target or master before has the name
@@ -25,11 +25,12 @@ abbrev pub bus_in : Option Target → Option ℕ
 bus_in None = None
 bus_in (Some target) = Some target.bus
 
+-- the bus of the target of the board that has the name
 abbrev pub bus_of_target : Board → List ℕ → Option ℕ
 bus_of_target board name = bus_in (find (is_target_named name) board.targets)
 
 -- the target whose details the next line may give
-abbrev pub owned : Owner → List Target
+abbrev pub owned : AgentPlace → List Target
 owned Nobody = []
 owned (OfTarget target) = target ∷ []
 owned (OfMaster master) = []
@@ -41,6 +42,7 @@ agent_fault board name bus =
     else if nat_le 8 (agents_on board bus) then Some OverLimit
     else None
 
+-- the draft, where there is no such fault
 abbrev pub unless : Option LineFault → Draft → Result Draft LineFault
 unless None draft = Ok draft
 unless (Some fault) draft = Err fault
@@ -66,11 +68,12 @@ add_target wide board name bus device =
     unless (agent_fault board name bus) (record { wide = wide; board = board; owner = OfTarget (new_target name bus device) })
 
 -- a detail line stands behind its target
-abbrev pub target_in : Owner → Result Target LineFault
+abbrev pub target_in : AgentPlace → Result Target LineFault
 target_in Nobody = Err NoOwner
 target_in (OfTarget target) = Ok target
 target_in (OfMaster master) = Err NoOwner
 
+-- the draft with that target changed, or the fault
 abbrev pub on_target : Draft → (Target → Result Target LineFault) → Result Draft LineFault
 on_target draft change = do
   target ← target_in draft.owner
@@ -81,9 +84,11 @@ on_target draft change = do
 abbrev pub set_identity : ℕ → ℕ → Target → Result Target LineFault
 set_identity vendor model target = Ok (record target { vendor = vendor; model = model })
 
+-- the same of a `stall` line
 abbrev pub set_stalls : ℕ → Target → Result Target LineFault
 set_stalls tokens target = Ok (record target { stalls = tokens })
 
+-- the same of a `burst` line
 abbrev pub set_burst : ℕ → Target → Result Target LineFault
 set_burst phases target = Ok (record target { burst = phases })
 
@@ -104,6 +109,7 @@ end_of wide Cfg = 2 ^ 32
 abbrev pub is_in_units : ℕ → Range → Bool
 is_in_units unit range = range.base % unit == 0 && range.size % unit == 0 && nat_lt 0 range.size
 
+-- a range that a target may have: its units are looked at first, then its space
 abbrev pub fits : Bool → Range → Result Range LineFault
 fits wide range =
     if not (is_in_units (unit_of range.space) range) then Err Unaligned
@@ -126,6 +132,7 @@ put_abort target range =
 abbrev pub add_range : Bool → Range → Target → Result Target LineFault
 add_range wide range target = fits wide range >>= put_range target
 
+-- the same of an `abort` line
 abbrev pub add_abort : Bool → Range → Target → Result Target LineFault
 add_abort wide range target = fits wide range >>= put_abort target
 

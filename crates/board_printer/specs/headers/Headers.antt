@@ -19,10 +19,12 @@ sixteen from bytes = take 16 (drop from bytes)
 abbrev pub row_line : List ℕ → ℕ → List ℕ → Line
 row_line label from bytes = label ∷ map byte_text (sixteen from bytes)
 
+-- the 64 bytes in four lines
 unfoldable pub rows_of : List ℕ → List Line
 rows_of bytes =
     row_line (codes "00:") 0 bytes ∷ row_line (codes "10:") 16 bytes ∷ row_line (codes "20:") 32 bytes ∷ row_line (codes "30:") 48 bytes ∷ []
 
+-- `bridge B`, then its bytes
 abbrev pub header_lines : Bridge → List Line
 header_lines bridge = (codes "bridge" ∷ decimal bridge.bus ∷ []) ∷ rows_of (header_bytes bridge)
 

@@ -20,6 +20,7 @@ pub record ProgramFits (master : Master) : Type 0 where
   pub begins : MasterFits master
   pub ops : AllByRecursion OpFits master.ops
 
+-- a board with all its parts
 pub record BoardFits (board : Board) : Type 0 where
   pub bridges : AllByRecursion BridgeFits board.bridges
   pub targets : AllByRecursion DetailsFit board.targets

@@ -12,33 +12,41 @@ use Rattle.board_model.specs.declared.op.Op.{Op}
 use Rattle.board_model.specs.declared.op.Op.TheVariants.{Read, Write, CfgRead, CfgWrite, Poll}
 use Rattle.board_model.specs.declared.board.Planned.{Planned}
 
+-- the buses of a bridge are bytes
 pub record BridgeFits (bridge : Bridge) : Type 0 where
   pub bus : bridge.bus < 2 ^ 8
   pub parent : bridge.parent < 2 ^ 8
   pub last : bridge.last < 2 ^ 8
 
+-- the line that a target begins with: a name, and a bus that is a byte
 pub record TargetFits (target : Target) : Type 0 where
   pub name : is_name target.name ≡ true
   pub bus : target.bus < 2 ^ 8
 
+-- the same of a master
 pub record MasterFits (master : Master) : Type 0 where
   pub name : is_name master.name ≡ true
   pub bus : master.bus < 2 ^ 8
 
+-- base and size of a range are of 64 bits
 pub record RangeFits (range : Range) : Type 0 where
   pub base : range.base < 2 ^ 64
   pub size : range.size < 2 ^ 64
 
+-- an address of 64 bits, and a dword
 pub record OpeningFits (opening : Opening) : Type 0 where
   pub address : opening.address < 2 ^ 64
   pub value : opening.value < 2 ^ 32
 
+-- the bus of a planned discard or drop is a byte
 abbrev pub PlannedFits : Planned → Type 0
 PlannedFits planned = planned.bus < 2 ^ 8
 
+-- the data of a phase is a dword
 abbrev pub PhaseFits : Phase → Type 0
 PhaseFits phase = phase.value < 2 ^ 32
 
+-- an operation: addresses of 64 bits, dwords, and buses that are bytes
 abbrev pub OpFits : Op → Type 0
 OpFits (Read command address) = address < 2 ^ 64
 OpFits (Write command address phases) = (address < 2 ^ 64) × AllByRecursion PhaseFits phases

@@ -13,6 +13,7 @@ use Rattle.bus_face.specs.State.{FaceState}
 use Rattle.bus_face.specs.Stands.{Stands}
 use Rattle.bus_agents.specs.marks.Marks.{MarksView, MarksStand}
 
+-- what a bus keeps of a bridge
 pub record PortView : Type 0 where
   -- the lane of the bridge that ends on the bus; its lane back begins there
   pub lane : BridgeLane

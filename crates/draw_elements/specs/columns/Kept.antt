@@ -6,6 +6,7 @@ use Rattle.draw_items.specs.declared.item.Item.{Item}
 use Rattle.draw_items.specs.Items.{has_stood}
 use Rattle.draw_elements.specs.columns.Places.{most}
 
+-- the place of a lane: two for each bridge
 abbrev pub slot_of : BridgeLane → ℕ
 slot_of lane = if lane.up then 2 * lane.bus + 1 else 2 * lane.bus
 

@@ -19,6 +19,7 @@ lower_buses = range_with_len 1 255
 abbrev pub is_child : Board → ℕ → ℕ → Bool
 is_child board parent bus = has_bridge_to board bus && primary_of board bus == parent
 
+-- the buses below the bridges on this bus
 abbrev pub children_of : Board → ℕ → List ℕ
 children_of board parent = filter (is_child board parent) lower_buses
 
@@ -29,6 +30,7 @@ children_of board parent = filter (is_child board parent) lower_buses
 abbrev pub first_of_right : List ℕ → ℕ
 first_of_right children = option_map_or (λ bus. bus) (slice_get children (length children / 2)) 256
 
+-- the number that parts the wings of a board
 unfoldable pub middle_of : Board → ℕ
 middle_of board = first_of_right (children_of board 0)
 
@@ -42,6 +44,7 @@ in_order board middle =
 abbrev pub child_face : ℕ → BridgeLane
 child_face bus = record { bus = bus; up = true }
 
+-- the face of the bus's own bridge
 abbrev pub own_face : ℕ → BridgeLane
 own_face bus = record { bus = bus; up = false }
 
@@ -59,6 +62,7 @@ targets_on bus k (agent ∷ agents) = (if agent.bus == bus then Target k ∷ [] 
 abbrev pub own_left : ℕ → ℕ → List Line
 own_left middle bus = if not (bus == 0) && nat_le middle bus then Left (own_face bus) ∷ [] else []
 
+-- the same at its right
 abbrev pub own_right : ℕ → ℕ → List Line
 own_right middle bus = if not (bus == 0) && nat_lt bus middle then Right (own_face bus) ∷ [] else []
 
@@ -66,6 +70,7 @@ own_right middle bus = if not (bus == 0) && nat_lt bus middle then Right (own_fa
 abbrev pub left_faces : ℕ → List ℕ → List Line
 left_faces middle children = map (λ child. Left (child_face child)) (reverse (filter (λ child. nat_lt child middle) children))
 
+-- the same of those at the right
 abbrev pub right_faces : ℕ → List ℕ → List Line
 right_faces middle children = map (λ child. Right (child_face child)) (filter (λ child. nat_le middle child) children)
 

@@ -27,6 +27,7 @@ name_of board (Right lane) = codes "bridge " ++ decimal lane.bus
 abbrev pub tracks_used : BridgeLane → Item → ℕ
 tracks_used lane item = if has_stood item && same_lane item.lane lane then item.track + 1 else 0
 
+-- the greatest of that over all items
 abbrev pub most : List Item → BridgeLane → ℕ
 most items lane = greatest (tracks_used lane) items
 
@@ -37,6 +38,7 @@ room_before items (Master master) = 0
 room_before items (Target target) = 0
 room_before items (Right lane) = 0
 
+-- the room behind a face at the right
 abbrev pub room_behind : List Item → Line → ℕ
 room_behind items (Left lane) = 0
 room_behind items (Master master) = 0
@@ -58,9 +60,11 @@ abbrev pub past_lines : List Item → ℕ → List Line → ℕ
 past_lines items x [] = x
 past_lines items x (line ∷ lines) = past_lines items (next_x items x line) lines
 
+-- where the names of a bus end, with that of this line
 abbrev pub past_name : Board → List Item → ℕ → ℕ → Line → ℕ
 past_name board items x end line = max end (x + room_before items line + (6 * length (name_of board line) + 6))
 
+-- the same of all lines of a bus
 abbrev pub past_names : Board → List Item → ℕ → ℕ → List Line → ℕ
 past_names board items x end [] = end
 past_names board items x end (line ∷ lines) = past_names board items (next_x items x line) (past_name board items x end line) lines
@@ -86,6 +90,7 @@ with_bus board items bus lines layout =
       past = band_end board items layout.past lines + 34;
     }
 
+-- all these buses, from left to right
 abbrev pub with_buses : Board → List Item → ℕ → List ℕ → Layout → Layout
 with_buses board items middle [] layout = layout
 with_buses board items middle (bus ∷ buses) layout =
@@ -102,6 +107,7 @@ width_of layout = (layout.past - 26 + 3) / 4 * 4
 
 -- Where a line stands.
 
+-- the same face at the same side, the same master, or the same target
 abbrev pub same_line : Line → Line → Bool
 same_line (Left a) (Left b) = same_lane a b
 same_line (Left a) (Master b) = false
@@ -120,12 +126,15 @@ same_line (Right a) (Master b) = false
 same_line (Right a) (Target b) = false
 same_line (Right a) (Right b) = same_lane a b
 
+-- the place of a column
 abbrev pub place_of_column : Column → ℕ
 place_of_column column = column.place
 
+-- the place of a line, where it is there
 abbrev pub found_place : Line → Layout → Option ℕ
 found_place line layout = option_map place_of_column (find (λ column. same_line column.line line) layout.lines)
 
+-- the number, 0 where there is none
 abbrev pub or_zero : Option ℕ → ℕ
 or_zero None = 0
 or_zero (Some n) = n
@@ -138,6 +147,7 @@ place_of line layout = or_zero (found_place line layout)
 abbrev pub is_left : BridgeLane → Layout → Bool
 is_left lane layout = is_some (found_place (Left lane) layout)
 
+-- where a face stands, at whichever side of its bus
 abbrev pub face_place : BridgeLane → Layout → ℕ
 face_place lane layout = if is_left lane layout then place_of (Left lane) layout else place_of (Right lane) layout
 

@@ -27,6 +27,7 @@ behind board events layout frame rows items waits =
     ++ (flat_map (act_rims layout frame) rows
     ++ flat_map (λ wait. wait_shapes layout frame (is_pale events wait.op) wait) waits))
 
+-- layers 4 to 7: items, acts, brackets and the list of events
 unfoldable pub in_front : Board → List Event → Layout → Frame → List Row → List Item → List Span → List (Option ℕ) → List Shape
 in_front board events layout frame rows items spans tracks =
     flat_map (λ item. item_shapes board layout frame (is_pale events item.op) item) items
@@ -34,6 +35,7 @@ in_front board events layout frame rows items spans tracks =
     ++ (flat_map (span_shapes frame) (zip spans tracks)
     ++ flat_map (list_shapes board frame) rows))
 
+-- all seven, in this order
 unfoldable pub layers : Board → List Event → Layout → Frame → List Row → List Item → List Wait → List Span → List (Option ℕ) → List Shape
 layers board events layout frame rows items waits spans tracks =
     behind board events layout frame rows items waits ++ in_front board events layout frame rows items spans tracks

@@ -15,10 +15,12 @@ abbrev pub is_item_pale : List Event → Option Item → Bool
 is_item_pale events None = false
 is_item_pale events (Some item) = is_pale events item.op
 
+-- an act by its operation, an arrival by its item
 unfoldable pub is_event_pale : List Event → Option Item → Event → Bool
 is_event_pale events item (Act on by o step place) = is_pale events o
 is_event_pale events item (Arrive lane mark) = is_item_pale events item
 
+-- the same of a line of the audit; an arrival is in no chain
 unfoldable pub is_event_loud : Board → List Event → Event → Bool
 is_event_loud board events (Act on by o step place) = is_loud board events o
 is_event_loud board events (Arrive lane mark) = false
@@ -37,6 +39,7 @@ row_with board events n e item taken =
       width = width_of board item e;
     }
 
+-- a row by what travels on the lanes
 abbrev pub row_of : Board → List Event → Lanes → ℕ → Event → Row
 row_of board events lanes n e = row_with board events n e (item_of n lanes) (taken_by n lanes)
 
@@ -49,5 +52,6 @@ rows_after board events lanes n (e ∷ rest) = row_of board events lanes (n + 1)
 abbrev pub drawn : List Event → ℕ → ℕ → List Event
 drawn events before last = drop before (take last events)
 
+-- the rows of these events
 unfoldable pub rows_of : Board → List Event → Lanes → ℕ → ℕ → List Row
 rows_of board events lanes first last = rows_after board events lanes (first - 1) (drawn events (first - 1) last)

@@ -14,6 +14,7 @@ use Rattle.draw_sheets.specs.heads.Sheets.{svg_open, band_path, line_path}
 unfoldable pub bus_text : ℕ → ℕ → List ℕ
 bus_text x bus = codes "\"/><text class=\"h\" x=\"" ++ (decimal x ++ (codes "\" y=\"12\">bus " ++ (decimal bus ++ codes "</text>\n")))
 
+-- the column of a bus, with the number of the bus above it
 unfoldable pub bus_band : ℕ → Band → List ℕ
 bus_band height band = codes "<path class=\"k\" d=\"" ++ (band_path 0 height band ++ bus_text (band.start + 4) band.bus)
 
@@ -21,6 +22,7 @@ bus_band height band = codes "<path class=\"k\" d=\"" ++ (band_path 0 height ban
 unfoldable pub name_line : ℕ → Column → List ℕ
 name_line height column = line_path (28 + 12 * column.row) height column
 
+-- the lines of all columns
 unfoldable pub name_lines : ℕ → List Column → List ℕ
 name_lines height lines = codes "<path class=\"l\" d=\"" ++ (flat_map (name_line height) lines ++ codes "\"/>\n")
 
@@ -31,9 +33,11 @@ name_class (Master master) = codes " class=\"h\""
 name_class (Target target) = []
 name_class (Right lane) = []
 
+-- the begin of a name at a place
 unfoldable pub name_open : List ℕ → ℕ → ℕ → List ℕ
 name_open class x y = codes "<text" ++ (class ++ (codes " x=\"" ++ (decimal x ++ (codes "\" y=\"" ++ (decimal y ++ codes "\">")))))
 
+-- the name of a line at its place
 unfoldable pub line_name : Board → Column → List ℕ
 line_name board column =
     name_open (name_class column.line) (column.place - 3) (25 + 12 * column.row) ++ (name_of board column.line ++ codes "</text>\n")
@@ -42,6 +46,7 @@ line_name board column =
 abbrev pub names_height : Layout → ℕ
 names_height layout = 24 + 12 * layout.rows
 
+-- the columns and the names of their lines, in this height
 unfoldable pub names_with : Board → Layout → ℕ → List ℕ
 names_with board layout height =
     svg_open 0 (width_of layout) height
@@ -50,5 +55,6 @@ names_with board layout height =
     ++ (flat_map (line_name board) layout.lines
     ++ codes "</svg>")))
 
+-- the same in the height that the names need
 unfoldable pub names_text : Board → Layout → List ℕ
 names_text board layout = names_with board layout (names_height layout)

@@ -10,12 +10,15 @@ use Rattle.draw_elements.specs.columns.Places.{Layout, width_of}
 abbrev pub drawn_size : ℕ → ℕ
 drawn_size units = 5 * units / 4
 
+-- what of the picture is in view
 unfoldable pub box_text : ℕ → ℕ → ℕ → List ℕ
 box_text low width height = codes "<svg viewBox=\"0 " ++ (decimal low ++ (32 ∷ (decimal width ++ (32 ∷ decimal height))))
 
+-- how large that is drawn
 unfoldable pub size_text : ℕ → ℕ → List ℕ
 size_text width height = codes "\" width=\"" ++ (decimal width ++ (codes "\" height=\"" ++ (decimal height ++ codes "\">\n")))
 
+-- the begin of a picture
 unfoldable pub svg_open : ℕ → ℕ → ℕ → List ℕ
 svg_open low width height = box_text low width height ++ size_text (drawn_size width) (drawn_size height)
 
@@ -32,6 +35,7 @@ line_path low high column = 77 ∷ (decimal column.place ++ (32 ∷ (decimal low
 unfoldable pub bands_text : ℕ → ℕ → List Band → List ℕ
 bands_text low high bands = codes "<path class=\"k\" d=\"" ++ (flat_map (band_path low high) bands ++ codes "\"/>\n")
 
+-- the same of the lines
 unfoldable pub lines_text : ℕ → ℕ → List Column → List ℕ
 lines_text low high lines = codes "<path class=\"l\" d=\"" ++ (flat_map (line_path low high) lines ++ codes "\"/>\n")
 

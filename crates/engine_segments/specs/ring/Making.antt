@@ -15,6 +15,7 @@ use Rattle.engine_segments.specs.ring.Pairs.{IsNew}
 abbrev pub own_below : Board → ℕ → ℕ → List BridgeLane
 own_below board n bus = if has_bridge_to board bus && nat_lt bus n then down_to bus ∷ [] else []
 
+-- the same of all lanes that end on the bus: that of its own bridge first
 abbrev pub lanes_below : Board → ℕ → ℕ → List BridgeLane
 lanes_below board n bus = own_below board n bus ++ map up_from (filter (is_below board bus) (range_with_len 0 n))
 

@@ -23,6 +23,7 @@ pub record IsNew {End : Type 0} (had sent got : End → List Item) (kept : End �
   pub none_in_hand : had end ≡ []
   pub emptied : IsEmptied (sent end) (got end) (kept end)
 
+-- all ends are new, and the two of each bridge are paired
 pub record AreNewPairs {End : Type 0} (had sent got : End → List Item) (kept : End → ℕ) (paired : End → End → Type 0) (board : Board) (ends : List (List End)) : Type 0 where
   pub new : (lane : BridgeLane) (end : End) → IsEndAt board ends lane end → IsNew had sent got kept end
   pub pairs : (lane : BridgeLane) (end other : End) → IsEndAt board ends lane end → IsEndAt board ends (lane_back lane) other → paired end other

@@ -8,6 +8,7 @@ use Rattle.board_tree.specs.Decodable.{IsDecodable}
 use Rattle.law_lanes.specs.Depths.{Within}
 use Rattle.judge_state.specs.State.{KeptState, lane_in}
 
+-- what is kept, with bounds: few events, few lines that discard or drop, and little on each lane
 pub record IsRunning (board : Board) (k : KeptState) : Type 0 where
   pub well_formed : IsTrue (is_well_formed board)
   pub decodable : IsDecodable board

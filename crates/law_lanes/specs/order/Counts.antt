@@ -22,6 +22,7 @@ one_at lane (Header bus) = 0
 one_at lane (Lane at) = if same_lane at lane then 1 else 0
 one_at lane Nobody = 0
 
+-- 1 where the step latches a delayed request at the lane
 abbrev pub latched_by : BridgeLane → Step → Place → ℕ
 latched_by lane Land place = 0
 latched_by lane (Part phases) place = 0
@@ -33,6 +34,7 @@ latched_by lane Stall place = 0
 latched_by lane MasterAbort place = 0
 latched_by lane TargetAbort place = 0
 
+-- 1 where the event does
 abbrev pub latched_in : BridgeLane → Event → ℕ
 latched_in lane (Act on by o step place) = latched_by lane step place
 latched_in lane (Arrive at mark) = 0
@@ -61,6 +63,7 @@ freed_by Credits = 0
 freed_by (Frees slot) = 1
 freed_by (Drops slot) = 0
 
+-- how many slots the first item in flight frees, as it arrives with this mark
 abbrev pub freed_first : Mark → List Carried → ℕ
 freed_first mark [] = 0
 freed_first mark (item ∷ rest) = freed_by (effect_of mark item)

@@ -13,6 +13,7 @@ use Rattle.history_model.specs.declared.event.Event.{Event}
 use Rattle.history_model.specs.declared.event.Event.TheVariants.{Act, Arrive}
 use Rattle.law_lanes.specs.order.Order.{is_posted_op}
 
+-- the step by which a bridge takes a posted write
 abbrev pub is_accept : Step → Bool
 is_accept Land = false
 is_accept (Part phases) = false
@@ -24,6 +25,7 @@ is_accept Stall = false
 is_accept MasterAbort = false
 is_accept TargetAbort = false
 
+-- the initiator is a master, and no bridge
 abbrev pub is_master : By → Bool
 is_master Master = true
 is_master (ByLane lane) = false

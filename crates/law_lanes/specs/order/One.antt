@@ -26,6 +26,7 @@ times test (e ∷ h) = (if test e then 1 else 0) + times test h
 abbrev pub ends_at_master : OpId → Event → Bool
 ends_at_master o e = is_some (ends_as o e)
 
+-- the step with which a write reaches its target to its end
 abbrev pub is_land : Step → Bool
 is_land Land = true
 is_land (Part phases) = false
@@ -37,6 +38,7 @@ is_land Stall = false
 is_land MasterAbort = false
 is_land TargetAbort = false
 
+-- nobody claims the operation, or its target aborts it
 abbrev pub is_abort : Step → Bool
 is_abort Land = false
 is_abort (Part phases) = false
@@ -53,6 +55,7 @@ abbrev pub lands_from_master : OpId → Event → Bool
 lands_from_master o (Act on by op step place) = is_master by && is_land step && same_op op o
 lands_from_master o (Arrive lane mark) = false
 
+-- the same as a bridge presents it
 abbrev pub lands_from_lane : OpId → Event → Bool
 lands_from_lane o (Act on by op step place) = not (is_master by) && is_land step && same_op op o
 lands_from_lane o (Arrive lane mark) = false
@@ -62,6 +65,7 @@ abbrev pub lost_from_lane : OpId → Event → Bool
 lost_from_lane o (Act on by op step place) = not (is_master by) && is_abort step && same_op op o
 lost_from_lane o (Arrive lane mark) = false
 
+-- 1 where the two are the same operation
 abbrev pub one_of : OpId → OpId → ℕ
 one_of o op = if same_op op o then 1 else 0
 
@@ -73,6 +77,7 @@ on_lane o state = total (one_of o) (posts state.standing) + total (one_of o) (po
 abbrev pub both_lanes : (BridgeLane → ℕ) → Bridge → ℕ
 both_lanes count bridge = count (record { bus = bridge.bus; up = false }) + count (record { bus = bridge.bus; up = true })
 
+-- that sum over all bridges of the board
 abbrev pub over_lanes : (BridgeLane → ℕ) → Board → ℕ
 over_lanes count board = total (both_lanes count) board.bridges
 

@@ -38,6 +38,7 @@ abbrev pub is_posted_in : Option Op → Bool
 is_posted_in None = false
 is_posted_in (Some op) = same_command (command_of op) MemWrite
 
+-- the same of an operation by its place on the board
 abbrev pub is_posted_op : Board → OpId → Bool
 is_posted_op board o = is_posted_in (op_of board o)
 
@@ -48,6 +49,7 @@ accepted_at lane o (Header bus) = []
 accepted_at lane o (Lane at) = if same_lane at lane then o ∷ [] else []
 accepted_at lane o Nobody = []
 
+-- the operation, if the step accepts it as a posted write at the lane
 abbrev pub enters_by : BridgeLane → OpId → Step → Place → List OpId
 enters_by lane o Land place = []
 enters_by lane o (Part phases) place = []
@@ -59,6 +61,7 @@ enters_by lane o Stall place = []
 enters_by lane o MasterAbort place = []
 enters_by lane o TargetAbort place = []
 
+-- the posted write that enters the lane by the event, if one does
 abbrev pub entering : BridgeLane → Event → List OpId
 entering lane (Act on by o step place) = enters_by lane o step place
 entering lane (Arrive at mark) = []
@@ -75,6 +78,7 @@ leaves_by board lane Master o step = []
 leaves_by board lane (ByLane at) o step =
     if same_lane at lane && is_posted_op board o && is_some (lane_outcome board at o step) then o ∷ [] else []
 
+-- the posted write that leaves the lane by the event, if one does
 abbrev pub leaving : Board → BridgeLane → Event → List OpId
 leaving board lane (Act on by o step place) = leaves_by board lane by o step
 leaving board lane (Arrive at mark) = []

@@ -34,6 +34,7 @@ item_for held o Stall = []
 item_for held o MasterAbort = []
 item_for held o TargetAbort = []
 
+-- the item that the step sends on this lane, where the lane is the one that claims
 abbrev pub sent_to : World → BridgeLane → OpId → Step → Place → List Carried
 sent_to world lane o step (Target target) = []
 sent_to world lane o step (Header bus) = []
@@ -45,6 +46,7 @@ abbrev pub reply_for : World → OpId → BridgeLane → Option Outcome → List
 reply_for world o at None = []
 reply_for world o at (Some outcome) = reply_to outcome (find (is_of o) (world at).standing)
 
+-- what the step sends on this lane for an item that its lane back presented
 abbrev pub sent_back : Board → World → BridgeLane → By → OpId → Step → List Carried
 sent_back board world lane Master o step = []
 sent_back board world lane (ByLane at) o step =
@@ -57,6 +59,7 @@ dropped_by Credits = []
 dropped_by (Frees slot) = []
 dropped_by (Drops slot) = Gone slot ∷ []
 
+-- the same of the first item in flight, as it arrives with this mark
 abbrev pub dropped_first : Mark → List Carried → List Carried
 dropped_first mark [] = []
 dropped_first mark (item ∷ rest) = dropped_by (effect_of mark item)
@@ -71,6 +74,7 @@ abbrev pub sent : Board → BridgeLane → List Event → List Carried
 sent board lane [] = []
 sent board lane (e ∷ h) = sent board lane h ++ sending board (world_of board h) lane e
 
+-- 1 where the event is an arrival on the lane
 abbrev pub arrives_by : BridgeLane → Event → ℕ
 arrives_by lane (Act on by o step place) = 0
 arrives_by lane (Arrive at mark) = if same_lane at lane then 1 else 0

@@ -23,6 +23,7 @@ use Rattle.lane_items.specs.Lane.{GotInOrder}
 abbrev pub ending_on : Board → ℕ → (BridgeLane → List Item) → BridgeLane → List Item
 ending_on board bus items lane = if end_of board lane == bus then items lane else []
 
+-- the same of what they carry
 abbrev pub carried_to : (Item → Carried) → Board → (BridgeLane → List Item) → ℕ → BridgeLane → List Carried
 carried_to carries board items bus lane = map carries (ending_on board bus items lane)
 
@@ -90,6 +91,7 @@ AllInOrder board hand got sent kept = (lane : BridgeLane) (bridge : Bridge) → 
 abbrev pub put_up_to : (BridgeLane → List Item) → (BridgeLane → List Item) → (BridgeLane → List Item) → BridgeLane → List Item
 put_up_to received hand sent lane = received lane ++ (hand lane ++ sent lane)
 
+-- the same of what that carries
 abbrev pub put_in : (Item → Carried) → (BridgeLane → List Item) → (BridgeLane → List Item) → (BridgeLane → List Item) → BridgeLane → List Carried
 put_in carries received hand sent lane = map carries (put_up_to received hand sent lane)
 

@@ -16,6 +16,7 @@ use Rattle.history_model.specs.Knowledge.{Reading, reading_by, has_landed}
 use Rattle.law_untagged.specs.Origins.{ending_reading}
 use Rattle.law_audit.specs.Clocks.{own}
 
+-- what is known after a history
 pub record Clocks : Type 0 where
   -- by a master
   pub known : ℕ → ℕ → ℕ
@@ -43,6 +44,7 @@ abbrev pub reads_at : Board → List Event → Event → Option Reading
 reads_at board h (Act on by o step place) = reading_by board h on o step place
 reads_at board h (Arrive lane mark) = None
 
+-- what a Read event taught: the newest is noted under the number of events before it
 abbrev pub told_by : Board → Clocks → List Event → Option Reading → ℕ → ℕ → ℕ
 told_by board clocks h None number author = clocks.told number author
 told_by board clocks h (Some reading) number author =
@@ -64,14 +66,17 @@ abbrev pub first_start : Option (ℕ → ℕ) → (ℕ → ℕ) → Option (ℕ 
 first_start None known = Some known
 first_start (Some start) known = Some start
 
+-- what is noted of an operation: what its master knows as it first presents it
 abbrev pub start_by : Clocks → By → OpId → OpId → Option (ℕ → ℕ)
 start_by clocks Master o q = if same_op o q then first_start (clocks.start q) (clocks.known q.master) else clocks.start q
 start_by clocks (ByLane lane) o q = clocks.start q
 
+-- the same of an event; an arrival is no presenting
 abbrev pub start_after : Clocks → Event → OpId → Option (ℕ → ℕ)
 start_after clocks (Act on by o step place) q = start_by clocks by o q
 start_after clocks (Arrive lane mark) q = clocks.start q
 
+-- what is known after the event
 abbrev pub clocks_after : Board → Clocks → List Event → Event → Clocks
 clocks_after board clocks h e =
     record {
@@ -80,6 +85,7 @@ clocks_after board clocks h e =
       told = told_by board clocks h (reads_at board h e);
     }
 
+-- what is known after a history; at first nothing
 abbrev pub clocks_of : Board → List Event → Clocks
 clocks_of board [] = record { known = λ master author. 0; start = λ o. None; told = λ number author. 0 }
 clocks_of board (e ∷ h) = clocks_after board (clocks_of board h) h e

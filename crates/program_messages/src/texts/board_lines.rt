@@ -5,7 +5,8 @@ use crate::texts::limits::text_of_limit;
 use crate::texts::places::{count_words, first_word, word_at};
 use crate::texts::text::Text;
 use crate::texts::wanted::Wanted;
-use board_statements::{LineFault, first_line, has_words};
+use board_statements::{first_line, has_words};
+use text_faults::LineFault;
 
 /// A line at fault.
 #[derive(Clone, Copy)]

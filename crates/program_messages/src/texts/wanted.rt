@@ -1,5 +1,6 @@
 use crate::texts::text::Text;
-use board_statements::{LineFault, Words};
+use board_statements::Words;
+use text_faults::LineFault;
 
 /// What a word is read as, by its place in its line.
 #[derive(Clone, Copy, Debug, PartialEq, Eq)]

@@ -19,9 +19,11 @@ use Rattle.trace_text.specs.Words.{names_poll}
 
 -- Numbers.
 
+-- the answer, where that holds
 abbrev pub only_where : {A : Type 0} → Bool → Option A → Option A
 only_where holds answer = if holds then answer else None
 
+-- a number that was read, if it was
 abbrev pub answered : {E : Type 0} → Result ℕ E → Option ℕ
 answered (Ok n) = Some n
 answered (Err fault) = None
@@ -44,6 +46,7 @@ at_most most answer = option_and_then (λ n. only_where (nat_le n most) (Some n)
 abbrev pub is_lower_case : ℕ → Bool
 is_lower_case byte = not (nat_le 65 byte && nat_le byte 90)
 
+-- the number that these digits say
 abbrev pub value_of : List ℕ → Option ℕ
 value_of word = only_where (length word == 8 && list_all is_lower_case word) (answered (hex_answer word 8))
 
@@ -61,12 +64,15 @@ bridge_in board word = option_and_then (λ bus. only_where (has_bridge_to board 
 abbrev pub towards : Bool → ℕ → BridgeLane
 towards up number = record { bus = number; up = up }
 
+-- all bytes but the last
 abbrev pub without_last : List ℕ → List ℕ
 without_last word = take (length word - 1) word
 
+-- the last byte of a word
 abbrev pub last_byte : List ℕ → ℕ
 last_byte word = slice_index word (length word - 1)
 
+-- the lane that a word names, if its bridge is there
 abbrev pub lane_in : Board → List ℕ → Option BridgeLane
 lane_in board word =
     if last_byte word == 117 then option_map (towards true) (bridge_in board (without_last word))
@@ -83,6 +89,7 @@ target_in board word = at_most 65535 (position (is_target_named word) board.targ
 
 -- an operation: NAME.INDEX, for a poll NAME.INDEX.TRY
 
+-- a master, by its name
 abbrev pub master_in : Board → List ℕ → Option ℕ
 master_in board word = at_most 65535 (position (is_master_named word) board.masters)
 
@@ -90,6 +97,7 @@ master_in board word = at_most 65535 (position (is_master_named word) board.mast
 abbrev pub at_dot : List ℕ → Option (List ℕ × List ℕ)
 at_dot word = only_where (has_mark 46 word) (Some (before_mark 46 word, behind_mark 46 word))
 
+-- both or neither
 abbrev pub same_flag : Bool → Bool → Bool
 same_flag true flag = flag
 same_flag false flag = not flag
@@ -100,15 +108,18 @@ named board polls master index attempt =
     let o : OpId = record { master = master; index = index; attempt = attempt } in
     only_where (is_some (op_of board o) && same_flag (names_poll board o) polls) (Some o)
 
+-- the index of an operation, and of a poll its try
 abbrev pub index_and_try : Board → ℕ → Option (List ℕ × List ℕ) → List ℕ → Option OpId
 index_and_try board master None word = option_and_then (λ index. named board false master index 0) (at_most 65535 (number_of word))
 index_and_try board master (Some parts) word =
     option_and_then (λ index. option_and_then (named board true master index) (number_of parts.1)) (at_most 65535 (number_of parts.0))
 
+-- the operation behind the name of its master
 abbrev pub op_by : Board → Option (List ℕ × List ℕ) → Option OpId
 op_by board None = None
 op_by board (Some parts) = option_and_then (λ master. index_and_try board master (at_dot parts.1) parts.1) (master_in board parts.0)
 
+-- the operation that a word names
 abbrev pub op_in : Board → List ℕ → Option OpId
 op_in board word = op_by board (at_dot word)
 
@@ -117,6 +128,7 @@ abbrev pub begins_header : List ℕ → Bool
 begins_header [] = false
 begins_header (first ∷ rest) = first == 61
 
+-- the bridge that is named behind the sign
 abbrev pub header_in : Board → List ℕ → Option ℕ
 header_in board [] = None
 header_in board (first ∷ rest) = bridge_in board rest

@@ -67,5 +67,6 @@ pushed_at write listings None = listings ++ alone write ∷ []
 pushed_at write listings (Some last) =
     if last.master == write.op.master then slice_set listings (length listings - 1) (longer write last) else listings ++ alone write ∷ []
 
+-- the index with one write more, whose author is the last or the next
 abbrev pub pushed : Write → List Listing → List Listing
 pushed write listings = pushed_at write listings (last_of listings)

@@ -24,6 +24,7 @@ use Rattle.machine_steps.specs.Endings.{ended_op}
 use Rattle.machine_steps.specs.Words.{word_at}
 use Rattle.law_untagged.specs.clocks.Clocks.{number_in, clocks_of}
 
+-- all that is kept between two events
 pub record KnowerState : Type 0 where
   -- by each master
   pub known : List (List ℕ)
@@ -35,6 +36,7 @@ pub record KnowerState : Type 0 where
 
 -- What an event reads.
 
+-- the dword that a step reads: only a Read at a target has one
 abbrev pub word_by : Board → ℕ → OpId → Step → Place → Option Word
 word_by board on o (Read value) (Target target) = option_map (word_at target) (request_of board o on)
 word_by board on o (Read value) (Header bus) = None
@@ -68,10 +70,12 @@ StartsBy o (Some start) known old new = new ≡ old
 StartsBy o None None old new = new ≡ old
 StartsBy o None (Some numbers) old new = Puts o numbers old new
 
+-- a master notes it, a lane knows nothing
 abbrev pub PresentsBy : By → OpId → List (List ℕ) → List (OpId × List ℕ) → List (OpId × List ℕ) → Type 0
 PresentsBy Master o known old new = StartsBy o (value_of o old) (slice_get known o.master) old new
 PresentsBy (ByLane lane) o known old new = new ≡ old
 
+-- the same of an event; an arrival is no presenting
 abbrev pub Presents : Event → List (List ℕ) → List (OpId × List ℕ) → List (OpId × List ℕ) → Type 0
 Presents (Act on by o step place) known old new = PresentsBy by o known old new
 Presents (Arrive lane mark) known old new = new ≡ old
@@ -93,6 +97,7 @@ pub record Learns (o : OpId) (told : List ℕ) (old new : List (List ℕ)) : Typ
   pub others : (master : ℕ) → (o.master == master) ≡ false → known_at new master ≡ known_at old master
   pub mine : o.master < length old → Raises (known_at old o.master) (known_at new o.master) (λ author. max (number told author) (own o author))
 
+-- so it is where an operation ended; else nothing changes
 abbrev pub LearnsBy : Option OpId → Option (List ℕ) → List (List ℕ) → List (List ℕ) → Type 0
 LearnsBy None told old new = new ≡ old
 LearnsBy (Some o) told old new = Learns o (list_in told) old new
@@ -103,6 +108,7 @@ LearnsBy (Some o) told old new = Learns o (list_in told) old new
 abbrev pub AreTold : ℕ → KnowerState → Type 0
 AreTold masters k = ToldsFor masters k.landings.whole k.starts k.landings.landed k.landings.tolds
 
+-- one more event: what it reads, lands, presents and ends is kept
 pub record Happens (board : Board) (e : Event) (got : Option Got) (old new : KnowerState) : Type 0 where
   -- what it read
   pub read : Option (List ℕ)
