@@ -20,7 +20,8 @@ or_none : {Y : Type 0} (a : Option Y) → option_or a None ≡ a
 or_none None = refl
 or_none (Some y) = refl
 
-first_in-append : {X Y : Type 0} (gives : X → Option Y) (xs ys : List X) → first_in gives (xs ++ ys) ≡ option_or (first_in gives xs) (first_in gives ys)
+-- the first over two lists
+pub first_in-append : {X Y : Type 0} (gives : X → Option Y) (xs ys : List X) → first_in gives (xs ++ ys) ≡ option_or (first_in gives xs) (first_in gives ys)
 first_in-append gives [] ys = refl
 first_in-append gives (x ∷ xs) ys = ap (option_or (gives x)) (first_in-append gives xs ys) ∙ sym (or_assoc (gives x) (first_in gives xs) (first_in gives ys))
 

@@ -1,5 +1,5 @@
 -- What is known beside the state that is kept, so that the next event is looked for only where something may have
--- changed: the lines of each bus, and which buses are quiet.
+-- changed: the lines of each bus, which buses are quiet, and where something is in flight.
 use Rattle.std.specs.Prelude.{◌≡◌, ℕ, Bool, true, List, Some, None, length, slice_get}
 use Rattle.board_model.specs.declared.board.Board.{Board}
 use Rattle.board_model.specs.Fits.{BusesFit}
@@ -10,6 +10,7 @@ use Rattle.judge_state.specs.Stands.{StandsFor}
 use Rattle.judge_next.specs.declared.course.Course.{Course}
 use Rattle.judge_next.specs.Lines.{AreLines}
 use Rattle.judge_next.specs.Now.{act_on_now}
+use Rattle.judge_next.specs.Flights.{KnowsFlights}
 
 -- on a bus that is known to be quiet there is no act
 abbrev pub KnowsQuiet : Board → KeptState → List Bool → Type 0
@@ -23,6 +24,7 @@ pub record IsCourse (board : Board) (h : List Event) (c : Course) : Type 0 where
   pub lines : AreLines board c.lines.items
   pub all_buses : length c.quiet.items ≡ 256
   pub quiet : KnowsQuiet board c.kept c.quiet.items
+  pub flights : KnowsFlights board c.kept c.flights
 
 -- for some run of the board
 abbrev pub HasCourse : Board → Course → Type 0

@@ -1,3 +1,4 @@
 pub mod Lines
 pub mod Now
+pub mod Flights
 pub mod Course

@@ -35,3 +35,12 @@ lines_of board bus = record { lanes = lanes_ending 256 board bus; masters = mast
 -- these are the lines of each of 256 buses
 abbrev pub AreLines : Board → List BusLines → Type 0
 AreLines board lines = (bus : ℕ) → bus < 256 → slice_get lines bus ≡ Some (lines_of board bus)
+
+-- the lanes that end on the buses below a number, by increasing bus and there by line
+abbrev pub lanes_below : ℕ → Board → List BridgeLane
+lanes_below zero board = []
+lanes_below (suc n) board = lanes_below n board ++ lanes_ending 256 board n
+
+-- all lanes of a board, in the order in which the next arrival is looked for
+unfoldable pub all_lanes : Board → List BridgeLane
+all_lanes board = lanes_below 256 board

@@ -2,25 +2,13 @@ ghost use Rattle.std.specs.Prelude.{◌≡◌, IsTrue, true};
 ghost use Rattle.board_model.specs.WellFormed.{is_well_formed};
 ghost use Rattle.history_model.specs.declared.event.By.TheVariants.{Lane as ByLane};
 ghost use Rattle.history_model.specs.Next.{first_in};
-ghost use Rattle.judge_next.specs.Now.{arrival_now, act_now, item_now, lane_now, master_now};
+ghost use Rattle.judge_next.specs.Now.{act_now, item_now, lane_now, master_now};
 
 use board_model::{Board, Lane};
 use history_model::{By, Carried, Event};
 use judge_state::Kept;
-use machine_steps::{Presented, act_given, arrival_of};
+use machine_steps::{Presented, act_given};
 use pci_command::OpId;
-
-/// The first arrival on these lanes.
-pub(crate) fn arrival_of_lanes(kept: &Kept, board: &Board, lanes: &[Lane]) -> Option<Event>
-    ensures { result ≡ first_in (arrival_now board.now kept.now) lanes.now }
-{
-    for lane in lanes {
-        if let Some(event) = arrival_of(*lane, kept.next_mark(board, *lane)) {
-            return Some(event);
-        }
-    }
-    None
-}
 
 /// The first act of these lanes, which end on the bus.
 pub(crate) fn act_of_lanes(kept: &Kept, board: &Board, bus: u8, lanes: &[Lane]) -> Option<Event>

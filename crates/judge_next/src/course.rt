@@ -19,10 +19,12 @@ ghost use Rattle.history_model.specs.Next.{first_bus, first_in, next_of};
 ghost use Rattle.history_model.specs.Next.{first_arrival, act_of_lane, act_of_turn};
 ghost use Rattle.judge_state.specs.Stands.{StandsFor};
 ghost use Rattle.judge_next.specs.Lines.{AreLines};
-ghost use Rattle.judge_next.specs.Now.{arrival_now, arrival_on, lane_now, master_now, act_on_now};
+ghost use Rattle.judge_next.specs.Now.{arrival_on, lane_now, master_now, act_on_now};
 ghost use Rattle.judge_next.specs.Course.{KnowsQuiet, IsCourse, HasCourse, IsArrival};
+ghost use Rattle.judge_next.specs.Flights.{KnowsFlights};
 
-use crate::acts::{act_of_lane, act_of_lanes, act_of_master, act_of_masters, arrival_of_lanes};
+use crate::acts::{act_of_lane, act_of_lanes, act_of_master, act_of_masters};
+use crate::flights::Flights;
 use crate::lines::Lines;
 use board_model::{Board, Lane, board_fits};
 use board_tree::Tree;
@@ -39,6 +41,7 @@ pub struct Course {
     kept: Kept,
     lines: Vec<Lines>,
     quiet: Vec<bool>,
+    flights: Flights,
 }
 
 impl Course {
@@ -51,7 +54,13 @@ impl Course {
         board_fits(board);
         let lines = all_lines(alloc, board)?;
         let quiet = vec![in alloc; false; 256]?;
-        Ok(Course { kept, lines, quiet })
+        let flights = Flights::new(alloc, &kept, board, lines.as_slice())?;
+        Ok(Course {
+            kept,
+            lines,
+            quiet,
+            flights,
+        })
     }
 
     /// One more event, where it is allowed after those of the run: then the run goes on by it.
@@ -63,7 +72,9 @@ impl Course {
     {
         match self.kept.step(tree, event) {
             Ok(()) => {
-                wake(&mut self.quiet, bus_of(tree.board(), event));
+                let board = tree.board();
+                wake(&mut self.quiet, bus_of(board, event));
+                self.flights.look_again(&self.kept, board, event);
                 Ok(())
             }
             Err(why) => Err(why),
@@ -82,7 +93,8 @@ impl Course {
     {
         next_goes_on();
         let board = tree.board();
-        next_now(&self.kept, board, self.lines.as_slice(), &mut self.quiet)
+        let lines = self.lines.as_slice();
+        next_now(&self.kept, board, &self.flights, lines, &mut self.quiet)
     }
 
     /// The run goes on by its next event, if it is not complete.
@@ -113,7 +125,7 @@ impl Course {
             IfNone result ((lane : BridgeLane) (mark : Mark) →
             Allowed tree.now h (Arrive lane mark) → ⊥) }
     {
-        first_arrival(&self.kept, tree.board(), self.lines.as_slice())
+        self.flights.first(&self.kept, tree.board())
     }
 
     /// The act on the bus of the first that stands on the lane, the oldest first, and is not
@@ -183,8 +195,15 @@ fn hush(quiet: &mut Vec<bool>, bus: u8)
 }
 
 /// The first arrival, and where there is none the first act.
-fn next_now(kept: &Kept, board: &Board, lines: &[Lines], quiet: &mut Vec<bool>) -> Option<Event>
+fn next_now(
+    kept: &Kept,
+    board: &Board,
+    flights: &Flights,
+    lines: &[Lines],
+    quiet: &mut Vec<bool>,
+) -> Option<Event>
     requires formed { IsTrue (is_well_formed board.now) }
+    requires flights { KnowsFlights board.now kept.now flights.now }
     requires lines { AreLines board.now lines.now }
     requires all { length quiet.old.items ≡ 256 }
     requires known { KnowsQuiet board.now kept.now quiet.old.items }
@@ -192,39 +211,10 @@ fn next_now(kept: &Kept, board: &Board, lines: &[Lines], quiet: &mut Vec<bool>) 
     ensures all { length quiet.new.items ≡ 256 }
     ensures known { KnowsQuiet board.now kept.now quiet.new.items }
 {
-    match first_arrival(kept, board, lines) {
+    match flights.first(kept, board) {
         Some(event) => Some(event),
         None => first_act(kept, board, lines, quiet),
     }
-}
-
-/// The first arrival, by increasing bus and there by line.
-fn first_arrival(kept: &Kept, board: &Board, lines: &[Lines]) -> Option<Event>
-    requires { AreLines board.now lines.now }
-    ensures { result ≡ first_bus (arrival_on board.now kept.now) }
-{
-    for bus in 0..256u16 {
-        if let Some(event) = arrival_on(kept, board, lines, bus as u8) {
-            return Some(event);
-        }
-    }
-    None
-}
-
-fn arrival_on(kept: &Kept, board: &Board, lines: &[Lines], bus: u8) -> Option<Event>
-    requires { AreLines board.now lines.now }
-    ensures { result ≡ arrival_on board.now kept.now bus }
-{
-    match lines.get(bus as usize) {
-        Some(lines) => arrival_of_lines(kept, board, lines),
-        None => None,
-    }
-}
-
-fn arrival_of_lines(kept: &Kept, board: &Board, lines: &Lines) -> Option<Event>
-    ensures { result ≡ first_in (arrival_now board.now kept.now) lines.now.lanes }
-{
-    arrival_of_lanes(kept, board, lines.lanes())
 }
 
 /// The first act, by increasing bus and there by line. Buses that are known to be quiet are passed

@@ -9,6 +9,7 @@ mod machine;
 mod ports;
 mod refused;
 mod telling;
+mod texts;
 mod trace;
 mod unclear;
 mod unshown;

@@ -1,6 +1,7 @@
 use Rattle.std.proofs.Common.{◌≡◌, ℕ, Bool, true, false, List, replicate, Some, length, ap, slice_get, subst}
 use Rattle.board_model.specs.Fits.{BusesFit}
 use Rattle.judge_next.specs.Lines.{AreLines}
+use Rattle.judge_next.specs.Flights.{KnowsFlights}
 use Rattle.judge_next.proofs.RowLemmas.{none_stands}
 use Rattle.judge_next.proofs.course.Course.new.Goals as goal
 
@@ -15,4 +16,5 @@ returns c = λ h stands.
       lines = lines;
       all_buses = ap length none;
       quiet = λ bus is. absurd (none_stands 256 bus (subst (λ (flags : List Bool). slice_get flags bus ≡ Some true) none is));
+      flights = subst (λ board. KnowsFlights board c.args.kept c.in_ok-flights.flights) c.board-board.ensures.value c.in_ok-flights.ensures;
     }

@@ -9,6 +9,7 @@ use Rattle.judge_state.specs.State.{KeptState}
 use Rattle.judge_next.specs.Lines.{BusLines, AreLines}
 use Rattle.judge_next.specs.Now.{arrival_on, act_on_now}
 use Rattle.judge_next.specs.Course.{IsCourse}
+use Rattle.judge_next.specs.Flights.{KnowsFlights}
 use Rattle.judge_next.proofs.SameLemmas.{next_same}
 use Rattle.judge_next.proofs.course.Course.next.Goals as goal
 
@@ -17,6 +18,11 @@ next_now-requires-clause-lines c =
     let course : IsCourse c.args.tree.now c.requires.0 c.args.self.now = c.requires.1 in
     subst (λ (board : Board). AreLines board c.as_slice.result.now) (sym c.board-board.ensures.value)
     (subst (λ (lines : List BusLines). AreLines c.args.tree.now lines) (sym c.as_slice.ensures.value) course.lines)
+
+pub next_now-requires-clause-flights : goal.next_now-requires-clause-flights
+next_now-requires-clause-flights c =
+    let course : IsCourse c.args.tree.now c.requires.0 c.args.self.now = c.requires.1 in
+    subst (λ (board : Board). KnowsFlights board c.args.self.now.kept c.args.self.now.flights) (sym c.board-board.ensures.value) course.flights
 
 pub returns-clause-next : goal.returns-clause-next
 returns-clause-next c = λ h is.

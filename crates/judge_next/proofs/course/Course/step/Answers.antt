@@ -9,7 +9,9 @@ use Rattle.judge_state.specs.State.{KeptState}
 use Rattle.judge_state.specs.Stands.{StandsFor}
 use Rattle.judge_next.specs.Course.{KnowsQuiet}
 use Rattle.judge_next.proofs.RowLemmas.{stood_before}
+use Rattle.judge_next.specs.Flights.{claiming, presenting, looked}
 use Rattle.judge_next.proofs.CourseLemmas.{quiet_stays}
+use Rattle.judge_next.proofs.FlightLemmas.{flights_stay}
 use Rattle.judge_next.proofs.course.Course.step.Goals as goal
 
 -- the bus of the event is not known to be quiet any more, and what is known of the others stays
@@ -25,10 +27,14 @@ returns-in-Ok-clause-goes_on c = λ h is.
     let known : KnowsQuiet board c.step.new.self (set flags c.bus_of.result false) =
     quiet_stays board h e c.args.self.now.kept c.step.new.self flags (set flags c.bus_of.result false) valid is.stands stands is.quiet
     (λ bus stood. let before = stood_before flags c.bus_of.result bus stood in (subst (λ (n : ℕ). n ≢ bus) bus_is before.0, before.1)) in
+    let again : c.look_again.new.self.still.items ≡ looked board c.step.new.self (presenting e) (looked board c.step.new.self (claiming e) c.args.self.now.flights.still.items) =
+    subst (λ (b : Board). c.look_again.new.self.still.items ≡ looked b c.step.new.self (presenting e) (looked b c.step.new.self (claiming e) c.args.self.now.flights.still.items))
+    c.board.ensures.value c.look_again.ensures.still in
     record {
       stands = stands;
       fits = is.fits;
       lines = is.lines;
       all_buses = ap length marked ∙ (length-set flags c.bus_of.result false ∙ is.all_buses);
       quiet = subst (KnowsQuiet board c.step.new.self) (sym marked) known;
+      flights = flights_stay board h e c.args.self.now.kept c.step.new.self c.args.self.now.flights c.look_again.new.self is.stands stands is.flights c.look_again.ensures.lanes again;
     }

@@ -1,10 +1,8 @@
 use Rattle.std.proofs.Common.{◌≡◌, ◌<◌, ℕ, Some, ap, ◌∙◌, slice_get}
 use Rattle.board_model.specs.declared.board.Board.{Board}
-use Rattle.history_model.specs.Next.{first_in}
 use Rattle.judge_next.specs.Lines.{BusLines, lines_of}
-use Rattle.judge_next.specs.Now.{arrival_now}
 use Rattle.judge_next.proofs.RowLemmas.{read_there, none_there}
-use Rattle.judge_next.proofs.course.arrival_on.Goals as goal
+use Rattle.judge_next.proofs.flights.lanes_at.Goals as goal
 
 pub returns-in-Some : goal.returns-in-Some
 returns-in-Some c =
@@ -13,7 +11,7 @@ returns-in-Some c =
     let here : slice_get c.args.lines.now bus ≡ Some (lines_of board bus) = c.requires bus c.ranges.bus.fits in
     let found = c.in-Some.ensures.lookup in
     let is : c.in-Some.lines.now ≡ lines_of board bus = read_there c.args.lines.now bus c.in-Some.lines.now (lines_of board bus) found.3.0 found.1 here in
-    c.arrival_of_lines.ensures ∙ ap (λ (lines : BusLines). first_in (arrival_now board c.args.kept.now) lines.lanes) is
+    c.lanes.ensures ∙ ap (λ (lines : BusLines). lines.lanes) is
 
 pub returns-in-None : goal.returns-in-None
 returns-in-None c =

@@ -1,7 +1,7 @@
 use Rattle.std.proofs.Common.{◌≡◌, drop}
 use Rattle.history_model.specs.Next.{first_in}
 use Rattle.judge_next.specs.Now.{arrival_now}
-use Rattle.judge_next.proofs.acts.arrival_of_lanes.Given as goal
+use Rattle.judge_next.proofs.flights.first_arrival.Given as goal
 
 -- the first of all is the first of those to come
 abbrev pub invariant-loop-lane : goal.invariant-loop-lane
