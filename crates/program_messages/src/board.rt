@@ -1,13 +1,13 @@
 ghost use Rattle.std.specs.Prelude.{◌<◌, ◌≤◌, ◌^◌, length};
 
 use crate::form::Form;
-use crate::refused::{
-    Spot, TOO_LONG, board_part, line_at, named_spot, place_of, smallest, word_at_fault,
-};
-use crate::texts::{Case, Pointed, Text, bus_not_there, text_of_device, text_of_line};
+use crate::refused::{TOO_LONG, board_part, smallest, word_at_fault};
 use crate::unclear::tell_unclear;
 use pci_command::NoMemory;
-use program_pages::{Fault, Teller};
+use program_pages::{
+    Case, Fault, Pointed, Spot, Teller, Text, bus_not_there, line_at, named_spot, place_of,
+    text_of_device, text_of_line,
+};
 use program_status::{BoardFault, Status};
 use std::alloc::Global;
 use text_faults::{DeviceFault, LineFault, TreeFault};

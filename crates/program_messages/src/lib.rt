@@ -9,15 +9,13 @@ mod machine;
 mod ports;
 mod refused;
 mod telling;
-mod texts;
 mod trace;
 mod unclear;
 mod unshown;
 
 pub use form::{Form, MOST_DRAWN, form_of, limit_words};
 pub use ports::{unread, unwritten};
-pub(crate) use refused::behind;
-pub use refused::{Spot, named_spot, place_of, smallest, word_at_fault};
+pub use refused::{smallest, word_at_fault};
 pub(crate) use telling::about;
 pub use telling::{message, note};
 pub use unshown::not_shown;

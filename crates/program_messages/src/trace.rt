@@ -1,14 +1,14 @@
 use crate::event::place_of_piece;
 use crate::form::Form;
-use crate::refused::{TOO_LONG, board_part, find_line, line_at};
-use crate::texts::{
-    Piece, misread_text, no_events_text, no_trace_text, operation_text, unreadable_text,
-};
+use crate::refused::{TOO_LONG, board_part};
 use board_model::Board;
 use board_parser::{ParseFault, parse};
 use history_model::Rule;
 use pci_command::NoMemory;
-use program_pages::{Fault, Teller};
+use program_pages::{
+    Fault, Piece, Teller, find_line, line_at, misread_text, no_events_text, no_trace_text,
+    operation_text, unreadable_text,
+};
 use std::alloc::Global;
 use std::str::from_utf8;
 use text_faults::TraceLineFault;
@@ -29,16 +29,12 @@ pub(crate) fn tell_trace_line(
         return teller.point(number, b"", 0, sentence.as_str());
     };
     match fault {
-        TraceLineFault::NoFirstLine => {
-            teller.point(number, line, 0, no_trace_text(input, line))
-        }
+        TraceLineFault::NoFirstLine => { teller.point(number, line, 0, no_trace_text(input, line)) }
         TraceLineFault::Unreadable => {
             let at = first_unreadable(line);
             teller.point(number, line, at, unreadable_text(line, at))
         }
-        TraceLineFault::Unknown => {
-            tell_unknown(teller, input, number, line, sentence.as_str())
-        }
+        TraceLineFault::Unknown => { tell_unknown(teller, input, number, line, sentence.as_str()) }
         TraceLineFault::NoKind | TraceLineFault::WrongCount => {
             teller.point(number, line, place_of_piece(line, 1), sentence.as_str())
         }

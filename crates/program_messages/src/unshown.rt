@@ -5,11 +5,10 @@ ghost use Rattle.std.specs.List.{list_all};
 ghost use Rattle.program_pages.specs.shown.Shown.{is_shown};
 
 use crate::refused::TOO_LONG;
-use crate::texts::{master_of, op_at, operations_of};
 use board_model::{Board, Op};
 use pci_command::NoMemory;
 use program_input::read_protocol;
-use program_pages::{Message, Teller};
+use program_pages::{Message, Teller, master_of, op_at, operations_of};
 use program_status::Status;
 use std::alloc::Global;
 

@@ -2,7 +2,7 @@ use std::fmt;
 
 /// A text of a case.
 #[derive(Clone, Copy, Debug, PartialEq, Eq)]
-pub(crate) enum Text {
+pub enum Text {
     Plain(&'static str),
     /// What the word of its place is, or one of these.
     Here(&'static str),
@@ -34,7 +34,10 @@ impl fmt::Display for Text {
                 write!(f, "{word} is from {low} to {high}, in decimal")
             }
             Text::NoBus(bus) => {
-                write!(f, "bus {bus} is not there: no bridge line begins with bridge {bus}")
+                write!(
+                    f,
+                    "bus {bus} is not there: no bridge line begins with bridge {bus}"
+                )
             }
         }
     }

@@ -4,11 +4,7 @@ use pci_command::NoMemory;
 use std::alloc::Global;
 
 /// What is said of an operation that the board does not have, if it is something.
-pub(crate) fn operation_text(
-    alloc: Global,
-    board: &Board,
-    op: &[u8],
-) -> Result<Option<String>, NoMemory> {
+pub fn operation_text(alloc: Global, board: &Board, op: &[u8]) -> Result<Option<String>, NoMemory> {
     let mut parts = op.split(|byte| *byte == b'.');
     let name = parts.next().unwrap_or(b"");
     let index = parts.next().unwrap_or(b"");
@@ -24,20 +20,20 @@ pub(crate) fn operation_text(
 }
 
 /// The master of this name.
-pub(crate) fn master_of<'a>(board: &'a Board, name: &[u8]) -> Option<&'a Master> {
+pub fn master_of<'a>(board: &'a Board, name: &[u8]) -> Option<&'a Master> {
     let masters = board.masters.as_slice();
     masters.iter().find(|master| master.name.bytes() == name)
 }
 
 /// The operation of this index, in decimal, of a master; and the index.
-pub(crate) fn op_at<'a>(master: &'a Master, index: &[u8]) -> Option<(u32, &'a Op)> {
+pub fn op_at<'a>(master: &'a Master, index: &[u8]) -> Option<(u32, &'a Op)> {
     let index = decimal(index).ok()?;
     let op = master.ops.as_slice().get(index as usize)?;
     Some((index, op))
 }
 
 /// Which operations a master has.
-pub(crate) fn operations_of(alloc: Global, master: &Master) -> Result<String, NoMemory> {
+pub fn operations_of(alloc: Global, master: &Master) -> Result<String, NoMemory> {
     let name = master.name.as_str();
     match master.ops.as_slice().len() {
         0 => Ok(format!(in alloc; "{name} has no operations")?),

@@ -1,4 +1,4 @@
-use crate::refused::line_at;
+use crate::line_at;
 use crate::texts::device_forms::device_word;
 use crate::texts::places::{byte_at, count_words, first_word, word_at};
 use crate::texts::text::Text;
@@ -7,14 +7,14 @@ use board_statements::{Words, has_words};
 
 /// What of a line is pointed at: the word of a place, or what is behind the last.
 #[derive(Clone, Copy, Debug, PartialEq, Eq)]
-pub(crate) enum Pointed {
+pub enum Pointed {
     Word(usize),
     BehindWords,
 }
 
 /// What is said of the line of this number of a device text, which is none that may stand there, and
 /// what of it is pointed at; if something is said.
-pub(crate) fn text_of_device(input: &[u8], number: u32) -> Option<(Text, Pointed)> {
+pub fn text_of_device(input: &[u8], number: u32) -> Option<(Text, Pointed)> {
     if let Some(text) = text_of_marks(input, number) {
         return Some((Text::Plain(text), Pointed::Word(0)));
     }
@@ -77,7 +77,8 @@ fn text_of_place(line: &[u8]) -> Option<&'static str> {
 /// The first word of a line that is not as it is wanted.
 fn first_misfit(line: &[u8]) -> Option<(Text, Pointed)> {
     if device_word(line, 1).is_none() {
-        let text = "no line of devices begins with this word: pcitree help device has those that do";
+        let text =
+            "no line of devices begins with this word: pcitree help device has those that do";
         return Some((Text::Plain(text), Pointed::Word(0)));
     }
     let words = count_words(line);
@@ -98,9 +99,10 @@ fn first_misfit(line: &[u8]) -> Option<(Text, Pointed)> {
 fn misfit(line: &[u8], place: usize, wanted: Wanted, word: &[u8]) -> Option<Text> {
     match wanted {
         Wanted::Nothing => Some(Text::Plain("nothing stands behind the words of this line")),
-        Wanted::Decimal { word: "VECTORS", .. } if !is_vector_count(word) => {
-            Some(Text::Plain("VECTORS is 1, 2, 4, 8, 16 or 32"))
-        }
+        Wanted::Decimal {
+            word: "VECTORS",
+            ..
+        } if !is_vector_count(word) => { Some(Text::Plain("VECTORS is 1, 2, 4, 8, 16 or 32")) }
         Wanted::Decimal { word: "V", .. } if !is_below(line, place) => {
             Some(Text::Plain("V is below VECTORS"))
         }

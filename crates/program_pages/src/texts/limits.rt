@@ -4,6 +4,7 @@ use board_statements::{Statement, statement_of};
 
 /// How many bridges may be on a bus, and how many operations a master may have.
 const MOST_BRIDGES: usize = 8;
+
 const MOST_OPERATIONS: usize = 1024;
 
 /// What is passed by a line behind these.
@@ -67,7 +68,7 @@ fn operations_of_last(text: &[u8]) -> usize {
 
 /// The first bus of a board text that a line names and that is not there, and the number of that
 /// line.
-pub(crate) fn bus_not_there(text: &[u8]) -> Option<(u32, u8)> {
+pub fn bus_not_there(text: &[u8]) -> Option<(u32, u8)> {
     let mut number: u32 = 1;
     for line in text.split(|byte| *byte == b'\n') {
         if let Some(bus) = missing_bus(text, line) {
@@ -86,7 +87,11 @@ fn missing_bus(text: &[u8], line: &[u8]) -> Option<u8> {
         b"target" | b"master" => byte_at(line, 3)?,
         b"discard" | b"drop" => {
             let bus = byte_at(line, 1)?;
-            return if has_bridge(text, bus) { None } else { Some(bus) };
+            return if has_bridge(text, bus) {
+                None
+            } else {
+                Some(bus)
+            };
         }
         _ => return None,
     };

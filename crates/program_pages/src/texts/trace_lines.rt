@@ -2,7 +2,7 @@ use crate::texts::bytes::{BYTE_ORDER_MARK, CARRIAGE_RETURN, begins_with_mark, is
 use crate::texts::places::first_word;
 
 /// The first line of a text is not that of a trace.
-pub(crate) fn no_trace_text(input: &[u8], line: &[u8]) -> &'static str {
+pub fn no_trace_text(input: &[u8], line: &[u8]) -> &'static str {
     match first_word(line) {
         b"pciboard" => "this is a board, and a trace is wanted: pcitree run FILE writes one",
         b"pcidevices" => {
@@ -16,7 +16,7 @@ pub(crate) fn no_trace_text(input: &[u8], line: &[u8]) -> &'static str {
 }
 
 /// No line is `events`, but with a carriage return, or not even so.
-pub(crate) fn no_events_text(with_return: bool) -> &'static str {
+pub fn no_events_text(with_return: bool) -> &'static str {
     if with_return {
         CARRIAGE_RETURN
     } else {
@@ -25,7 +25,7 @@ pub(crate) fn no_events_text(with_return: bool) -> &'static str {
 }
 
 /// What is said of a line of events that is not read for this place of it.
-pub(crate) fn unreadable_text(line: &[u8], at: usize) -> &'static str {
+pub fn unreadable_text(line: &[u8], at: usize) -> &'static str {
     if is_end_of_line(line, at) {
         CARRIAGE_RETURN
     } else {
@@ -35,7 +35,7 @@ pub(crate) fn unreadable_text(line: &[u8], at: usize) -> &'static str {
 
 /// A word of an event that is at fault.
 #[derive(Clone, Copy, Debug, PartialEq, Eq)]
-pub(crate) enum Piece {
+pub enum Piece {
     Target,
     Lane,
     Bus,
@@ -43,7 +43,7 @@ pub(crate) enum Piece {
 }
 
 /// What is said of a word of an event that is no such word of the board.
-pub(crate) fn misread_text(piece: Piece) -> &'static str {
+pub fn misread_text(piece: Piece) -> &'static str {
     match piece {
         Piece::Target => "no target of the board has this name",
         Piece::Lane => "no bridge of the board has this lane",

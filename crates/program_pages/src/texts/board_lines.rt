@@ -1,4 +1,4 @@
-use crate::refused::Spot;
+use crate::Spot;
 use crate::texts::bytes::text_of_byte;
 use crate::texts::forms::{BEHIND_BRIDGE, BEHIND_HEADER, option_at, wanted_at};
 use crate::texts::limits::text_of_limit;
@@ -10,15 +10,15 @@ use text_faults::LineFault;
 
 /// A line at fault.
 #[derive(Clone, Copy)]
-pub(crate) struct Case<'a> {
+pub struct Case<'a> {
     /// The lines before it.
-    pub(crate) before: &'a [u8],
-    pub(crate) line: &'a [u8],
+    pub before: &'a [u8],
+    pub line: &'a [u8],
     /// Its number, from 1.
-    pub(crate) number: u32,
+    pub number: u32,
     /// What of it is pointed at, and the place of its first byte.
-    pub(crate) spot: Spot,
-    pub(crate) at: usize,
+    pub spot: Spot,
+    pub at: usize,
 }
 
 impl<'a> Case<'a> {
@@ -53,7 +53,7 @@ impl<'a> Case<'a> {
 }
 
 /// What is said of a line of a board in place of the sentence of the fault, if it is something.
-pub(crate) fn text_of_line(case: &Case, fault: LineFault) -> Option<Text> {
+pub fn text_of_line(case: &Case, fault: LineFault) -> Option<Text> {
     match fault {
         LineFault::BadByte => Some(text_of_byte(case.number, case.line, case.at)),
         LineFault::NoFirstLine => Some(Text::Plain(no_board_text(case))),
