@@ -1,5 +1,7 @@
 //! A board: the tree of buses with its bridges, targets and masters, as its text names them, and
-//! who claims a request on a bus.
+//! who claims a request on a bus. What a board has to be stands in `specs/`: its form
+//! (`WellFormed`), claims (`Claims`), ways (`Ways`), requests, words and cost of operations, its
+//! bound, and when it is valid (`Valid`).
 #![tactic(auto)]
 
 mod agents;

@@ -1,6 +1,7 @@
 //! What is printed of a board is read as the same board. The law is the contract of a function that
 //! does nothing. A board of the program meets it: this is the contract of functions that look at its
-//! fields and change nothing.
+//! fields and change nothing. In a `pciboard 1` text it is of addresses, sizes and limits below
+//! 2^32.
 #![tactic(auto)]
 
 mod fits;

@@ -1,5 +1,7 @@
 //! The laws of the buses of a board, each worked as a segment, phase by phase. Each law is the contract
-//! of a function that does nothing, or that only calls the laws which it rests on.
+//! of a function that does nothing, or that only calls the laws which it rests on. Stamps are
+//! numbers of phases, of which there are at most 500,000, since each phase but the last has an
+//! event; laws of one phase by itself have the premise that stamps are below 2^31.
 #![tactic(auto)]
 
 ghost use Rattle.std.specs.Prelude.{◌≡◌, ℕ, ◌+◌, ◌^◌, ◌≤◌, Bool, true, false, List, ◌++◌, length, Option, Some, option_to_list};

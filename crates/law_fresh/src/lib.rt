@@ -3,7 +3,9 @@
 //! turn by writes of its own, reads the data after the producer's write has landed, over any number
 //! of bridges, flags and masters. It holds as neither a read's completion nor a request passes an
 //! older posted write: word of a write never comes to a bus before the write that it tells of. Each
-//! law is the contract of a function that does nothing.
+//! law is the contract of a function that does nothing. The proof follows one write: who knows of
+//! it is on a bus from which it has landed, or is posted on a lane of its way, or comes behind it
+//! on its own lane (`Informed` in `specs/Cover.antt`).
 #![tactic(auto)]
 
 ghost use Rattle.std.specs.Prelude.{◌≡◌, List, true};

@@ -3,7 +3,8 @@
 //! before it was sent, and in every such run what the buses know is what the lanes carry. So a
 //! program may let each bus go on by itself, in any order, and put its events in order afterwards.
 //! Each law is the contract of a function that does nothing. What is ever sent on each lane is
-//! `sent`.
+//! `sent`. On a lane that ends on the bus where it begins nothing is sent (`BetweenBuses`). Both
+//! engines rest on these laws.
 #![tactic(auto)]
 
 ghost use Rattle.std.specs.Prelude.{ℕ, ◌≢◌, List, ◌∷◌};

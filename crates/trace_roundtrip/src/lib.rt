@@ -1,5 +1,7 @@
 //! What is printed of a board and its events is read as that board and those events. Each law is the
-//! contract of a function that does nothing.
+//! contract of a function that does nothing. It is of well-formed boards that have each bus they
+//! name, and of fewer than 2^32 events that have lines over the board, as those of its runs have
+//! (`runs_have_lines`).
 #![tactic(auto)]
 
 mod events;

@@ -1,4 +1,6 @@
-//! Worked traces, computed to be runs by the definitions alone, and beside them events that are none.
+//! Worked traces, computed to be runs by the definitions alone, and beside them events that are
+//! none. Each entry of the first column of the ordering table has its example. `premises` has
+//! boards and histories on which a law is false without one of its premises.
 #![tactic(auto)]
 
 ghost use Rattle.std.specs.Prelude.{◌≡◌, ℕ, false, IsTrue, Some, None, [], ◌∷◌, ◌++◌, map, take, reverse};
