@@ -154,6 +154,7 @@ def outputs_that_fail(place):
         yield "full_output_of_safe", called([PROGRAM, "safe", "../boards/early.board"], stdout=full), failed
         adverse = [PROGRAM, "adverse", "../boards/early.board", "cpu.1", "nic.1"]
         yield "full_output_of_adverse", called(adverse, stdout=full), failed
+        yield "full_output_of_help", called([PROGRAM, "help"], stdout=full), failed
     yield "closed_output", called(["bash", "-c", 'exec "$@" >&-', "bash", *run]), failed
     reading, writing = os.pipe()
     os.close(reading)

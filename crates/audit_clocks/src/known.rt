@@ -3,7 +3,7 @@ ghost use Rattle.std.proofs.Math.ListN.{set};
 ghost use Rattle.audit_clocks.specs.Rows.{own, number, row, reached, Reaches};
 
 use crate::numbers::{Numbers, own};
-use crate::row::Row;
+use crate::row::ClockRow;
 use pci_command::{NoMemory, OpId};
 use std::alloc::Global;
 use std::marker::Model;
@@ -12,7 +12,7 @@ use std::marker::Model;
 /// each of the author's, from the first on. How many there are is what it knows of the author.
 #[derive(Debug, Drop)]
 pub struct Known {
-    rows: Vec<Row>,
+    rows: Vec<ClockRow>,
 }
 
 impl Model for Known {
@@ -35,7 +35,7 @@ impl Known {
     {
         let mut rows = Vec::new(alloc);
         for _author in 0..authors {
-            rows.push(Row::new(alloc))?;
+            rows.push(ClockRow::new(alloc))?;
         }
         Ok(Known { rows })
     }
@@ -67,7 +67,7 @@ impl Known {
 }
 
 #[tactic(auto, using(crate::proofs::RowLemmas::reaches_none, crate::proofs::RowLemmas::reaches_next, crate::proofs::RowLemmas::reaches_all))]
-fn learn_all(rows: &mut Vec<Row>, op: OpId, told: &Numbers) -> Result<(), NoMemory>
+fn learn_all(rows: &mut Vec<ClockRow>, op: OpId, told: &Numbers) -> Result<(), NoMemory>
     ensures { OnOk result (Reaches op rows.old.items rows.new.items (λ author. max (number told.now author) (own op author))) }
 {
     for author in 0..rows.len() {
@@ -76,7 +76,12 @@ fn learn_all(rows: &mut Vec<Row>, op: OpId, told: &Numbers) -> Result<(), NoMemo
     Ok(())
 }
 
-fn learn_at(rows: &mut Vec<Row>, op: OpId, told: &Numbers, author: usize) -> Result<(), NoMemory>
+fn learn_at(
+    rows: &mut Vec<ClockRow>,
+    op: OpId,
+    told: &Numbers,
+    author: usize,
+) -> Result<(), NoMemory>
     requires { author < length rows.old.items }
     ensures { OnOk result (rows.new.items ≡ set rows.old.items author (reached op (max (number told.now author) (own op author)) (row rows.old.items author))) }
 {

@@ -6,11 +6,11 @@ use std::marker::Model;
 
 /// Operations in a row.
 #[derive(Debug, Drop)]
-pub struct Row {
+pub struct ClockRow {
     ops: Vec<OpId>,
 }
 
-impl Model for Row {
+impl Model for ClockRow {
     ghost use Rattle.std.specs.Prelude.{List};
     ghost use Rattle.pci_command.specs.declared.op_id.OpId.{OpId};
 
@@ -19,15 +19,15 @@ impl Model for Row {
     ghost view = { λ k. k.ops.items };
 }
 
-impl Row {
+impl ClockRow {
     ghost use Rattle.std.specs.Prelude.{OnOk, []};
     ghost use Rattle.audit_clocks.specs.Rows.{reached};
 
     /// None.
-    pub fn new(alloc: Global) -> Row
+    pub fn new(alloc: Global) -> ClockRow
         ensures { result ≡ [] }
     {
-        Row {
+        ClockRow {
             ops: Vec::new(alloc),
         }
     }

@@ -8,7 +8,7 @@ use board_model::Board;
 use board_printer::{Address, HexWord, space_word};
 use pci_command::{OpId, Space};
 use std::alloc::AllocError;
-use trace_text::print_operation;
+use trace_text::{print_operation, target_name};
 
 /// The line of a read without its newline, behind a text.
 pub fn print_found(text: &mut String, board: &Board, found: &Found) -> Result<(), AllocError>
@@ -92,14 +92,4 @@ fn print_chain(text: &mut String, board: &Board, chain: &[OpId]) -> Result<(), A
         print_operation(text, board, op)?;
     }
     Ok(())
-}
-
-fn target_name(board: &Board, index: u16) -> &str
-    ensures { result.now ≡ target_name board.now index }
-{
-    let targets = board.targets.as_slice();
-    match targets.get(usize::from(index)) {
-        Some(target) => target.name.as_str(),
-        None => "",
-    }
 }

@@ -1,9 +1,9 @@
 -- Which fault of a tree is named: the first in order.
-use Rattle.std.specs.Prelude.{ℕ, Option, Some, None, if◌then◌else◌}
+use Rattle.std.specs.Prelude.{Option, Some, None, if◌then◌else◌}
 use Rattle.board_model.specs.declared.board.Board.{Board}
 use Rattle.board_model.specs.Valid.{lacks_a_bus, is_no_tree, has_windows_that_meet, is_out_of_reach, has_range_in_window, has_ranges_that_meet, has_devices_that_meet, writes_a_header}
-use Rattle.board_checks.specs.declared.fault.TreeFault.{TreeFault}
-use Rattle.board_checks.specs.declared.fault.TreeFault.TheVariants.{LacksABus, NoTree, WindowsMeet, OutOfReach, RangeInWindow, RangesMeet, DevicesMeet, WritesAHeader}
+use Rattle.text_faults.specs.declared.tree.TreeFault.{TreeFault}
+use Rattle.text_faults.specs.declared.tree.TreeFault.TheVariants.{LacksABus, NoTree, WindowsMeet, OutOfReach, RangeInWindow, RangesMeet, DevicesMeet, WritesAHeader}
 
 -- the first that a board has
 abbrev pub first_fault_of : Board → Option TreeFault
@@ -17,14 +17,3 @@ first_fault_of board =
     else if has_devices_that_meet board then Some DevicesMeet
     else if writes_a_header board then Some WritesAHeader
     else None
-
--- the number by which it is printed, behind a V
-abbrev pub code_of : TreeFault → ℕ
-code_of LacksABus = 1
-code_of NoTree = 2
-code_of WindowsMeet = 3
-code_of OutOfReach = 4
-code_of RangeInWindow = 5
-code_of RangesMeet = 6
-code_of DevicesMeet = 7
-code_of WritesAHeader = 8

@@ -4,7 +4,6 @@
 
 mod buses;
 mod devices;
-mod fault;
 mod ranges;
 mod reach;
 mod spans;
@@ -14,7 +13,7 @@ ghost use Rattle.std.specs.Prelude.{◌≡◌};
 ghost use Rattle.board_checks.specs.Faults.{first_fault_of};
 
 use board_model::Board;
-pub use fault::TreeFault;
+use text_faults::TreeFault;
 
 /// The first of the faults that the board has, in the order in which `TreeFault` names them.
 pub fn first_fault(board: &Board) -> Option<TreeFault>

@@ -14,6 +14,6 @@ mod windows;
 pub use device::{merge, opening, write_mask};
 pub use encoding::encode;
 pub use fault::HeaderFault;
-pub use reading::decode;
+pub use reading::{decode, window_between};
 pub use round_trip::{encoding_is_read_back, read_back};
 pub use windows::Windows;

@@ -136,7 +136,8 @@ fn io_upper(bytes: &[u8; 64], offset: usize) -> u16
     }
 }
 
-fn window_between(base: u64, limit: u64) -> Option<Window>
+/// The window from a base to a limit; one whose limit lies below its base is closed.
+pub fn window_between(base: u64, limit: u64) -> Option<Window>
     ensures { result ≡ window_between base limit }
 {
     if base <= limit {

@@ -1,7 +1,7 @@
 -- What holds of the values that readers of words give.
 use Rattle.std.proofs.Common.{subst, ap, ◌≡◌, ℕ, Bool, true, false, cond, List, [], ◌∷◌, length, refl}
 use Rattle.std.specs.Prelude.{Result, Ok, Err, ◌==◌}
-use Rattle.board_statements.specs.declared.fault.LineFault.{LineFault}
+use Rattle.text_faults.specs.declared.board_line.LineFault.{LineFault}
 use Rattle.board_statements.specs.Words.{Reader, read_on, ◌>>=◌, ◌>>◌, give, with_rest, one_word, begins_with, behind_first, choice, optional, whole}
 
 -- each value that the reader gives has the property

@@ -6,7 +6,7 @@ use Rattle.board_model.specs.WellFormed.{is_well_formed}
 use Rattle.board_text.specs.Lines.{lines_of, line_fault}
 use Rattle.board_text.specs.declared.reader.BadLine.{BadLine}
 use Rattle.board_text.specs.Tokens.{words_of}
-use Rattle.board_statements.specs.declared.fault.LineFault.{LineFault}
+use Rattle.text_faults.specs.declared.board_line.LineFault.{LineFault}
 use Rattle.board_statements.specs.Statements.{statement_of, first_line_of}
 use Rattle.board_parser.specs.declared.draft.draft.Draft.{Draft}
 use Rattle.board_parser.specs.draft.Drafts.{board_of, first_draft}

@@ -7,10 +7,10 @@ use Rattle.pci_command.specs.declared.command.Space.TheVariants.{Mem, Io}
 use Rattle.pci_command.specs.Command.{space_of}
 use Rattle.board_model.specs.WellFormed.{read_space, write_space}
 use Rattle.board_parser.specs.draft.Formed.{is_target_space, is_formed}
-use Rattle.board_statements.specs.declared.fault.LineFault.{LineFault}
-use Rattle.board_statements.specs.declared.fault.LineFault.TheVariants.{WrongWord}
-use Rattle.board_statements.specs.declared.keyword.Form.{Form}
-use Rattle.board_statements.specs.declared.keyword.Form.TheVariants.{Bridge, Header, Target, Id, Stall, Burst, Range, Abort, Word, Master, Reads, WritesBurst, WritesPort, ReadsRegister, WritesRegister, Polls, Discard, Drop}
+use Rattle.text_faults.specs.declared.board_line.LineFault.{LineFault}
+use Rattle.text_faults.specs.declared.board_line.LineFault.TheVariants.{WrongWord}
+use Rattle.board_statements.specs.declared.keyword.LineForm.{LineForm}
+use Rattle.board_statements.specs.declared.keyword.LineForm.TheVariants.{Bridge, Header, Target, Id, Stall, Burst, Range, Abort, Word, Master, Reads, WritesBurst, WritesPort, ReadsRegister, WritesRegister, Polls, Discard, Drop}
 use Rattle.board_statements.specs.declared.statement.Statement.{Statement}
 use Rattle.board_statements.specs.Words.{one_word}
 use Rattle.board_statements.specs.Keywords.{form_of}
@@ -19,7 +19,7 @@ use Rattle.board_parser.proofs.ReaderLemmas.{on-ok, word-ok, yields-whole}
 use Rattle.board_parser.proofs.FormLemmas.{is_space_of, bridge-formed, header-formed, target-formed, id-formed, stall-formed, burst-formed, claim-formed, abort-formed, opening-formed, master-formed, read-formed, burst_write-formed, port_write-formed, register_read-formed, register_write-formed, poll-formed, discard-formed, drop-formed}
 
 -- the command of the form reads or writes in a space of targets
-abbrev is_served : Form → Bool
+abbrev is_served : LineForm → Bool
 is_served Bridge = true
 is_served Header = true
 is_served Target = true
@@ -40,14 +40,14 @@ is_served Discard = true
 is_served Drop = true
 
 -- each form that the answer can be is served
-record AllServed (answer : Result Form LineFault) : Type 0 where
-  at : (found : Form) → answer ≡ Ok found → is_served found ≡ true
+record AllServed (answer : Result LineForm LineFault) : Type 0 where
+  at : (found : LineForm) → answer ≡ Ok found → is_served found ≡ true
 
-case-served : (test : Bool) (form : Form) (later : Result Form LineFault) → is_served form ≡ true → AllServed later → (found : Form) → cond test (Ok form) later ≡ Ok found → is_served found ≡ true
-case-served true form later served others found h = let is : form ≡ found = cc in let P : Form → Type 0 = λ f. is_served f ≡ true in subst P is served
+case-served : (test : Bool) (form : LineForm) (later : Result LineForm LineFault) → is_served form ≡ true → AllServed later → (found : LineForm) → cond test (Ok form) later ≡ Ok found → is_served found ≡ true
+case-served true form later served others found h = let is : form ≡ found = cc in let P : LineForm → Type 0 = λ f. is_served f ≡ true in subst P is served
 case-served false form later served others found h = others.at found h
 
-kept : (test : Bool) (form : Form) (later : Result Form LineFault) → is_served form ≡ true → AllServed later → AllServed (cond test (Ok form) later)
+kept : (test : Bool) (form : LineForm) (later : Result LineForm LineFault) → is_served form ≡ true → AllServed later → AllServed (cond test (Ok form) later)
 kept test form later served others = record { at = case-served test form later served others }
 
 none_served : (fault : LineFault) → AllServed (Err fault)
@@ -81,7 +81,7 @@ all-served word =
     kept (bytes_eq word (codes "drop")) Drop _ refl (
     none_served WrongWord)))))))))))))))))))))))
 
-behind-formed : (wide : Bool) (form : Form) → is_served form ≡ true → (words : List (List ℕ)) (read : Statement × List (List ℕ)) → behind_word wide form words ≡ Ok read → is_formed (read.0) ≡ true
+behind-formed : (wide : Bool) (form : LineForm) → is_served form ≡ true → (words : List (List ℕ)) (read : Statement × List (List ℕ)) → behind_word wide form words ≡ Ok read → is_formed (read.0) ≡ true
 unfolding behind_word
 behind-formed wide Bridge served words read h = bridge-formed wide words read h
 behind-formed wide Header served words read h = header-formed words read h

@@ -13,7 +13,7 @@ use Rattle.board_text.specs.declared.numbers.NumberFault.{NumberFault}
 use Rattle.board_text.specs.Numbers.{is_numeral, hex_answer, decimal_answer}
 use Rattle.board_text.proofs.DigitLemmas.{hex_fits}
 use Rattle.board_parser.specs.draft.Formed.{is_byte, is_target_space}
-use Rattle.board_statements.specs.declared.fault.LineFault.{LineFault}
+use Rattle.text_faults.specs.declared.board_line.LineFault.{LineFault}
 use Rattle.board_statements.specs.Words.{number_of, hex_of, within, decimal_of, and_part, has_mark, before_mark, behind_mark, lower_of, long_of, digit_of, enables_of, data_word_of, in_pairs, header_of}
 use Rattle.board_statements.specs.Targets.{space_of_word}
 

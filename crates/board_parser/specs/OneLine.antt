@@ -4,8 +4,8 @@ use Rattle.board_text.specs.Lines.{line_fault}
 use Rattle.board_text.specs.declared.reader.BadLine.{BadLine}
 use Rattle.board_text.specs.declared.reader.BadLine.TheVariants as bad_lines
 use Rattle.board_text.specs.Tokens.{words_of}
-use Rattle.board_statements.specs.declared.fault.LineFault.{LineFault}
-use Rattle.board_statements.specs.declared.fault.LineFault.TheVariants.{BadByte, TooLong, NoFirstLine}
+use Rattle.text_faults.specs.declared.board_line.LineFault.{LineFault}
+use Rattle.text_faults.specs.declared.board_line.LineFault.TheVariants.{BadByte, TooLong, NoFirstLine}
 use Rattle.board_statements.specs.Statements.{statement_of, first_line_of}
 use Rattle.board_parser.specs.declared.draft.draft.Draft.{Draft}
 use Rattle.board_parser.specs.draft.Steps.{◌>>=◌}

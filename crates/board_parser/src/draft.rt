@@ -12,6 +12,6 @@ mod plans;
 mod sheet;
 mod targets;
 
-pub use draft::{Draft, Owner};
+pub use draft::{AgentPlace, Draft};
 pub use fault::AddFault;
 pub use sheet::Sheet;

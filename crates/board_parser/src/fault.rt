@@ -1,5 +1,5 @@
-use board_statements::LineFault;
 use pci_command::NoMemory;
+use text_faults::LineFault;
 use thiserror::Error;
 
 /// Why a text was not read as a board.

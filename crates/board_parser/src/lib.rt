@@ -8,7 +8,7 @@ mod laws;
 mod line;
 mod text;
 
-pub use draft::{AddFault, Draft, Owner, Sheet};
+pub use draft::{AddFault, AgentPlace, Draft, Sheet};
 pub use fault::ParseFault;
 pub use laws::read_is_well_formed;
 pub use text::{parse, parse_sheet};

@@ -5,9 +5,10 @@ ghost use Rattle.board_parser.specs.draft.Steps.{Answers};
 ghost use Rattle.board_parser.specs.OneLine.{read_line, read_words, read_statement, text_fault};
 
 use crate::draft::{AddFault, Sheet};
-use board_statements::{LineFault, first_line, has_words, statement_of};
+use board_statements::{first_line, has_words, statement_of};
 use board_text::{BadLine, check_line};
 use std::alloc::Global;
+use text_faults::LineFault;
 
 /// The sheet behind one more line. There is none before the first line that has words.
 pub(crate) fn read_line(

@@ -5,9 +5,9 @@ use crate::ParseFault;
 use crate::draft::{AddFault, Sheet};
 use crate::line::read_line;
 use board_model::Board;
-use board_statements::LineFault;
 use board_text::next_line;
 use std::alloc::Global;
+use text_faults::LineFault;
 
 /// The board of a text, or its first fault. A text has fewer than 2^31 bytes. Lines are numbered
 /// from 1, and the first line with a fault decides; of the faults of one line a byte or a length

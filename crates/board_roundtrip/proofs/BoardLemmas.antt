@@ -15,7 +15,7 @@ use Rattle.board_printer.specs.Targets.{target_lines}
 use Rattle.board_printer.specs.Masters.{master_lines}
 use Rattle.board_printer.specs.Boards.{is_short_bridge, is_short_target, is_short_board, first_line, planned_line, board_text}
 use Rattle.board_roundtrip.specs.words.Printed.{joined}
-use Rattle.board_statements.specs.declared.fault.LineFault.{LineFault}
+use Rattle.text_faults.specs.declared.board_line.LineFault.{LineFault}
 use Rattle.board_statements.specs.Statements.{first_line_of}
 use Rattle.board_roundtrip.proofs.lines.TargetTexts.{first_may, second_may}
 use Rattle.board_roundtrip.proofs.lines.Laws.{first_law, first_allowed}

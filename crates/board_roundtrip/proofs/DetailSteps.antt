@@ -16,14 +16,14 @@ use Rattle.board_printer.specs.Lines.{Line}
 use Rattle.board_printer.specs.Numbers.{half_text}
 use Rattle.board_printer.specs.Targets.{id_lines, stall_lines, burst_lines, range_line, opening_line}
 use Rattle.board_printer.specs.Boards.{is_short, is_short_range}
-use Rattle.board_statements.specs.declared.fault.LineFault.{LineFault}
+use Rattle.text_faults.specs.declared.board_line.LineFault.{LineFault}
 use Rattle.board_statements.specs.declared.statement.Statement.{Statement}
 use Rattle.board_statements.specs.declared.statement.Statement.TheVariants.{Identifies, Stalls, Bursts, Claims, Aborts, Opens}
 use Rattle.board_roundtrip.specs.lines.Ranges.{RangeFits, OpeningFits}
 use Rattle.board_roundtrip.specs.lines.ReadsAs.{IsReadAs}
 use Rattle.board_roundtrip.proofs.lines.Laws.{id_law, stall_law, burst_law, claim_law, abort_law, opening_law}
 use Rattle.board_parser.specs.declared.draft.draft.Draft.{Draft}
-use Rattle.board_parser.specs.declared.draft.draft.Owner.TheVariants.{OfTarget}
+use Rattle.board_parser.specs.declared.draft.draft.AgentPlace.TheVariants.{OfTarget}
 use Rattle.board_parser.specs.draft.Steps.{◌>>=◌}
 use Rattle.board_parser.specs.draft.Targets.{on_target, set_identity, set_stalls, set_burst, unit_of, end_of, is_in_units, fits, put_range, put_abort, add_range, add_abort, add_opening}
 use Rattle.board_parser.specs.draft.Add.{add}

@@ -11,7 +11,7 @@ use Rattle.board_text.specs.declared.reader.BadLine.TheVariants.{TooLong, BadByt
 use Rattle.board_text.specs.Tokens.{words_of}
 use Rattle.board_printer.specs.Lines.{Line, line_text, text_of}
 use Rattle.board_roundtrip.specs.words.Printed.{joined}
-use Rattle.board_statements.specs.declared.fault.LineFault.{LineFault}
+use Rattle.text_faults.specs.declared.board_line.LineFault.{LineFault}
 use Rattle.board_statements.specs.declared.statement.Statement.{Statement}
 use Rattle.board_statements.specs.Statements.{statement_form, statement_of}
 use Rattle.board_roundtrip.specs.lines.ReadsAs.{IsReadAs}

@@ -12,12 +12,12 @@ use Rattle.board_model.specs.Requests.{tries_of}
 use Rattle.board_model.specs.WellFormed.{is_well_formed_op, is_well_formed_master, agents_on, operations_in, IsWellFormed}
 use Rattle.board_printer.specs.Masters.{op_line, master_line, master_lines}
 use Rattle.board_printer.specs.Boards.{is_short_op}
-use Rattle.board_statements.specs.declared.fault.LineFault.{LineFault}
+use Rattle.text_faults.specs.declared.board_line.LineFault.{LineFault}
 use Rattle.board_statements.specs.declared.statement.Statement.TheVariants.{NewMaster, Does}
 use Rattle.board_roundtrip.specs.lines.Ranges.{OpFits}
 use Rattle.board_roundtrip.proofs.lines.Laws.{master_law, op_law}
 use Rattle.board_parser.specs.declared.draft.draft.Draft.{Draft}
-use Rattle.board_parser.specs.declared.draft.draft.Owner.TheVariants.{OfMaster}
+use Rattle.board_parser.specs.declared.draft.draft.AgentPlace.TheVariants.{OfMaster}
 use Rattle.board_parser.specs.draft.Steps.{◌>>=◌}
 use Rattle.board_parser.specs.draft.Drafts.{board_of}
 use Rattle.board_parser.specs.draft.Targets.{agent_fault, unless}

@@ -6,7 +6,7 @@ use Rattle.board_model.specs.declared.agents.Master.{Master}
 use Rattle.board_model.specs.declared.board.Board.{Board}
 use Rattle.board_model.specs.declared.board.Planned.{Planned}
 use Rattle.board_parser.specs.declared.draft.draft.Draft.{Draft}
-use Rattle.board_parser.specs.declared.draft.draft.Owner.{Owner}
+use Rattle.board_parser.specs.declared.draft.draft.AgentPlace.{AgentPlace}
 use Rattle.board_parser.specs.draft.Drafts.{board_of}
 
 -- a board of what was added
@@ -19,7 +19,7 @@ pub record Of (wide : Bool) (board : Board) (draft : Draft) : Type 0 where
   pub is : board_of draft ≡ board
 
 -- a draft with this owner
-abbrev pub holding : Bool → Board → Owner → Draft
+abbrev pub holding : Bool → Board → AgentPlace → Draft
 holding wide board owner = record { wide = wide; board = board; owner = owner }
 
 abbrev pub Is : Draft → Draft → Type 0

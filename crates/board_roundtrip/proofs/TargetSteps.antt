@@ -8,12 +8,12 @@ use Rattle.board_model.specs.declared.board.Board.{Board}
 use Rattle.board_model.specs.WellFormed.{IsWellFormed, is_well_formed_target, is_target_named, is_master_named, agents_on}
 use Rattle.board_printer.specs.Targets.{target_line, id_lines, stall_lines, burst_lines, range_line, opening_line, target_lines}
 use Rattle.board_printer.specs.Boards.{is_short_range, is_short_target}
-use Rattle.board_statements.specs.declared.fault.LineFault.{LineFault}
+use Rattle.text_faults.specs.declared.board_line.LineFault.{LineFault}
 use Rattle.board_statements.specs.declared.statement.Statement.TheVariants.{NewTarget}
 use Rattle.board_roundtrip.proofs.lines.TargetTexts.{first_may, second_may}
 use Rattle.board_roundtrip.proofs.lines.Laws.{target_law}
 use Rattle.board_parser.specs.declared.draft.draft.Draft.{Draft}
-use Rattle.board_parser.specs.declared.draft.draft.Owner.TheVariants.{OfTarget}
+use Rattle.board_parser.specs.declared.draft.draft.AgentPlace.TheVariants.{OfTarget}
 use Rattle.board_parser.specs.draft.Drafts.{board_of}
 use Rattle.board_parser.specs.draft.Targets.{is_name_used, agent_fault, unless, new_target, add_target}
 use Rattle.board_roundtrip.specs.lines.Fits.{DetailsFit}

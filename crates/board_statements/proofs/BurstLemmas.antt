@@ -3,7 +3,7 @@ use Rattle.std.proofs.Common.{◌≡◌, ℕ, ◌<◌, ◌≤◌, Bool, true, fa
 use Rattle.std.proofs.lemmas.Bool.{lt-ltb, le-ltb}
 use Rattle.std.proofs.lemmas.List.{append-nil, length-append, take_at, take_all}
 use Rattle.pci_command.specs.declared.phases.Phase.{Phase}
-use Rattle.board_statements.specs.declared.fault.LineFault.{LineFault}
+use Rattle.text_faults.specs.declared.board_line.LineFault.{LineFault}
 use Rattle.board_statements.specs.Words.{◌>>=◌, read_on, give, and_part, with_rest, data_word, data_word_of}
 use Rattle.board_statements.specs.Masters.{data_words, other_words, at_most_eight, burst_words}
 

@@ -3,13 +3,13 @@ use Rattle.std.specs.Prelude.{ℕ, List, Result, Ok, Err, codes, if◌then◌els
 use Rattle.std.specs.Str.{bytes_eq}
 use Rattle.pci_command.specs.declared.command.Command.TheVariants.{IoRead, MemRead, MemWrite, MemReadMultiple, MemReadLine, MemWriteInvalidate}
 use Rattle.pci_command.specs.declared.command.Space.TheVariants.{Mem, Io}
-use Rattle.board_statements.specs.declared.fault.LineFault.{LineFault}
-use Rattle.board_statements.specs.declared.fault.LineFault.TheVariants.{WrongWord}
-use Rattle.board_statements.specs.declared.keyword.Form.{Form}
-use Rattle.board_statements.specs.declared.keyword.Form.TheVariants.{Bridge, Header, Target, Id, Stall, Burst, Range, Abort, Word, Master, Reads, WritesBurst, WritesPort, ReadsRegister, WritesRegister, Polls, Discard, Drop}
+use Rattle.text_faults.specs.declared.board_line.LineFault.{LineFault}
+use Rattle.text_faults.specs.declared.board_line.LineFault.TheVariants.{WrongWord}
+use Rattle.board_statements.specs.declared.keyword.LineForm.{LineForm}
+use Rattle.board_statements.specs.declared.keyword.LineForm.TheVariants.{Bridge, Header, Target, Id, Stall, Burst, Range, Abort, Word, Master, Reads, WritesBurst, WritesPort, ReadsRegister, WritesRegister, Polls, Discard, Drop}
 
 -- those of a master's program, and of what is discarded or dropped
-abbrev pub traffic_form_of : List ℕ → Result Form LineFault
+abbrev pub traffic_form_of : List ℕ → Result LineForm LineFault
 traffic_form_of word =
     if bytes_eq word (codes "mr") then Ok (Reads MemRead)
     else if bytes_eq word (codes "mrl") then Ok (Reads MemReadLine)
@@ -27,7 +27,7 @@ traffic_form_of word =
     else Err WrongWord
 
 -- all of them: those of bridges and targets first
-unfoldable pub form_of : List ℕ → Result Form LineFault
+unfoldable pub form_of : List ℕ → Result LineForm LineFault
 form_of word =
     if bytes_eq word (codes "bridge") then Ok Bridge
     else if bytes_eq word (codes "header") then Ok Header

@@ -1,4 +1,3 @@
-pub mod Faults
 pub mod Cuts
 pub mod Words
 pub mod Keywords

@@ -8,8 +8,8 @@ use Rattle.pci_command.specs.declared.phases.Phase.{Phase}
 use Rattle.pci_command.specs.Command.{space_of}
 use Rattle.board_model.specs.declared.op.Op.TheVariants.{Read, Write, CfgRead, CfgWrite, Poll}
 use Rattle.board_model.specs.declared.board.Planned.{Planned}
-use Rattle.board_statements.specs.declared.fault.LineFault.{LineFault}
-use Rattle.board_statements.specs.declared.fault.LineFault.TheVariants.{WrongWord}
+use Rattle.text_faults.specs.declared.board_line.LineFault.{LineFault}
+use Rattle.text_faults.specs.declared.board_line.LineFault.TheVariants.{WrongWord}
 use Rattle.board_statements.specs.declared.statement.Statement.{Statement}
 use Rattle.board_statements.specs.declared.statement.Statement.TheVariants.{NewMaster, Does, Discards, Drops}
 use Rattle.board_statements.specs.Words.{◌>>=◌, ◌>>◌, Reader, give, one_word, and_part, with_rest, hex, decimal, fixed, name, long, data_word, data_word_of}

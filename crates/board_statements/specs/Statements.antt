@@ -1,9 +1,9 @@
 -- The lines behind the first one, by their kinds, and the first one.
 use Rattle.std.specs.Prelude.{ℕ, Bool, true, false, List, [], ◌∷◌, Option, Some, None, Result, codes, if◌then◌else◌}
 use Rattle.std.specs.Str.{bytes_eq}
-use Rattle.board_statements.specs.declared.fault.LineFault.{LineFault}
-use Rattle.board_statements.specs.declared.keyword.Form.{Form}
-use Rattle.board_statements.specs.declared.keyword.Form.TheVariants.{Bridge, Header, Target, Id, Stall, Burst, Range, Abort, Word, Master, Reads, WritesBurst, WritesPort, ReadsRegister, WritesRegister, Polls, Discard, Drop}
+use Rattle.text_faults.specs.declared.board_line.LineFault.{LineFault}
+use Rattle.board_statements.specs.declared.keyword.LineForm.{LineForm}
+use Rattle.board_statements.specs.declared.keyword.LineForm.TheVariants.{Bridge, Header, Target, Id, Stall, Burst, Range, Abort, Word, Master, Reads, WritesBurst, WritesPort, ReadsRegister, WritesRegister, Polls, Discard, Drop}
 use Rattle.board_statements.specs.declared.statement.Statement.{Statement}
 use Rattle.board_statements.specs.Words.{◌>>=◌, Reader, one_word, whole}
 use Rattle.board_statements.specs.Keywords.{form_of}
@@ -12,7 +12,7 @@ use Rattle.board_statements.specs.Targets.{target_form, id_form, stall_form, bur
 use Rattle.board_statements.specs.Masters.{master_form, read_form, burst_write_form, port_write_form, register_read_form, register_write_form, poll_form, discard_form, drop_form}
 
 -- what stands behind the first word of a line
-unfoldable pub behind_word : Bool → Form → Reader Statement
+unfoldable pub behind_word : Bool → LineForm → Reader Statement
 behind_word wide Bridge = bridge_form wide
 behind_word wide Header = header_form
 behind_word wide Target = target_form

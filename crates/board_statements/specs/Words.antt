@@ -7,10 +7,9 @@ use Rattle.std.specs.Char.{digit_value, is_digit}
 use Rattle.pci_command.specs.declared.phases.Phase.{Phase}
 use Rattle.board_model.specs.Names.{is_name}
 use Rattle.board_text.specs.declared.numbers.NumberFault.{NumberFault}
-use Rattle.board_text.specs.declared.numbers.NumberFault.TheVariants as number_faults
 use Rattle.board_text.specs.Numbers.{hex_answer, decimal_answer}
-use Rattle.board_statements.specs.declared.fault.LineFault.{LineFault}
-use Rattle.board_statements.specs.declared.fault.LineFault.TheVariants.{TooWide, WrongWord, Missing, TooMany, IllFormed}
+use Rattle.text_faults.specs.declared.board_line.LineFault.{LineFault}
+use Rattle.text_faults.specs.declared.board_line.LineFault.TheVariants.{TooWide, WrongWord, Missing, TooMany, IllFormed}
 
 infixl 10 ◌>>=◌
 infixl 10 ◌>>◌
@@ -76,12 +75,6 @@ Gives (Ok value) words read = read ≡ Ok (value, words)
 Gives (Err fault) words read = read ≡ Err fault
 
 -- Kinds of words.
-
--- the fault of a number: too many digits, and else it is none of its kind
-abbrev pub number_fault : NumberFault → LineFault
-number_fault number_faults.TooWide = TooWide
-number_fault number_faults.NotDigits = IllFormed
-number_fault number_faults.OutOfRange = IllFormed
 
 -- a number that was read, or that fault
 abbrev pub number_of : Result ℕ NumberFault → Result ℕ LineFault

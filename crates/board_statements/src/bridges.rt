@@ -2,9 +2,10 @@ ghost use Rattle.std.specs.Prelude.{false};
 ghost use Rattle.board_statements.specs.Words.{Gives, choice, give};
 ghost use Rattle.board_statements.specs.Bridges.{window, base_limit, depth, abort_mode, bridge_options, bridge_form, header_form};
 
+use crate::Statement;
 use crate::words::Words;
-use crate::{LineFault, Statement};
 use board_model::{Bridge, Window};
+use text_faults::LineFault;
 
 /// `bridge B on Q dev D last S`, and then what may be left out.
 #[tactic(auto, unfolding(crate::specs::Bridges::bridge_form))]

@@ -1,13 +1,13 @@
 ghost use Rattle.std.specs.Prelude.{◌≡◌};
 ghost use Rattle.board_statements.specs.Keywords.{form_of, traffic_form_of};
 
-use crate::LineFault;
 use crate::words::is_word;
 use pci_command::{Command, Space};
+use text_faults::LineFault;
 
 /// The kinds of lines behind the first one.
 #[derive(Clone, Copy)]
-pub enum Form {
+pub enum LineForm {
     Bridge,
     Header,
     Target,
@@ -33,64 +33,64 @@ pub enum Form {
 
 /// The kind of a line that begins with this word.
 #[tactic(auto, unfolding(crate::specs::Keywords::form_of))]
-pub fn form_of(word: &[u8]) -> Result<Form, LineFault>
+pub fn form_of(word: &[u8]) -> Result<LineForm, LineFault>
     ensures { result ≡ form_of word.now }
 {
     if is_word(word, b"bridge") {
-        Ok(Form::Bridge)
+        Ok(LineForm::Bridge)
     } else if is_word(word, b"header") {
-        Ok(Form::Header)
+        Ok(LineForm::Header)
     } else if is_word(word, b"target") {
-        Ok(Form::Target)
+        Ok(LineForm::Target)
     } else if is_word(word, b"id") {
-        Ok(Form::Id)
+        Ok(LineForm::Id)
     } else if is_word(word, b"stall") {
-        Ok(Form::Stall)
+        Ok(LineForm::Stall)
     } else if is_word(word, b"burst") {
-        Ok(Form::Burst)
+        Ok(LineForm::Burst)
     } else if is_word(word, b"range") {
-        Ok(Form::Range)
+        Ok(LineForm::Range)
     } else if is_word(word, b"abort") {
-        Ok(Form::Abort)
+        Ok(LineForm::Abort)
     } else if is_word(word, b"word") {
-        Ok(Form::Word)
+        Ok(LineForm::Word)
     } else if is_word(word, b"master") {
-        Ok(Form::Master)
+        Ok(LineForm::Master)
     } else {
         traffic_form_of(word)
     }
 }
 
 /// Of a master's program, or of what is discarded or dropped.
-fn traffic_form_of(word: &[u8]) -> Result<Form, LineFault>
+fn traffic_form_of(word: &[u8]) -> Result<LineForm, LineFault>
     ensures { result ≡ traffic_form_of word.now }
 {
     if is_word(word, b"mr") {
-        Ok(Form::Reads(Command::MemRead))
+        Ok(LineForm::Reads(Command::MemRead))
     } else if is_word(word, b"mrl") {
-        Ok(Form::Reads(Command::MemReadLine))
+        Ok(LineForm::Reads(Command::MemReadLine))
     } else if is_word(word, b"mrm") {
-        Ok(Form::Reads(Command::MemReadMultiple))
+        Ok(LineForm::Reads(Command::MemReadMultiple))
     } else if is_word(word, b"ior") {
-        Ok(Form::Reads(Command::IoRead))
+        Ok(LineForm::Reads(Command::IoRead))
     } else if is_word(word, b"mw") {
-        Ok(Form::WritesBurst(Command::MemWrite))
+        Ok(LineForm::WritesBurst(Command::MemWrite))
     } else if is_word(word, b"mwi") {
-        Ok(Form::WritesBurst(Command::MemWriteInvalidate))
+        Ok(LineForm::WritesBurst(Command::MemWriteInvalidate))
     } else if is_word(word, b"iow") {
-        Ok(Form::WritesPort)
+        Ok(LineForm::WritesPort)
     } else if is_word(word, b"cfr") {
-        Ok(Form::ReadsRegister)
+        Ok(LineForm::ReadsRegister)
     } else if is_word(word, b"cfw") {
-        Ok(Form::WritesRegister)
+        Ok(LineForm::WritesRegister)
     } else if is_word(word, b"poll") {
-        Ok(Form::Polls(Space::Mem))
+        Ok(LineForm::Polls(Space::Mem))
     } else if is_word(word, b"iopoll") {
-        Ok(Form::Polls(Space::Io))
+        Ok(LineForm::Polls(Space::Io))
     } else if is_word(word, b"discard") {
-        Ok(Form::Discard)
+        Ok(LineForm::Discard)
     } else if is_word(word, b"drop") {
-        Ok(Form::Drop)
+        Ok(LineForm::Drop)
     } else {
         Err(LineFault::WrongWord)
     }

@@ -5,11 +5,11 @@ ghost use Rattle.std.specs.List.{position_or_len, list_all};
 ghost use Rattle.std.specs.Char.{digit_value, is_digit};
 ghost use Rattle.board_statements.specs.Words.{hex_of, decimal_of, long_of, lower_of, data_word_of, digit_of, enables_of, name_of, fixed_of, header_of, in_pairs, has_mark, before_mark, behind_mark};
 
-use crate::LineFault;
 use crate::words::is_word;
 use board_model::Name;
 use board_text::{decimal, hex};
 use pci_command::Phase;
+use text_faults::LineFault;
 
 /// At most `digits` hexadecimal digits, which are 1 to 8.
 #[tactic(auto, unfolding(crate::specs::Words::hex_of))]

@@ -3,7 +3,6 @@
 #![tactic(auto)]
 
 mod bridges;
-mod fault;
 mod keyword;
 mod kinds;
 mod lines;
@@ -12,7 +11,6 @@ mod statement;
 mod targets;
 mod words;
 
-pub use fault::{Family, LineFault};
 pub use kinds::parts;
 pub use lines::{first_line, has_words, statement_of};
 pub use statement::Statement;

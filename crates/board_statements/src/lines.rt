@@ -3,9 +3,10 @@ ghost use Rattle.board_text.specs.Tokens.{words_of};
 ghost use Rattle.board_statements.specs.Words.{Gives};
 ghost use Rattle.board_statements.specs.Statements.{behind_word, statement_of, first_line_of};
 
-use crate::keyword::{Form, form_of};
+use crate::keyword::{LineForm, form_of};
 use crate::words::{Words, is_word};
-use crate::{LineFault, Statement, bridges, masters, targets};
+use crate::{Statement, bridges, masters, targets};
+use text_faults::LineFault;
 
 /// Whether a line has words. A line is given without its newline.
 pub fn has_words(line: &[u8]) -> bool
@@ -53,27 +54,27 @@ pub fn statement_of(wide: bool, line: &[u8]) -> Result<Statement, LineFault>
 }
 
 #[tactic(auto, unfolding(crate::specs::Statements::behind_word))]
-fn behind_word(words: &mut Words, wide: bool, form: Form) -> Result<Statement, LineFault>
+fn behind_word(words: &mut Words, wide: bool, form: LineForm) -> Result<Statement, LineFault>
     ensures { Gives result words.new (behind_word wide form words.old) }
 {
     match form {
-        Form::Bridge => bridges::bridge(words, wide),
-        Form::Header => bridges::header(words),
-        Form::Target => targets::target(words),
-        Form::Id => targets::identifies(words),
-        Form::Stall => targets::stalls(words),
-        Form::Burst => targets::bursts(words),
-        Form::Range => targets::claims(words, wide),
-        Form::Abort => targets::aborts(words, wide),
-        Form::Word => targets::opens(words, wide),
-        Form::Master => masters::master(words),
-        Form::Reads(command) => masters::read(words, wide, command),
-        Form::WritesBurst(command) => masters::burst_write(words, wide, command),
-        Form::WritesPort => masters::port_write(words),
-        Form::ReadsRegister => masters::register_read(words),
-        Form::WritesRegister => masters::register_write(words),
-        Form::Polls(space) => masters::poll(words, wide, space),
-        Form::Discard => masters::discards(words),
-        Form::Drop => masters::drops(words),
+        LineForm::Bridge => bridges::bridge(words, wide),
+        LineForm::Header => bridges::header(words),
+        LineForm::Target => targets::target(words),
+        LineForm::Id => targets::identifies(words),
+        LineForm::Stall => targets::stalls(words),
+        LineForm::Burst => targets::bursts(words),
+        LineForm::Range => targets::claims(words, wide),
+        LineForm::Abort => targets::aborts(words, wide),
+        LineForm::Word => targets::opens(words, wide),
+        LineForm::Master => masters::master(words),
+        LineForm::Reads(command) => masters::read(words, wide, command),
+        LineForm::WritesBurst(command) => masters::burst_write(words, wide, command),
+        LineForm::WritesPort => masters::port_write(words),
+        LineForm::ReadsRegister => masters::register_read(words),
+        LineForm::WritesRegister => masters::register_write(words),
+        LineForm::Polls(space) => masters::poll(words, wide, space),
+        LineForm::Discard => masters::discards(words),
+        LineForm::Drop => masters::drops(words),
     }
 }

@@ -2,11 +2,12 @@ ghost use Rattle.std.specs.Prelude.{◌≡◌, false};
 ghost use Rattle.board_statements.specs.Words.{Gives, one_word};
 ghost use Rattle.board_statements.specs.Masters.{master_form, read_form, burst_words, burst_write_form, port_write_form, register_read_form, register_write_form, poll_form, planned_form, discard_form, drop_form, direction_of_word};
 
+use crate::Statement;
 use crate::targets::is_wide_in;
 use crate::words::{Words, is_word};
-use crate::{LineFault, Statement};
 use board_model::{Op, Planned};
 use pci_command::{Command, Phases, Space};
+use text_faults::LineFault;
 
 /// `master NAME on B`
 #[tactic(auto, unfolding(crate::specs::Masters::master_form))]

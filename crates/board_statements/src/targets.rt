@@ -2,10 +2,11 @@ ghost use Rattle.std.specs.Prelude.{◌≡◌};
 ghost use Rattle.board_statements.specs.Words.{Gives, one_word};
 ghost use Rattle.board_statements.specs.Targets.{is_wide_in, space_word, target_form, id_form, stall_form, burst_form, range_form, claim_form, abort_form, opening_form};
 
+use crate::Statement;
 use crate::words::{Words, is_word};
-use crate::{LineFault, Statement};
 use board_model::{Opening, Range};
 use pci_command::Space;
+use text_faults::LineFault;
 
 /// Whether a number of this space may have 64 bits.
 pub fn is_wide_in(wide: bool, space: Space) -> bool

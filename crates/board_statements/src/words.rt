@@ -6,11 +6,12 @@ ghost use Rattle.board_text.specs.Tokens.{is_separator, is_comment, words_of};
 ghost use Rattle.board_statements.specs.Cuts.{words_in, is_no_separator};
 ghost use Rattle.board_statements.specs.Words.{Gives, begins_with, behind_first, hex, decimal, fixed, name, long, data_word, header_bytes};
 
-use crate::LineFault;
 use crate::kinds::{data_word_of, decimal_of, fixed_of, header_of, hex_of, long_of, name_of};
 use board_model::Name;
+use board_text::length_before_comment;
 use pci_command::Phase;
 use std::marker::Model;
+use text_faults::LineFault;
 
 /// The words of a line that are left, of which the next one is the first.
 #[derive(Drop)]
@@ -177,13 +178,4 @@ fn length_of_word(text: &[u8]) -> usize
     text.iter()
         .position(|byte| is_separator(*byte))
         .unwrap_or(text.len())
-}
-
-fn length_before_comment(line: &[u8]) -> usize
-    ensures value { result ≡ position_or_len is_comment line.now }
-    ensures within { result ≤ length line.now }
-{
-    line.iter()
-        .position(|byte| *byte == b'#')
-        .unwrap_or(line.len())
 }

@@ -5,6 +5,8 @@ use Rattle.std.specs.Char.{is_digit}
 use Rattle.std.specs.Str.Parse.{digits_value}
 use Rattle.board_text.specs.declared.numbers.NumberFault.{NumberFault}
 use Rattle.board_text.specs.declared.numbers.NumberFault.TheVariants.{TooWide, NotDigits, OutOfRange}
+use Rattle.text_faults.specs.declared.board_line.LineFault.{LineFault}
+use Rattle.text_faults.specs.declared.board_line.LineFault.TheVariants.{TooWide as TooManyDigits, IllFormed}
 
 -- one digit of the base or more, and nothing else
 abbrev pub is_numeral : ℕ → List ℕ → Bool
@@ -25,3 +27,9 @@ decimal_answer token =
     then (if nat_lt 10 (length token) then Err TooWide
     else if nat_lt (digits_value 10 token) (2 ^ 32) then Ok (digits_value 10 token) else Err OutOfRange)
     else Err NotDigits
+
+-- the fault of a number: too many digits, and else it is none of its kind
+abbrev pub number_fault : NumberFault → LineFault
+number_fault TooWide = TooManyDigits
+number_fault NotDigits = IllFormed
+number_fault OutOfRange = IllFormed

@@ -4,6 +4,7 @@ ghost use Rattle.std.specs.Char.{digit_value, is_digit};
 ghost use Rattle.std.specs.Str.Parse.{digits_value};
 ghost use Rattle.board_text.specs.Numbers.{is_numeral, hex_answer, decimal_answer};
 
+use text_faults::LineFault;
 use thiserror::Error;
 
 /// Why a token is no number of its kind.
@@ -18,6 +19,20 @@ pub enum NumberFault {
     /// It is a decimal of at most 10 digits, and 2^32 or above.
     #[error("number out of range")]
     OutOfRange,
+}
+
+impl From<NumberFault> for LineFault {
+    ghost use Rattle.std.specs.Prelude.{◌≡◌};
+    ghost use Rattle.board_text.specs.Numbers.{number_fault};
+
+    ghost from_gives = { λ number fault. fault ≡ number_fault number };
+
+    fn from(number: NumberFault) -> LineFault {
+        match number {
+            NumberFault::TooWide => LineFault::TooWide,
+            NumberFault::NotDigits | NumberFault::OutOfRange => LineFault::IllFormed,
+        }
+    }
 }
 
 /// The number that a token of 1 to `digits` hexadecimal digits of either case writes. `digits` is
@@ -75,8 +90,8 @@ fn value_of(token: &[u8], radix: u32) -> u64
     value
 }
 
-// The value of a digit or a letter, and 36 for any other byte.
-fn value_of_digit(byte: u8) -> u32
+/// The value of a digit or a letter, and 36 for any other byte.
+pub fn value_of_digit(byte: u8) -> u32
     ensures { result ≡ digit_value byte }
 {
     match byte {

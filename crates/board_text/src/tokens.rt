@@ -54,7 +54,8 @@ fn length_of_token(text: &[u8]) -> usize
         .unwrap_or(text.len())
 }
 
-fn length_before_comment(line: &[u8]) -> usize
+/// How many bytes of a line stand before its comment, or all of them where it has none.
+pub fn length_before_comment(line: &[u8]) -> usize
     ensures value { result ≡ position_or_len is_comment line.now }
     ensures within { result ≤ length line.now }
 {

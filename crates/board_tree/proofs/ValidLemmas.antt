@@ -5,7 +5,7 @@ use Rattle.board_model.specs.declared.board.Board.{Board}
 use Rattle.board_model.specs.WellFormed.{is_well_formed}
 use Rattle.board_model.specs.Ways.{bound_of}
 use Rattle.board_model.specs.Valid.{IsValid}
-use Rattle.board_checks.specs.declared.fault.TreeFault.{TreeFault}
+use Rattle.text_faults.specs.declared.tree.TreeFault.{TreeFault}
 use Rattle.board_checks.specs.Faults.{first_fault_of}
 use Rattle.board_tree.specs.Decodable.{IsDecodable}
 use Rattle.board_tree.proofs.DecodableLemmas.{IsDecodable-formed}

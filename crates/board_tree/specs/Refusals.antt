@@ -2,7 +2,7 @@
 use Rattle.std.specs.Prelude.{Option, Some, None}
 use Rattle.board_model.specs.declared.board.Board.{Board}
 use Rattle.board_model.specs.Ways.{bound_of}
-use Rattle.board_checks.specs.declared.fault.TreeFault.{TreeFault}
+use Rattle.text_faults.specs.declared.tree.TreeFault.{TreeFault}
 use Rattle.board_checks.specs.Faults.{first_fault_of}
 use Rattle.board_tree.specs.declared.refusal.TreeRefusal.{TreeRefusal}
 use Rattle.board_tree.specs.declared.refusal.TreeRefusal.TheVariants.{Fault, AboveBound}

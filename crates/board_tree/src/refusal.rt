@@ -1,5 +1,5 @@
-use board_checks::TreeFault;
 use board_model::Board;
+use text_faults::TreeFault;
 use thiserror::Error;
 
 /// Why a board is not a valid tree of buses. The board is given back.

@@ -31,8 +31,8 @@ use Rattle.bus_face.specs.Arrivals.{carried}
 use Rattle.bus_face.specs.Offers.{is_offer_of}
 use Rattle.bus_core.specs.declared.given.Sent.{Sent}
 use Rattle.bus_core.specs.declared.given.Acted.{Acted}
-use Rattle.bus_core.specs.declared.given.Presented.{Presented}
-use Rattle.bus_core.specs.declared.given.Presented.TheVariants.{Nothing, Retried, TurnsBack as Back, Did}
+use Rattle.bus_core.specs.declared.given.Served.{Served}
+use Rattle.bus_core.specs.declared.given.Served.TheVariants.{Nothing, Retried, TurnsBack as Back, Did}
 use Rattle.bus_agents.specs.Turns.{MasterView}
 use Rattle.bus_core.specs.Bus.{BusView, shape_of, BusStands}
 use Rattle.bus_core.specs.Places.{OneChanged, TestsAt}
@@ -70,14 +70,14 @@ pub record IsAct (board : Board) (by : By) (o : OpId) (old : BusView) (acted : A
   pub presents : BusPresents board by o old (Gives step place) acted.over acted.back new
 
 -- what comes of an operation that is presented
-abbrev pub Serves : Board → By → OpId → BusView → Presented → BusView → Type 0
+abbrev pub Serves : Board → By → OpId → BusView → Served → BusView → Type 0
 Serves board by o old Nothing new = ⊥
 Serves board by o old Retried new = (cause : Cause) × BusPresents board by o old (Retry cause) None None new
 Serves board by o old Back new = BusTurnsBack board by o old
 Serves board by o old (Did acted) new = IsAct board by o old acted new
 
 -- what is sent has this stamp
-abbrev pub SendsStamped : ℕ → Presented → Type 0
+abbrev pub SendsStamped : ℕ → Served → Type 0
 SendsStamped stamp Nothing = Unit {0}
 SendsStamped stamp Retried = Unit {0}
 SendsStamped stamp Back = Unit {0}
@@ -89,7 +89,7 @@ IsAt place None = Unit {0}
 IsAt place (Some sent) = sent.place ≡ place
 
 -- what goes back is sent at another port than what goes on
-abbrev pub SendsApart : Presented → Type 0
+abbrev pub SendsApart : Served → Type 0
 SendsApart Nothing = Unit {0}
 SendsApart Retried = Unit {0}
 SendsApart Back = Unit {0}
@@ -101,12 +101,12 @@ pub record BusOffers (place : ℕ) (s : BusView) (offers : List Offer) : Type 0 
       → wants_in board world p s.bus (ByLane lane) o ≡ list_any (is_offer_of o) offers
 
 -- a master presents its turn, if its program did not end
-abbrev pub ServesTurn : Board → Option OpId → BusView → Presented → BusView → Type 0
+abbrev pub ServesTurn : Board → Option OpId → BusView → Served → BusView → Type 0
 ServesTurn board None old presented new = (presented ≡ Nothing) × (new ≡ old)
 ServesTurn board (Some o) old presented new = Serves board Master o old presented new
 
 -- the same of the master at the place
-pub record ServesMaster (board : Board) (place : ℕ) (old : BusView) (presented : Presented) (new : BusView) : Type 0 where
+pub record ServesMaster (board : Board) (place : ℕ) (old : BusView) (presented : Served) (new : BusView) : Type 0 where
   pub master : MasterView
   pub there : slice_get old.masters place ≡ Some master
   pub serves : ServesTurn board master.turn old presented new

@@ -26,7 +26,7 @@ pub struct Acted {
 
 /// What comes of an initiator on the bus.
 #[derive(Clone, Copy, Debug, PartialEq, Eq)]
-pub enum Presented {
+pub enum Served {
     /// It presents nothing.
     Nothing,
     /// A Retry: nothing happens.

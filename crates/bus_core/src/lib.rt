@@ -17,7 +17,7 @@ mod serve;
 mod steps;
 
 pub use bus::Bus;
-pub use given::{Acted, Given, Presented, Sent};
+pub use given::{Acted, Given, Sent, Served};
 pub use port::{Arrival, Port, other_bridges_leave_ports};
 
 /// The places of bridges and masters on a bus are lines that tell all its initiators apart, where

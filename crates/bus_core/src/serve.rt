@@ -11,7 +11,7 @@ ghost use Rattle.bus_core.specs.Parts.{TellsLane};
 ghost use Rattle.bus_core.specs.Serves.{Serves, SendsStamped, SendsApart, IsAt, ServesMaster};
 
 use crate::places::{end_at, tell_master, want_at};
-use crate::{Acted, Bus, Presented, Sent};
+use crate::{Acted, Bus, Sent, Served};
 use board_model::{Board, Lane};
 use bus_face::Offer;
 use history_model::{Answer, By, Event, Step};
@@ -20,7 +20,7 @@ use pci_command::OpId;
 
 impl Bus {
     /// The master at this place presents its turn, if its program did not end.
-    pub fn serve_master(&mut self, board: &Board, place: u8, stamp: u32) -> Presented
+    pub fn serve_master(&mut self, board: &Board, place: u8, stamp: u32) -> Served
         requires formed { IsTrue (is_well_formed board.now) }
         requires place { place < length self.old.masters }
         requires few { 9 + place < 256 }
@@ -31,13 +31,13 @@ impl Bus {
         ensures serves { ServesMaster board.now place self.old result self.new }
     {
         match want_at(self.masters.as_slice(), place as usize) {
-            None => Presented::Nothing,
+            None => Served::Nothing,
             Some(op) => self.serve_turn(board, place, op, stamp),
         }
     }
 
     /// The operation is the turn of the master at this place.
-    fn serve_turn(&mut self, board: &Board, place: u8, op: OpId, stamp: u32) -> Presented
+    fn serve_turn(&mut self, board: &Board, place: u8, op: OpId, stamp: u32) -> Served
         requires formed { IsTrue (is_well_formed board.now) }
         requires place { place < length self.old.masters }
         requires few { 9 + place < 256 }
@@ -48,9 +48,9 @@ impl Bus {
         ensures serves { (master : MasterView) → slice_get self.old.masters place ≡ Some master → master.turn ≡ Some op → Serves board.now Master op self.old result self.new }
     {
         match self.answer(board, 9 + place, op, stamp) {
-            None => Presented::TurnsBack,
+            None => Served::TurnsBack,
             Some(given) => match given.answer {
-                Answer::Retry { .. } => Presented::Retried,
+                Answer::Retry { .. } => Served::Retried,
                 Answer::Gives { step, place: at } => {
                     tell_master(self.masters.as_mut_slice(), place as usize, board, step);
                     let event = Event::Act {
@@ -60,7 +60,7 @@ impl Bus {
                         step,
                         place: at,
                     };
-                    Presented::Did(Acted {
+                    Served::Did(Acted {
                         event,
                         over: given.over,
                         back: None,
@@ -71,7 +71,7 @@ impl Bus {
     }
 
     /// The lane of the port at this place presents what it offers. Its line is its place.
-    pub fn serve_offer(&mut self, board: &Board, place: u8, offer: &Offer, stamp: u32) -> Presented
+    pub fn serve_offer(&mut self, board: &Board, place: u8, offer: &Offer, stamp: u32) -> Served
         requires formed { IsTrue (is_well_formed board.now) }
         requires place { place < length self.old.ports }
         requires offered { IfSome (slice_get self.old.ports place) (λ port. Contains (offers_of port.face) offer.now) }
@@ -82,9 +82,9 @@ impl Bus {
         ensures serves { (port : PortView) → slice_get self.old.ports place ≡ Some port → Serves board.now (ByLane port.lane) offer.now.op self.old result self.new }
     {
         match self.answer(board, place, offer.op, stamp) {
-            None => Presented::TurnsBack,
+            None => Served::TurnsBack,
             Some(given) => match given.answer {
-                Answer::Retry { .. } => Presented::Retried,
+                Answer::Retry { .. } => Served::Retried,
                 Answer::Gives { step, place: at } => {
                     let lane = self.lane_of(place as usize);
                     let back = self.tell_lane(board, place as usize, offer, step, stamp);
@@ -95,7 +95,7 @@ impl Bus {
                         step,
                         place: at,
                     };
-                    Presented::Did(Acted {
+                    Served::Did(Acted {
                         event,
                         over: given.over,
                         back,

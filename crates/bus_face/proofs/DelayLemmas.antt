@@ -6,7 +6,7 @@ use Rattle.pci_command.specs.declared.op_id.OpId.{OpId}
 use Rattle.pci_command.specs.Command.{is_read}
 use Rattle.board_model.specs.Requests.{is_posted}
 use Rattle.history_model.specs.declared.item.Cause.TheVariants.{Full, Behind}
-use Rattle.bus_face.specs.declared.requests.slot_table.Slot.{Slot}
+use Rattle.bus_face.specs.declared.requests.slot_table.SlotEntry.{SlotEntry}
 use Rattle.bus_face.specs.requests.Slots.{IsOwnNumber, HasNoOwn, without as without_slot}
 use Rattle.bus_face.specs.declared.completions.done_table.Done.{Done}
 use Rattle.bus_face.specs.completions.Completions.{done_at, without as without_done}
@@ -37,7 +37,7 @@ posted_not_latched face number is =
     (elim (nat_lt face.owed face.posted) as P [ true ↦ λ e. cc | false ↦ λ e. cc ]) is
 
 -- the reply to a delayed request, by its own slot
-by_own : (face : FaceState) (number tag : ℕ) (op : OpId) (request : Request) (own : Option Slot) → is_posted request ≡ false → find (is_own_entry tag request) face.slots.slots ≡ own
+by_own : (face : FaceState) (number tag : ℕ) (op : OpId) (request : Request) (own : Option SlotEntry) → is_posted request ≡ false → find (is_own_entry tag request) face.slots.slots ≡ own
     → reply_to face number tag op request ≡ delayed_reply face number tag op request own
 by_own face number tag op request own delayed found = rw (delayed, found) refl
 

@@ -16,7 +16,7 @@ use Rattle.history_model.specs.declared.item.Slot.{Slot as HeldSlot}
 use Rattle.history_model.specs.Lanes.{Both, has_number, is_done_for, is_post}
 use Rattle.history_model.specs.Local.{is_ask, is_ask_of, is_held_for, is_lawful}
 use Rattle.bus_face.specs.declared.requests.ask_table.Ask.{Ask as AskEntry}
-use Rattle.bus_face.specs.declared.requests.slot_table.Slot.{Slot as SlotEntry}
+use Rattle.bus_face.specs.declared.requests.slot_table.SlotEntry.{SlotEntry}
 use Rattle.bus_face.specs.requests.Slots.{slot_at, IsOneForEachNumber}
 use Rattle.bus_face.specs.completions.Completions.{done_at}
 use Rattle.bus_face.specs.State.{FaceState}

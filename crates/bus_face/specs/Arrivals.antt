@@ -12,7 +12,7 @@ use Rattle.history_model.specs.declared.event.Mark.TheVariants.{Plain, Discard, 
 use Rattle.history_model.specs.declared.item.Carried.{Carried}
 use Rattle.history_model.specs.declared.item.Carried.TheVariants.{Post, Ask, Done, Room, Gone}
 use Rattle.bus_face.specs.declared.requests.ask_table.Ask.{Ask as AskEntry}
-use Rattle.bus_face.specs.declared.requests.slot_table.Slot.{Slot as SlotEntry}
+use Rattle.bus_face.specs.declared.requests.slot_table.SlotEntry.{SlotEntry}
 use Rattle.bus_face.specs.requests.Slots.{slot_at, without as without_slot}
 use Rattle.bus_face.specs.completions.Completions.{done_at}
 use Rattle.bus_face.specs.State.{FaceState}

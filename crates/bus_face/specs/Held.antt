@@ -1,12 +1,12 @@
 -- A completion stands only for a request whose slot is held.
 use Rattle.std.specs.Prelude.{◌≡◌, ℕ, List}
-use Rattle.bus_face.specs.declared.requests.slot_table.Slot.{Slot}
+use Rattle.bus_face.specs.declared.requests.slot_table.SlotEntry.{SlotEntry}
 use Rattle.bus_face.specs.requests.Slots.{Slots, IsHeld}
 use Rattle.bus_face.specs.declared.completions.done_table.Done.{Done}
 use Rattle.bus_face.specs.completions.Completions.{Completions, IsStanding}
 
 -- the slot of each completion that stands is held
-abbrev pub HoldsSlots : List Slot → List Done → Type 0
+abbrev pub HoldsSlots : List SlotEntry → List Done → Type 0
 HoldsSlots slots dones = (slot : ℕ) → IsStanding slot dones → IsHeld slot slots
 
 -- what holds of every half bridge

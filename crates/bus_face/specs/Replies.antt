@@ -17,7 +17,7 @@ use Rattle.history_model.specs.declared.item.Cause.TheVariants.{Full, NoSlot, Wa
 use Rattle.history_model.specs.Lanes.{Both}
 use Rattle.history_model.specs.World.{enters}
 use Rattle.bus_face.specs.declared.posts.posted_table.Post.{Post}
-use Rattle.bus_face.specs.declared.requests.slot_table.Slot.{Slot}
+use Rattle.bus_face.specs.declared.requests.slot_table.SlotEntry.{SlotEntry}
 use Rattle.bus_face.specs.requests.Slots.{IsLowestFree, without as without_slot}
 use Rattle.bus_face.specs.declared.completions.done_table.Done.{Done}
 use Rattle.bus_face.specs.completions.Completions.{done_at, without as without_done}
@@ -35,7 +35,7 @@ is_behind arrival [] = false
 is_behind arrival (post ∷ later) = nat_lt post.arrival arrival
 
 -- the held slot is that of the initiator with this tag and of an equal request
-abbrev pub is_own_entry : ℕ → Request → Slot → Bool
+abbrev pub is_own_entry : ℕ → Request → SlotEntry → Bool
 is_own_entry tag request slot = slot.tag == tag && same_request slot.request request
 
 -- the completion of the own slot, if it came
@@ -65,7 +65,7 @@ latched_reply face number tag op request =
     else (Retry NoSlot, face)
 
 -- a delayed request: the completion of its own slot if it has one, else a new slot
-abbrev pub delayed_reply : FaceState → ℕ → ℕ → OpId → Request → Option Slot → Reply × FaceState
+abbrev pub delayed_reply : FaceState → ℕ → ℕ → OpId → Request → Option SlotEntry → Reply × FaceState
 delayed_reply face number tag op request None = latched_reply face number tag op request
 delayed_reply face number tag op request (Some slot) = taken_reply face slot.number (is_read request.command) (done_at slot.number face.dones.dones)
 

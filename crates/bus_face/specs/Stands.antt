@@ -16,7 +16,7 @@ use Rattle.law_lanes.specs.Kinds.{RightKind}
 use Rattle.law_lanes.specs.Standing.{CanStand}
 use Rattle.bus_face.specs.declared.posts.posted_table.Post.{Post as PostEntry}
 use Rattle.bus_face.specs.declared.requests.ask_table.Ask.{Ask as AskEntry}
-use Rattle.bus_face.specs.declared.requests.slot_table.Slot.{Slot as SlotEntry}
+use Rattle.bus_face.specs.declared.requests.slot_table.SlotEntry.{SlotEntry}
 use Rattle.bus_face.specs.declared.completions.done_table.Done.{Done as DoneEntry}
 use Rattle.bus_face.specs.State.{FaceState}
 

@@ -17,4 +17,4 @@ pub use face::Face;
 pub use offer::Offer;
 pub use posts::{Post, PostedTable};
 pub use reply::Reply;
-pub use requests::{Ask, AskTable, Slot, SlotTable};
+pub use requests::{Ask, AskTable, SlotEntry, SlotTable};

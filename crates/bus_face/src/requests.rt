@@ -5,4 +5,4 @@ mod ask_table;
 mod slot_table;
 
 pub use ask_table::{Ask, AskTable};
-pub use slot_table::{Slot, SlotTable};
+pub use slot_table::{SlotEntry, SlotTable};

@@ -21,8 +21,8 @@ use Rattle.bus_face.specs.Arrivals.{carried}
 use Rattle.bus_core.specs.port.Port.{PortView}
 use Rattle.bus_core.specs.declared.given.Sent.{Sent}
 use Rattle.bus_core.specs.declared.given.Acted.{Acted}
-use Rattle.bus_core.specs.declared.given.Presented.{Presented}
-use Rattle.bus_core.specs.declared.given.Presented.TheVariants.{Nothing, Retried, TurnsBack as Back, Did}
+use Rattle.bus_core.specs.declared.given.Served.{Served}
+use Rattle.bus_core.specs.declared.given.Served.TheVariants.{Nothing, Retried, TurnsBack as Back, Did}
 use Rattle.bus_core.specs.Bus.{BusView, Shape, shape_of, BusStands}
 use Rattle.bus_core.specs.Calls.{items_at, IsStamped}
 use Rattle.bus_core.specs.Serves.{BusTurnsBack, IsAct, Serves, SendsStamped, ServesTurn, ServesMaster}
@@ -195,7 +195,7 @@ module _ {End : Type 0} (had sent got : End → List Item) (kept : End → ℕ) 
       ] in
       subst (λ a. DoesSo true a kept_events) (sym done.same_ends) (subst (λ k. DoesSo true ends k) (sym done.same_events) (does_lack by o acted act paired_up full))
 
-  pub serves_does : (by : By) (o : OpId) (presented : Presented) (stopped : Bool) (after : List End) (kept_events : List Stamped) → Serves board by o old presented new → SendsStamped stamp presented → length ends ≡ length old.ports
+  pub serves_does : (by : By) (o : OpId) (presented : Served) (stopped : Bool) (after : List End) (kept_events : List Stamped) → Serves board by o old presented new → SendsStamped stamp presented → length ends ≡ length old.ports
       → ((lane : BridgeLane) → by ≡ ByLane lane → (n : ℕ) × (slice_get (shape_of old).lanes n ≡ Some lane))
       → Finishes had sent got kept paired presented stamp ends after events kept_events stopped → DoesSo stopped after kept_events
   serves_does by o Nothing stopped after kept_events serves stamped paired_up where_is done = absurd serves
@@ -206,21 +206,21 @@ module _ {End : Type 0} (had sent got : End → List Item) (kept : End → ℕ) 
       subst (λ b. DoesSo b after kept_events) (sym done.2) (subst (λ a. DoesSo true a kept_events) (sym done.0) (subst (λ k. DoesSo true ends k) (sym done.1) (does_turn_back by o serves paired_up where_is)))
   serves_does by o (Did acted) stopped after kept_events serves stamped paired_up where_is done = records_does by o acted stopped after kept_events serves stamped paired_up done
 
-  turn_does : (turn : Option OpId) (presented : Presented) (stopped : Bool) (after : List End) (kept_events : List Stamped) → ServesTurn board turn old presented new → SendsStamped stamp presented → length ends ≡ length old.ports
+  turn_does : (turn : Option OpId) (presented : Served) (stopped : Bool) (after : List End) (kept_events : List Stamped) → ServesTurn board turn old presented new → SendsStamped stamp presented → length ends ≡ length old.ports
       → Finishes had sent got kept paired presented stamp ends after events kept_events stopped → DoesSo stopped after kept_events
   turn_does None presented stopped after kept_events serves stamped paired_up done =
-      let F : Presented → Type 0 = λ x. Finishes had sent got kept paired x stamp ends after events kept_events stopped in
+      let F : Served → Type 0 = λ x. Finishes had sent got kept paired x stamp ends after events kept_events stopped in
       let nothing : (after ≡ ends) × (kept_events ≡ events) × (stopped ≡ false) = subst F serves.0 done in
       subst (λ b. DoesSo b after kept_events) (sym nothing.2) (subst (λ a. DoesSo false a kept_events) (sym nothing.0) (subst (λ k. DoesSo false ends k) (sym nothing.1)
       (does_nothing (λ tags world p stands. subst (λ s. BusStands board tags world p s) (sym serves.1) stands))))
   turn_does (Some o) presented stopped after kept_events serves stamped paired_up done =
       serves_does Master o presented stopped after kept_events serves stamped paired_up (λ lane is. cc) done
 
-  pub master_does : (place : ℕ) (presented : Presented) (stopped : Bool) (after : List End) (kept_events : List Stamped) → ServesMaster board place old presented new → SendsStamped stamp presented → length ends ≡ length old.ports
+  pub master_does : (place : ℕ) (presented : Served) (stopped : Bool) (after : List End) (kept_events : List Stamped) → ServesMaster board place old presented new → SendsStamped stamp presented → length ends ≡ length old.ports
       → Finishes had sent got kept paired presented stamp ends after events kept_events stopped → DoesSo stopped after kept_events
   master_does place presented stopped after kept_events serves stamped paired_up done = turn_does serves.master.turn presented stopped after kept_events serves.serves stamped paired_up done
 
-  pub offer_does : (place : ℕ) (port : PortView) (o : OpId) (presented : Presented) (stopped : Bool) (after : List End) (kept_events : List Stamped) → slice_get old.ports place ≡ Some port → Serves board (ByLane port.lane) o old presented new
+  pub offer_does : (place : ℕ) (port : PortView) (o : OpId) (presented : Served) (stopped : Bool) (after : List End) (kept_events : List Stamped) → slice_get old.ports place ≡ Some port → Serves board (ByLane port.lane) o old presented new
       → SendsStamped stamp presented → length ends ≡ length old.ports → Finishes had sent got kept paired presented stamp ends after events kept_events stopped → DoesSo stopped after kept_events
   offer_does place port o presented stopped after kept_events there serves stamped paired_up done =
       serves_does (ByLane port.lane) o presented stopped after kept_events serves stamped paired_up

@@ -15,8 +15,8 @@ use Rattle.lane_items.specs.declared.item.Item.{Item}
 use Rattle.bus_core.specs.port.Port.{PortView}
 use Rattle.bus_agents.specs.Turns.{MasterView}
 use Rattle.bus_core.specs.declared.given.Acted.{Acted}
-use Rattle.bus_core.specs.declared.given.Presented.{Presented}
-use Rattle.bus_core.specs.declared.given.Presented.TheVariants.{Nothing, Retried, TurnsBack as Back, Did}
+use Rattle.bus_core.specs.declared.given.Served.{Served}
+use Rattle.bus_core.specs.declared.given.Served.TheVariants.{Nothing, Retried, TurnsBack as Back, Did}
 use Rattle.bus_core.specs.Bus.{BusView, shape_of, BusStands}
 use Rattle.bus_core.specs.Serves.{Serves, ServesTurn, ServesMaster}
 use Rattle.bus_core.proofs.ListLemmas.{get_map}
@@ -24,7 +24,7 @@ use Rattle.bus_segment.specs.Turn.{Records, Finishes}
 use Rattle.bus_segment.specs.Steps.{StandsStill, GetsRetry, IsOfMaster, IsOfLane, Retries}
 
 -- no event, and no stop
-abbrev IsIdle : Presented → Type 0
+abbrev IsIdle : Served → Type 0
 IsIdle Nothing = Unit {0}
 IsIdle Retried = Unit {0}
 IsIdle Back = ⊥
@@ -35,7 +35,7 @@ module _ {End : Type 0} (had sent got : End → List Item) (kept : End → ℕ) 
   records_idle acted stamp ends after events all false done same on = let many = ap length done.event in omega (arith, length-append events (record { stamp = stamp; event = acted.event } ∷ []))
   records_idle acted stamp ends after events all true done same on = cc
 
-  idle : (presented : Presented) (stamp : ℕ) (ends after : List End) (events all : List Stamped) (stopped : Bool) → Finishes had sent got kept paired presented stamp ends after events all stopped → length all ≡ length events → stopped ≡ false
+  idle : (presented : Served) (stamp : ℕ) (ends after : List End) (events all : List Stamped) (stopped : Bool) → Finishes had sent got kept paired presented stamp ends after events all stopped → length all ≡ length events → stopped ≡ false
       → IsIdle presented × (after ≡ ends)
   idle Nothing stamp ends after events all stopped done same on = (tt, done.0)
   idle Retried stamp ends after events all stopped done same on = (tt, done.0)
@@ -44,13 +44,13 @@ module _ {End : Type 0} (had sent got : End → List Item) (kept : End → ℕ) 
 
   module _ (board : Board) (old new : BusView) where
     -- what was presented got a Retry
-    retry_still : (by : By) (o : OpId) (presented : Presented) → Serves board by o old presented new → IsIdle presented → StandsStill board old new
+    retry_still : (by : By) (o : OpId) (presented : Served) → Serves board by o old presented new → IsIdle presented → StandsStill board old new
     retry_still by o Nothing serves is = absurd serves
     retry_still by o Retried serves is = record { still = λ tags world p stands. (serves.1.presents tags world p stands).stands }
     retry_still by o Back serves is = absurd is
     retry_still by o (Did acted) serves is = absurd is
 
-    retried : (by : By) (o : OpId) (presented : Presented) → Serves board by o old presented new → IsIdle presented → GetsRetry board old by o
+    retried : (by : By) (o : OpId) (presented : Served) → Serves board by o old presented new → IsIdle presented → GetsRetry board old by o
     retried by o Nothing serves is = absurd serves
     retried by o Retried serves is = record { retry = λ tags world p stands wants. subst IsRetry (sym (serves.1.presents tags world p stands).answer_is) tt }
     retried by o Back serves is = absurd is
@@ -61,15 +61,15 @@ module _ {End : Type 0} (had sent got : End → List Item) (kept : End → ℕ) 
     same_turn o None is = cc
     same_turn o (Some other) is = ap Some (same_op_true other o is)
 
-    turn_still : (turn : Option OpId) (presented : Presented) → ServesTurn board turn old presented new → IsIdle presented → StandsStill board old new
+    turn_still : (turn : Option OpId) (presented : Served) → ServesTurn board turn old presented new → IsIdle presented → StandsStill board old new
     turn_still None presented serves is = record { still = λ tags world p stands. subst (λ s. BusStands board tags world p s) (sym serves.1) stands }
     turn_still (Some o) presented serves is = retry_still Master o presented serves is
 
-    turn_retried : (turn : Option OpId) (presented : Presented) → ServesTurn board turn old presented new → IsIdle presented → (o : OpId) → turn ≡ Some o → GetsRetry board old Master o
+    turn_retried : (turn : Option OpId) (presented : Served) → ServesTurn board turn old presented new → IsIdle presented → (o : OpId) → turn ≡ Some o → GetsRetry board old Master o
     turn_retried None presented serves is o turn_is = cc
     turn_retried (Some other) presented serves is o turn_is = let same : other ≡ o = cc in subst (λ x. GetsRetry board old Master x) same (retried Master other presented serves is)
 
-    pub master_retries : (place : ℕ) (presented : Presented) (stamp : ℕ) (ends after : List End) (events all : List Stamped) (stopped : Bool) → ServesMaster board place old presented new
+    pub master_retries : (place : ℕ) (presented : Served) (stamp : ℕ) (ends after : List End) (events all : List Stamped) (stopped : Bool) → ServesMaster board place old presented new
         → Finishes had sent got kept paired presented stamp ends after events all stopped → length all ≡ length events → stopped ≡ false
         → Retries board old new ends after (IsOfMaster (shape_of old) place)
     master_retries place presented stamp ends after events all stopped serves done same on =
@@ -90,7 +90,7 @@ module _ {End : Type 0} (had sent got : End → List Item) (kept : End → ℕ) 
               });
         }
 
-    pub offer_retries : (place : ℕ) (port : PortView) (op : OpId) (presented : Presented) (stamp : ℕ) (ends after : List End) (events all : List Stamped) (stopped : Bool) → slice_get old.ports place ≡ Some port → Serves board (ByLane port.lane) op old presented new
+    pub offer_retries : (place : ℕ) (port : PortView) (op : OpId) (presented : Served) (stamp : ℕ) (ends after : List End) (events all : List Stamped) (stopped : Bool) → slice_get old.ports place ≡ Some port → Serves board (ByLane port.lane) op old presented new
         → Finishes had sent got kept paired presented stamp ends after events all stopped → length all ≡ length events → stopped ≡ false
         → Retries board old new ends after (IsOfLane (shape_of old) place op)
     offer_retries place port op presented stamp ends after events all stopped there serves done same on =

@@ -10,8 +10,8 @@ use Rattle.lane_items.specs.declared.item.Item.{Item}
 use Rattle.lane_items.specs.Lane.{in_hand}
 use Rattle.bus_core.specs.declared.given.Sent.{Sent}
 use Rattle.bus_core.specs.declared.given.Acted.{Acted}
-use Rattle.bus_core.specs.declared.given.Presented.{Presented}
-use Rattle.bus_core.specs.declared.given.Presented.TheVariants.{Nothing, Retried, TurnsBack as Back, Did}
+use Rattle.bus_core.specs.declared.given.Served.{Served}
+use Rattle.bus_core.specs.declared.given.Served.TheVariants.{Nothing, Retried, TurnsBack as Back, Did}
 use Rattle.bus_core.specs.Calls.{stamp_of, items_at, IsStamped}
 use Rattle.bus_core.specs.Serves.{HasStamp, SendsStamped}
 use Rattle.bus_segment.specs.Segment.{SegmentView}
@@ -85,7 +85,7 @@ module _ {End : Type 0} (had sent got : End → List Item) (kept : End → ℕ) 
   records_stamps acted stamp ends after events all false done stamped = both_stamps stamp ends after acted.over acted.back done.sends stamped.0 stamped.1
   records_stamps acted stamp ends after events all true done stamped = stamps_stay stamp ends after done.same_ends
 
-  pub finishes_stamps : (presented : Presented) (stamp : ℕ) (ends after : List End) (events all : List Stamped) (stopped : Bool) → Finishes had sent got kept paired presented stamp ends after events all stopped → SendsStamped stamp presented
+  pub finishes_stamps : (presented : Served) (stamp : ℕ) (ends after : List End) (events all : List Stamped) (stopped : Bool) → Finishes had sent got kept paired presented stamp ends after events all stopped → SendsStamped stamp presented
       → StampsRise sent got stamp stamp ends after
   finishes_stamps Nothing stamp ends after events all stopped done stamped = stamps_stay stamp ends after done.0
   finishes_stamps Retried stamp ends after events all stopped done stamped = stamps_stay stamp ends after done.0
@@ -97,7 +97,7 @@ module _ {End : Type 0} (had sent got : End → List Item) (kept : End → ℕ) 
   records_most acted stamp ends after events all false done = let many = ap length done.event in let l = length-append events (record { stamp = stamp; event = acted.event } ∷ []) in omega arith
   records_most acted stamp ends after events all true done = let many = ap length done.same_events in omega arith
 
-  pub finishes_most : (presented : Presented) (stamp : ℕ) (ends after : List End) (events all : List Stamped) (stopped : Bool) → Finishes had sent got kept paired presented stamp ends after events all stopped → length all ≤ length events + 1
+  pub finishes_most : (presented : Served) (stamp : ℕ) (ends after : List End) (events all : List Stamped) (stopped : Bool) → Finishes had sent got kept paired presented stamp ends after events all stopped → length all ≤ length events + 1
   finishes_most Nothing stamp ends after events all stopped done = let many = ap length done.1 in omega arith
   finishes_most Retried stamp ends after events all stopped done = let many = ap length done.1 in omega arith
   finishes_most Back stamp ends after events all stopped done = let many = ap length done.1 in omega arith

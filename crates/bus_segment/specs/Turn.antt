@@ -28,8 +28,8 @@ use Rattle.bus_core.specs.Bus.{BusView, shape_of}
 use Rattle.bus_core.specs.declared.port.port.Arrival.{Arrival}
 use Rattle.bus_core.specs.declared.given.Sent.{Sent}
 use Rattle.bus_core.specs.declared.given.Acted.{Acted}
-use Rattle.bus_core.specs.declared.given.Presented.{Presented}
-use Rattle.bus_core.specs.declared.given.Presented.TheVariants.{Nothing, Retried, TurnsBack as Back, Did}
+use Rattle.bus_core.specs.declared.given.Served.{Served}
+use Rattle.bus_core.specs.declared.given.Served.TheVariants.{Nothing, Retried, TurnsBack as Back, Did}
 use Rattle.bus_core.specs.Calls.{stamp_of}
 use Rattle.bus_core.specs.Serves.{is_taken_on, HasStamp, BusRefuses, BusArrives}
 use Rattle.bus_segment.specs.Segment.{SegmentView, SegmentPast, SegmentGoes, all_carried, lanes_known}
@@ -120,7 +120,7 @@ Records had sent got kept paired acted stamp ends after events kept_events false
 Records had sent got kept paired acted stamp ends after events kept_events true = IsUnrecorded kept acted ends after events kept_events
 
 -- what comes of an initiator, at the ends and among the events
-abbrev pub Finishes : {End : Type 0} → (End → List Item) → (End → List Item) → (End → List Item) → (End → ℕ) → (End → End → Type 0) → Presented → ℕ → List End → List End → List Stamped → List Stamped → Bool → Type 0
+abbrev pub Finishes : {End : Type 0} → (End → List Item) → (End → List Item) → (End → List Item) → (End → ℕ) → (End → End → Type 0) → Served → ℕ → List End → List End → List Stamped → List Stamped → Bool → Type 0
 Finishes had sent got kept paired Nothing stamp ends after events kept_events stopped = (after ≡ ends) × (kept_events ≡ events) × (stopped ≡ false)
 Finishes had sent got kept paired Retried stamp ends after events kept_events stopped = (after ≡ ends) × (kept_events ≡ events) × (stopped ≡ false)
 Finishes had sent got kept paired Back stamp ends after events kept_events stopped = (after ≡ ends) × (kept_events ≡ events) × (stopped ≡ true)

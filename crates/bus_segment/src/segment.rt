@@ -1,7 +1,7 @@
 ghost use Rattle.std.specs.Prelude.{◌≡◌, ◌+◌, ◌-◌, ◌<◌, ◌≤◌, ◌^◌, ◌++◌, [], ◌∷◌, true, false, length, max, slice_get, vec_len, IfOk, IfSome, IsTrue};
 ghost use Rattle.std.specs.List.{Contains};
 ghost use Rattle.std.specs.Vec.{vec_capacity};
-ghost use Rattle.bus_core.specs.declared.given.Presented.TheVariants.{Did};
+ghost use Rattle.bus_core.specs.declared.given.Served.TheVariants.{Did};
 ghost use Rattle.board_model.specs.Valid.{IsValid};
 ghost use Rattle.board_model.specs.WellFormed.{is_well_formed};
 ghost use Rattle.bus_face.specs.Offers.{offers_of};
@@ -12,7 +12,7 @@ ghost use Rattle.bus_segment.specs.Turn.{Does, Records, Finishes, Keeps, Takes};
 
 use crate::ends::{has_room, receive_at, send_at, send_both, sent_at, stamp_of};
 use board_model::{Board, Lane};
-use bus_core::{Acted, Arrival, Bus, Presented};
+use bus_core::{Acted, Arrival, Bus, Served};
 use bus_face::Offer;
 use history_model::{Event, Stamped};
 use lane_items::{Item, LaneEnd};
@@ -259,7 +259,7 @@ impl<L: LaneEnd + Drop> Segment<L> {
 
     /// What comes of an initiator: an event is recorded and what it sends is sent, if there is room
     /// for it; else the segment stops.
-    fn finish(&mut self, presented: Presented)
+    fn finish(&mut self, presented: Served)
         requires apart { SendsApart presented }
         requires goes { self.old.stopped ≡ false }
         requires spare { vec_len self.old.events < vec_capacity self.old.events }
@@ -269,9 +269,9 @@ impl<L: LaneEnd + Drop> Segment<L> {
         ensures spare { vec_capacity self.old.events ≤ vec_capacity self.new.events }
     {
         match presented {
-            Presented::Nothing | Presented::Retried => {}
-            Presented::TurnsBack => self.stopped = true,
-            Presented::Did(acted) => self.record(acted),
+            Served::Nothing | Served::Retried => {}
+            Served::TurnsBack => self.stopped = true,
+            Served::Did(acted) => self.record(acted),
         }
     }
 

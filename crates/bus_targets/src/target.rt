@@ -8,7 +8,7 @@ ghost use Rattle.bus_targets.specs.State.{TargetView, HappensElsewhere};
 ghost use Rattle.bus_targets.specs.Stands.{TargetStands, TableAtFirst};
 
 use crate::reads::addresses_read;
-use crate::{Access, WordTable};
+use crate::{Access, TargetWords};
 use board_model::{Board, Target, is_in_ranges};
 use history_model::Step;
 use machine_steps::{brought_by, dword_address};
@@ -21,9 +21,9 @@ use std::marker::Model;
 pub struct TargetState {
     target: u16,
     stalls: u32,
-    memory: WordTable,
-    ports: WordTable,
-    registers: WordTable,
+    memory: TargetWords,
+    ports: TargetWords,
+    registers: TargetWords,
 }
 
 impl Model for TargetState {
@@ -155,10 +155,10 @@ fn table_of(
     agent: &Target,
     target: u16,
     space: Space,
-) -> Result<WordTable, NoMemory>
+) -> Result<TargetWords, NoMemory>
     ensures { IfOk result (TableAtFirst board.now agent.now target space) }
 {
     let addresses = addresses_read(alloc, board, agent, space)?;
-    let table = WordTable::new(alloc, board, target, space, addresses)?;
+    let table = TargetWords::new(alloc, board, target, space, addresses)?;
     Ok(table)
 }

@@ -13,12 +13,12 @@ use std::marker::Model;
 /// The dwords of one space of a target that operations read, by rising address, and what each
 /// holds.
 #[derive(Debug, Drop)]
-pub struct WordTable {
+pub struct TargetWords {
     addresses: Vec<u64>,
     values: Vec<u32>,
 }
 
-impl Model for WordTable {
+impl Model for TargetWords {
     ghost use Rattle.std.specs.List.Sorted.{IsStrictlyIncreasing};
     ghost use Rattle.bus_targets.specs.Words.{WordsOfSpace};
 
@@ -29,7 +29,7 @@ impl Model for WordTable {
     ghost invariant = { λ t. IsStrictlyIncreasing t.addresses.items };
 }
 
-impl WordTable {
+impl TargetWords {
     /// The words at these addresses of the target's space, as they open.
     pub(crate) fn new(
         alloc: Global,
@@ -37,7 +37,7 @@ impl WordTable {
         target: u16,
         space: Space,
         mut addresses: Vec<u64>,
-    ) -> Result<WordTable, NoMemory>
+    ) -> Result<TargetWords, NoMemory>
         ensures rises { IfOk result (λ words. IsStrictlyIncreasing words.addresses) }
         ensures kept { IfOk result (λ words. (address : ℕ) → Contains addresses.items address → Contains words.addresses address) }
         ensures opens { IfOk result (λ words. words.values ≡ map (λ address. opens_as board.now (record { target = target; space = space; address = address })) words.addresses) }
@@ -45,7 +45,7 @@ impl WordTable {
         addresses.sort_unstable();
         addresses.dedup();
         let values = open(alloc, board, target, space, addresses.as_slice())?;
-        Ok(WordTable { addresses, values })
+        Ok(TargetWords { addresses, values })
     }
 
     /// The place of the word at the address, where it is kept.

@@ -4,6 +4,7 @@ ghost use Rattle.program_input.specs.Traces.{IsCompleteTrace};
 ghost use Rattle.command_runs.specs.devices.Answers.{AnswersDevices};
 
 mod answer;
+mod delivery;
 
 pub use answer::answer_devices;
 

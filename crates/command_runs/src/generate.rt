@@ -3,4 +3,5 @@ mod answer;
 mod word;
 
 pub use answer::answer_generate;
-pub use word::{names_rounds, rounds_of};
+pub use word::names_rounds;
+pub(crate) use word::rounds_of;

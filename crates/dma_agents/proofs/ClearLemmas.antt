@@ -11,7 +11,7 @@ use Rattle.pci_command.specs.Same.{same_command}
 use Rattle.board_model.specs.declared.agents.Target.{Target}
 use Rattle.board_model.specs.declared.op.Op.{Op}
 use Rattle.board_model.specs.Requests.{command_of, address_on, phases_of}
-use Rattle.law_delivered.specs.Clear.{phases_at, written_at, brings_value, rings, is_whole, rings_whole, holds, opens_otherwise}
+use Rattle.history_model.specs.Clear.{phases_at, written_at, brings_value, rings, is_whole, rings_whole, holds, opens_otherwise}
 
 -- Counts up to two.
 

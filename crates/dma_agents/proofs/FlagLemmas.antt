@@ -10,13 +10,13 @@ use Rattle.board_model.specs.declared.op.Op.{Op}
 use Rattle.board_model.specs.declared.op.Op.TheVariants.{Read, Write, CfgRead, CfgWrite, Poll}
 use Rattle.board_model.specs.WellFormed.{operations_in}
 use Rattle.board_parser.specs.declared.draft.draft.Draft.{Draft}
-use Rattle.board_parser.specs.declared.draft.draft.Owner.{Owner}
+use Rattle.board_parser.specs.declared.draft.draft.AgentPlace.{AgentPlace}
 use Rattle.board_parser.specs.draft.Drafts.{with_owner, board_of}
 use Rattle.board_parser.specs.draft.Masters.{add_op, add_master, does}
 use Rattle.board_parser.specs.draft.Targets.{agent_fault}
 use Rattle.board_parser.proofs.draft.AddedLemmas.{on_master-ok, add_op-ok, unless-ok}
 use Rattle.board_parser.proofs.draft.PushLemmas.{all-push}
-use Rattle.text_faults.specs.declared.DeviceFault.{DeviceFault}
+use Rattle.text_faults.specs.declared.device.DeviceFault.{DeviceFault}
 use Rattle.dma_agents.specs.declared.line.Flag.{Flag}
 use Rattle.dma_agents.specs.declared.line.Waiting.{Waiting}
 use Rattle.dma_agents.specs.declared.line.DeviceLine.{DeviceLine}
@@ -74,7 +74,7 @@ op_kept : (clear : ℕ → ℕ → Bool) (first : ℕ) (draft next : Draft) (op 
 op_kept clear first draft next op allowed all is =
     let done = on_master-ok draft (add_op (operations_in (board_of draft).masters) op false) next is in
     let put = add_op-ok (operations_in (board_of draft).masters) op false done.master done.changed done.did in
-    let P : Owner → Type 0 = λ owner. Clear clear first (with_owner draft.board owner) in
+    let P : AgentPlace → Type 0 = λ owner. Clear clear first (with_owner draft.board owner) in
     let before = subst P done.was all in
     let M : Master → Type 0 = λ master. master_clear clear master ≡ true in
     let more : master_clear clear done.master ≡ true → master_clear clear done.changed ≡ true = λ own. subst M (sym put.is) (all-push (polls_clear clear) done.master.ops op own allowed) in

@@ -1,4 +1,4 @@
--- The flags of a made board are clear, so they deliver.
+-- The flags of a made board are clear.
 use Rattle.std.proofs.Common.{◌≡◌, ℕ, zero, suc, ◌+◌, ◌-◌, ◌≤◌, Bool, true, false, cond, nat_lt, List, [], ◌∷◌, length, drop, Option, Some, None, Result, Ok, Err, refl, ap, subst, ◌∙◌, arith, slice_get, codes}
 use Rattle.pci_command.specs.declared.command.Space.TheVariants.{Mem}
 use Rattle.pci_command.specs.declared.op_id.OpId.{OpId}
@@ -9,21 +9,17 @@ use Rattle.board_model.specs.declared.op.Op.{Op}
 use Rattle.board_model.specs.declared.op.Op.TheVariants.{Poll}
 use Rattle.std.specs.Option.{option_and_then}
 use Rattle.board_model.specs.Requests.{tries_of, op_of}
-use Rattle.board_model.specs.Valid.{IsValid}
 use Rattle.board_text.specs.Lines.{lines_of}
-use Rattle.board_statements.specs.declared.fault.LineFault.{LineFault}
+use Rattle.text_faults.specs.declared.board_line.LineFault.{LineFault}
 use Rattle.board_parser.specs.declared.draft.draft.Draft.{Draft}
 use Rattle.board_parser.specs.draft.Drafts.{board_of}
 use Rattle.board_parser.specs.Boards.{read_lines}
-use Rattle.history_model.specs.declared.event.Event.{Event}
-use Rattle.history_model.specs.Runs.{Run}
-use Rattle.law_delivered.specs.Clear.{is_clear}
-use Rattle.law_delivered.specs.Delivered.{Awaits, Delivers, Delivered}
+use Rattle.history_model.specs.Clear.{is_clear}
 use Rattle.dma_agents.specs.declared.fault.MakeFault.{MakeFault}
 use Rattle.dma_agents.specs.declared.making.Making.{Making}
 use Rattle.dma_agents.specs.declared.fault.MakeFault.TheVariants.{Device as OfLine}
-use Rattle.text_faults.specs.declared.DeviceFault.TheVariants.{Misshapen}
-use Rattle.dma_agents.specs.declared.line.Owner.TheVariants.{Nobody}
+use Rattle.text_faults.specs.declared.device.DeviceFault.TheVariants.{Misshapen}
+use Rattle.dma_agents.specs.declared.line.DeviceOwner.TheVariants.{Nobody}
 use Rattle.dma_agents.specs.declared.line.Waiting.{Waiting}
 use Rattle.dma_agents.specs.Made.{unclear, Made, by_flags, by_lines, by_board, until_devices, by_parts, is_line, by_first, made_read}
 use Rattle.dma_agents.proofs.StepLemmas.{OnMaking, all_keep}
@@ -94,17 +90,13 @@ stands_at board o op is =
           ]) refl e
     ]) refl is
 
--- that clear flags deliver
-abbrev pub Law : Type 0
-Law = (board : Board) (h : List Event) (p : OpId) (address : ℕ) (value : ℕ) → IsValid board → Run board h → is_clear board address value ≡ true → Awaits board p address value → Delivers board h p address value
-
-pub made_delivers : Law → (text : List ℕ) (made : Made) (h : List Event) → made_read text ≡ Ok made → IsValid made.board → Run made.board h → Delivered made.board made.first h
-made_delivers law text made h is valid run p address value least awaits =
+pub made_clear : (text : List ℕ) (made : Made) (p : OpId) (address value tries : ℕ) → made_read text ≡ Ok made → made.first ≤ p.master
+    → op_of made.board p ≡ Some (Poll Mem address 0xffff_ffff value tries) → is_clear made.board address value ≡ true
+made_clear text made p address value tries is least awaits =
     let board : Board = made.board in
-    let op : Op = Poll Mem address 0xffff_ffff value awaits.0 in
-    let stands = stands_at board p op awaits.1 in
+    let op : Op = Poll Mem address 0xffff_ffff value tries in
+    let stands = stands_at board p op awaits in
     let all : ClearMade (Ok made) = subst ClearMade is (first_clear (lines_of text)) in
     let behind = behind_drop board.masters made.first p.master stands.master least stands.is_master in
     let own = list_all-get (master_clear (is_clear board)) (drop made.first board.masters) (p.master - made.first) stands.master all behind in
-    let clear : is_clear board address value ≡ true = list_all-get (polls_clear (is_clear board)) stands.master.ops p.index op own stands.there in
-    law board h p address value valid run clear awaits
+    list_all-get (polls_clear (is_clear board)) stands.master.ops p.index op own stands.there

@@ -2,14 +2,14 @@
 use Rattle.std.proofs.Common.{◌≡◌, ℕ, ◌+◌, Bool, cond, List, [], length, drop, Option, Some, None, Result, Ok, Err, sym, ap, ◌∙◌}
 use Rattle.std.specs.List.{slice_range}
 use Rattle.board_text.specs.Lines.{lines_of}
-use Rattle.board_statements.specs.declared.fault.LineFault.{LineFault}
+use Rattle.text_faults.specs.declared.board_line.LineFault.{LineFault}
 use Rattle.board_parser.specs.declared.draft.draft.Draft.{Draft}
 use Rattle.board_parser.specs.draft.Drafts.{board_of}
 use Rattle.board_parser.specs.Boards.{read_lines, sheet_ended, sheet_read}
-use Rattle.text_faults.specs.declared.DeviceFault.TheVariants.{Misshapen}
+use Rattle.text_faults.specs.declared.device.DeviceFault.TheVariants.{Misshapen}
 use Rattle.dma_agents.specs.declared.fault.MakeFault.{MakeFault}
 use Rattle.dma_agents.specs.declared.fault.MakeFault.TheVariants.{Board as OfBoard, Device as OfLine}
-use Rattle.dma_agents.specs.declared.line.Owner.TheVariants.{Nobody}
+use Rattle.dma_agents.specs.declared.line.DeviceOwner.TheVariants.{Nobody}
 use Rattle.dma_agents.specs.declared.line.Waiting.{Waiting}
 use Rattle.dma_agents.specs.declared.making.Making.{Making}
 use Rattle.dma_agents.specs.declared.parts.DevicesLine.{DevicesLine}

@@ -2,9 +2,9 @@
 use Rattle.std.proofs.Common.{◌≡◌, ℕ, Bool, true, false, cond, nat_lt, List, length, Option, Some, None, Result, Ok, Err, refl}
 use Rattle.board_text.specs.Lines.{line_fault}
 use Rattle.board_text.specs.Tokens.{words_of}
-use Rattle.board_statements.specs.declared.fault.LineFault.{LineFault}
-use Rattle.text_faults.specs.declared.DeviceFault.{DeviceFault}
-use Rattle.text_faults.specs.declared.DeviceFault.TheVariants.{Misshapen}
+use Rattle.text_faults.specs.declared.board_line.LineFault.{LineFault}
+use Rattle.text_faults.specs.declared.device.DeviceFault.{DeviceFault}
+use Rattle.text_faults.specs.declared.device.DeviceFault.TheVariants.{Misshapen}
 use Rattle.dma_agents.specs.declared.line.DeviceLine.{DeviceLine}
 use Rattle.dma_agents.specs.declared.making.Making.{Making}
 use Rattle.dma_agents.specs.DeviceLines.{device_line}

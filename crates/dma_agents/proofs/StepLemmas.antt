@@ -5,17 +5,17 @@ use Rattle.std.proofs.lemmas.Bool.{and_parts}
 use Rattle.board_model.specs.declared.op.Op.{Op}
 use Rattle.board_text.specs.Lines.{line_fault}
 use Rattle.board_text.specs.Tokens.{words_of}
-use Rattle.board_statements.specs.declared.fault.LineFault.{LineFault}
+use Rattle.text_faults.specs.declared.board_line.LineFault.{LineFault}
 use Rattle.board_parser.specs.declared.draft.draft.Draft.{Draft}
 use Rattle.board_parser.specs.draft.Drafts.{board_of}
 use Rattle.board_parser.specs.draft.Masters.{add_master, does}
 use Rattle.board_parser.specs.draft.Targets.{is_name_used}
-use Rattle.text_faults.specs.declared.DeviceFault.{DeviceFault}
-use Rattle.text_faults.specs.declared.DeviceFault.TheVariants.{Misshapen, Misplaced, NameUsed}
+use Rattle.text_faults.specs.declared.device.DeviceFault.{DeviceFault}
+use Rattle.text_faults.specs.declared.device.DeviceFault.TheVariants.{Misshapen, Misplaced, NameUsed}
 use Rattle.dma_agents.specs.declared.fault.MakeFault.{MakeFault}
 use Rattle.dma_agents.specs.declared.line.DeviceLine.{DeviceLine}
 use Rattle.dma_agents.specs.declared.line.DeviceLine.TheVariants.{Device, Handler, Puts, Gets, Sends, Looks, Waits, Writes}
-use Rattle.dma_agents.specs.declared.line.Owner.{Owner}
+use Rattle.dma_agents.specs.declared.line.DeviceOwner.{DeviceOwner}
 use Rattle.dma_agents.specs.declared.making.Making.{Making}
 use Rattle.dma_agents.specs.Put.{cut}
 use Rattle.dma_agents.specs.DeviceLines.{device_line}
@@ -85,7 +85,7 @@ added_keeps P may keeps draft (Looks address) allowed holds = one_keeps P may ke
 added_keeps P may keeps draft (Waits flag) allowed holds = one_keeps P may keeps draft (poll_of flag) allowed holds
 added_keeps P may keeps draft (Writes address value) allowed holds = one_keeps P may keeps draft (write_of address value) allowed holds
 
-pub line_keeps : (P : Draft → Type 0) (may : Op → Bool) → Keeps P may → (owner : Owner) (draft : Draft) (line : DeviceLine) → line_may may line ≡ true → P draft → OnDraft P (line_added owner draft line)
+pub line_keeps : (P : Draft → Type 0) (may : Op → Bool) → Keeps P may → (owner : DeviceOwner) (draft : Draft) (line : DeviceLine) → line_may may line ≡ true → P draft → OnDraft P (line_added owner draft line)
 line_keeps P may keeps owner draft line allowed holds =
     let Q : Bool → Type 0 = λ b. OnDraft P (cond b (Err Misplaced) (added draft line)) in
     let placed : Q (not (is_placed line)) = elim (not (is_placed line)) as Q [ true ↦ tt | false ↦ added_keeps P may keeps draft line allowed holds ] in

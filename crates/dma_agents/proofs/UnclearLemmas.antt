@@ -5,7 +5,7 @@ use Rattle.board_model.specs.declared.agents.Master.{Master}
 use Rattle.board_model.specs.declared.agents.Target.{Target}
 use Rattle.board_model.specs.declared.board.Board.{Board}
 use Rattle.board_model.specs.declared.op.Op.{Op}
-use Rattle.law_delivered.specs.Clear.{holds}
+use Rattle.history_model.specs.Clear.{holds}
 use Rattle.dma_agents.specs.declared.line.Flag.{Flag}
 use Rattle.dma_agents.specs.declared.unclear.OpPlace.{OpPlace}
 use Rattle.dma_agents.specs.declared.unclear.Unclear.{Unclear}

@@ -6,24 +6,24 @@ use Rattle.board_model.specs.declared.board.Board.{Board}
 use Rattle.board_model.specs.declared.op.Op.{Op}
 use Rattle.board_model.specs.declared.op.Op.TheVariants.{Read, Write, Poll}
 use Rattle.board_model.specs.Valid.{is_bus}
-use Rattle.board_statements.specs.declared.fault.LineFault.{LineFault}
+use Rattle.text_faults.specs.declared.board_line.LineFault.{LineFault}
 use Rattle.board_parser.specs.declared.draft.draft.Draft.{Draft}
 use Rattle.board_parser.specs.draft.Drafts.{board_of}
 use Rattle.board_parser.specs.draft.Targets.{is_name_used, bus_of_target}
 use Rattle.board_parser.specs.draft.Masters.{add_master, does}
-use Rattle.text_faults.specs.declared.DeviceFault.{DeviceFault}
-use Rattle.text_faults.specs.declared.DeviceFault.TheVariants.{Misshapen, Misplaced, NameUsed, NotThere, OverLimit}
+use Rattle.text_faults.specs.declared.device.DeviceFault.{DeviceFault}
+use Rattle.text_faults.specs.declared.device.DeviceFault.TheVariants.{Misshapen, Misplaced, NameUsed, NotThere, OverLimit}
 use Rattle.dma_agents.specs.declared.line.Flag.{Flag}
 use Rattle.dma_agents.specs.declared.line.DeviceLine.{DeviceLine}
 use Rattle.dma_agents.specs.declared.line.DeviceLine.TheVariants.{Device, Handler, Puts, Gets, Sends, Looks, Waits, Writes}
-use Rattle.dma_agents.specs.declared.line.Owner.{Owner}
-use Rattle.dma_agents.specs.declared.line.Owner.TheVariants.{Nobody, Device as OfDevice, Handler as OfHandler}
+use Rattle.dma_agents.specs.declared.line.DeviceOwner.{DeviceOwner}
+use Rattle.dma_agents.specs.declared.line.DeviceOwner.TheVariants.{Nobody, Device as OfDevice, Handler as OfHandler}
 use Rattle.dma_agents.specs.declared.add.LineError.{LineError}
 use Rattle.dma_agents.specs.declared.add.LineError.TheVariants.{Fault, NoMemory}
 use Rattle.dma_agents.specs.Put.{cut}
 
 -- a line of operations stands behind its device or handler
-abbrev pub stands : Owner → DeviceLine → Bool
+abbrev pub stands : DeviceOwner → DeviceLine → Bool
 stands owner (Device name target bell) = true
 stands owner (Handler name bus wait) = true
 stands Nobody (Puts put) = false
@@ -120,7 +120,7 @@ added draft (Waits flag) = add_one draft (poll_of flag)
 added draft (Writes address value) = add_one draft (write_of address value)
 
 -- the board behind a line, or the first fault of the line
-abbrev pub line_added : Owner → Draft → DeviceLine → Result Draft DeviceFault
+abbrev pub line_added : DeviceOwner → Draft → DeviceLine → Result Draft DeviceFault
 line_added owner draft line =
     if not (stands owner line) then Err Misshapen
     else if not (is_placed line) then Err Misplaced

@@ -10,7 +10,7 @@ use Rattle.board_model.specs.declared.board.Board.{Board}
 use Rattle.board_model.specs.Requests.{phases_of}
 use Rattle.board_model.specs.Claims.{range_holds}
 use Rattle.history_model.specs.Words.{opens_in}
-use Rattle.law_delivered.specs.Clear.{is_value, written_at, rings, is_whole, holds}
+use Rattle.history_model.specs.Clear.{is_value, written_at, rings, is_whole, holds}
 use Rattle.dma_agents.specs.declared.line.Flag.{Flag}
 use Rattle.dma_agents.specs.declared.unclear.OpPlace.{OpPlace}
 use Rattle.dma_agents.specs.declared.unclear.Sought.{Sought}

@@ -5,12 +5,12 @@ ghost use Rattle.board_parser.specs.declared.draft.draft.Draft.{Draft};
 ghost use Rattle.board_parser.specs.draft.Drafts.{board_of};
 ghost use Rattle.board_parser.specs.draft.Masters.{add_master};
 ghost use Rattle.board_parser.specs.draft.Steps.{Answers};
-ghost use Rattle.board_statements.specs.declared.fault.LineFault.{LineFault};
-ghost use Rattle.text_faults.specs.declared.DeviceFault.TheVariants.{Misplaced};
+ghost use Rattle.text_faults.specs.declared.board_line.LineFault.{LineFault};
+ghost use Rattle.text_faults.specs.declared.device.DeviceFault.TheVariants.{Misplaced};
 ghost use Rattle.dma_agents.specs.Put.{cut};
 ghost use Rattle.dma_agents.specs.Adding.{Adds, stands, is_placed, poll_of, read_of, write_of, limited, add_one, add_ops, begins, begins_on, bus_of, bus_there, added, line_added};
 
-use crate::{DeviceLine, Flag, Owner, Put, cut};
+use crate::{DeviceLine, DeviceOwner, Flag, Put, cut};
 use board_model::{Name, Op};
 use board_parser::{AddFault, Sheet};
 use board_statements::Statement;
@@ -40,7 +40,7 @@ impl From<NoMemory> for LineError {
 /// The sheet behind a line, or its first fault.
 pub(crate) fn line_added(
     alloc: Global,
-    owner: Owner,
+    owner: DeviceOwner,
     sheet: Sheet,
     line: DeviceLine,
 ) -> Result<Sheet, LineError>
@@ -64,16 +64,16 @@ fn placed_added(alloc: Global, sheet: Sheet, line: DeviceLine) -> Result<Sheet, 
     }
 }
 
-fn stands(owner: Owner, line: &DeviceLine) -> bool
+fn stands(owner: DeviceOwner, line: &DeviceLine) -> bool
     ensures { result ≡ stands owner line.now }
 {
     match line {
         DeviceLine::Device { .. } | DeviceLine::Handler { .. } => true,
         DeviceLine::Puts(_) | DeviceLine::Gets(_) | DeviceLine::Sends { .. } => {
-            matches!(owner, Owner::Device)
+            matches!(owner, DeviceOwner::Device)
         }
-        DeviceLine::Looks(_) => matches!(owner, Owner::Handler),
-        DeviceLine::Waits(_) | DeviceLine::Writes { .. } => !matches!(owner, Owner::Nobody),
+        DeviceLine::Looks(_) => matches!(owner, DeviceOwner::Handler),
+        DeviceLine::Waits(_) | DeviceLine::Writes { .. } => !matches!(owner, DeviceOwner::Nobody),
     }
 }
 

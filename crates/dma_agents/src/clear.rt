@@ -7,7 +7,7 @@ ghost use Rattle.pci_command.specs.declared.command.Space.TheVariants.{Mem};
 ghost use Rattle.pci_command.specs.declared.phases.Phase.{Phase as DataPhase};
 ghost use Rattle.board_model.specs.declared.agents.Master.{Master as MasterAgent};
 ghost use Rattle.history_model.specs.Words.{opens_in, opening_word};
-ghost use Rattle.law_delivered.specs.Clear.{is_value, phases_at, written_at, brings_value, rings, is_whole, rings_whole, holds, opens_otherwise, is_clear};
+ghost use Rattle.history_model.specs.Clear.{is_value, phases_at, written_at, brings_value, rings, is_whole, rings_whole, holds, opens_otherwise, is_clear};
 
 use board_model::{Board, Master, Op, Opening, Target, is_in_ranges, request_on};
 use pci_command::{Command, Phase, Space};

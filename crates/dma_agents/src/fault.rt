@@ -1,6 +1,5 @@
 use crate::{Flag, Unclear};
-use board_statements::LineFault;
-use text_faults::DeviceFault;
+use text_faults::{DeviceFault, LineFault};
 use thiserror::Error;
 
 /// Why a text was not read as devices on a board. Lines are numbered from 1, in the whole text.

@@ -8,7 +8,8 @@ ghost use Rattle.dma_agents.specs.DeviceLines.{name_in, flag_form, device_form, 
 use crate::messages::message;
 use crate::{DeviceLine, Flag, Put};
 use board_model::Name;
-use board_statements::{LineFault, Words, is_word};
+use board_statements::{Words, is_word};
+use text_faults::LineFault;
 
 /// What a line says by its words. Its fault says that it has none of the forms.
 #[tactic(auto, unfolding(crate::specs::DeviceLines::device_line))]

@@ -2,20 +2,20 @@ ghost use Rattle.std.specs.Prelude.{◌≡◌, ◌≤◌, ◌<◌, ◌+◌, ◌^
 ghost use Rattle.std.specs.List.{list_all};
 ghost use Rattle.pci_command.specs.declared.command.Command.TheVariants.{MemWrite};
 ghost use Rattle.pci_command.specs.declared.phases.Phase.{Phase};
-ghost use Rattle.board_model.specs.declared.op.Op.TheVariants.{Write};
+ghost use Rattle.pci_command.specs.declared.command.Space.TheVariants.{Mem};
+ghost use Rattle.pci_command.specs.declared.op_id.OpId.{OpId};
+ghost use Rattle.board_model.specs.declared.op.Op.TheVariants.{Write, Poll};
+ghost use Rattle.board_model.specs.Requests.{op_of};
 ghost use Rattle.board_model.specs.declared.board.Board.{Board};
 ghost use Rattle.board_model.specs.WellFormed.{is_well_formed, is_well_formed_op};
-ghost use Rattle.std.specs.Prelude.{Ok, Err};
-ghost use Rattle.board_model.specs.Valid.{IsValid};
+ghost use Rattle.std.specs.Prelude.{Some, Ok, Err};
 ghost use Rattle.history_model.specs.declared.event.Event.{Event};
+ghost use Rattle.history_model.specs.Clear.{is_clear};
 ghost use Rattle.history_model.specs.Runs.{Run, Complete, history_of};
-ghost use Rattle.law_delivered.specs.Delivered.{Delivered};
 ghost use Rattle.dma_agents.specs.Worked.{worked_text, twice_text, twice_fault, worked_made, worked_board, worked_events};
 ghost use Rattle.dma_agents.specs.Made.{Made, board_in, made_read};
 ghost use Rattle.dma_agents.specs.declared.put.Put.{Put};
 ghost use Rattle.dma_agents.specs.Put.{cut, bytes_of, bytes_put};
-
-use law_delivered::clear_flags_deliver;
 
 /// The enabled bytes of the writes of a put are its bytes, each once and in order; and each of the
 /// writes can stand in a program.
@@ -34,12 +34,14 @@ pub fn made_boards_are_well_formed()
     ensures { (text : List ℕ) (board : Board) → board_in (made_read text) ≡ Ok board → is_well_formed board ≡ true }
 {}
 
-/// Every run of the valid board of a device text delivers.
-pub fn made_boards_deliver()
-    ensures { (text : List ℕ) (made : Made) (h : List Event) → made_read text ≡ Ok made → IsValid made.board → Run made.board h → Delivered made.board made.first h }
-{
-    clear_flags_deliver();
-}
+/// Each flag of the board of a device text is clear: what a poll of the masters of its devices waits
+/// for, in all bits, is brought by one write.
+pub fn made_flags_are_clear()
+    ensures { (text : List ℕ) (made : Made) (p : OpId) (address value tries : ℕ) →
+        made_read text ≡ Ok made → made.first ≤ p.master →
+        op_of made.board p ≡ Some (Poll Mem address 0xffff_ffff value tries) →
+        is_clear made.board address value ≡ true }
+{}
 
 /// A doorbell, a put and a message on one bus.
 pub fn worked_devices()

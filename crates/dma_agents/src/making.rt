@@ -9,7 +9,7 @@ ghost use Rattle.dma_agents.specs.Made.{TellsMaking, owner_behind, flag_of, wait
 use crate::add::{LineError, line_added};
 use crate::forms::device_line;
 use crate::marks::{is_faultless, is_one_word};
-use crate::{DeviceLine, Flag, MakeFault, Owner, Waiting};
+use crate::{DeviceLine, DeviceOwner, Flag, MakeFault, Waiting};
 use board_parser::Sheet;
 use board_statements::has_words;
 use board_text::next_line;
@@ -22,7 +22,7 @@ use text_faults::DeviceFault;
 pub struct Making {
     pub sheet: Sheet,
     /// Whose operations may follow.
-    pub owner: Owner,
+    pub owner: DeviceOwner,
     /// The flags that are waited for, in the order of their lines.
     pub waits: List<Waiting>,
 }
@@ -73,7 +73,7 @@ fn behind_end(making: Making, past: Option<u32>) -> Result<Making, MakeFault>
     }
 }
 
-ghost use Rattle.text_faults.specs.declared.DeviceFault.TheVariants.{Misshapen};
+ghost use Rattle.text_faults.specs.declared.device.DeviceFault.TheVariants.{Misshapen};
 ghost use Rattle.dma_agents.specs.declared.fault.MakeFault.{MakeFault as Fault};
 
 /// The line is none of its place.
@@ -135,12 +135,12 @@ fn with_line(
     })
 }
 
-fn owner_behind(owner: Owner, line: &DeviceLine) -> Owner
+fn owner_behind(owner: DeviceOwner, line: &DeviceLine) -> DeviceOwner
     ensures { result ≡ owner_behind owner line.now }
 {
     match line {
-        DeviceLine::Device { .. } => Owner::Device,
-        DeviceLine::Handler { .. } => Owner::Handler,
+        DeviceLine::Device { .. } => DeviceOwner::Device,
+        DeviceLine::Handler { .. } => DeviceOwner::Handler,
         _ => owner,
     }
 }

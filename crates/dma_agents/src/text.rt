@@ -2,7 +2,7 @@ ghost use Rattle.std.specs.Prelude.{◌≡◌, ◌<◌, ◌≤◌, ◌^◌, [], 
 ghost use Rattle.board_model.specs.WellFormed.{is_well_formed};
 ghost use Rattle.board_parser.specs.draft.Drafts.{board_of};
 ghost use Rattle.board_parser.specs.Boards.{sheet_read};
-ghost use Rattle.law_delivered.specs.Clear.{is_clear};
+ghost use Rattle.history_model.specs.Clear.{is_clear};
 ghost use Rattle.dma_agents.specs.Made.{made_read, by_lines, unclear, Tells};
 ghost use Rattle.dma_agents.specs.Parts.{TellsSheet};
 ghost use Rattle.std.specs.Prelude.{Ok};
@@ -12,7 +12,7 @@ use crate::laws::made_boards_are_well_formed;
 use crate::making::{Making, lines_read, misshapen};
 use crate::parts::{behind_first_line, find_devices};
 use crate::unclear::why_unclear;
-use crate::{Flag, MakeFault, Owner, Waiting};
+use crate::{DeviceOwner, Flag, MakeFault, Waiting};
 use board_model::Board;
 use board_parser::{ParseFault, Sheet, parse_sheet};
 use pci_command::List;
@@ -45,7 +45,7 @@ fn read_made(alloc: Global, bytes: &[u8]) -> Result<Board, MakeFault>
     let first = sheet.master_count();
     let making = Making {
         sheet,
-        owner: Owner::Nobody,
+        owner: DeviceOwner::Nobody,
         waits: List::from_vec(Vec::new(alloc)),
     };
     let making = lines_read(alloc, making, bytes, found.behind, found.number)?;

@@ -6,7 +6,7 @@ ghost use Rattle.pci_command.specs.declared.command.Space.TheVariants.{Mem};
 ghost use Rattle.board_model.specs.Claims.{range_holds};
 ghost use Rattle.board_model.specs.Requests.{phases_of};
 ghost use Rattle.history_model.specs.Words.{opens_in};
-ghost use Rattle.law_delivered.specs.Clear.{is_value};
+ghost use Rattle.history_model.specs.Clear.{is_value};
 ghost use Rattle.dma_agents.specs.Unclear.{is_sought, places_in, places, by_value, by_writes};
 ghost use Rattle.dma_agents.specs.Unclear.{by_holder, by_targets, why_unclear};
 

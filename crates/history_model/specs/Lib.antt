@@ -10,3 +10,4 @@ pub mod Knowledge
 pub mod Left
 pub mod Steps
 pub mod Next
+pub mod Clear

@@ -1,7 +1,7 @@
 -- From what `lspci` wrote to a board text.
 use Rattle.std.specs.Prelude.{◌≡◌, ℕ, List, Option, Result, Ok, Err}
 use Rattle.import_text.specs.declared.function.Function.{Function}
-use Rattle.import_text.specs.declared.fault.LspciFault.{LspciFault}
+use Rattle.text_faults.specs.declared.lspci.LspciFault.{LspciFault}
 use Rattle.import_text.specs.declared.fault.ReadFault.{ReadFault}
 use Rattle.import_text.specs.declared.fault.ReadFault.TheVariants.{Fault, NoMemory}
 use Rattle.import_text.specs.Functions.{functions_read}

@@ -9,8 +9,8 @@ use Rattle.board_headers.specs.HeaderBytes.{register_2}
 use Rattle.board_headers.specs.Windows.{has_bit}
 use Rattle.board_printer.specs.Numbers.{word_text, half_text, address_text}
 use Rattle.board_printer.specs.Spaces.{space_word}
-use Rattle.import_text.specs.declared.capability.Kind.{Kind}
-use Rattle.import_text.specs.declared.capability.Kind.TheVariants.{Express, PciX}
+use Rattle.import_text.specs.declared.capability.CapabilityKind.{CapabilityKind}
+use Rattle.import_text.specs.declared.capability.CapabilityKind.TheVariants.{Express, PciX}
 use Rattle.import_text.specs.declared.function.Function.{Function}
 use Rattle.import_bridges.specs.declared.machine.Machine.{Machine}
 use Rattle.import_bridges.specs.declared.fate.BridgeFate.{BridgeFate}
@@ -20,7 +20,7 @@ use Rattle.import_bridges.specs.declared.fate.WindowFate.TheVariants.{Absent, Op
 use Rattle.import_bridges.specs.declared.fate.TakenBridge.{TakenBridge}
 use Rattle.import_bridges.specs.Functions.{header_type}
 use Rattle.import_bridges.specs.Reasons.{no_bridge_words, no_window_words}
-use Rattle.import_targets.specs.declared.found.Found.{Found}
+use Rattle.import_targets.specs.declared.found.FoundFunction.{FoundFunction}
 use Rattle.import_targets.specs.declared.fate.RangeFate.{RangeFate}
 use Rattle.import_targets.specs.declared.fate.RangeFate.TheVariants.{Taken as Placed, LeftOut as NotPlaced}
 use Rattle.import_targets.specs.declared.fate.Judged.{Judged}
@@ -50,7 +50,7 @@ bus_on_board machine bus = decimal (if bus == machine.root.bus then 0 else bus)
 -- the title of a function: where it is, its name, and what kind of PCI it says it is
 
 -- what is said of the kind of PCI; nothing where the text names none
-abbrev pub kind_words : Option Kind → List ℕ
+abbrev pub kind_words : Option CapabilityKind → List ℕ
 kind_words None = []
 kind_words (Some Express) = codes " (PCI Express)"
 kind_words (Some PciX) = codes " (PCI-X)"
@@ -121,7 +121,7 @@ size_words None = []
 size_words (Some size) = codes " " ++ address_text size
 
 -- a range as the comment that leaves it out has it
-abbrev pub range_words : Found → List ℕ
+abbrev pub range_words : FoundFunction → List ℕ
 range_words found =
     if found.base == 0 then codes "base address register " ++ decimal found.number
     else codes "range " ++ (space_word found.space ++ (codes " " ++ (address_text found.base ++ size_words found.size)))
@@ -132,7 +132,7 @@ range_line space span =
     codes "range " ++ (space_word space ++ (codes " " ++ (address_text span.base ++ (codes " " ++ (address_text (capped (span.limit - span.base + 1)) ++ newline)))))
 
 -- the line of a range that the board has, or the comment that leaves it out
-abbrev pub judged_by : Found → RangeFate → List ℕ
+abbrev pub judged_by : FoundFunction → RangeFate → List ℕ
 judged_by found (Placed span) = range_line found.space span
 judged_by found (NotPlaced reason) = left_out_words ++ (range_words found ++ (codes ", " ++ (no_range_words reason ++ newline)))
 
@@ -264,7 +264,7 @@ head_by machine first device NoWay = []
 head_by machine first device NoRanges = []
 
 -- the comment on a range that is left out with its target
-abbrev pub left_with_target : Device → Found → List ℕ
+abbrev pub left_with_target : Device → FoundFunction → List ℕ
 left_with_target device found = left_out_words ++ (range_words found ++ why_line device)
 
 -- a range that could be taken is left out with its target

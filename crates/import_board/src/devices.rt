@@ -8,7 +8,7 @@ use crate::notes::{
 };
 use board_printer::HexHalf;
 use import_bridges::{Machine, header_type, register_2};
-use import_targets::{Device, DeviceFate, Found, Judged, claims_something, is_placed};
+use import_targets::{Device, DeviceFate, FoundFunction, Judged, claims_something, is_placed};
 use import_text::Function;
 use pci_command::List;
 use std::alloc::AllocError;
@@ -260,7 +260,7 @@ fn print_range_of_device(
 fn print_left_with_target(
     text: &mut String,
     device: &Device,
-    found: &Found,
+    found: &FoundFunction,
 ) -> Result<(), AllocError>
     ensures { OnOk result (string_bytes text.new ≡ string_bytes text.old ++ left_with_target device.now found.now) }
 {

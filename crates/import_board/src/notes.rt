@@ -6,8 +6,8 @@ ghost use Rattle.import_board.specs.Text.{left_out_words, bus_on_board, kind_wor
 use board_model::Window;
 use board_printer::{Address, space_word};
 use import_bridges::Machine;
-use import_targets::{Found, Judged, NoRange, RangeFate};
-use import_text::{Function, Kind};
+use import_targets::{FoundFunction, Judged, NoRange, RangeFate};
+use import_text::{CapabilityKind, Function};
 use pci_command::Space;
 use std::alloc::AllocError;
 use std::fmt;
@@ -74,18 +74,18 @@ fn print_name(text: &mut String, name: &[u8]) -> Result<(), AllocError>
     Ok(())
 }
 
-fn print_kind(text: &mut String, kind: Option<Kind>) -> Result<(), AllocError>
+fn print_kind(text: &mut String, kind: Option<CapabilityKind>) -> Result<(), AllocError>
     ensures { OnOk result (string_bytes text.new ≡ string_bytes text.old ++ kind_words kind) }
 {
     match kind {
-        Some(Kind::Express) => text.push_str(" (PCI Express)"),
-        Some(Kind::PciX) => text.push_str(" (PCI-X)"),
+        Some(CapabilityKind::Express) => text.push_str(" (PCI Express)"),
+        Some(CapabilityKind::PciX) => text.push_str(" (PCI-X)"),
         None => Ok(()),
     }
 }
 
 /// What a register asks for: its space, its base, and its size where that is told.
-pub(crate) fn print_range(text: &mut String, found: &Found) -> Result<(), AllocError>
+pub(crate) fn print_range(text: &mut String, found: &FoundFunction) -> Result<(), AllocError>
     ensures { OnOk result (string_bytes text.new ≡ string_bytes text.old ++ range_words found.now) }
 {
     if found.base == 0 {
@@ -127,7 +127,11 @@ pub(crate) fn print_judged(text: &mut String, judged: &Judged) -> Result<(), All
     }
 }
 
-fn print_left_range(text: &mut String, found: &Found, reason: NoRange) -> Result<(), AllocError>
+fn print_left_range(
+    text: &mut String,
+    found: &FoundFunction,
+    reason: NoRange,
+) -> Result<(), AllocError>
     ensures { OnOk result (string_bytes text.new ≡ string_bytes text.old ++ judged_by found.now (LeftOut reason)) }
 {
     print_left_out(text)?;

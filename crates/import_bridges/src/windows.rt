@@ -6,6 +6,7 @@ ghost use Rattle.import_bridges.specs.Windows.{open_in, windows_in, lies_in, sha
 
 use crate::header::{byte_at, decodes, register_2, register_4};
 use crate::{NoWindow, TakenBridge, WindowFate};
+use board_headers::window_between;
 use board_model::Window;
 use import_text::Function;
 use pci_command::Space;
@@ -247,15 +248,5 @@ fn io_upper(header: &[u8], offset: usize) -> u16
         register_2(header, offset)
     } else {
         0
-    }
-}
-
-fn window_between(base: u64, limit: u64) -> Option<Window>
-    ensures { result ≡ window_between base limit }
-{
-    if base <= limit {
-        Some(Window { base, limit })
-    } else {
-        None
     }
 }

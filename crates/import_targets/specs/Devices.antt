@@ -6,7 +6,7 @@ use Rattle.import_bridges.specs.declared.machine.Machine.{Machine}
 use Rattle.import_bridges.specs.declared.fate.TakenBridge.{TakenBridge}
 use Rattle.import_bridges.specs.declared.devices.DevicePlace.{DevicePlace}
 use Rattle.import_bridges.specs.Bridges.{place_of, last_behind, device_number}
-use Rattle.import_targets.specs.declared.found.Found.{Found}
+use Rattle.import_targets.specs.declared.found.FoundFunction.{FoundFunction}
 use Rattle.import_targets.specs.declared.fate.NoRange.{NoRange}
 use Rattle.import_targets.specs.declared.fate.NoRange.TheVariants.{Flawed, OfBridge}
 use Rattle.import_targets.specs.declared.fate.RangeFate.{RangeFate}
@@ -36,7 +36,7 @@ registers_used (LeftOut reason) = 0
 -- One function.
 
 -- what becomes of each of its registers, behind the ranges that were placed before and the registers that its target used
-abbrev pub judged_behind : ℕ → List TakenBridge → ℕ → Function → List Placed → ℕ → List Found → List Judged
+abbrev pub judged_behind : ℕ → List TakenBridge → ℕ → Function → List Placed → ℕ → List FoundFunction → List Judged
 judged_behind root bridges bus function placed used [] = []
 judged_behind root bridges bus function placed used (found ∷ more) =
     let judged : Judged = record { found = found; fate = range_fate root bridges placed used bus function found } in
@@ -49,7 +49,7 @@ why_of_bridge (Some flaw) = Flawed flaw
 
 -- what becomes of the ranges of a bridge itself: each is left out
 abbrev pub judged_of_bridge : Function → List Judged
-judged_of_bridge function = map (λ (found : Found). record { found = found; fate = LeftOut (why_of_bridge found.flaw) }) (found_in function)
+judged_of_bridge function = map (λ (found : FoundFunction). record { found = found; fate = LeftOut (why_of_bridge found.flaw) }) (found_in function)
 
 -- One device.
 

@@ -9,7 +9,7 @@ use Rattle.import_text.specs.declared.function.Function.{Function}
 use Rattle.import_bridges.specs.declared.fate.TakenBridge.{TakenBridge}
 use Rattle.import_bridges.specs.Windows.{shares, is_reached, passes_some, decodes}
 use Rattle.import_targets.specs.declared.found.Flaw.{Flaw}
-use Rattle.import_targets.specs.declared.found.Found.{Found}
+use Rattle.import_targets.specs.declared.found.FoundFunction.{FoundFunction}
 use Rattle.import_targets.specs.declared.fate.NoRange.{NoRange}
 use Rattle.import_targets.specs.declared.fate.NoRange.TheVariants.{Flawed, Off, PassesEnd, SixRegisters, InNone, MeetsBridge, MeetsRange}
 use Rattle.import_targets.specs.declared.fate.RangeFate.{RangeFate}
@@ -46,11 +46,11 @@ abbrev pub fits : Space → ℕ → ℕ → Bool
 fits space base end = nat_le end (end_of_space space) && (nat_lt base end && nat_lt (end - base) (end_of_space space))
 
 -- the range that the register asks for does
-abbrev pub does_fit : Found → Bool
+abbrev pub does_fit : FoundFunction → Bool
 does_fit found = fits found.space (rounded_base found.space found.base) (rounded_end found.space found.base (size_or_zero found.size))
 
 -- its addresses, from the first to the last
-abbrev pub span_of : Found → Window
+abbrev pub span_of : FoundFunction → Window
 span_of found = record { base = rounded_base found.space found.base; limit = rounded_end found.space found.base (size_or_zero found.size) - 1 }
 
 -- one whose base is 2^32 or above takes two registers
@@ -74,7 +74,7 @@ why_not_placed root bridges placed used bus space span =
     else meeting (find (passes_some bus space span) bridges) (list_any (meets bus space span) placed)
 
 -- the same of a register without a flaw: its decoding comes first, then the end of its space
-abbrev pub why_unflawed : ℕ → List TakenBridge → List Placed → ℕ → ℕ → Function → Found → Option NoRange
+abbrev pub why_unflawed : ℕ → List TakenBridge → List Placed → ℕ → ℕ → Function → FoundFunction → Option NoRange
 why_unflawed root bridges placed used bus function found =
     if not (decodes found.space function) then Some Off
     else if not (does_fit found) then Some PassesEnd
@@ -86,7 +86,7 @@ why_by (Some flaw) reason = Some (Flawed flaw)
 why_by None reason = reason
 
 -- why the board does not have the range of this register, if it does not
-abbrev pub why_no_range : ℕ → List TakenBridge → List Placed → ℕ → ℕ → Function → Found → Option NoRange
+abbrev pub why_no_range : ℕ → List TakenBridge → List Placed → ℕ → ℕ → Function → FoundFunction → Option NoRange
 why_no_range root bridges placed used bus function found = why_by found.flaw (why_unflawed root bridges placed used bus function found)
 
 -- the range is on the board where nothing is against it
@@ -95,7 +95,7 @@ taken_unless span None = Taken span
 taken_unless span (Some reason) = LeftOut reason
 
 -- what becomes of the range that a register of a function on the bus asks for
-abbrev pub range_fate : ℕ → List TakenBridge → List Placed → ℕ → ℕ → Function → Found → RangeFate
+abbrev pub range_fate : ℕ → List TakenBridge → List Placed → ℕ → ℕ → Function → FoundFunction → RangeFate
 range_fate root bridges placed used bus function found = taken_unless (span_of found) (why_no_range root bridges placed used bus function found)
 
 -- a target takes no more than its six registers

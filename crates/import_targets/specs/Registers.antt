@@ -7,7 +7,7 @@ use Rattle.import_text.specs.declared.function.Function.{Function}
 use Rattle.import_bridges.specs.Functions.{header_type}
 use Rattle.import_targets.specs.declared.found.Flaw.{Flaw}
 use Rattle.import_targets.specs.declared.found.Flaw.TheVariants.{NoHalf, NoAddress, NoSize}
-use Rattle.import_targets.specs.declared.found.Found.{Found}
+use Rattle.import_targets.specs.declared.found.FoundFunction.{FoundFunction}
 
 -- the register with that number, and the size that the text tells of it
 abbrev pub value_at : Function → ℕ → ℕ
@@ -57,7 +57,7 @@ flaw_at function many n =
     else None
 
 -- the range that the register asks for, or none where it is not there
-abbrev pub found_at : Function → ℕ → ℕ → List Found
+abbrev pub found_at : Function → ℕ → ℕ → List FoundFunction
 found_at function many n =
     if is_there (value_at function n) (size_at function n)
     then record {
@@ -74,7 +74,7 @@ abbrev pub behind : Function → ℕ → ℕ
 behind function n = if is_wide (value_at function n) then n + 2 else n + 1
 
 -- of so many registers those from n on, in so many steps at most
-abbrev pub found_from : ℕ → Function → ℕ → ℕ → List Found
+abbrev pub found_from : ℕ → Function → ℕ → ℕ → List FoundFunction
 found_from zero function many n = []
 found_from (suc steps) function many n =
     if nat_lt n many then found_at function many n ++ found_from steps function many (behind function n) else []
@@ -84,5 +84,5 @@ abbrev pub registers_of : Function → ℕ
 registers_of function = if header_type function == 0 then 6 else if header_type function == 1 then 2 else 0
 
 -- the ranges that a function asks for, by its registers
-unfoldable pub found_in : Function → List Found
+unfoldable pub found_in : Function → List FoundFunction
 found_in function = found_from 6 function (registers_of function) 0

@@ -2,7 +2,7 @@ ghost use Rattle.std.specs.Prelude.{◌≡◌};
 ghost use Rattle.import_targets.specs.declared.fate.RangeFate.TheVariants.{LeftOut};
 ghost use Rattle.import_targets.specs.declared.fate.NoRange.TheVariants.{OfBridge};
 
-use crate::{Flaw, Found};
+use crate::{Flaw, FoundFunction};
 use board_model::Window;
 use pci_command::{List, Space};
 use std::fmt;
@@ -46,7 +46,7 @@ impl Default for RangeFate {
 /// What a base address register asks for, and what becomes of it.
 #[derive(Clone, Copy, Debug, Default, PartialEq, Eq)]
 pub struct Judged {
-    pub found: Found,
+    pub found: FoundFunction,
     pub fate: RangeFate,
 }
 

@@ -20,7 +20,7 @@ pub enum Flaw {
 
 /// What a base address register asks for.
 #[derive(Clone, Copy, Debug, Default, PartialEq, Eq)]
-pub struct Found {
+pub struct FoundFunction {
     /// The number of the register, from 0.
     pub number: u8,
     pub space: Space,
@@ -32,7 +32,7 @@ pub struct Found {
 
 /// What the registers of a function ask for, in their order.
 #[tactic(auto, unfolding(crate::specs::Registers::found_in))]
-pub(crate) fn found_in(function: &Function) -> ArrayVec<Found, 6>
+pub(crate) fn found_in(function: &Function) -> ArrayVec<FoundFunction, 6>
     ensures { result.items ≡ found_in function.now }
 {
     let mut found = ArrayVec::new();
@@ -42,7 +42,13 @@ pub(crate) fn found_in(function: &Function) -> ArrayVec<Found, 6>
 
 /// Of so many registers those from this number on, in so many steps at most.
 #[tactic(auto, using(crate::proofs::FoundLemmas::found_none, crate::proofs::FoundLemmas::found_end))]
-fn push_from(found: &mut ArrayVec<Found, 6>, function: &Function, many: u8, n: u8, steps: u8)
+fn push_from(
+    found: &mut ArrayVec<FoundFunction, 6>,
+    function: &Function,
+    many: u8,
+    n: u8,
+    steps: u8,
+)
     requires few { many ≤ 6 }
     requires room { length found.old.items + steps ≤ 6 }
     ensures { found.new.items ≡ found.old.items ++ found_from steps function.now many n }
@@ -57,7 +63,7 @@ fn push_from(found: &mut ArrayVec<Found, 6>, function: &Function, many: u8, n: u
     push_from(found, function, many, behind(function, n), steps - 1);
 }
 
-fn push_found(found: &mut ArrayVec<Found, 6>, one: Option<Found>)
+fn push_found(found: &mut ArrayVec<FoundFunction, 6>, one: Option<FoundFunction>)
     requires { length found.old.items < 6 }
     ensures { found.new.items ≡ found.old.items ++ option_to_list one }
 {
@@ -155,7 +161,7 @@ fn space_of(value: u32) -> Space
     if is_io(value) { Space::Io } else { Space::Mem }
 }
 
-fn found_at(function: &Function, many: u8, n: u8) -> Option<Found>
+fn found_at(function: &Function, many: u8, n: u8) -> Option<FoundFunction>
     requires { n < 6 }
     ensures { option_to_list result ≡ found_at function.now many n }
 {
@@ -164,7 +170,7 @@ fn found_at(function: &Function, many: u8, n: u8) -> Option<Found>
     if !is_there(value, size) {
         return None;
     }
-    Some(Found {
+    Some(FoundFunction {
         number: n,
         space: space_of(value),
         base: base_at(function, many, n),

@@ -7,7 +7,7 @@ ghost use Rattle.import_targets.specs.Devices.{judged_behind, why_of_bridge, jud
 
 use crate::found::found_in;
 use crate::ranges::{Before, range_fate, registers_for};
-use crate::{Found, Judged, NoRange, Placed, RangeFate};
+use crate::{FoundFunction, Judged, NoRange, Placed, RangeFate};
 use arrayvec::ArrayVec;
 use import_bridges::TakenBridge;
 use import_text::Function;
@@ -26,7 +26,7 @@ pub fn judged_of_bridge(function: &Function) -> ArrayVec<Judged, 6>
     judged
 }
 
-fn of_bridge(found: &Found) -> Judged
+fn of_bridge(found: &FoundFunction) -> Judged
     ensures { result ≡ record { found = found.now; fate = LeftOut (why_of_bridge found.now.flaw) } }
 {
     let reason = match found.flaw {
@@ -124,7 +124,7 @@ fn push_judged(
     placed: &mut Vec<Placed>,
     used: &mut u32,
     function: &Function,
-    found: &[Found],
+    found: &[FoundFunction],
 ) -> Result<(), NoMemory>
     requires { used.old ≤ 6 }
     ensures judged { IfOk result (λ _. judged.new.items ≡ judged.old.items ++ judged_behind root bridges.now bus function.now placed.old.items used.old found.now) }

@@ -10,5 +10,5 @@ mod ranges;
 
 pub use devices::{claims_something, devices_of, is_placed};
 pub use fate::{Device, DeviceFate, Judged, NoRange, Placed, RangeFate};
-pub use found::{Flaw, Found, found_count};
+pub use found::{Flaw, FoundFunction, found_count};
 pub use functions::judged_of_bridge;

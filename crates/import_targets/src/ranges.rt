@@ -3,7 +3,7 @@ ghost use Rattle.std.specs.List.{list_any};
 ghost use Rattle.std.specs.Option.{option_copied};
 ghost use Rattle.import_targets.specs.Ranges.{unit_of, rounded_base, rounded_end, end_of_space, size_or_zero, fits, does_fit, span_of, registers_for, meets, meeting, why_not_placed, why_unflawed, why_by, why_no_range, range_fate, TakesFew};
 
-use crate::{Found, NoRange, Placed, RangeFate};
+use crate::{FoundFunction, NoRange, Placed, RangeFate};
 use board_model::Window;
 use import_bridges::{TakenBridge, decodes, first_passing, is_reached, shares};
 use import_text::Function;
@@ -52,7 +52,7 @@ fn size_or_zero(size: Option<u64>) -> u64
     size.unwrap_or(0)
 }
 
-fn does_fit(found: &Found) -> bool
+fn does_fit(found: &FoundFunction) -> bool
     ensures { result ≡ does_fit found.now }
 {
     let base = u128::from(rounded_base(found.space, found.base));
@@ -63,7 +63,7 @@ fn does_fit(found: &Found) -> bool
 
 /// The addresses of the range that a register asks for, rounded outwards to multiples of 64 bytes in
 /// memory and of 4 in I/O.
-pub(crate) fn span_of(found: &Found) -> Window
+pub(crate) fn span_of(found: &FoundFunction) -> Window
     requires { IsTrue (does_fit found.now) }
     ensures { result ≡ span_of found.now }
 {
@@ -119,7 +119,7 @@ pub(crate) fn range_fate(
     before: Before<'_>,
     bus: u8,
     function: &Function,
-    found: &Found,
+    found: &FoundFunction,
 ) -> RangeFate
     requires { before.used ≤ 6 }
     ensures few { TakesFew before.entry.used result }
@@ -131,7 +131,12 @@ pub(crate) fn range_fate(
     }
 }
 
-fn why_no_range(before: Before<'_>, bus: u8, function: &Function, found: &Found) -> Option<NoRange>
+fn why_no_range(
+    before: Before<'_>,
+    bus: u8,
+    function: &Function,
+    found: &FoundFunction,
+) -> Option<NoRange>
     requires { before.used ≤ 6 }
     ensures reason { result ≡ why_no_range before.entry.root before.entry.bridges.now before.entry.placed.now before.entry.used bus function.now found.now }
     ensures fits { IfNone result (IsTrue (does_fit found.now)) }

@@ -2,7 +2,7 @@
 use Rattle.std.specs.Prelude.{ℕ, ◌-◌, List, Option, Some, None, map, take, length, slice_index, ◌==◌, ◌&&◌, nat_lt, if◌then◌else◌}
 use Rattle.board_text.specs.Lines.{lines_of}
 use Rattle.import_text.specs.declared.slot.Slot.{Slot as Place}
-use Rattle.import_text.specs.declared.capability.Kind.{Kind}
+use Rattle.import_text.specs.declared.capability.CapabilityKind.{CapabilityKind}
 use Rattle.import_text.specs.declared.entry.Entry.{Entry}
 use Rattle.import_text.specs.declared.entry.Entry.TheVariants.{Slot, Row, Region, Capability, Other}
 use Rattle.import_text.specs.Slots.{slot_of, name_of}
@@ -16,7 +16,7 @@ without_return line =
     if nat_lt 0 (length line) && slice_index line (length line - 1) == 13 then take (length line - 1) line else line
 
 -- a line that is no slot, row or region: a capability, or passed over
-abbrev pub capability_entry : Option Kind → Entry
+abbrev pub capability_entry : Option CapabilityKind → Entry
 capability_entry None = Other
 capability_entry (Some found) = Capability found
 

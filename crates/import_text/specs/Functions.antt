@@ -2,12 +2,12 @@
 use Rattle.std.specs.Prelude.{◌≡◌, ℕ, Bool, true, false, ◌+◌, List, [], ◌∷◌, ◌++◌, length, take, find, Option, Some, None, Result, Ok, Err, ◌==◌, ◌&&◌, not, nat_lt, if◌then◌else◌}
 use Rattle.std.specs.List.{position_or_len, list_any}
 use Rattle.import_text.specs.declared.slot.Slot.{Slot as Place}
-use Rattle.import_text.specs.declared.capability.Kind.{Kind}
+use Rattle.import_text.specs.declared.capability.CapabilityKind.{CapabilityKind}
 use Rattle.import_text.specs.declared.entry.Entry.{Entry}
 use Rattle.import_text.specs.declared.entry.Entry.TheVariants.{Slot, Row, Region, Capability, Other}
 use Rattle.import_text.specs.declared.function.Function.{Function}
-use Rattle.import_text.specs.declared.fault.LspciFault.{LspciFault}
-use Rattle.import_text.specs.declared.fault.LspciFault.TheVariants.{NoSlot, Repeated, NoRow, HighDevice}
+use Rattle.text_faults.specs.declared.lspci.LspciFault.{LspciFault}
+use Rattle.text_faults.specs.declared.lspci.LspciFault.TheVariants.{NoSlot, Repeated, NoRow, HighDevice}
 use Rattle.import_text.specs.declared.fault.ReadFault.{ReadFault}
 use Rattle.import_text.specs.declared.fault.ReadFault.TheVariants.{Fault, NoMemory}
 use Rattle.import_text.specs.Entries.{entries_read}
@@ -55,7 +55,7 @@ size_told (Some (Region place told)) = Some told
 size_told _ = None
 
 -- the kind of a capability that was found
-abbrev pub kind_told : Option Entry → Option Kind
+abbrev pub kind_told : Option Entry → Option CapabilityKind
 kind_told (Some (Capability found)) = Some found
 kind_told _ = None
 
@@ -76,7 +76,7 @@ abbrev pub sizes_in : List Entry → List (Option ℕ)
 sizes_in entries = size_of 0 entries ∷ size_of 1 entries ∷ size_of 2 entries ∷ size_of 3 entries ∷ size_of 4 entries ∷ size_of 5 entries ∷ []
 
 -- of two capabilities the first counts
-abbrev pub kind_in : List Entry → Option Kind
+abbrev pub kind_in : List Entry → Option CapabilityKind
 kind_in entries = kind_told (find is_capability entries)
 
 -- what stands before the next slot line

@@ -5,4 +5,3 @@ pub mod Regions
 pub mod Capabilities
 pub mod Entries
 pub mod Functions
-pub mod Faults

@@ -6,7 +6,7 @@ use crate::region::indented;
 
 /// What kind of PCI a function names among its capabilities.
 #[derive(Clone, Copy, Debug, PartialEq, Eq)]
-pub enum Kind {
+pub enum CapabilityKind {
     Express,
     PciX,
 }
@@ -20,19 +20,19 @@ fn has_offset(text: &[u8]) -> bool
         && byte_at(text, digits + 1) == b' '
 }
 
-fn kind_named(text: &[u8]) -> Option<Kind>
+fn kind_named(text: &[u8]) -> Option<CapabilityKind>
     ensures { result ≡ kind_named text.now }
 {
     if begins_with(b"Express", text) {
-        Some(Kind::Express)
+        Some(CapabilityKind::Express)
     } else if begins_with(b"PCI-X", text) {
-        Some(Kind::PciX)
+        Some(CapabilityKind::PciX)
     } else {
         None
     }
 }
 
-fn kind_behind(text: &[u8]) -> Option<Kind>
+fn kind_behind(text: &[u8]) -> Option<CapabilityKind>
     ensures { result ≡ kind_behind text.now }
 {
     if has_offset(text) {
@@ -43,7 +43,7 @@ fn kind_behind(text: &[u8]) -> Option<Kind>
 }
 
 /// The kind that a capability line names.
-pub(crate) fn kind_of(line: &[u8]) -> Option<Kind>
+pub(crate) fn kind_of(line: &[u8]) -> Option<CapabilityKind>
     ensures { result ≡ kind_of line.now }
 {
     let text = indented(line);

@@ -2,7 +2,7 @@ ghost use Rattle.std.specs.Prelude.{◌≡◌, IfOk};
 ghost use Rattle.import_text.specs.Regions.{region_size};
 ghost use Rattle.import_text.specs.Entries.{region_entry, entry_of};
 
-use crate::capability::{Kind, kind_of};
+use crate::capability::{CapabilityKind, kind_of};
 use crate::region::{region_number, region_size};
 use crate::row::{is_row, offset_of, row_bytes};
 use crate::slot::{Slot as Place, name_of, slot_of};
@@ -17,7 +17,7 @@ pub(crate) enum Entry {
     Row(u32, List<u8>),
     /// The number of a region, and its size.
     Region(u8, u64),
-    Capability(Kind),
+    Capability(CapabilityKind),
     Other,
 }
 

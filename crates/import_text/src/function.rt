@@ -4,7 +4,7 @@ ghost use Rattle.std.specs.List.{position_or_len};
 ghost use Rattle.import_text.specs.Functions.{is_slot, is_row_at, is_region_of, is_capability, bytes_told, size_told, kind_told, row_at, header_in, size_of, sizes_in, kind_in, own_entries, function_of, functions_of};
 
 use crate::Slot;
-use crate::capability::Kind;
+use crate::capability::CapabilityKind;
 use crate::entry::Entry;
 use pci_command::{List, NoMemory};
 use std::alloc::{AllocError, Global};
@@ -22,7 +22,7 @@ pub struct Function {
     /// The size of each region whose size is told.
     pub sizes: [Option<u64>; 6],
     /// What kind of PCI it names first among its capabilities.
-    pub kind: Option<Kind>,
+    pub kind: Option<CapabilityKind>,
 }
 
 fn is_slot(entry: &Entry) -> bool
@@ -103,7 +103,7 @@ fn find_capability(entries: &[Entry]) -> Option<&Entry>
     entries.iter().find(|entry| is_capability(entry))
 }
 
-fn kind_told(found: Option<&Entry>) -> Option<Kind>
+fn kind_told(found: Option<&Entry>) -> Option<CapabilityKind>
     ensures { result ≡ kind_told (option_copied found.entry) }
 {
     match found {
@@ -112,7 +112,7 @@ fn kind_told(found: Option<&Entry>) -> Option<Kind>
     }
 }
 
-fn kind_in(entries: &[Entry]) -> Option<Kind>
+fn kind_in(entries: &[Entry]) -> Option<CapabilityKind>
     ensures { result ≡ kind_in entries.now }
 {
     kind_told(find_capability(entries))

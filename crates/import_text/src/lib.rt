@@ -13,7 +13,7 @@ mod row;
 mod slot;
 
 pub use capability::Kind;
-pub use fault::{LspciFault, ReadFault};
+pub use fault::ReadFault;
 pub use function::Function;
 pub use read::read_functions;
 pub use slot::Slot;

@@ -1,12 +1,13 @@
 ghost use Rattle.std.specs.Prelude.{◌≡◌, ◌<◌, ◌≤◌, ◌^◌, ◌+◌, [], length, IfOk};
 ghost use Rattle.import_text.specs.Functions.{repeated_after, lacks_row, lacking, has_high_device, high, functions_read, judged, Tells};
 
-use crate::fault::{LspciFault, ReadFault};
+use crate::fault::ReadFault;
 use crate::function::{Function, functions_of};
 use crate::lines::entries_read;
 use pci_command::{List, NoMemory};
 use std::alloc::Global;
 use std::collections::BTreeSet;
+use text_faults::LspciFault;
 
 /// The line of the first function that has the slot of one before.
 fn repeated(alloc: Global, functions: &[Function]) -> Result<Option<u32>, NoMemory>

@@ -7,6 +7,7 @@ ghost use Rattle.import_text.specs.Regions.{indent, unit_value, size_by, size_be
 
 use crate::digits::{begins_with, behind, byte_at};
 use crate::slot::first;
+use board_text::value_of_digit;
 
 fn indent(line: &[u8]) -> usize
     ensures { result ≡ indent line.now }
@@ -53,19 +54,7 @@ fn is_numeral(digits: &[u8]) -> bool
 fn are_digits(digits: &[u8]) -> bool
     ensures { result ≡ list_all (λ byte. is_digit byte 10) digits.now }
 {
-    digits.iter().all(|byte| digit_value(*byte) < 10)
-}
-
-// The value of a digit or a letter, and 36 for any other byte.
-fn digit_value(byte: u8) -> u32
-    ensures { result ≡ digit_value byte }
-{
-    match byte {
-        b'0'..=b'9' => u32::from(byte - b'0'),
-        b'A'..=b'Z' => u32::from(byte - b'A') + 10,
-        b'a'..=b'z' => u32::from(byte - b'a') + 10,
-        _ => 36,
-    }
+    digits.iter().all(|byte| value_of_digit(*byte) < 10)
 }
 
 // The number that at most ten digits write.
@@ -75,7 +64,7 @@ fn decimal(digits: &[u8]) -> u64
 {
     let mut value = 0;
     for byte in digits {
-        value = value * 10 + u64::from(digit_value(*byte));
+        value = value * 10 + u64::from(value_of_digit(*byte));
     }
     value
 }

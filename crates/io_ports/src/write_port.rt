@@ -16,6 +16,7 @@ pub struct WritePort<W> {
     inner: W,
     taken: Told,
     faults: u64,
+    reason: Option<ErrorKind>,
 }
 
 impl<W> Model for WritePort<W> {
@@ -35,7 +36,14 @@ impl<W> WritePort<W> {
             inner,
             taken: Told::new(),
             faults: 0,
+            reason: None,
         }
+    }
+
+    /// Why the last write that failed did, as the system tells it. None where none failed, or where
+    /// the writer took nothing.
+    pub fn reason(&self) -> Option<ErrorKind> {
+        self.reason
     }
 }
 
@@ -63,7 +71,7 @@ impl<W: Write> Sink for WritePort<W> {
         // Each failure counts, and nothing else does.
         ensures after { self.new.faults ≡ faults_after self.old.faults result }
     {
-        match write_to(&mut self.inner, piece) {
+        match write_to(&mut self.inner, &mut self.reason, piece) {
             Ok(count) => {
                 self.taken.more(&piece[..count]);
                 Ok(count)
@@ -80,8 +88,12 @@ impl<W: Write> Sink for WritePort<W> {
 const TRIES: u32 = u32::MAX;
 
 /// One write of the writer, where taking nothing of a piece that is not empty is a failure; again
-/// where a signal interrupts it.
-fn write_to<W: Write>(inner: &mut W, piece: &[u8]) -> Result<usize, Failed>
+/// where a signal interrupts it. Where it fails, the reason is the system's.
+fn write_to<W: Write>(
+    inner: &mut W,
+    reason: &mut Option<ErrorKind>,
+    piece: &[u8],
+) -> Result<usize, Failed>
     ensures bound { WritesAtMost result piece.now }
     ensures some { TakesSome result piece.now }
     ensures passed { WriteAppends (W.contents inner.old) (W.contents inner.new) result piece.now }
@@ -91,7 +103,10 @@ fn write_to<W: Write>(inner: &mut W, piece: &[u8]) -> Result<usize, Failed>
             Ok(0) if !piece.is_empty() => return Err(Failed),
             Ok(count) => return Ok(count),
             Err(error) if error.kind() == ErrorKind::Interrupted => {}
-            Err(_) => return Err(Failed),
+            Err(error) => {
+                *reason = Some(error.kind());
+                return Err(Failed);
+            }
         }
     }
     Err(Failed)

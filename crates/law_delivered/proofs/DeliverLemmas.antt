@@ -32,7 +32,7 @@ use Rattle.law_fresh.proofs.reads.Laws.{master_there}
 use Rattle.law_fresh.proofs.BackLemmas.{ended_front}
 use Rattle.law_fresh.proofs.Laws.{front_run}
 use Rattle.law_fresh.proofs.Laws.{WriteOp, write_tries, same_place}
-use Rattle.law_delivered.specs.Clear.{phases_at, is_value, brings_value, rings, rings_in, rings_whole, holds, opens_otherwise, is_clear}
+use Rattle.history_model.specs.Clear.{phases_at, is_value, brings_value, rings, rings_in, rings_whole, holds, opens_otherwise, is_clear}
 use Rattle.law_delivered.specs.Delivered.{Awaits, is_met, raises, Delivers}
 use Rattle.law_delivered.proofs.FlagLemmas.{Written, written, op_whole, written_whole, written_rings, one_rings}
 use Rattle.law_delivered.proofs.RaisedLemmas.{alone_landed, landed_ended, ended_before}

@@ -34,7 +34,7 @@ use Rattle.history_model.proofs.facts.RequestLemmas.{request_is_of}
 use Rattle.law_bound.proofs.changes.Laws.{entry_of}
 use Rattle.law_fresh.proofs.reads.Laws.{master_there}
 use Rattle.law_fresh.proofs.Laws.{or_either}
-use Rattle.law_delivered.specs.Clear.{phases_at, written_at, brings_value, rings, rings_in, is_whole, rings_whole}
+use Rattle.history_model.specs.Clear.{phases_at, written_at, brings_value, rings, rings_in, is_whole, rings_whole}
 use Rattle.law_delivered.proofs.WholeLemmas.{is_taken, taken_at}
 use Rattle.law_delivered.proofs.ValueLemmas.{LandsWhole, lands_value}
 

@@ -27,7 +27,7 @@ use Rattle.history_model.specs.Runs.{Run}
 use Rattle.std.proofs.lemmas.Bool.{and_parts, not-true}
 use Rattle.law_fresh.proofs.reads.Laws.{master_there, returned_got, always_got}
 use Rattle.law_fresh.proofs.Laws.{At, found_at, target_on, Front, front_run, front_front, front_end, read_by}
-use Rattle.law_delivered.specs.Clear.{is_value, holds, opens_otherwise}
+use Rattle.history_model.specs.Clear.{is_value, holds, opens_otherwise}
 use Rattle.law_delivered.specs.Delivered.{is_met}
 use Rattle.law_delivered.proofs.EndLemmas.{ending, one_end, target_bus, master_bus_there}
 use Rattle.law_delivered.proofs.NamedLemmas.{target_or}

@@ -45,7 +45,10 @@ fn serve<R: Threads + Sync>(rt: &HostRuntime, threads: &R, words: &[String]) -> 
         Asked::Misfit(word) => misfit(rt, words, word),
         asked => match tell(rt, asked) {
             Ok(()) => Status::Done,
-            Err(_) => status_only(rt, Status::WriteFault),
+            Err(error) => {
+                report(rt, words, "", b"", Status::WriteFault, Some(error.kind()));
+                Status::WriteFault
+            }
         },
     }
 }
@@ -70,6 +73,7 @@ fn run<R: Threads + Sync>(rt: &HostRuntime, threads: &R, words: &[String]) -> St
     let mut sink = WritePort::new(rt.stdout());
     let status = pcitree(threads, rt.alloc(), words, &mut source, &mut sink, &NoGate);
     if status != Status::Done {
+        let reason = reason.or(sink.reason());
         report(rt, words, name, source.bytes(), status, reason);
     }
     status

@@ -1,13 +1,11 @@
 use pci_command::NoMemory;
 use pcitree::{Status, input_limit};
-use program_messages::{about, form_of, limit_words, message, not_shown, note};
+use program_messages::{
+    MOST_DRAWN, form_of, limit_words, message, not_shown, note, unread, unwritten,
+};
 use program_pages::Message;
 use program_words::usage_help;
 use std::io::ErrorKind;
-
-/// What is said of a page of too many events.
-const MOST_DRAWN: &str = "at most 4,096 events are drawn: pcitree draw FILE FIRST LAST, or \
-    pcitree draw FILE OPERATION";
 
 /// The lines on standard error. Where there is no memory for those behind the first there are none.
 pub(crate) fn report(
@@ -44,14 +42,8 @@ fn message_of(
     reason: Option<ErrorKind>,
 ) -> Result<Message, NoMemory> {
     match (status, words) {
-        (Status::ReadFault, _) => match reason {
-            Some(ErrorKind::NotFound) => about(rt.alloc(), name, "no such file"),
-            Some(kind) => {
-                let reason = kind.to_string(rt.alloc())?;
-                about(rt.alloc(), name, reason.as_str())
-            }
-            None => about(rt.alloc(), name, "it was opened, and not read to its end"),
-        },
+        (Status::ReadFault, _) => unread(rt.alloc(), name, reason),
+        (Status::WriteFault, _) => unwritten(rt.alloc(), reason),
         (Status::TooLong, _) => note(rt.alloc(), limit_words(input_limit(words))),
         (Status::TooManyEvents { .. }, _) => note(rt.alloc(), MOST_DRAWN),
         (Status::NotShown, [_adverse, _file, read, write]) => {

@@ -6,7 +6,7 @@ use Rattle.board_model.specs.Valid.{IsValid}
 use Rattle.dma_agents.specs.declared.fault.MakeFault.{MakeFault}
 use Rattle.dma_agents.specs.declared.fault.MakeFault.TheVariants as faults
 use Rattle.dma_agents.specs.Made.{Made, IsMade, made_read}
-use Rattle.text_faults.specs.declared.DeviceFault.TheVariants.{NotClear}
+use Rattle.text_faults.specs.declared.device.DeviceFault.TheVariants.{NotClear}
 use Rattle.program_status.specs.declared.status.Status.{Status}
 use Rattle.program_status.specs.declared.status.Status.TheVariants.{BadBoard}
 use Rattle.program_status.specs.declared.status.BoardFault.TheVariants.{Line, Device}

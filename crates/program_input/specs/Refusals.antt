@@ -3,9 +3,9 @@ use Rattle.std.specs.Prelude.{◌≡◌, ℕ, ◌⊎◌, List, Option, Some, Non
 use Rattle.std.specs.Option.{option_map}
 use Rattle.board_model.specs.declared.board.Board.{Board}
 use Rattle.board_model.specs.Ways.{bound_of}
-use Rattle.board_statements.specs.declared.fault.LineFault.{LineFault}
+use Rattle.text_faults.specs.declared.board_line.LineFault.{LineFault}
 use Rattle.board_parser.specs.Boards.{board_read}
-use Rattle.board_checks.specs.declared.fault.TreeFault.{TreeFault}
+use Rattle.text_faults.specs.declared.tree.TreeFault.{TreeFault}
 use Rattle.board_checks.specs.Faults.{first_fault_of}
 use Rattle.history_model.specs.declared.event.Event.{Event}
 use Rattle.trace_reader.specs.declared.fault.TraceFault.{TraceFault}

@@ -5,12 +5,11 @@ use crate::refused::{
     Spot, TOO_LONG, board_part, line_at, named_spot, place_of, smallest, word_at_fault,
 };
 use crate::unclear::tell_unclear;
-use board_statements::LineFault;
 use pci_command::NoMemory;
 use program_pages::{Fault, Teller};
 use program_status::{BoardFault, Status};
 use std::alloc::Global;
-use text_faults::DeviceFault;
+use text_faults::{DeviceFault, LineFault};
 
 /// How many lines are shown of one fault.
 const MOST_SHOWN: u32 = 8;

@@ -32,3 +32,7 @@ pub fn limit_words(limit: usize) -> &'static str {
         "a board has at most 1 MiB"
     }
 }
+
+/// What is said of a page of too many events.
+pub const MOST_DRAWN: &str = "at most 4,096 events are drawn: pcitree draw FILE FIRST LAST, or \
+    pcitree draw FILE OPERATION";

@@ -1,7 +1,7 @@
 use crate::refused::line_at;
-use import_text::LspciFault;
 use pci_command::NoMemory;
 use program_pages::{Fault, Teller};
+use text_faults::LspciFault;
 
 /// A line of what `lspci` wrote is at fault.
 pub(crate) fn tell_machine_line(

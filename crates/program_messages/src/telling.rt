@@ -37,7 +37,7 @@ pub fn message(
 }
 
 /// What is wrong with a file.
-pub fn about(alloc: Global, name: &str, text: &str) -> Result<Message, NoMemory>
+pub(crate) fn about(alloc: Global, name: &str, text: &str) -> Result<Message, NoMemory>
     ensures printing { IfOk result (λ message. IsTrue (list_all is_shown message)) }
 {
     let mut teller = Teller::new(alloc, name, None);

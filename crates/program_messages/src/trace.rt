@@ -7,7 +7,8 @@ use history_model::Rule;
 use pci_command::NoMemory;
 use program_pages::{Fault, Teller};
 use std::alloc::Global;
-use trace_reader::{Names, TraceLineFault, read_line};
+use text_faults::TraceLineFault;
+use trace_reader::{Names, read_line};
 
 /// A line of a trace outside its board is at fault.
 pub(crate) fn tell_trace_line(

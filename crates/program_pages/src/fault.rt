@@ -1,11 +1,7 @@
-use board_checks::TreeFault;
-use board_statements::LineFault;
 use history_model::Why;
-use import_text::LspciFault;
 use program_status::{BoardFault, Status};
 use std::fmt;
-use text_faults::DeviceFault;
-use trace_reader::TraceLineFault;
+use text_faults::{DeviceFault, LineFault, LspciFault, TraceLineFault, TreeFault};
 
 /// What an input is refused for.
 #[derive(Clone, Copy, Debug, PartialEq, Eq)]

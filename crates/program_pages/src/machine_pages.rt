@@ -1,5 +1,5 @@
 use crate::{Fault, Page};
-use import_text::LspciFault;
+use text_faults::LspciFault;
 
 /// The pages of what `lspci` wrote, by code.
 pub static MACHINE_PAGES: [Page; 5] = [

@@ -1,8 +1,6 @@
 use crate::{Fault, Page};
-use board_checks::TreeFault;
-use board_statements::LineFault;
 use history_model::Why;
-use trace_reader::TraceLineFault;
+use text_faults::{LineFault, TraceLineFault, TreeFault};
 
 /// The pages of boards and traces, by code.
 pub static PAGES: [Page; 41] = [

@@ -1,14 +1,14 @@
 -- How the program ends: a number, and a line on standard error.
 use Rattle.std.specs.Prelude.{ℕ, List, [], ◌++◌, codes}
 use Rattle.std.specs.Fmt.{decimal}
-use Rattle.board_checks.specs.Faults.{code_of as tree_code_of}
-use Rattle.board_statements.specs.declared.fault.Family.{Family}
-use Rattle.board_statements.specs.declared.fault.Family.TheVariants.{L, P, H}
-use Rattle.board_statements.specs.Faults.{family_of, code_of}
-use Rattle.text_faults.specs.Faults.{code_of as device_code_of}
+use Rattle.text_faults.specs.Tree.{code_of as tree_code_of}
+use Rattle.text_faults.specs.declared.board_line.Family.{Family}
+use Rattle.text_faults.specs.declared.board_line.Family.TheVariants.{L, P, H}
+use Rattle.text_faults.specs.BoardLine.{family_of, code_of}
+use Rattle.text_faults.specs.Device.{code_of as device_code_of}
 use Rattle.history_model.specs.WhyText.{why_text}
-use Rattle.import_text.specs.Faults.{code_of as machine_code_of}
-use Rattle.trace_reader.specs.Faults.{code_of as trace_code_of}
+use Rattle.text_faults.specs.Lspci.{code_of as machine_code_of}
+use Rattle.text_faults.specs.TraceLine.{code_of as trace_code_of}
 use Rattle.program_status.specs.declared.status.Status.{Status}
 use Rattle.program_status.specs.declared.status.Status.TheVariants.{Done, NoMemory, Usage, ReadFault, WriteFault, TooLong, BadBoard, BadTrace, BadMachine, TooManyEvents, NotRun, Incomplete, NotSafe, NotShown}
 use Rattle.program_status.specs.declared.status.BoardFault.{BoardFault}

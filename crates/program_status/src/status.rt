@@ -1,14 +1,10 @@
 ghost use Rattle.std.specs.Prelude.{◌≡◌};
 ghost use Rattle.program_status.specs.StatusText.{letter_of};
 
-use board_checks::TreeFault;
-use board_statements::{Family, LineFault};
 use history_model::Why;
-use import_text::LspciFault;
 use std::alloc::AllocError;
 use std::fmt;
-use text_faults::DeviceFault;
-use trace_reader::TraceLineFault;
+use text_faults::{DeviceFault, Family, LineFault, LspciFault, TraceLineFault, TreeFault};
 
 /// A fault of a board.
 #[derive(Clone, Copy, Debug, PartialEq, Eq)]

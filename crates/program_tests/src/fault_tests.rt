@@ -1,12 +1,11 @@
 //! Each call of a port fails in turn, a sink fills up, and texts are cut. What is wanted stands in
 //! the tables, and was worked out by hand.
 use crate::calls::{sink, source, words};
-use board_statements::LineFault;
 use io_ports::{SureSink, SureSource};
 use pci_command::List;
 use pcitree::{BoardFault, NoGate, Status, file_word, pcitree, pcitree_surely};
 use std::test::Fail;
-use trace_reader::TraceLineFault;
+use text_faults::{LineFault, TraceLineFault};
 
 /// 110 bytes.
 const BOARD: &str = "\

@@ -1,7 +1,7 @@
-use board_statements::LineFault;
 use pcitree::{BoardFault, Status};
 use program_messages::{Spot, named_spot, place_of, smallest, word_at_fault};
 use std::test::Fail;
+use text_faults::LineFault;
 
 const TEXT: &[u8] = b"pciboard 1\nmaster cpu on 0\nmr 2";
 

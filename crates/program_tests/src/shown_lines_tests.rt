@@ -1,8 +1,9 @@
-use board_statements::LineFault;
 use pcitree::{BoardFault, Status};
-use program_messages::{Form, about, message};
+use program_messages::{Form, message, unread};
 use std::alloc::Global;
+use std::io::ErrorKind;
 use std::test::Fail;
+use text_faults::LineFault;
 
 /// What is said of a text with a byte that no line may have.
 fn said(alloc: Global, name: &str, text: &[u8], line: u32) -> Result<String, Fail> {
@@ -37,7 +38,7 @@ fn the_part_of_a_long_line_around_the_place(rt: HostRuntime) -> Result<(), Fail>
 
 #[test]
 fn a_file_that_is_not_there(rt: HostRuntime) -> Result<(), Fail> {
-    let message = about(rt.alloc(), "none.board", "no such file")?;
+    let message = unread(rt.alloc(), "none.board", Some(ErrorKind::NotFound))?;
     let text = str::from_utf8(message.as_bytes()).map_err(|_| "no text")?;
     assert_eq!(rt; text, "none.board: error: no such file\n");
     Ok(())

@@ -52,7 +52,7 @@ pub enum Form {
 
 /// A row of the table of words.
 #[derive(Clone, Copy, Debug)]
-pub struct Row {
+pub struct FormRow {
     /// The words, one by one.
     pub parts: &'static [Part],
     /// How many bytes the input may have.
@@ -96,7 +96,7 @@ pub const FORMS: [Form; 20] = [
     Form::Generate,
 ];
 
-const SAFE: Row = Row {
+const SAFE: FormRow = FormRow {
     parts: &[Part::Word("safe"), Part::File],
     limit: BOARD,
     line: "what each read returns in every run of a board or device text",
@@ -108,7 +108,7 @@ const SAFE: Row = Row {
         writes a run of an unsafe line.",
 };
 
-const ADVERSE: Row = Row {
+const ADVERSE: FormRow = FormRow {
     parts: &[
         Part::Word("adverse"),
         Part::File,
@@ -123,7 +123,7 @@ const ADVERSE: Row = Row {
         nothing is written.",
 };
 
-const RUN: Row = Row {
+const RUN: FormRow = FormRow {
     parts: &[Part::Word("run"), Part::File],
     limit: BOARD,
     line: "runs a board to the end of all programs and writes its trace",
@@ -131,7 +131,7 @@ const RUN: Row = Row {
         runs of one board. What is written is a complete run, which `check` takes.",
 };
 
-const RUN_STEADY: Row = Row {
+const RUN_STEADY: FormRow = FormRow {
     parts: &[Part::Word("run"), Part::Word("--steady"), Part::File],
     limit: BOARD,
     line: "the same, with one and the same schedule each time",
@@ -139,7 +139,7 @@ const RUN_STEADY: Row = Row {
         initiators once. What it sends comes to the next bus in the next phase.",
 };
 
-const HEADERS: Row = Row {
+const HEADERS: FormRow = FormRow {
     parts: &[Part::Word("headers"), Part::File],
     limit: BOARD,
     line: "writes the configuration headers of a board's bridges",
@@ -147,7 +147,7 @@ const HEADERS: Row = Row {
         (PCI-to-PCI Bridge Architecture 1.1, section 3.2, from memory).",
 };
 
-const CHECK: Row = Row {
+const CHECK: FormRow = FormRow {
     parts: &[Part::Word("check"), Part::File],
     limit: TRACE,
     line: "says whether a trace is a complete run of its board",
@@ -155,7 +155,7 @@ const CHECK: Row = Row {
         first event that is not allowed (8), or that the run has not ended (9).",
 };
 
-const FINISH: Row = Row {
+const FINISH: FormRow = FormRow {
     parts: &[Part::Word("finish"), Part::File],
     limit: TRACE,
     line: "takes the events of a trace to the end of all programs",
@@ -163,7 +163,7 @@ const FINISH: Row = Row {
         `check` takes.",
 };
 
-const FILL: Row = Row {
+const FILL: FormRow = FormRow {
     parts: &[Part::Word("fill"), Part::File],
     limit: TRACE,
     line: "puts the arrivals into a trace that has none",
@@ -171,7 +171,7 @@ const FILL: Row = Row {
         What is written is a run; where that is refused, no other place of arrivals makes it one.",
 };
 
-const AUDIT: Row = Row {
+const AUDIT: FormRow = FormRow {
     parts: &[Part::Word("audit"), Part::File],
     limit: TRACE,
     line: "says of each read of a trace which write it knew of, and how",
@@ -179,7 +179,7 @@ const AUDIT: Row = Row {
         of its word before it there is a line: the last such write to land, and how its master knew.",
 };
 
-const REPORT: Row = Row {
+const REPORT: FormRow = FormRow {
     parts: &[Part::Word("report"), Part::File],
     limit: TRACE,
     line: "counts the events of a trace by bus and kind",
@@ -187,7 +187,7 @@ const REPORT: Row = Row {
         are, the bound of the board, and for each bus its events by kind; a part of a burst is a land.",
 };
 
-const WAVES: Row = Row {
+const WAVES: FormRow = FormRow {
     parts: &[Part::Word("waves"), Part::File],
     limit: TRACE,
     line: "writes a trace as waves, for a viewer such as GTKWave",
@@ -196,7 +196,7 @@ const WAVES: Row = Row {
         `gtkwave -S docs/gtkwave.tcl FILE` opens it with all its signals.",
 };
 
-const DRAW: Row = Row {
+const DRAW: FormRow = FormRow {
     parts: &[Part::Word("draw"), Part::File],
     limit: TRACE,
     line: "draws a trace as a page for a browser",
@@ -204,21 +204,21 @@ const DRAW: Row = Row {
         event, the buses side by side, what travels and what waits, and the lines of `audit` as brackets.",
 };
 
-const DRAW_ROWS: Row = Row {
+const DRAW_ROWS: FormRow = FormRow {
     parts: &[Part::Word("draw"), Part::File, Part::First, Part::Last],
     limit: TRACE,
     line: "draws the events FIRST to LAST of a trace",
     more: "At most 4,096 of them, by number from 1 on; a LAST above the number of events is lowered to it.",
 };
 
-const DRAW_OPERATION: Row = Row {
+const DRAW_OPERATION: FormRow = FormRow {
     parts: &[Part::Word("draw"), Part::File, Part::Operation("OPERATION")],
     limit: TRACE,
     line: "draws the events of one operation of a trace",
     more: "From its first event to its last, of a poll over all its tries.",
 };
 
-const UNTAGGED: Row = Row {
+const UNTAGGED: FormRow = FormRow {
     parts: &[Part::Word("untagged"), Part::File],
     limit: TRACE,
     line: "judges a trace of bridges that keep no local master",
@@ -227,7 +227,7 @@ const UNTAGGED: Row = Row {
         was told of the write, and whether masters are apart, so that it makes no difference on this board.",
 };
 
-const COMBINE: Row = Row {
+const COMBINE: FormRow = FormRow {
     parts: &[Part::Word("combine"), Part::File],
     limit: BOARD,
     line: "writes a board with neighbouring memory writes joined",
@@ -235,7 +235,7 @@ const COMBINE: Row = Row {
         (PCI Local Bus 2.2, section 3.2.6, from memory).",
 };
 
-const GENERATE: Row = Row {
+const GENERATE: FormRow = FormRow {
     parts: &[Part::Word("generate"), Part::Rounds],
     limit: NUMBER,
     line: "runs a board made from a number, 1 to 300, and reports the run",
@@ -243,7 +243,7 @@ const GENERATE: Row = Row {
         and of values drawn from N; each round adds 97 events. What is written is the report of the run.",
 };
 
-const DEVICES: Row = Row {
+const DEVICES: FormRow = FormRow {
     parts: &[Part::Word("devices"), Part::File],
     limit: BOARD,
     line: "runs a board with devices that wait, write and interrupt",
@@ -253,7 +253,7 @@ const DEVICES: Row = Row {
         is the trace of the run, as `run` writes it.",
 };
 
-const IMPORT: Row = Row {
+const IMPORT: FormRow = FormRow {
     parts: &[Part::Word("import"), Part::File],
     limit: BOARD,
     line: "writes the board of a machine, from what `lspci -vvxxx` wrote",
@@ -262,7 +262,7 @@ const IMPORT: Row = Row {
         depths of bridges. What is written is a board text without masters.",
 };
 
-const TREE: Row = Row {
+const TREE: FormRow = FormRow {
     parts: &[Part::Word("tree"), Part::File],
     limit: BOARD,
     line: "lists the buses, windows and ranges of a board or device text",
@@ -272,7 +272,7 @@ const TREE: Row = Row {
 
 impl Form {
     /// The table of words: the row of each form.
-    pub fn row(self) -> Row
+    pub fn row(self) -> FormRow
         ensures parts { map shape_of result.parts.now ≡ parts_of self }
         ensures few { length result.parts.now ≤ 4 }
         ensures limit { result.limit ≡ input_limit self }

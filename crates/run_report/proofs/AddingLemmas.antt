@@ -24,8 +24,8 @@ use Rattle.law_lanes.proofs.progress.Laws.{no_bridge_empty}
 use Rattle.law_lanes.proofs.progress.NextNoneLemmas.{IsOnBoard-found}
 use Rattle.law_lanes.proofs.progress.NextWantLemmas.{master_bus, master_wants, lane_wants}
 use Rattle.law_local.proofs.phases.BusLemmas.{end_is_bus, master_is_there}
-use Rattle.run_report.specs.declared.tallies.Kind.{Kind}
-use Rattle.run_report.specs.declared.tallies.Kind.TheVariants.{Land, Read, Accept, Latch, Take, Stall, MasterAbort, TargetAbort, Arrive}
+use Rattle.run_report.specs.declared.tallies.CountedKind.{CountedKind}
+use Rattle.run_report.specs.declared.tallies.CountedKind.TheVariants.{Land, Read, Accept, Latch, Take, Stall, MasterAbort, TargetAbort, Arrive}
 use Rattle.run_report.specs.Counts.{column, kind_of, kinds, is_counted, count_of}
 use Rattle.run_report.specs.Report.{buses_of}
 
@@ -66,7 +66,7 @@ abbrev one : Bool → ℕ
 one counts = cond counts 1 0
 
 -- among the kinds
-one_kind : (on : Bool) (kind : Kind) → total (λ (k : Kind). one (on && (column kind == column k))) kinds ≡ one on
+one_kind : (on : Bool) (kind : CountedKind) → total (λ (k : CountedKind). one (on && (column kind == column k))) kinds ≡ one on
 one_kind false kind = refl
 one_kind true Land = refl
 one_kind true Read = refl
@@ -111,12 +111,12 @@ adds_over : (board : Board) (buses : List ℕ) → ((bus : ℕ) → IsThere boar
     → (h : List Event) → Run board h → total (λ bus. total (count_of board h bus) kinds) buses ≡ length h
 adds_over board buses once valid fits [] run = total-zero (λ bus. total (count_of board [] bus) kinds) (λ bus. refl) buses
 adds_over board buses once valid fits (e ∷ h) run =
-    let here : ℕ → ℕ = λ bus. total (λ (kind : Kind). one (is_counted board bus kind e)) kinds in
+    let here : ℕ → ℕ = λ bus. total (λ (kind : CountedKind). one (is_counted board bus kind e)) kinds in
     let before : ℕ → ℕ = λ bus. total (count_of board h bus) kinds in
     let now : ℕ → ℕ = λ bus. total (count_of board (e ∷ h) bus) kinds in
     let more : (bus : ℕ) → now bus ≡ here bus + before bus =
-    λ (bus : ℕ). total-plus (λ (kind : Kind). one (is_counted board bus kind e)) (count_of board h bus) (count_of board (e ∷ h) bus)
-    (λ (kind : Kind). sum_by-cons (λ (x : Event). cond (is_counted board bus kind x) 1 0) e h) kinds in
+    λ (bus : ℕ). total-plus (λ (kind : CountedKind). one (is_counted board bus kind e)) (count_of board h bus) (count_of board (e ∷ h) bus)
+    (λ (kind : CountedKind). sum_by-cons (λ (x : Event). cond (is_counted board bus kind x) 1 0) e h) kinds in
     let new : total here buses ≡ 1 =
     total_same here (λ bus. one (bus_of board e == bus)) (λ bus. one_kind (bus_of board e == bus) (kind_of e)) buses ∙ once (bus_of board e) (event_there board h e valid fits run.1 run.0) in
     omega (arith, total-plus here before now more buses, new, adds_over board buses once valid fits h run.1)

@@ -7,8 +7,8 @@ use Rattle.std.proofs.lemmas.Grind.{flat_map-append}
 use Rattle.board_model.specs.declared.board.Board.{Board}
 use Rattle.board_model.specs.Valid.{is_bus}
 use Rattle.board_printer.specs.Lines.{Line, line_text, text_of}
-use Rattle.run_report.specs.declared.tallies.Kind.{Kind}
-use Rattle.run_report.specs.declared.tallies.Kind.TheVariants.{Land, Read, Accept, Latch, Take, Stall, MasterAbort, TargetAbort, Arrive}
+use Rattle.run_report.specs.declared.tallies.CountedKind.{CountedKind}
+use Rattle.run_report.specs.declared.tallies.CountedKind.TheVariants.{Land, Read, Accept, Latch, Take, Stall, MasterAbort, TargetAbort, Arrive}
 use Rattle.run_report.specs.declared.tallies.Tally.{Tally}
 use Rattle.history_model.specs.declared.event.Event.{Event}
 use Rattle.board_model.specs.Ways.{bound_of}
@@ -55,7 +55,7 @@ lines_none test line n old text fails so =
     so ∙ ap (λ (t : List ℕ). old ++ t) (sym (lines_more test line n ∙ ap (λ (b : Bool). lines_to test line n ++ cond b (line_text (line n)) []) fails ∙ append-nil (lines_to test line n)))
 
 -- a line is of its nine counts
-line_same : (bus : ℕ) (c d : Kind → ℕ) → ((kind : Kind) → c kind ≡ d kind) → bus_line bus c ≡ bus_line bus d
+line_same : (bus : ℕ) (c d : CountedKind → ℕ) → ((kind : CountedKind) → c kind ≡ d kind) → bus_line bus c ≡ bus_line bus d
 line_same bus c d same = rw (same Land, same Read, same Accept, same Latch, same Take, same Stall, same MasterAbort, same TargetAbort, same Arrive) refl
 
 map_same : (test : ℕ → Bool) (f g : ℕ → Line) (a n : ℕ) → ((bus : ℕ) → bus < a + n → f bus ≡ g bus) → map f (filter test (range_with_len a n)) ≡ map g (filter test (range_with_len a n))
@@ -69,7 +69,7 @@ map_same test f g a (suc n) same =
     ]
 
 -- reports with the same counts are the same
-pub buses_same : (board : Board) (c d : ℕ → Kind → ℕ) → ((bus : ℕ) (kind : Kind) → bus < 256 → c bus kind ≡ d bus kind) → buses_text board c ≡ buses_text board d
+pub buses_same : (board : Board) (c d : ℕ → CountedKind → ℕ) → ((bus : ℕ) (kind : CountedKind) → bus < 256 → c bus kind ≡ d bus kind) → buses_text board c ≡ buses_text board d
 buses_same board c d same =
     ap text_of (map_same (is_bus board) (λ bus. bus_line bus (c bus)) (λ bus. bus_line bus (d bus)) 0 256 (λ bus below. line_same bus (c bus) (d bus) (λ kind. same bus kind (omega arith))))
 

@@ -7,13 +7,13 @@ use Rattle.board_model.specs.declared.board.Board.{Board}
 use Rattle.history_model.specs.declared.event.Event.{Event}
 use Rattle.history_model.specs.Local.{bus_of}
 use Rattle.history_model.specs.Runs.{history_of}
-use Rattle.run_report.specs.declared.tallies.Kind.{Kind}
-use Rattle.run_report.specs.declared.tallies.Kind.TheVariants.{Land, Read, Accept, Latch, Take, Stall, MasterAbort, TargetAbort, Arrive}
+use Rattle.run_report.specs.declared.tallies.CountedKind.{CountedKind}
+use Rattle.run_report.specs.declared.tallies.CountedKind.TheVariants.{Land, Read, Accept, Latch, Take, Stall, MasterAbort, TargetAbort, Arrive}
 use Rattle.run_report.specs.declared.tallies.Tally.{Tally}
 use Rattle.run_report.specs.Counts.{kind_of, column, is_counted, count_of}
 use Rattle.run_report.specs.Tallies.{count_in, counted, no_tally, tally_at, Fits, IsTallied}
 
-none_in : (kind : Kind) → count_in no_tally kind ≡ 0
+none_in : (kind : CountedKind) → count_in no_tally kind ≡ 0
 none_in Land = refl
 none_in Read = refl
 none_in Accept = refl
@@ -35,7 +35,7 @@ tallied_none board tallies is = record {
 }
 
 -- one event of a kind more counts for that kind alone
-counted_in : (t : Tally) (k kind : Kind) → count_in (counted k t) kind ≡ cond (column k == column kind) 1 0 + count_in t kind
+counted_in : (t : Tally) (k kind : CountedKind) → count_in (counted k t) kind ≡ cond (column k == column kind) 1 0 + count_in t kind
 counted_in t Land Land = omega arith
 counted_in t Land kind = omega arith
 counted_in t Read Read = omega arith
@@ -80,7 +80,7 @@ step board h e tallies small so = record {
 }
 
 -- one event more of a trace
-pub tallied_more : (board : Board) (events : List Event) (i : ℕ) (d : Event) (tallies : List Tally) (at : ℕ) (kind : Kind) (new : Tally) → i < length events → at < 256
+pub tallied_more : (board : Board) (events : List Event) (i : ℕ) (d : Event) (tallies : List Tally) (at : ℕ) (kind : CountedKind) (new : Tally) → i < length events → at < 256
     → at ≡ bus_of board (get_or events i d) → kind ≡ kind_of (get_or events i d) → new ≡ counted kind (tally_at tallies at)
     → IsTallied board (history_of (take i events)) tallies → IsTallied board (history_of (take (i + 1) events)) (set tallies at new)
 tallied_more board events i d tallies at kind new within small at_is kind_is new_is so =
@@ -92,7 +92,7 @@ tallied_more board events i d tallies at kind new within small at_is kind_is new
     step board h e tallies (subst (λ n. n < 256) at_is small) so in
     let placed : IsTallied board (e ∷ h) (set tallies at (counted (kind_of e) (tally_at tallies at))) =
     subst (λ n. IsTallied board (e ∷ h) (set tallies n (counted (kind_of e) (tally_at tallies n)))) (sym at_is) there in
-    let noted : new ≡ counted (kind_of e) (tally_at tallies at) = new_is ∙ ap (λ (k : Kind). counted k (tally_at tallies at)) kind_is in
+    let noted : new ≡ counted (kind_of e) (tally_at tallies at) = new_is ∙ ap (λ (k : CountedKind). counted k (tally_at tallies at)) kind_is in
     subst (λ g. IsTallied board g (set tallies at new)) (sym turned) (subst (λ t. IsTallied board (e ∷ h) (set tallies at t)) (sym noted) placed)
 
 -- no count is above the number of events, so that there is room for one more
@@ -100,7 +100,7 @@ pub tally_fits : (board : Board) (events : List Event) (i : ℕ) (tallies : List
 tally_fits board events i tallies bus so below within few =
     let h : List Event = history_of (take i events) in
     let long : length h ≡ i = length-reverse (take i events) ∙ length-take-le i events (omega (arith, within)) in
-    let fits : (kind : Kind) → count_in (tally_at tallies bus) kind + 1 < 2 ^ 64 = λ kind. omega (arith, so.counts bus kind below, count_by-le-length (is_counted board bus kind) h, long, within, few) in
+    let fits : (kind : CountedKind) → count_in (tally_at tallies bus) kind + 1 < 2 ^ 64 = λ kind. omega (arith, so.counts bus kind below, count_by-le-length (is_counted board bus kind) h, long, within, few) in
     record {
       land = fits Land;
       read = fits Read;

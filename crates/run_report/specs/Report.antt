@@ -9,8 +9,8 @@ use Rattle.board_model.specs.Valid.{is_bus}
 use Rattle.board_model.specs.Ways.{bound_of}
 use Rattle.board_printer.specs.Lines.{Line, line_text, text_of}
 use Rattle.history_model.specs.declared.event.Event.{Event}
-use Rattle.run_report.specs.declared.tallies.Kind.{Kind}
-use Rattle.run_report.specs.declared.tallies.Kind.TheVariants.{Land, Read, Accept, Latch, Take, Stall, MasterAbort, TargetAbort, Arrive}
+use Rattle.run_report.specs.declared.tallies.CountedKind.{CountedKind}
+use Rattle.run_report.specs.declared.tallies.CountedKind.TheVariants.{Land, Read, Accept, Latch, Take, Stall, MasterAbort, TargetAbort, Arrive}
 use Rattle.run_report.specs.Counts.{count_of}
 
 -- the buses of a board, by number: bus 0, and one below each bridge
@@ -31,7 +31,7 @@ abbrev pub length_line : ℕ → ℕ → Line
 length_line events bound = codes "events" ∷ decimal events ∷ codes "bound" ∷ decimal bound ∷ []
 
 -- `bus X land A read B accept C latch D take E stall F nobody G tabort H arrive I`
-abbrev pub bus_line : ℕ → (Kind → ℕ) → Line
+abbrev pub bus_line : ℕ → (CountedKind → ℕ) → Line
 bus_line bus count =
     codes "bus" ∷ decimal bus
     ∷ codes "land" ∷ decimal (count Land)
@@ -45,11 +45,11 @@ bus_line bus count =
     ∷ codes "arrive" ∷ decimal (count Arrive) ∷ []
 
 -- a line for each bus
-abbrev pub buses_text : Board → (ℕ → Kind → ℕ) → List ℕ
+abbrev pub buses_text : Board → (ℕ → CountedKind → ℕ) → List ℕ
 buses_text board count = text_of (map (λ bus. bus_line bus (count bus)) (buses_of board))
 
 -- the report with so many events, and so many of each kind on each bus
-abbrev pub report_with : Board → ℕ → (ℕ → Kind → ℕ) → List ℕ
+abbrev pub report_with : Board → ℕ → (ℕ → CountedKind → ℕ) → List ℕ
 report_with board events count =
     line_text (size_line (length board.bridges + 1) (length board.masters) (operations_of board))
     ++ (line_text (length_line events (bound_of board)) ++ buses_text board count)

@@ -2,13 +2,13 @@
 use Rattle.std.specs.Prelude.{◌≡◌, ℕ, ◌+◌, ◌<◌, ◌^◌, List, length, slice_index_or}
 use Rattle.board_model.specs.declared.board.Board.{Board}
 use Rattle.history_model.specs.declared.event.Event.{Event}
-use Rattle.run_report.specs.declared.tallies.Kind.{Kind}
-use Rattle.run_report.specs.declared.tallies.Kind.TheVariants.{Land, Read, Accept, Latch, Take, Stall, MasterAbort, TargetAbort, Arrive}
+use Rattle.run_report.specs.declared.tallies.CountedKind.{CountedKind}
+use Rattle.run_report.specs.declared.tallies.CountedKind.TheVariants.{Land, Read, Accept, Latch, Take, Stall, MasterAbort, TargetAbort, Arrive}
 use Rattle.run_report.specs.declared.tallies.Tally.{Tally}
 use Rattle.run_report.specs.Counts.{count_of}
 
 -- a count of the line
-abbrev pub count_in : Tally → Kind → ℕ
+abbrev pub count_in : Tally → CountedKind → ℕ
 count_in tally Land = tally.land
 count_in tally Read = tally.read
 count_in tally Accept = tally.accept
@@ -20,7 +20,7 @@ count_in tally TargetAbort = tally.tabort
 count_in tally Arrive = tally.arrive
 
 -- one event more of the kind
-abbrev pub counted : Kind → Tally → Tally
+abbrev pub counted : CountedKind → Tally → Tally
 counted Land tally = record tally { land = tally.land + 1 }
 counted Read tally = record tally { read = tally.read + 1 }
 counted Accept tally = record tally { accept = tally.accept + 1 }
@@ -54,4 +54,4 @@ pub record Fits (tally : Tally) : Type 0 where
 -- a table for all bus numbers that has the counts of the history
 pub record IsTallied (board : Board) (h : List Event) (tallies : List Tally) : Type 0 where
   pub all : length tallies ≡ 256
-  pub counts : (bus : ℕ) (kind : Kind) → bus < 256 → count_in (tally_at tallies bus) kind ≡ count_of board h bus kind
+  pub counts : (bus : ℕ) (kind : CountedKind) → bus < 256 → count_in (tally_at tallies bus) kind ≡ count_of board h bus kind

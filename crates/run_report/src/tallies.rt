@@ -10,7 +10,7 @@ use machine_steps::bus_of;
 
 /// What a line of a report counts: a kind of events.
 #[derive(Clone, Copy, Debug, PartialEq, Eq)]
-pub enum Kind {
+pub enum CountedKind {
     /// A target took a write, or a part of one.
     Land,
     /// A target or the header of a bridge gave a dword.
@@ -73,43 +73,43 @@ pub(crate) fn tallies_of(board: &Board, events: &[Event]) -> [Tally; 256]
 }
 
 /// One event more of the kind.
-fn note(tally: &mut Tally, kind: Kind)
+fn note(tally: &mut Tally, kind: CountedKind)
     requires { Fits tally.old }
     ensures { tally.new ≡ counted kind tally.old }
 {
     match kind {
-        Kind::Land => tally.land += 1,
-        Kind::Read => tally.read += 1,
-        Kind::Accept => tally.accept += 1,
-        Kind::Latch => tally.latch += 1,
-        Kind::Take => tally.take += 1,
-        Kind::Stall => tally.stall += 1,
-        Kind::MasterAbort => tally.nobody += 1,
-        Kind::TargetAbort => tally.tabort += 1,
-        Kind::Arrive => tally.arrive += 1,
+        CountedKind::Land => tally.land += 1,
+        CountedKind::Read => tally.read += 1,
+        CountedKind::Accept => tally.accept += 1,
+        CountedKind::Latch => tally.latch += 1,
+        CountedKind::Take => tally.take += 1,
+        CountedKind::Stall => tally.stall += 1,
+        CountedKind::MasterAbort => tally.nobody += 1,
+        CountedKind::TargetAbort => tally.tabort += 1,
+        CountedKind::Arrive => tally.arrive += 1,
     }
 }
 
-fn kind_of(event: &Event) -> Kind
+fn kind_of(event: &Event) -> CountedKind
     ensures { result ≡ kind_of event.now }
 {
     match event {
         Event::Act { step, .. } => kind_of_step(*step),
-        Event::Arrive { .. } => Kind::Arrive,
+        Event::Arrive { .. } => CountedKind::Arrive,
     }
 }
 
-fn kind_of_step(step: Step) -> Kind
+fn kind_of_step(step: Step) -> CountedKind
     ensures { result ≡ kind_of_step step }
 {
     match step {
-        Step::Land | Step::Part(_) => Kind::Land,
-        Step::Read(_) => Kind::Read,
-        Step::Accept => Kind::Accept,
-        Step::Latch => Kind::Latch,
-        Step::Take(_) => Kind::Take,
-        Step::Stall => Kind::Stall,
-        Step::MasterAbort => Kind::MasterAbort,
-        Step::TargetAbort => Kind::TargetAbort,
+        Step::Land | Step::Part(_) => CountedKind::Land,
+        Step::Read(_) => CountedKind::Read,
+        Step::Accept => CountedKind::Accept,
+        Step::Latch => CountedKind::Latch,
+        Step::Take(_) => CountedKind::Take,
+        Step::Stall => CountedKind::Stall,
+        Step::MasterAbort => CountedKind::MasterAbort,
+        Step::TargetAbort => CountedKind::TargetAbort,
     }
 }

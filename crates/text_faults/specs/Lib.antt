@@ -1,1 +1,5 @@
-pub mod Faults
+pub mod BoardLine
+pub mod Device
+pub mod Lspci
+pub mod TraceLine
+pub mod Tree

@@ -3,10 +3,10 @@ use Rattle.std.specs.Prelude.{◌≡◌, ℕ, ◌+◌, ◌≤◌, ◌∷◌, ◌
 use Rattle.std.specs.List.{slice_range}
 use Rattle.board_model.specs.declared.board.Board.{Board}
 use Rattle.board_text.specs.Lines.{lines_of}
-use Rattle.board_statements.specs.declared.fault.LineFault.{LineFault}
+use Rattle.text_faults.specs.declared.board_line.LineFault.{LineFault}
 use Rattle.trace_reader.specs.declared.fault.TraceFault.{TraceFault}
 use Rattle.trace_reader.specs.declared.fault.TraceFault.TheVariants.{Trace, Board as OfBoard, NoMemory}
-use Rattle.trace_reader.specs.declared.fault.TraceLineFault.TheVariants.{NoEventsLine}
+use Rattle.text_faults.specs.declared.trace_line.TraceLineFault.TheVariants.{NoEventsLine}
 use Rattle.trace_reader.specs.declared.parts.EventsLine.{EventsLine}
 use Rattle.trace_reader.specs.Traces.{until_events}
 

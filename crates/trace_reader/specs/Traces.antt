@@ -4,14 +4,14 @@ use Rattle.std.specs.Str.{bytes_eq}
 use Rattle.board_model.specs.declared.board.Board.{Board}
 use Rattle.history_model.specs.declared.event.Event.{Event}
 use Rattle.board_text.specs.Lines.{lines_of}
-use Rattle.board_statements.specs.declared.fault.LineFault.{LineFault as BoardFault}
+use Rattle.text_faults.specs.declared.board_line.LineFault.{LineFault as BoardFault}
 use Rattle.board_parser.specs.Boards.{read_lines, ended}
 use Rattle.trace_reader.specs.declared.lines.line.TraceLine.{TraceLine}
 use Rattle.trace_reader.specs.declared.lines.line.TraceLine.TheVariants.{Happens, Ends}
 use Rattle.trace_reader.specs.declared.lines.line.LineFault.{LineFault}
 use Rattle.trace_reader.specs.lines.Lines.{line_of}
 use Rattle.trace_reader.specs.Faults.{fault_of_line}
-use Rattle.trace_reader.specs.declared.fault.TraceLineFault.TheVariants.{NoFirstLine, NoEventsLine, WrongCount, BehindEnd}
+use Rattle.text_faults.specs.declared.trace_line.TraceLineFault.TheVariants.{NoFirstLine, NoEventsLine, WrongCount, BehindEnd}
 use Rattle.trace_reader.specs.declared.fault.TraceFault.{TraceFault}
 use Rattle.trace_reader.specs.declared.fault.TraceFault.TheVariants.{Trace, Board as OfBoard, NoMemory}
 

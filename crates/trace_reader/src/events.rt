@@ -2,13 +2,14 @@ ghost use Rattle.std.specs.Prelude.{◌+◌, ◌-◌, ◌<◌, ◌≤◌, ◌^�
 ghost use Rattle.board_text.specs.Lines.{lines_of};
 ghost use Rattle.trace_reader.specs.Traces.{nothing_behind, at_end, events_read, Tells};
 
+use crate::TraceFault;
 use crate::lines::{Names, TraceLine, read_line};
-use crate::{TraceFault, TraceLineFault};
 use board_model::Board;
 use board_text::next_line;
 use history_model::Event;
 use pci_command::List;
 use std::alloc::Global;
+use text_faults::TraceLineFault;
 
 /// The events of the lines from `from` on, where the first line has this number, up to the `end`
 /// line, behind which nothing stands.

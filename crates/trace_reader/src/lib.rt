@@ -7,6 +7,6 @@ mod lines;
 mod parts;
 mod trace;
 
-pub use fault::{TraceFault, TraceLineFault};
-pub use lines::{Kind, LineFault, Names, TraceLine, read_line};
+pub use fault::TraceFault;
+pub use lines::{EventWord, LineFault, Names, TraceLine, read_line};
 pub use trace::read_trace;

@@ -3,8 +3,9 @@ ghost use Rattle.board_text.specs.Lines.{lines_of};
 ghost use Rattle.trace_reader.specs.Traces.{until_events, trace_read};
 ghost use Rattle.trace_reader.specs.Parts.{StartsBehind, Finds, IsWithout};
 
-use crate::{TraceFault, TraceLineFault};
+use crate::TraceFault;
 use board_text::next_line;
+use text_faults::TraceLineFault;
 
 /// Where the line `events` stands.
 #[derive(Clone, Copy, Debug, PartialEq, Eq)]

@@ -4,8 +4,8 @@ use Rattle.std.specs.Prelude.{codes}
 use Rattle.std.specs.Str.{bytes_eq}
 use Rattle.std.proofs.lemmas.Slice.Eq.{bytes_eq-Decides}
 use Rattle.board_model.specs.declared.board.Board.{Board}
-use Rattle.board_statements.specs.declared.fault.LineFault.{LineFault}
-use Rattle.board_statements.specs.declared.fault.LineFault.TheVariants.{NoFirstLine, WrongWord}
+use Rattle.text_faults.specs.declared.board_line.LineFault.{LineFault}
+use Rattle.text_faults.specs.declared.board_line.LineFault.TheVariants.{NoFirstLine, WrongWord}
 use Rattle.board_statements.specs.Keywords.{form_of}
 use Rattle.board_statements.specs.Statements.{statement_form, statement_of, first_line_of}
 use Rattle.board_parser.specs.declared.draft.draft.Draft.{Draft}

@@ -16,7 +16,7 @@ use Rattle.trace_reader.specs.declared.lines.line.TraceLine.{TraceLine}
 use Rattle.trace_reader.specs.declared.lines.line.LineFault.{LineFault}
 use Rattle.trace_reader.specs.declared.fault.TraceFault.{TraceFault}
 use Rattle.trace_reader.specs.declared.fault.TraceFault.TheVariants.{Trace}
-use Rattle.trace_reader.specs.declared.fault.TraceLineFault.TheVariants.{WrongCount}
+use Rattle.text_faults.specs.declared.trace_line.TraceLineFault.TheVariants.{WrongCount}
 use Rattle.trace_reader.specs.Traces.{nothing_behind, events_by, events_read}
 use Rattle.trace_roundtrip.specs.events.Fits.{EventFits}
 use Rattle.trace_roundtrip.proofs.events.EventLemmas.{event_read, event_plain}

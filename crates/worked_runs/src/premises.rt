@@ -12,7 +12,7 @@ ghost use Rattle.history_model.specs.Runs.{Run, Complete, history_of};
 ghost use Rattle.history_model.specs.Words.{through};
 ghost use Rattle.history_model.specs.World.{both, world_of};
 ghost use Rattle.law_audit.specs.Clocks.{clocks_of};
-ghost use Rattle.law_delivered.specs.Clear.{is_clear};
+ghost use Rattle.history_model.specs.Clear.{is_clear};
 ghost use Rattle.law_delivered.specs.Delivered.{Awaits, Delivers};
 ghost use Rattle.law_fresh.specs.Aware.{aware_of, knows};
 ghost use Rattle.law_fresh.specs.Told.{was_told};

@@ -15,10 +15,10 @@ use Rattle.board_model.specs.Requests.{tries_of}
 use Rattle.board_model.specs.WellFormed.{has_bus, children_on, registers_of}
 use Rattle.board_headers.specs.declared.windows.Windows.{Windows}
 use Rattle.board_headers.specs.declared.fault.HeaderFault.{HeaderFault}
-use Rattle.board_statements.specs.declared.fault.LineFault.{LineFault}
+use Rattle.text_faults.specs.declared.board_line.LineFault.{LineFault}
 use Rattle.board_parser.specs.declared.draft.draft.Draft.{Draft}
-use Rattle.board_parser.specs.declared.draft.draft.Owner.{Owner}
-use Rattle.board_parser.specs.declared.draft.draft.Owner.TheVariants.{Nobody, OfTarget, OfMaster}
+use Rattle.board_parser.specs.declared.draft.draft.AgentPlace.{AgentPlace}
+use Rattle.board_parser.specs.declared.draft.draft.AgentPlace.TheVariants.{Nobody, OfTarget, OfMaster}
 use Rattle.board_parser.specs.draft.Steps.{◌>>=◌}
 use Rattle.board_parser.specs.draft.Drafts.{draft_of}
 use Rattle.board_parser.specs.draft.Bridges.{are_windows_whole, are_windows_ordered, put_bridge, add_bridge, bridge_of, put_header}
@@ -59,12 +59,12 @@ pub unless-ok : (fault : Option LineFault) (draft added : Draft) → unless faul
 unless-ok None draft added h = (refl, cc)
 unless-ok (Some fault) draft added h = absurd (cc)
 
-pub target_in-ok : (owner : Owner) (target : Target) → target_in owner ≡ Ok target → owner ≡ OfTarget target
+pub target_in-ok : (owner : AgentPlace) (target : Target) → target_in owner ≡ Ok target → owner ≡ OfTarget target
 target_in-ok Nobody target h = absurd (cc)
 target_in-ok (OfTarget found) target h = cc
 target_in-ok (OfMaster found) target h = absurd (cc)
 
-pub master_in-ok : (owner : Owner) (master : Master) → master_in owner ≡ Ok master → owner ≡ OfMaster master
+pub master_in-ok : (owner : AgentPlace) (master : Master) → master_in owner ≡ Ok master → owner ≡ OfMaster master
 master_in-ok Nobody master h = absurd (cc)
 master_in-ok (OfTarget found) master h = absurd (cc)
 master_in-ok (OfMaster found) master h = cc

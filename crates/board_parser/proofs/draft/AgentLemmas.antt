@@ -13,13 +13,13 @@ use Rattle.board_model.specs.declared.board.Board.{Board}
 use Rattle.board_model.specs.declared.op.Op.{Op}
 use Rattle.board_model.specs.WellFormed.{is_target_named, is_master_named, agents_on, operations_in}
 use Rattle.board_headers.specs.Windows.{reading_of}
-use Rattle.board_statements.specs.declared.fault.LineFault.{LineFault}
+use Rattle.text_faults.specs.declared.board_line.LineFault.{LineFault}
 use Rattle.board_statements.specs.declared.statement.Statement.{Statement}
 use Rattle.board_statements.specs.declared.statement.Statement.TheVariants.{NewBridge, NewHeader, NewTarget, Identifies, Stalls, Bursts, Claims, Aborts, Opens, NewMaster, Does, Discards, Drops}
 use Rattle.board_parser.specs.declared.draft.counts.Counts.{Counts}
 use Rattle.board_parser.specs.declared.draft.draft.Draft.{Draft}
-use Rattle.board_parser.specs.declared.draft.draft.Owner.{Owner}
-use Rattle.board_parser.specs.declared.draft.draft.Owner.TheVariants.{OfTarget, OfMaster}
+use Rattle.board_parser.specs.declared.draft.draft.AgentPlace.{AgentPlace}
+use Rattle.board_parser.specs.declared.draft.draft.AgentPlace.TheVariants.{OfTarget, OfMaster}
 use Rattle.board_parser.specs.draft.Drafts.{board_of, draft_of, with_owner}
 use Rattle.board_parser.specs.draft.Bridges.{bridge_of}
 use Rattle.board_parser.specs.draft.Targets.{is_name_used, agent_fault, new_target, on_target, set_identity, set_stalls, set_burst, add_range, add_abort, add_opening}
@@ -95,7 +95,7 @@ detail_more draft change added h each =
     let done = on_target-ok draft change added h in
     let named = each done.target done.changed done.did in
     let same : (done.changed.name, done.changed.bus) ≡ (done.target.name, done.target.bus) = cc in
-    let P : Owner → Type 0 = λ owner. HasMore (with_owner draft.board owner) (with_owner draft.board (OfTarget done.changed)) None in
+    let P : AgentPlace → Type 0 = λ owner. HasMore (with_owner draft.board owner) (with_owner draft.board (OfTarget done.changed)) None in
     let Q : Draft → Type 0 = λ d. HasMore (board_of draft) (board_of d) None in
     subst Q (sym done.is) (subst P (sym done.was)
     (as_before draft.board _ _ _ _ (target_more draft.board done.target) (target_more draft.board done.changed) same))
@@ -106,7 +106,7 @@ does_more draft op too_many added h =
     let put = add_op-ok (operations_in (board_of draft).masters) op too_many done.master done.changed done.did in
     let pair : Master → List ℕ × ℕ = λ m. (m.name, m.bus) in
     let same : (done.changed.name, done.changed.bus) ≡ (done.master.name, done.master.bus) = ap (λ (m : Master). let named : List ℕ × ℕ = (m.name, m.bus) in named) put.is in
-    let P : Owner → Type 0 = λ owner. HasMore (with_owner draft.board owner) (with_owner draft.board (OfMaster done.changed)) None in
+    let P : AgentPlace → Type 0 = λ owner. HasMore (with_owner draft.board owner) (with_owner draft.board (OfMaster done.changed)) None in
     let Q : Draft → Type 0 = λ d. HasMore (board_of draft) (board_of d) None in
     subst Q (sym done.is) (subst P (sym done.was)
     (as_before draft.board _ _ _ _ (master_more draft.board done.master) (master_more draft.board done.changed) same))

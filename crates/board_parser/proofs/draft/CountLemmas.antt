@@ -12,12 +12,12 @@ use Rattle.board_model.specs.declared.board.Board.{Board}
 use Rattle.board_model.specs.Requests.{tries_of}
 use Rattle.board_model.specs.WellFormed.{operations_in}
 use Rattle.board_headers.specs.Windows.{reading_of}
-use Rattle.board_statements.specs.declared.fault.LineFault.{LineFault}
+use Rattle.text_faults.specs.declared.board_line.LineFault.{LineFault}
 use Rattle.board_statements.specs.declared.statement.Statement.{Statement}
 use Rattle.board_statements.specs.declared.statement.Statement.TheVariants.{NewBridge, NewHeader, NewTarget, Identifies, Stalls, Bursts, Claims, Aborts, Opens, NewMaster, Does, Discards, Drops}
 use Rattle.board_parser.specs.declared.draft.draft.Draft.{Draft}
-use Rattle.board_parser.specs.declared.draft.draft.Owner.{Owner}
-use Rattle.board_parser.specs.declared.draft.draft.Owner.TheVariants.{OfMaster}
+use Rattle.board_parser.specs.declared.draft.draft.AgentPlace.{AgentPlace}
+use Rattle.board_parser.specs.declared.draft.draft.AgentPlace.TheVariants.{OfMaster}
 use Rattle.board_parser.specs.draft.Drafts.{board_of, with_owner}
 use Rattle.board_parser.specs.draft.Bridges.{bridge_of}
 use Rattle.board_parser.specs.draft.Targets.{on_target, set_identity, set_stalls, set_burst, add_range, add_abort, add_opening}
@@ -42,7 +42,7 @@ bridge_count wide board bridge added put = ap operations_of put.is
 target_count : (draft : Draft) (change : Target → Result Target LineFault) (added : Draft) → on_target draft change ≡ Ok added → operations_of added ≡ operations_of draft
 target_count draft change added h =
     let done = on_target-ok draft change added h in
-    let P : Owner → Type 0 = λ owner. operations_in draft.board.masters ≡ operations_in (with_owner draft.board owner).masters in
+    let P : AgentPlace → Type 0 = λ owner. operations_in draft.board.masters ≡ operations_in (with_owner draft.board owner).masters in
     ap operations_of done.is ∙ subst P (sym done.was) refl
 
 total-op : (ops : List Op) (op : Op) → total tries_of (ops ++ op ∷ []) ≡ total tries_of ops + tries_of op
@@ -52,9 +52,9 @@ operations-push : (masters : List Master) (master : Master) → operations_in (m
 operations-push masters master = total-push (λ (m : Master). total tries_of m.ops) masters master
 
 -- the operations of a draft whose owner is a master
-pub owner_count : (board : Board) (owner : Owner) (master : Master) → owner ≡ OfMaster master → operations_in (with_owner board owner).masters ≡ operations_in board.masters + total tries_of master.ops
+pub owner_count : (board : Board) (owner : AgentPlace) (master : Master) → owner ≡ OfMaster master → operations_in (with_owner board owner).masters ≡ operations_in board.masters + total tries_of master.ops
 owner_count board owner master was =
-    let P : Owner → Type 0 = λ o. operations_in (with_owner board o).masters ≡ operations_in board.masters + total tries_of master.ops in
+    let P : AgentPlace → Type 0 = λ o. operations_in (with_owner board o).masters ≡ operations_in board.masters + total tries_of master.ops in
     subst P (sym was) (operations-push board.masters master)
 
 few_enough : (a n : ℕ) → (nat_le 1024 a || nat_lt 65536 n) ≡ false → n ≤ 65536

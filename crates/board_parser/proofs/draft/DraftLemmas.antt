@@ -12,11 +12,11 @@ use Rattle.board_model.specs.declared.op.Op.{Op}
 use Rattle.board_model.specs.Requests.{tries_of}
 use Rattle.board_model.specs.WellFormed.{is_well_formed_bridge, is_well_formed_target, is_well_formed_op, operations_in}
 use Rattle.board_headers.specs.Windows.{reading_of}
-use Rattle.board_statements.specs.declared.fault.LineFault.{LineFault}
+use Rattle.text_faults.specs.declared.board_line.LineFault.{LineFault}
 use Rattle.board_statements.specs.declared.statement.Statement.{Statement}
 use Rattle.board_statements.specs.declared.statement.Statement.TheVariants.{NewBridge, NewHeader, NewTarget, Identifies, Stalls, Bursts, Claims, Aborts, Opens, NewMaster, Does, Discards, Drops}
 use Rattle.board_parser.specs.declared.draft.draft.Draft.{Draft}
-use Rattle.board_parser.specs.declared.draft.draft.Owner.{Owner}
+use Rattle.board_parser.specs.declared.draft.draft.AgentPlace.{AgentPlace}
 use Rattle.board_parser.specs.draft.Drafts.{board_of, first_draft}
 use Rattle.board_parser.specs.draft.Bridges.{bridge_of}
 use Rattle.board_parser.specs.draft.Targets.{new_target, on_target, set_identity, set_stalls, set_burst, add_range, add_abort, add_opening}
@@ -82,7 +82,7 @@ new_target_formed name bus device formed = Target-from (new_target name bus devi
 detail_sound : (draft : Draft) (change : Target → Result Target LineFault) (added : Draft) → IsDraftSound draft → on_target draft change ≡ Ok added → ((target changed : Target) → is_well_formed_target target ≡ true → change target ≡ Ok changed → IsDetailed target changed) → IsDraftSound added
 detail_sound draft change added sound h each =
     let done = on_target-ok draft change added h in
-    let Q : Owner → Type 0 = λ owner. OwnerSound draft.board owner in
+    let Q : AgentPlace → Type 0 = λ owner. OwnerSound draft.board owner in
     let before : TargetSound draft.board done.target = subst Q done.was sound.owner in
     let detailed = each done.target done.changed before.formed done.did in
     let NamedPlace : List ℕ → Type 0 = λ name. HasPlace draft.board name done.target.bus in
@@ -96,7 +96,7 @@ does_sound : (draft : Draft) (op : Op) (too_many : Bool) (added : Draft) → is_
 does_sound draft op too_many added formed sound h =
     let done = on_master-ok draft (add_op (operations_in (board_of draft).masters) op too_many) added h in
     let put = add_op-ok (operations_in (board_of draft).masters) op too_many done.master done.changed done.did in
-    let Q : Owner → Type 0 = λ owner. OwnerSound draft.board owner in
+    let Q : AgentPlace → Type 0 = λ owner. OwnerSound draft.board owner in
     let before : MasterSound draft.board done.master = subst Q done.was sound.owner in
     let counted : operations_in (board_of draft).masters ≡ operations_in draft.board.masters + total tries_of done.master.ops =
     owner_count draft.board draft.owner done.master done.was in

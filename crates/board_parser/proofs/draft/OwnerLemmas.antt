@@ -6,17 +6,17 @@ use Rattle.board_model.specs.declared.board.Board.{Board}
 use Rattle.board_model.specs.Valid.{is_bus}
 use Rattle.board_model.specs.WellFormed.{is_target_named}
 use Rattle.board_parser.specs.declared.draft.draft.Draft.{Draft}
-use Rattle.board_parser.specs.declared.draft.draft.Owner.{Owner}
-use Rattle.board_parser.specs.declared.draft.draft.Owner.TheVariants.{Nobody, OfTarget, OfMaster}
+use Rattle.board_parser.specs.declared.draft.draft.AgentPlace.{AgentPlace}
+use Rattle.board_parser.specs.declared.draft.draft.AgentPlace.TheVariants.{Nobody, OfTarget, OfMaster}
 use Rattle.board_parser.specs.draft.Drafts.{with_owner, board_of}
 use Rattle.board_parser.specs.draft.Targets.{bus_in, bus_of_target, owned}
 
-pub owner_bus : (board : Board) (owner : Owner) (bus : ℕ) → is_bus board bus ≡ is_bus (with_owner board owner) bus
+pub owner_bus : (board : Board) (owner : AgentPlace) (bus : ℕ) → is_bus board bus ≡ is_bus (with_owner board owner) bus
 owner_bus board Nobody bus = refl
 owner_bus board (OfTarget target) bus = refl
 owner_bus board (OfMaster master) bus = refl
 
-targets_with : (board : Board) (owner : Owner) → (with_owner board owner).targets ≡ board.targets ++ owned owner
+targets_with : (board : Board) (owner : AgentPlace) → (with_owner board owner).targets ≡ board.targets ++ owned owner
 targets_with board Nobody = sym (append-nil board.targets)
 targets_with board (OfTarget target) = refl
 targets_with board (OfMaster master) = sym (append-nil board.targets)

@@ -12,9 +12,9 @@ use Rattle.board_model.specs.declared.board.Board.{Board}
 use Rattle.board_model.specs.declared.board.Planned.{Planned}
 use Rattle.board_model.specs.Requests.{tries_of}
 use Rattle.board_model.specs.WellFormed.{is_well_formed, is_well_formed_bridge, is_well_formed_target, is_well_formed_master, is_well_formed_plan, are_numbered_apart, are_targets_named_apart, are_masters_named_apart, is_target_named, is_master_named, has_bus, children_on, agents_on, operations_in}
-use Rattle.board_statements.specs.declared.fault.LineFault.{LineFault}
-use Rattle.board_parser.specs.declared.draft.draft.Owner.{Owner}
-use Rattle.board_parser.specs.declared.draft.draft.Owner.TheVariants.{Nobody, OfTarget, OfMaster}
+use Rattle.text_faults.specs.declared.board_line.LineFault.{LineFault}
+use Rattle.board_parser.specs.declared.draft.draft.AgentPlace.{AgentPlace}
+use Rattle.board_parser.specs.declared.draft.draft.AgentPlace.TheVariants.{Nobody, OfTarget, OfMaster}
 use Rattle.board_parser.specs.draft.Drafts.{with_owner}
 use Rattle.board_parser.specs.draft.Targets.{is_name_used, agent_fault}
 use Rattle.board_parser.proofs.draft.PushLemmas.{all-push, length-push, count-push, numbered-push, masters-push, targets-push, targets-beside}
@@ -89,7 +89,7 @@ pub record MasterSound (board : Board) (master : Master) : Type 0 where
   pub place : HasPlace board master.name master.bus
   pub operations : operations_in board.masters + total tries_of master.ops ≤ 65536
 
-abbrev pub OwnerSound : Board → Owner → Type 0
+abbrev pub OwnerSound : Board → AgentPlace → Type 0
 OwnerSound board Nobody = Unit {0}
 OwnerSound board (OfTarget target) = TargetSound board target
 OwnerSound board (OfMaster master) = MasterSound board master
@@ -147,7 +147,7 @@ with_master board master sound more = record {
       omega (arith, counted, few);
 }
 
-pub owner_closed : (board : Board) (owner : Owner) → IsSound board → OwnerSound board owner → IsSound (with_owner board owner)
+pub owner_closed : (board : Board) (owner : AgentPlace) → IsSound board → OwnerSound board owner → IsSound (with_owner board owner)
 owner_closed board Nobody sound more = sound
 owner_closed board (OfTarget target) sound more = with_target board target sound more
 owner_closed board (OfMaster master) sound more = with_master board master sound more

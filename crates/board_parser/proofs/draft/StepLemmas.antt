@@ -1,6 +1,6 @@
 -- What is known where a step did not end with a fault.
 use Rattle.std.proofs.Common.{◌≡◌, Bool, true, false, cond, Result, Ok, Err, refl}
-use Rattle.board_statements.specs.declared.fault.LineFault.{LineFault}
+use Rattle.text_faults.specs.declared.board_line.LineFault.{LineFault}
 use Rattle.board_parser.specs.draft.Steps.{◌>>=◌}
 
 pub if-ok : {A F : Type 0} (test : Bool) (fault : F) (step : Result A F) (x : A) → cond test (Err fault) step ≡ Ok x → (test ≡ false) × (step ≡ Ok x)

@@ -1,6 +1,6 @@
 -- A statement is added to a draft, or is refused by the first of its faults.
 use Rattle.std.specs.Prelude.{ℕ, Result}
-use Rattle.board_statements.specs.declared.fault.LineFault.{LineFault}
+use Rattle.text_faults.specs.declared.board_line.LineFault.{LineFault}
 use Rattle.board_statements.specs.declared.statement.Statement.{Statement}
 use Rattle.board_statements.specs.declared.statement.Statement.TheVariants.{NewBridge, NewHeader, NewTarget, Identifies, Stalls, Bursts, Claims, Aborts, Opens, NewMaster, Does, Discards, Drops}
 use Rattle.board_parser.specs.declared.draft.draft.Draft.{Draft}

@@ -9,8 +9,8 @@ use Rattle.board_headers.specs.declared.windows.Windows.{Windows}
 use Rattle.board_headers.specs.declared.fault.HeaderFault.{HeaderFault}
 use Rattle.board_headers.specs.declared.fault.HeaderFault.TheVariants.{H1, H2, H3}
 use Rattle.board_headers.specs.Windows.{reading_of}
-use Rattle.board_statements.specs.declared.fault.LineFault.{LineFault}
-use Rattle.board_statements.specs.declared.fault.LineFault.TheVariants.{Unaligned, PastItsSpace, BusUsed, OverLimit, NotTypeOne, NotServed, NoBridgeNumbers, WideWindow}
+use Rattle.text_faults.specs.declared.board_line.LineFault.{LineFault}
+use Rattle.text_faults.specs.declared.board_line.LineFault.TheVariants.{Unaligned, PastItsSpace, BusUsed, OverLimit, NotTypeOne, NotServed, NoBridgeNumbers, WideWindow}
 use Rattle.board_parser.specs.declared.draft.draft.Draft.{Draft}
 use Rattle.board_parser.specs.draft.Drafts.{draft_of}
 

@@ -2,11 +2,11 @@
 use Rattle.std.specs.Prelude.{Bool, [], ◌∷◌, ◌++◌}
 use Rattle.board_model.specs.declared.board.Board.{Board}
 use Rattle.board_parser.specs.declared.draft.draft.Draft.{Draft}
-use Rattle.board_parser.specs.declared.draft.draft.Owner.{Owner}
-use Rattle.board_parser.specs.declared.draft.draft.Owner.TheVariants.{Nobody, OfTarget, OfMaster}
+use Rattle.board_parser.specs.declared.draft.draft.AgentPlace.{AgentPlace}
+use Rattle.board_parser.specs.declared.draft.draft.AgentPlace.TheVariants.{Nobody, OfTarget, OfMaster}
 
 -- the board with the target or master that began last behind the others
-abbrev pub with_owner : Board → Owner → Board
+abbrev pub with_owner : Board → AgentPlace → Board
 with_owner board Nobody = board
 with_owner board (OfTarget target) = record board { targets = board.targets ++ target ∷ [] }
 with_owner board (OfMaster master) = record board { masters = board.masters ++ master ∷ [] }

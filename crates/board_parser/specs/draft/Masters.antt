@@ -6,11 +6,11 @@ use Rattle.board_model.specs.declared.agents.Master.{Master}
 use Rattle.board_model.specs.declared.board.Board.{Board}
 use Rattle.board_model.specs.Requests.{tries_of}
 use Rattle.board_model.specs.WellFormed.{operations_in}
-use Rattle.board_statements.specs.declared.fault.LineFault.{LineFault}
-use Rattle.board_statements.specs.declared.fault.LineFault.TheVariants.{NoOwner, Unaligned, PastItsBlock, OverLimit}
+use Rattle.text_faults.specs.declared.board_line.LineFault.{LineFault}
+use Rattle.text_faults.specs.declared.board_line.LineFault.TheVariants.{NoOwner, Unaligned, PastItsBlock, OverLimit}
 use Rattle.board_parser.specs.declared.draft.draft.Draft.{Draft}
-use Rattle.board_parser.specs.declared.draft.draft.Owner.{Owner}
-use Rattle.board_parser.specs.declared.draft.draft.Owner.TheVariants.{Nobody, OfTarget, OfMaster}
+use Rattle.board_parser.specs.declared.draft.draft.AgentPlace.{AgentPlace}
+use Rattle.board_parser.specs.declared.draft.draft.AgentPlace.TheVariants.{Nobody, OfTarget, OfMaster}
 use Rattle.board_parser.specs.draft.Steps.{◌>>=◌}
 use Rattle.board_parser.specs.draft.Drafts.{board_of}
 use Rattle.board_parser.specs.draft.Targets.{agent_fault, unless}
@@ -21,7 +21,7 @@ add_master wide board name bus =
     unless (agent_fault board name bus) (record { wide = wide; board = board; owner = OfMaster (record { name = name; bus = bus; ops = [] }) })
 
 -- an operation stands behind its master
-abbrev pub master_in : Owner → Result Master LineFault
+abbrev pub master_in : AgentPlace → Result Master LineFault
 master_in Nobody = Err NoOwner
 master_in (OfTarget target) = Err NoOwner
 master_in (OfMaster master) = Ok master

@@ -1,6 +1,6 @@
 -- Steps that may end with a fault of the line, one after the other.
 use Rattle.std.specs.Prelude.{◌≡◌, Result, Ok, Err}
-use Rattle.board_statements.specs.declared.fault.LineFault.{LineFault}
+use Rattle.text_faults.specs.declared.board_line.LineFault.{LineFault}
 use Rattle.board_parser.specs.declared.draft.fault.AddFault.{AddFault}
 use Rattle.board_parser.specs.declared.draft.fault.AddFault.TheVariants.{Fault, NoMemory}
 

@@ -9,11 +9,11 @@ use Rattle.board_model.specs.declared.agents.Opening.{Opening}
 use Rattle.board_model.specs.declared.agents.Target.{Target}
 use Rattle.board_model.specs.declared.board.Board.{Board}
 use Rattle.board_model.specs.WellFormed.{registers_of, is_target_named, is_master_named, agents_on}
-use Rattle.board_statements.specs.declared.fault.LineFault.{LineFault}
-use Rattle.board_statements.specs.declared.fault.LineFault.TheVariants.{NoOwner, Unaligned, PastItsSpace, NameUsed, OverLimit}
+use Rattle.text_faults.specs.declared.board_line.LineFault.{LineFault}
+use Rattle.text_faults.specs.declared.board_line.LineFault.TheVariants.{NoOwner, Unaligned, PastItsSpace, NameUsed, OverLimit}
 use Rattle.board_parser.specs.declared.draft.draft.Draft.{Draft}
-use Rattle.board_parser.specs.declared.draft.draft.Owner.{Owner}
-use Rattle.board_parser.specs.declared.draft.draft.Owner.TheVariants.{Nobody, OfTarget, OfMaster}
+use Rattle.board_parser.specs.declared.draft.draft.AgentPlace.{AgentPlace}
+use Rattle.board_parser.specs.declared.draft.draft.AgentPlace.TheVariants.{Nobody, OfTarget, OfMaster}
 use Rattle.board_parser.specs.draft.Steps.{◌>>=◌}
 
 -- a target or master before has the name
@@ -30,7 +30,7 @@ abbrev pub bus_of_target : Board → List ℕ → Option ℕ
 bus_of_target board name = bus_in (find (is_target_named name) board.targets)
 
 -- the target whose details the next line may give
-abbrev pub owned : Owner → List Target
+abbrev pub owned : AgentPlace → List Target
 owned Nobody = []
 owned (OfTarget target) = target ∷ []
 owned (OfMaster master) = []
@@ -68,7 +68,7 @@ add_target wide board name bus device =
     unless (agent_fault board name bus) (record { wide = wide; board = board; owner = OfTarget (new_target name bus device) })
 
 -- a detail line stands behind its target
-abbrev pub target_in : Owner → Result Target LineFault
+abbrev pub target_in : AgentPlace → Result Target LineFault
 target_in Nobody = Err NoOwner
 target_in (OfTarget target) = Ok target
 target_in (OfMaster master) = Err NoOwner

@@ -11,7 +11,7 @@ use crate::draft::lists::push;
 use crate::draft::masters::add_master;
 use crate::draft::plans::{add_discard, add_drop};
 use crate::draft::targets::add_target;
-use crate::draft::{AddFault, Draft, Owner};
+use crate::draft::{AddFault, AgentPlace, Draft};
 use board_model::{Board, tries_of};
 use board_statements::Statement;
 use pci_command::NoMemory;
@@ -35,18 +35,18 @@ pub(crate) fn board_of(alloc: Global, draft: Draft) -> Result<Board, NoMemory>
 pub(crate) fn close(alloc: Global, draft: &mut Draft) -> Result<(), NoMemory>
     ensures { OnOk result (draft.new ≡ draft_of draft.old.wide (board_of draft.old)) }
 {
-    let owner = mem::replace(&mut draft.owner, Owner::Nobody);
+    let owner = mem::replace(&mut draft.owner, AgentPlace::Nobody);
     join(alloc, &mut draft.board, owner)
 }
 
 /// A target or master stands behind the others of its kind.
-fn join(alloc: Global, board: &mut Board, owner: Owner) -> Result<(), NoMemory>
+fn join(alloc: Global, board: &mut Board, owner: AgentPlace) -> Result<(), NoMemory>
     ensures { OnOk result (board.new ≡ with_owner board.old owner) }
 {
     match owner {
-        Owner::Nobody => Ok(()),
-        Owner::OfTarget(target) => push(alloc, &mut board.targets, target),
-        Owner::OfMaster(master) => push(alloc, &mut board.masters, master),
+        AgentPlace::Nobody => Ok(()),
+        AgentPlace::OfTarget(target) => push(alloc, &mut board.targets, target),
+        AgentPlace::OfMaster(master) => push(alloc, &mut board.masters, master),
     }
 }
 

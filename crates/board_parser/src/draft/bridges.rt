@@ -2,7 +2,7 @@ ghost use Rattle.std.specs.Prelude.{◌≡◌, ◌<◌, ◌≤◌, ◌||◌, ◌
 ghost use Rattle.std.specs.List.{list_any};
 ghost use Rattle.board_model.specs.WellFormed.{has_bus, children_on};
 ghost use Rattle.board_parser.specs.draft.Steps.{Changes};
-ghost use Rattle.board_parser.specs.declared.draft.draft.Owner.TheVariants.{Nobody};
+ghost use Rattle.board_parser.specs.declared.draft.draft.AgentPlace.TheVariants.{Nobody};
 ghost use Rattle.board_parser.specs.draft.Drafts.{board_of};
 ghost use Rattle.board_parser.specs.draft.Bridges.{is_whole, are_windows_whole, is_ordered, are_windows_ordered, put_bridge, add_bridge, fault_of, is_too_wide, bridge_of, put_header, add_header};
 
@@ -11,8 +11,8 @@ use crate::draft::lists::push;
 use crate::draft::{AddFault, Draft};
 use board_headers::{HeaderFault, Windows, decode};
 use board_model::{Board, Bridge, Window};
-use board_statements::LineFault;
 use std::alloc::Global;
+use text_faults::LineFault;
 
 pub(crate) fn add_bridge(alloc: Global, draft: &mut Draft, bridge: Bridge) -> Result<(), AddFault>
     ensures { Changes result draft.new (add_bridge draft.old.wide (board_of draft.old) bridge) }

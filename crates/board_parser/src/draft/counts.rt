@@ -1,8 +1,9 @@
 use board_model::Name;
-use board_statements::{LineFault, Statement};
+use board_statements::Statement;
 use indexmap::IndexSet;
 use pci_command::NoMemory;
 use std::alloc::{AllocError, Global};
+use text_faults::LineFault;
 
 /// A target or master by its name and its bus.
 #[derive(Drop)]

@@ -7,21 +7,21 @@ ghost use Rattle.board_parser.specs.draft.Masters.{does};
 
 use crate::draft::masters::add_op;
 use crate::draft::targets::{add_abort, add_opening, add_range};
-use crate::draft::{AddFault, Draft, Owner};
+use crate::draft::{AddFault, AgentPlace, Draft};
 use board_model::{Op, Opening, Range};
-use board_statements::LineFault;
 use std::alloc::Global;
+use text_faults::LineFault;
 
 pub(crate) fn identify(draft: &mut Draft, vendor: u16, model: u16) -> Result<(), AddFault>
     ensures { Changes result draft.new (on_target draft.old (set_identity vendor model)) }
 {
     match &mut draft.owner {
-        Owner::OfTarget(target) => {
+        AgentPlace::OfTarget(target) => {
             target.vendor = vendor;
             target.model = model;
             Ok(())
         }
-        Owner::Nobody | Owner::OfMaster(_) => Err(AddFault::Fault(LineFault::NoOwner)),
+        AgentPlace::Nobody | AgentPlace::OfMaster(_) => Err(AddFault::Fault(LineFault::NoOwner)),
     }
 }
 
@@ -29,11 +29,11 @@ pub(crate) fn stall(draft: &mut Draft, tokens: u32) -> Result<(), AddFault>
     ensures { Changes result draft.new (on_target draft.old (set_stalls tokens)) }
 {
     match &mut draft.owner {
-        Owner::OfTarget(target) => {
+        AgentPlace::OfTarget(target) => {
             target.stalls = tokens;
             Ok(())
         }
-        Owner::Nobody | Owner::OfMaster(_) => Err(AddFault::Fault(LineFault::NoOwner)),
+        AgentPlace::Nobody | AgentPlace::OfMaster(_) => Err(AddFault::Fault(LineFault::NoOwner)),
     }
 }
 
@@ -41,11 +41,11 @@ pub(crate) fn burst(draft: &mut Draft, phases: u8) -> Result<(), AddFault>
     ensures { Changes result draft.new (on_target draft.old (set_burst phases)) }
 {
     match &mut draft.owner {
-        Owner::OfTarget(target) => {
+        AgentPlace::OfTarget(target) => {
             target.burst = phases;
             Ok(())
         }
-        Owner::Nobody | Owner::OfMaster(_) => Err(AddFault::Fault(LineFault::NoOwner)),
+        AgentPlace::Nobody | AgentPlace::OfMaster(_) => Err(AddFault::Fault(LineFault::NoOwner)),
     }
 }
 
@@ -53,8 +53,8 @@ pub(crate) fn claim(alloc: Global, draft: &mut Draft, range: Range) -> Result<()
     ensures { Changes result draft.new (on_target draft.old (add_range draft.old.wide range)) }
 {
     match &mut draft.owner {
-        Owner::OfTarget(target) => add_range(alloc, draft.wide, range, target),
-        Owner::Nobody | Owner::OfMaster(_) => Err(AddFault::Fault(LineFault::NoOwner)),
+        AgentPlace::OfTarget(target) => add_range(alloc, draft.wide, range, target),
+        AgentPlace::Nobody | AgentPlace::OfMaster(_) => Err(AddFault::Fault(LineFault::NoOwner)),
     }
 }
 
@@ -62,8 +62,8 @@ pub(crate) fn abort(alloc: Global, draft: &mut Draft, range: Range) -> Result<()
     ensures { Changes result draft.new (on_target draft.old (add_abort draft.old.wide range)) }
 {
     match &mut draft.owner {
-        Owner::OfTarget(target) => add_abort(alloc, draft.wide, range, target),
-        Owner::Nobody | Owner::OfMaster(_) => Err(AddFault::Fault(LineFault::NoOwner)),
+        AgentPlace::OfTarget(target) => add_abort(alloc, draft.wide, range, target),
+        AgentPlace::Nobody | AgentPlace::OfMaster(_) => Err(AddFault::Fault(LineFault::NoOwner)),
     }
 }
 
@@ -71,8 +71,8 @@ pub(crate) fn open_word(alloc: Global, draft: &mut Draft, opening: Opening) -> R
     ensures { Changes result draft.new (on_target draft.old (add_opening opening)) }
 {
     match &mut draft.owner {
-        Owner::OfTarget(target) => add_opening(alloc, opening, target),
-        Owner::Nobody | Owner::OfMaster(_) => Err(AddFault::Fault(LineFault::NoOwner)),
+        AgentPlace::OfTarget(target) => add_opening(alloc, opening, target),
+        AgentPlace::Nobody | AgentPlace::OfMaster(_) => Err(AddFault::Fault(LineFault::NoOwner)),
     }
 }
 
@@ -88,7 +88,7 @@ pub(crate) fn operate(
     ensures { Changes result draft.new (does draft.old op too_many) }
 {
     match &mut draft.owner {
-        Owner::OfMaster(master) => add_op(alloc, operations, op, too_many, master),
-        Owner::Nobody | Owner::OfTarget(_) => Err(AddFault::Fault(LineFault::NoOwner)),
+        AgentPlace::OfMaster(master) => add_op(alloc, operations, op, too_many, master),
+        AgentPlace::Nobody | AgentPlace::OfTarget(_) => Err(AddFault::Fault(LineFault::NoOwner)),
     }
 }

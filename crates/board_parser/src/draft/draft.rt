@@ -2,7 +2,7 @@ use board_model::{Board, Master, Target};
 
 /// Whose details the next line may give.
 #[derive(Debug, Drop)]
-pub enum Owner {
+pub enum AgentPlace {
     /// Nobody's: the last line was of another kind, or there was none.
     Nobody,
     /// Those of the target that began last.
@@ -18,5 +18,5 @@ pub struct Draft {
     pub wide: bool,
     /// The board without the owner.
     pub board: Board,
-    pub owner: Owner,
+    pub owner: AgentPlace,
 }

@@ -1,6 +1,6 @@
-use board_statements::LineFault;
 use pci_command::NoMemory;
 use std::alloc::AllocFailed;
+use text_faults::LineFault;
 use thiserror::Error;
 
 /// Why a statement was not added to a draft.

@@ -7,10 +7,10 @@ ghost use Rattle.board_parser.specs.draft.Masters.{add_master, is_aligned, passe
 
 use crate::draft::add::close;
 use crate::draft::lists::{empty, push};
-use crate::draft::{AddFault, Draft, Owner};
+use crate::draft::{AddFault, AgentPlace, Draft};
 use board_model::{Master, Name, Op, tries_of};
-use board_statements::LineFault;
 use std::alloc::Global;
+use text_faults::LineFault;
 
 /// A master, unless a name or a limit forbids it by that fault.
 pub(crate) fn add_master(
@@ -27,7 +27,7 @@ pub(crate) fn add_master(
     if let Some(fault) = fault {
         return Err(AddFault::Fault(fault));
     }
-    draft.owner = Owner::OfMaster(Master {
+    draft.owner = AgentPlace::OfMaster(Master {
         name,
         bus,
         ops: empty(alloc),

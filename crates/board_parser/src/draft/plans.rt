@@ -6,8 +6,8 @@ use crate::draft::add::close;
 use crate::draft::lists::push;
 use crate::draft::{AddFault, Draft};
 use board_model::Planned;
-use board_statements::LineFault;
 use std::alloc::Global;
+use text_faults::LineFault;
 
 pub(crate) fn add_discard(
     alloc: Global,

@@ -11,7 +11,7 @@ ghost use Rattle.board_parser.specs.draft.Targets.{bus_in, owned};
 use crate::draft::add::{add, board_of, tries_in};
 use crate::draft::counts::{Agent, Counts};
 use crate::draft::lists::empty;
-use crate::draft::{AddFault, Draft, Owner};
+use crate::draft::{AddFault, AgentPlace, Draft};
 use board_model::{Board, Name, Target, is_bus};
 use board_statements::Statement;
 use pci_command::NoMemory;
@@ -62,7 +62,7 @@ impl Sheet {
             draft: Draft {
                 wide,
                 board,
-                owner: Owner::Nobody,
+                owner: AgentPlace::Nobody,
             },
             counts: Counts::new(alloc),
         }
@@ -119,8 +119,8 @@ impl Sheet {
     {
         let before = self.draft.board.masters.as_slice().len();
         match &self.draft.owner {
-            Owner::OfMaster(_) => before + 1,
-            Owner::Nobody | Owner::OfTarget(_) => before,
+            AgentPlace::OfMaster(_) => before + 1,
+            AgentPlace::Nobody | AgentPlace::OfTarget(_) => before,
         }
     }
 
@@ -160,11 +160,11 @@ fn bus_of_named(targets: &[Target], name: &Name) -> Option<u8>
     Some(target.bus)
 }
 
-fn bus_of_owner(owner: &Owner, name: &Name) -> Option<u8>
+fn bus_of_owner(owner: &AgentPlace, name: &Name) -> Option<u8>
     ensures { result ≡ bus_in (find (is_target_named name.now) (owned owner.now)) }
 {
     match owner {
-        Owner::OfTarget(target) if target.name.bytes() == name.bytes() => Some(target.bus),
+        AgentPlace::OfTarget(target) if target.name.bytes() == name.bytes() => Some(target.bus),
         _ => None,
     }
 }

@@ -7,11 +7,11 @@ ghost use Rattle.board_parser.specs.draft.Targets.{agent_fault, new_target, add_
 
 use crate::draft::add::close;
 use crate::draft::lists::{empty, push};
-use crate::draft::{AddFault, Draft, Owner};
+use crate::draft::{AddFault, AgentPlace, Draft};
 use board_model::{Name, Opening, Range, Target, registers_fit, registers_of};
-use board_statements::LineFault;
 use pci_command::Space;
 use std::alloc::Global;
+use text_faults::LineFault;
 
 /// A target, unless a name or a limit forbids it by that fault.
 pub(crate) fn add_target(
@@ -29,7 +29,7 @@ pub(crate) fn add_target(
     if let Some(fault) = fault {
         return Err(AddFault::Fault(fault));
     }
-    draft.owner = Owner::OfTarget(new_target(alloc, name, bus, device));
+    draft.owner = AgentPlace::OfTarget(new_target(alloc, name, bus, device));
     Ok(())
 }
 

@@ -10,7 +10,7 @@ use Rattle.board_model.specs.WellFormed.{is_window, is_well_formed_bridge}
 use Rattle.board_printer.specs.Numbers.{address_text}
 use Rattle.board_printer.specs.Bridges.{window_words, depth_words, mode_words, bridge_line}
 use Rattle.board_printer.specs.Boards.{is_short, is_short_window, is_short_bridge}
-use Rattle.board_statements.specs.declared.fault.LineFault.{LineFault}
+use Rattle.text_faults.specs.declared.board_line.LineFault.{LineFault}
 use Rattle.board_statements.specs.declared.statement.Statement.TheVariants.{NewBridge}
 use Rattle.board_statements.specs.Words.{has_mark, begins_with, decimal_of, fixed_of}
 use Rattle.board_statements.specs.Keywords.{form_of}

@@ -22,7 +22,7 @@ use Rattle.board_printer.specs.Bridges.{bridge_line}
 use Rattle.board_printer.specs.Targets.{target_line, range_line, opening_line}
 use Rattle.board_printer.specs.Masters.{master_line, op_line}
 use Rattle.board_printer.specs.Boards.{is_short, is_short_bridge, is_short_range, is_short_op, is_short_board, planned_line, first_line}
-use Rattle.board_statements.specs.declared.fault.LineFault.{LineFault}
+use Rattle.text_faults.specs.declared.board_line.LineFault.{LineFault}
 use Rattle.board_statements.specs.declared.statement.Statement.{Statement}
 use Rattle.board_statements.specs.declared.statement.Statement.TheVariants.{NewBridge, NewTarget, Identifies, Stalls, Bursts, Claims, Aborts, Opens, NewMaster, Does, Discards, Drops}
 use Rattle.board_statements.specs.Statements.{statement_of, first_line_of}

@@ -20,7 +20,7 @@ use Rattle.board_printer.specs.Numbers.{phase_text}
 use Rattle.board_printer.specs.Masters.{master_line, op_line, write_line}
 use Rattle.board_printer.specs.Spaces.{direction_word}
 use Rattle.board_printer.specs.Boards.{is_short, is_short_op, planned_line}
-use Rattle.board_statements.specs.declared.fault.LineFault.{LineFault}
+use Rattle.text_faults.specs.declared.board_line.LineFault.{LineFault}
 use Rattle.board_statements.specs.declared.statement.Statement.TheVariants.{NewMaster, Does, Discards, Drops}
 use Rattle.board_statements.specs.Words.{fixed_of, name_of}
 use Rattle.board_statements.specs.Keywords.{form_of}

@@ -9,7 +9,7 @@ use Rattle.std.specs.Fmt.{decimal}
 use Rattle.std.specs.Str.Parse.{digits_value}
 use Rattle.board_text.specs.Numbers.{is_numeral}
 use Rattle.board_printer.specs.Numbers.{hex}
-use Rattle.board_statements.specs.declared.fault.LineFault.{LineFault}
+use Rattle.text_faults.specs.declared.board_line.LineFault.{LineFault}
 use Rattle.board_statements.specs.Words.{hex_of, decimal_of}
 use Rattle.board_roundtrip.proofs.words.Laws.{hex_digits, hex_length, hex_value, from_all_digits}
 

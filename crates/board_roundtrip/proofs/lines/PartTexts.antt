@@ -8,7 +8,7 @@ use Rattle.std.specs.Char.{is_digit}
 use Rattle.std.specs.Fmt.{digit_glyph}
 use Rattle.pci_command.specs.declared.phases.Phase.{Phase}
 use Rattle.board_printer.specs.Numbers.{hex, word_text, half_text, address_text, phase_text}
-use Rattle.board_statements.specs.declared.fault.LineFault.{LineFault}
+use Rattle.text_faults.specs.declared.board_line.LineFault.{LineFault}
 use Rattle.board_statements.specs.Words.{hex_of, has_mark, before_mark, behind_mark, lower_of, long_of, digit_of, data_word_of}
 use Rattle.board_roundtrip.proofs.lines.NumberTexts.{number, hex_is_read}
 use Rattle.board_roundtrip.proofs.words.Laws.{glyph_value, glyph_is_digit, hex_digits, hex_length}

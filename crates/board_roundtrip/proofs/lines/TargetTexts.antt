@@ -14,7 +14,7 @@ use Rattle.board_printer.specs.Numbers.{half_text, word_text, address_text}
 use Rattle.board_printer.specs.Spaces.{space_word}
 use Rattle.board_printer.specs.Targets.{target_line, range_line, opening_line}
 use Rattle.board_printer.specs.Boards.{is_short, is_short_range}
-use Rattle.board_statements.specs.declared.fault.LineFault.{LineFault}
+use Rattle.text_faults.specs.declared.board_line.LineFault.{LineFault}
 use Rattle.board_statements.specs.declared.statement.Statement.TheVariants.{NewTarget, Identifies, Stalls, Bursts, Claims, Aborts, Opens}
 use Rattle.board_statements.specs.Words.{hex_of, fixed_of, name_of, long_of}
 use Rattle.board_statements.specs.Keywords.{form_of}

@@ -20,7 +20,7 @@ use Rattle.history_model.specs.Answers.{lane_answer, presents}
 use Rattle.history_model.proofs.facts.BridgeLemmas.{lane_back_back}
 use Rattle.law_local.proofs.Laws.{moved_here, moved_back}
 use Rattle.lane_items.specs.declared.item.Item.{Item}
-use Rattle.bus_face.specs.declared.requests.slot_table.Slot.{Slot}
+use Rattle.bus_face.specs.declared.requests.slot_table.SlotEntry.{SlotEntry}
 use Rattle.bus_face.specs.declared.completions.done_table.Done.{Done}
 use Rattle.bus_face.specs.completions.Completions.{done_at}
 use Rattle.bus_face.specs.declared.reply.Reply.{Reply}
@@ -158,7 +158,7 @@ taken_arrivals : (face : FaceState) (slot : ℕ) (read : Bool) (done : Option Do
 taken_arrivals face slot read None = refl
 taken_arrivals face slot read (Some done) = cond_arrivals (read && is_behind done.arrival face.posts.posts) _ _ face.arrivals refl refl
 
-delayed_arrivals : (face : FaceState) (number tag : ℕ) (op : OpId) (request : Request) (own : Option Slot) → (delayed_reply face number tag op request own).1.arrivals ≡ face.arrivals
+delayed_arrivals : (face : FaceState) (number tag : ℕ) (op : OpId) (request : Request) (own : Option SlotEntry) → (delayed_reply face number tag op request own).1.arrivals ≡ face.arrivals
 delayed_arrivals face number tag op request None = cond_arrivals (nat_lt (length face.slots.slots) face.slots.depth) _ _ face.arrivals refl refl
 delayed_arrivals face number tag op request (Some slot) = taken_arrivals face slot.number (is_read request.command) (done_at slot.number face.dones.dones)
 

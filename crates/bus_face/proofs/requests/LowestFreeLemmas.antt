@@ -2,17 +2,17 @@
 use Rattle.std.proofs.Common.{◌≡◌, ◌≢◌, ℕ, zero, suc, ◌+◌, ◌<◌, ◌≤◌, List, [], ◌∷◌, length, inl, inr, arith}
 use Rattle.std.proofs.lemmas.Bool.{cases_order}
 use Rattle.std.proofs.lemmas.Bool.Decides.{nat_tests}
-use Rattle.bus_face.specs.declared.requests.slot_table.Slot.{Slot}
+use Rattle.bus_face.specs.declared.requests.slot_table.SlotEntry.{SlotEntry}
 use Rattle.bus_face.specs.requests.Slots.{without, IsHeld, IsLowestFree}
 use Rattle.bus_face.proofs.requests.SlotLemmas.{slot_at-without_other}
 
 -- one slot fewer is held once one was freed
-length-without : (number : ℕ) (slots : List Slot) → IsHeld number slots → length (without number slots) + 1 ≡ length slots
+length-without : (number : ℕ) (slots : List SlotEntry) → IsHeld number slots → length (without number slots) + 1 ≡ length slots
 length-without number [] held = cc
 length-without number (first ∷ later) held = grind (arith, nat_tests, length-without number later)
 
 -- where all numbers below some number are held, as many slots are
-pub all_below_held : (number : ℕ) (slots : List Slot) → ((lower : ℕ) → lower < number → IsHeld lower slots) → number ≤ length slots
+pub all_below_held : (number : ℕ) (slots : List SlotEntry) → ((lower : ℕ) → lower < number → IsHeld lower slots) → number ≤ length slots
 all_below_held zero slots held = omega arith
 all_below_held (suc last) slots held =
     let others : (lower : ℕ) → lower < last → IsHeld lower (without last slots) =
@@ -21,7 +21,7 @@ all_below_held (suc last) slots held =
     omega (arith, all_below_held last (without last slots) others, length-without last slots (held last (omega arith)))
 
 -- there is one lowest free number
-pub IsLowestFree-unique : (a b : ℕ) (slots : List Slot) → IsLowestFree a slots → IsLowestFree b slots → a ≡ b
+pub IsLowestFree-unique : (a b : ℕ) (slots : List SlotEntry) → IsLowestFree a slots → IsLowestFree b slots → a ≡ b
 IsLowestFree-unique a b slots p q =
     elim (cases_order a b) [
       | inl same ↦ same

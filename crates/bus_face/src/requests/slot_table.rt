@@ -8,7 +8,7 @@ use std::marker::Model;
 /// A held slot: its number, the tag of the initiator whose request was latched, the operation, and
 /// the request as it was driven on this bus.
 #[derive(Debug, Default, Drop)]
-pub struct Slot {
+pub struct SlotEntry {
     pub number: u8,
     pub tag: u8,
     pub op: OpId,
@@ -20,7 +20,7 @@ pub struct Slot {
 #[derive(Debug, Drop)]
 pub struct SlotTable {
     limit: u8,
-    held: ArrayVec<Slot, 8>,
+    held: ArrayVec<SlotEntry, 8>,
 }
 
 impl Model for SlotTable {
@@ -101,7 +101,7 @@ impl SlotTable {
         ensures others { KeepsOthers result self.old.slots self.new.slots }
     {
         let number = self.lowest_free();
-        self.held.push(Slot {
+        self.held.push(SlotEntry {
             number,
             tag,
             op,

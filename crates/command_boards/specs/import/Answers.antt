@@ -1,8 +1,8 @@
 -- import: what is written for what `lspci` wrote.
 use Rattle.std.specs.Prelude.{◌≡◌, ◌≤◌, ◌^◌, ℕ, List, length, Option, Some, None, is_none, Result, Ok, Err, nat_le, ◌&&◌, if◌then◌else◌}
 use Rattle.board_model.specs.declared.board.Board.{Board}
-use Rattle.import_text.specs.declared.fault.LspciFault.{LspciFault}
-use Rattle.import_text.specs.declared.fault.LspciFault.TheVariants.{NoBoard}
+use Rattle.text_faults.specs.declared.lspci.LspciFault.{LspciFault}
+use Rattle.text_faults.specs.declared.lspci.LspciFault.TheVariants.{NoBoard}
 use Rattle.import_board.specs.Import.{imported}
 use Rattle.program_status.specs.declared.status.Status.{Status}
 use Rattle.program_status.specs.declared.status.Status.TheVariants.{BadMachine}

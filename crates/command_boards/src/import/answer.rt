@@ -1,16 +1,17 @@
 ghost use Rattle.std.specs.Prelude.{◌≡◌, ◌≢◌, ◌<◌, ◌≤◌, ◌^◌, length, IfOk, IfErr};
 ghost use Rattle.program_status.specs.declared.status.Status.TheVariants.{NoMemory, BadMachine};
-ghost use Rattle.import_text.specs.declared.fault.LspciFault.TheVariants.{NoBoard};
+ghost use Rattle.text_faults.specs.declared.lspci.LspciFault.TheVariants.{NoBoard};
 ghost use Rattle.program_input.specs.Boards.{ReadsBoard};
 ghost use Rattle.program_input.specs.Refusals.{RefusesBy};
 ghost use Rattle.command_boards.specs.import.Answers.{AnswersImport, RefusesImport, text_refusal};
 
 use board_tree::Tree;
 use import_board::import_board;
-use import_text::{LspciFault, ReadFault};
+use import_text::ReadFault;
 use program_input::read_tree;
 use program_status::Status;
 use std::alloc::Global;
+use text_faults::LspciFault;
 
 /// The board text of the machine of which `lspci -vvxxx` wrote these bytes, below the least bus of
 /// its least domain. It is read before it is answered: it is the text of a valid board, of at most

@@ -7,7 +7,7 @@ use traffic_generator::Rounds;
 /// The rounds that a word names: a decimal of 1 to 10 digits, from 1 to 300. There are none exactly
 /// where the word is no such number.
 #[tactic(auto, unfolding(crate::specs::generate::Answers::rounds_of))]
-pub fn rounds_of(word: &[u8]) -> Option<Rounds>
+pub(crate) fn rounds_of(word: &[u8]) -> Option<Rounds>
     ensures { result ≡ rounds_of word.now }
 {
     match decimal(word) {

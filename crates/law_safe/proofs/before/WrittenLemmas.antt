@@ -37,7 +37,7 @@ use Rattle.law_lanes.proofs.Laws.{delayed-not_parted, WellFormed-single}
 use Rattle.law_lanes.proofs.order.Laws.{OneClaimant-formed, AbortWhole-formed, rest_claimed, Short-run}
 use Rattle.law_fresh.proofs.reads.Laws.{master_there}
 use Rattle.law_fresh.proofs.Laws.{whole, target_on}
-use Rattle.law_delivered.specs.Clear.{phases_at}
+use Rattle.history_model.specs.Clear.{phases_at}
 use Rattle.law_delivered.proofs.EndLemmas.{ending, one_end, target_bus, master_bus_there}
 use Rattle.law_delivered.proofs.WholeLemmas.{is_taken, taken_at}
 use Rattle.law_delivered.proofs.FlagLemmas.{IsOne, at_drop, LandsOne, at_one, brings_of, landed_each}

@@ -3,8 +3,8 @@ use Rattle.std.specs.Prelude.{ℕ, Bool, ◌+◌, ◌-◌, List, length, Option,
 use Rattle.board_text.specs.Lines.{is_allowed}
 use Rattle.board_text.specs.Tokens.{tokens_of}
 use Rattle.board_text.specs.declared.tokens.Token.{Token}
-use Rattle.board_statements.specs.declared.fault.LineFault.{LineFault}
-use Rattle.board_statements.specs.declared.fault.LineFault.TheVariants as faults
+use Rattle.text_faults.specs.declared.board_line.LineFault.{LineFault}
+use Rattle.text_faults.specs.declared.board_line.LineFault.TheVariants as faults
 use Rattle.program_messages.specs.declared.refused.spot.Spot.{Spot}
 use Rattle.program_messages.specs.declared.refused.spot.Spot.TheVariants.{BehindLimit, BadByte, BehindWords, Word}
 

@@ -1,10 +1,10 @@
 ghost use Rattle.std.specs.Prelude.{◌≡◌, ◌<◌, ◌^◌, length, position, IfOk};
 ghost use Rattle.program_messages.specs.refused.Spots.{named_spot, place_of, is_barred, behind, start_of};
 
-use board_statements::LineFault;
 use board_text::{Token, tokens_of};
 use pci_command::NoMemory;
 use std::alloc::Global;
+use text_faults::LineFault;
 
 /// What of a line is pointed at.
 #[derive(Clone, Copy, Debug, PartialEq, Eq)]

@@ -1,5 +1,5 @@
 use crate::help::OwnWord;
-use crate::{Part, Row};
+use crate::{FormRow, Part};
 use std::fmt;
 
 /// Where the help lines begin.
@@ -21,7 +21,7 @@ pub(crate) struct Call {
 }
 
 impl Call {
-    pub(crate) fn of_row(row: Row) -> Call {
+    pub(crate) fn of_row(row: FormRow) -> Call {
         Call {
             words: CallWords::Parts(row.parts),
             line: row.line,

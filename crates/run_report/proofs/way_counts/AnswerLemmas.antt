@@ -23,8 +23,8 @@ use Rattle.history_model.specs.declared.item.Answer.TheVariants.{Gives}
 use Rattle.history_model.specs.World.{world_of}
 use Rattle.history_model.specs.Words.{through, without, value_of}
 use Rattle.history_model.specs.Answers.{stalls_used, target_step, target_answer, header_answer, bridge_to, answer_by, answer_to, answer}
-use Rattle.run_report.specs.declared.tallies.Kind.{Kind}
-use Rattle.run_report.specs.declared.tallies.Kind.TheVariants.{Land, Read, MasterAbort, TargetAbort}
+use Rattle.run_report.specs.declared.tallies.CountedKind.{CountedKind}
+use Rattle.run_report.specs.declared.tallies.CountedKind.TheVariants.{Land, Read, MasterAbort, TargetAbort}
 use Rattle.run_report.specs.Counts.{kind_of_step}
 use Rattle.run_report.specs.way_counts.Plain.{is_ready, IsSteady}
 use Rattle.run_report.specs.way_counts.WayCounts.{target_kind, header_kind, last_kind}
@@ -42,12 +42,12 @@ IsLast steps.MasterAbort = Unit {0}
 IsLast steps.TargetAbort = Unit {0}
 
 -- the last step, of this kind, at a place that is no lane
-pub record Last (step : Step) (place : Place) (kind : Kind) : Type 0 where
+pub record Last (step : Step) (place : Place) (kind : CountedKind) : Type 0 where
   pub is_last : IsLast step
   pub is_kind : kind_of_step step ≡ kind
   pub no_lane : is_lane place ≡ false
 
-last_of : (step given : Step) (place at : Place) (kind : Kind) → Gives step place ≡ Gives given at → IsLast step → kind_of_step step ≡ kind → is_lane place ≡ false → Last given at kind
+last_of : (step given : Step) (place at : Place) (kind : CountedKind) → Gives step place ≡ Gives given at → IsLast step → kind_of_step step ≡ kind → is_lane place ≡ false → Last given at kind
 last_of step given place at kind same last is none =
     let steps_same : step ≡ given = cc in
     let places : place ≡ at = cc in
@@ -64,7 +64,7 @@ module _ (board : Board) (steady : IsSteady board) where
       let no_stall : nat_lt (stalls_used h place) target.stalls ≡ false = grind (arith, nat_tests) in
       let no_part : nat_lt target.burst (length request.phases) ≡ false = grind (arith, nat_tests) in
       let reads : Step = steps.Read (value_of board h (record { target = place; space = space_of request.command; address = address_in (space_of request.command) request.address })) in
-      let T : Step → Kind → Type 0 = λ step kind. IsLast step × (kind_of_step step ≡ kind) in
+      let T : Step → CountedKind → Type 0 = λ step kind. IsLast step × (kind_of_step step ≡ kind) in
       let A : Bool → Type 0 = λ b. T (cond b (steps.Part target.burst) steps.Land) Land in
       let a : A (nat_lt target.burst (length request.phases)) = subst A (sym no_part) (tt, refl) in
       let writes : Step = cond (nat_lt target.burst (length request.phases)) (steps.Part target.burst) steps.Land in

@@ -18,7 +18,7 @@ use Rattle.history_model.specs.Lanes.{is_of, is_done_for, has_number, lowest_fre
 use Rattle.history_model.specs.World.{World, both, moved}
 use Rattle.history_model.specs.Answers.{bridge_to}
 use Rattle.law_lanes.specs.Depths.{DifferentNumbers}
-use Rattle.run_report.specs.declared.tallies.Kind.TheVariants.{Latch, Arrive}
+use Rattle.run_report.specs.declared.tallies.CountedKind.TheVariants.{Latch, Arrive}
 use Rattle.run_report.specs.way_counts.WayCounts.{Weight}
 use Rattle.run_report.proofs.way_counts.Weights.{behind, flying, standing, holding, lane_items, lane_slots, items, slots}
 use Rattle.run_report.proofs.way_counts.SumLemmas.{over-move}

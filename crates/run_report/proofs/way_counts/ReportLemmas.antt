@@ -22,7 +22,7 @@ use Rattle.board_model.specs.Ways.{Route, route_of, aborts_at, pieces_in, pieces
 use Rattle.board_printer.specs.Lines.{line_text}
 use Rattle.history_model.specs.declared.event.Event.{Event}
 use Rattle.history_model.specs.Local.{bus_of}
-use Rattle.run_report.specs.declared.tallies.Kind.{Kind}
+use Rattle.run_report.specs.declared.tallies.CountedKind.{CountedKind}
 use Rattle.run_report.specs.Counts.{kind_of, column, is_counted, count_of}
 use Rattle.run_report.specs.Report.{operations_of, size_line, length_line, report_with, report_of}
 use Rattle.run_report.proofs.LineLemmas.{buses_same}
@@ -32,7 +32,7 @@ use Rattle.run_report.specs.way_counts.Weighed.{weigh}
 use Rattle.run_report.proofs.way_counts.ProgramLemmas.{once}
 
 -- a count is a weight
-pub counts_weigh : (board : Board) (bus : ℕ) (kind : Kind) (h : List Event) → count_of board h bus kind ≡ weigh board (one_of bus kind) h
+pub counts_weigh : (board : Board) (bus : ℕ) (kind : CountedKind) (h : List Event) → count_of board h bus kind ≡ weigh board (one_of bus kind) h
 counts_weigh board bus kind [] = refl
 counts_weigh board bus kind (e ∷ h) =
     let same : Bool = column (kind_of e) == column kind in
@@ -127,7 +127,7 @@ module _ (board : Board) (steady : IsSteady board) where
 pub complete_long : (board : Board) (h : List Event) → ((weight : Weight) → weigh board weight h ≡ ways_weight board weight) → IsValid board → IsSteady board → length h ≡ bound_of board
 complete_long board h weighs valid steady = long_weighs board h ∙ weighs (λ _ _. 1) ∙ bound_weighs board steady valid
 
-reports_same : (board : Board) (events : ℕ) (c d : ℕ → Kind → ℕ) → ((bus : ℕ) (kind : Kind) → c bus kind ≡ d bus kind) → report_with board events c ≡ report_with board events d
+reports_same : (board : Board) (events : ℕ) (c d : ℕ → CountedKind → ℕ) → ((bus : ℕ) (kind : CountedKind) → c bus kind ≡ d bus kind) → report_with board events c ≡ report_with board events d
 reports_same board events c d same =
     ap (λ (t : List ℕ). line_text (size_line (length board.bridges + 1) (length board.masters) (operations_of board)) ++ (line_text (length_line events (bound_of board)) ++ t))
     (buses_same board c d (λ bus kind _. same bus kind))

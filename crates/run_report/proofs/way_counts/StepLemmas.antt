@@ -29,8 +29,8 @@ use Rattle.history_model.proofs.facts.RequestLemmas.{same_op_true}
 use Rattle.law_lanes.specs.Slots.{IsHeldFor}
 use Rattle.law_lanes.specs.Depths.{DifferentNumbers}
 use Rattle.board_model.specs.form_laws.Trees.{IsTree}
-use Rattle.run_report.specs.declared.tallies.Kind.{Kind}
-use Rattle.run_report.specs.declared.tallies.Kind.TheVariants.{Accept, Latch, Take, Arrive}
+use Rattle.run_report.specs.declared.tallies.CountedKind.{CountedKind}
+use Rattle.run_report.specs.declared.tallies.CountedKind.TheVariants.{Accept, Latch, Take, Arrive}
 use Rattle.run_report.specs.Counts.{kind_of_step}
 use Rattle.run_report.specs.way_counts.WayCounts.{Weight, lane_weight, last_kind, way_weight}
 use Rattle.run_report.proofs.way_counts.Weights.{from_bus, behind, flying, standing, items, slots}
@@ -143,7 +143,7 @@ module _ (board : Board) (distinct : DifferentNumbers board) (tree : IsTree boar
     goes : from_bus board weight on o ≡ lane_weight board weight (is_posted (request_on op on)) lane + from_bus board weight (end_of board lane) o
     goes = of_op on ∙ over_lane board weight op on lane tree claims ∙ ap (λ n. lane_weight board weight (is_posted (request_on op on)) lane + n) (sym (of_op (end_of board lane)))
 
-    at_start : (kind : Kind) → weight (start_of board lane) kind ≡ weight on kind
+    at_start : (kind : CountedKind) → weight (start_of board lane) kind ≡ weight on kind
     at_start kind = ap (λ n. weight n kind) starts
 
     posted_goes : is_posted (request_on op on) ≡ true → from_bus board weight on o ≡ weight on Accept + (weight (end_of board lane) Arrive + behind board weight lane o)

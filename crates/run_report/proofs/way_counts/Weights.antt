@@ -13,7 +13,7 @@ use Rattle.history_model.specs.declared.item.Slot.{Slot}
 use Rattle.history_model.specs.Lanes.{LaneState}
 use Rattle.history_model.specs.World.{World}
 use Rattle.law_lanes.specs.order.One.{over_lanes}
-use Rattle.run_report.specs.declared.tallies.Kind.TheVariants.{Latch, Arrive}
+use Rattle.run_report.specs.declared.tallies.CountedKind.TheVariants.{Latch, Arrive}
 use Rattle.run_report.specs.way_counts.WayCounts.{Weight, way_weight}
 
 -- what an operation counts from a bus on, where it is there

@@ -14,8 +14,8 @@ use Rattle.board_model.specs.declared.op.Op.{Op}
 use Rattle.board_model.specs.declared.board.Board.{Board}
 use Rattle.board_model.specs.Requests.{request_on, is_posted}
 use Rattle.board_model.specs.Ways.{route_of, start_of, end_of, aborts_at, bound_of}
-use Rattle.run_report.specs.declared.tallies.Kind.{Kind}
-use Rattle.run_report.specs.declared.tallies.Kind.TheVariants.{Land, Read, Accept, Latch, Take, MasterAbort, TargetAbort, Arrive}
+use Rattle.run_report.specs.declared.tallies.CountedKind.{CountedKind}
+use Rattle.run_report.specs.declared.tallies.CountedKind.TheVariants.{Land, Read, Accept, Latch, Take, MasterAbort, TargetAbort, Arrive}
 use Rattle.run_report.specs.Counts.{column}
 use Rattle.run_report.specs.Report.{report_with}
 
@@ -23,10 +23,10 @@ use Rattle.run_report.specs.Report.{report_with}
 
 -- the weight of an event of a kind on a bus
 abbrev pub Weight : Type 0
-Weight = ℕ → Kind → ℕ
+Weight = ℕ → CountedKind → ℕ
 
 -- the weight that counts the events of a kind on a bus
-abbrev pub one_of : ℕ → Kind → Weight
+abbrev pub one_of : ℕ → CountedKind → Weight
 one_of bus kind on other = if on == bus then (if column other == column kind then 1 else 0) else 0
 
 -- a memory write enters a bridge with one Accept; any other operation with one Latch, and its completion is taken there
@@ -41,7 +41,7 @@ lane_weight board weight posted lane =
     entry_weight weight posted (start_of board lane) + weight (end_of board lane) Arrive + weight (start_of board lane) Arrive
 
 -- the last step of an operation, by who claims it at the end of its way
-abbrev pub target_kind : Request → Option TargetAgent → Kind
+abbrev pub target_kind : Request → Option TargetAgent → CountedKind
 target_kind request None = MasterAbort
 target_kind request (Some target) =
     if aborts_at target request then TargetAbort
@@ -49,12 +49,12 @@ target_kind request (Some target) =
     else Land
 
 -- the header of a bridge answers a read; where the bridge is not there nobody does
-abbrev pub header_kind : Option Bridge → Kind
+abbrev pub header_kind : Option Bridge → CountedKind
 header_kind None = MasterAbort
 header_kind (Some bridge) = Read
 
 -- the same by the place that claims it
-abbrev pub last_kind : Board → Request → Place → Kind
+abbrev pub last_kind : Board → Request → Place → CountedKind
 last_kind board request (Target place) = target_kind request (slice_get board.targets place)
 last_kind board request (Header bus) = header_kind (find (λ bridge. bridge.bus == bus) board.bridges)
 last_kind board request (Lane lane) = MasterAbort
@@ -72,7 +72,7 @@ abbrev pub ways_weight : Board → Weight → ℕ
 ways_weight board weight = total (λ (master : Master). total (way_weight board weight master.bus) master.ops) board.masters
 
 -- the way counts: how many events of each kind the operations of a board have on each bus
-abbrev pub way_counts : Board → ℕ → Kind → ℕ
+abbrev pub way_counts : Board → ℕ → CountedKind → ℕ
 way_counts board bus kind = ways_weight board (one_of bus kind)
 
 -- the report with the way counts; such a run has as many events as the board's bound

@@ -3,8 +3,8 @@ use Rattle.std.proofs.Common.{◌≡◌, ℕ, Bool, true, false, cond, eqb, List
 use Rattle.std.specs.Prelude.{◌&&◌, is_some}
 use Rattle.std.proofs.lemmas.Bool.Decides.{nat_tests}
 use Rattle.board_model.specs.declared.board.Board.{Board}
-use Rattle.trace_reader.specs.declared.lines.kind.Kind.{Kind}
-use Rattle.trace_reader.specs.declared.lines.kind.Kind.TheVariants.{Land, Part, Read, Accept, Latch, Take, Stall, Nobody, Abort, Arrive}
+use Rattle.trace_reader.specs.declared.lines.kind.EventWord.{EventWord}
+use Rattle.trace_reader.specs.declared.lines.kind.EventWord.TheVariants.{Land, Part, Read, Accept, Latch, Take, Stall, Nobody, Abort, Arrive}
 use Rattle.trace_reader.specs.declared.lines.line.TraceLine.{TraceLine}
 use Rattle.trace_reader.specs.declared.lines.line.LineFault.{LineFault}
 use Rattle.trace_reader.specs.declared.lines.line.LineFault.TheVariants.{NoKind, Misshapen}
@@ -12,7 +12,7 @@ use Rattle.trace_reader.specs.lines.Events.{has_words_for, event_in}
 use Rattle.trace_reader.specs.lines.Lines.{second_word, begins_end, is_regular, has_shape, end_line, happens, event_line_by, kind_by, pieces_line}
 
 -- no line of a kind is without shape
-no_line_of : (kind : Kind) (pieces : List (List ℕ)) → has_shape pieces ≡ false → (is_regular pieces && has_words_for kind pieces) ≡ false
+no_line_of : (kind : EventWord) (pieces : List (List ℕ)) → has_shape pieces ≡ false → (is_regular pieces && has_words_for kind pieces) ≡ false
 no_line_of Land pieces none = grind (arith, nat_tests)
 no_line_of Part pieces none = grind (arith, nat_tests)
 no_line_of Read pieces none = grind (arith, nat_tests)
@@ -37,7 +37,7 @@ end_misshapen board pieces none ends =
 -- a kind
 pub kind_misshapen : (board : Board) (pieces : List (List ℕ)) → has_shape pieces ≡ false → begins_end pieces ≡ false → is_some (kind_by (second_word pieces)) ≡ true → pieces_line board pieces ≡ fault_so Misshapen
 kind_misshapen board pieces none goes some =
-    let P : Option Kind → Type 0 = λ found. is_some found ≡ true → event_line_by board pieces found ≡ fault_so Misshapen in
+    let P : Option EventWord → Type 0 = λ found. is_some found ≡ true → event_line_by board pieces found ≡ fault_so Misshapen in
     let told : event_line_by board pieces (kind_by (second_word pieces)) ≡ fault_so Misshapen =
     (elim (kind_by (second_word pieces)) as P [
       | None ↦ λ absent. absurd cc
@@ -48,7 +48,7 @@ kind_misshapen board pieces none goes some =
 -- or none
 pub kind_missing : (board : Board) (pieces : List (List ℕ)) → begins_end pieces ≡ false → is_some (kind_by (second_word pieces)) ≡ false → pieces_line board pieces ≡ fault_so NoKind
 kind_missing board pieces goes some =
-    let P : Option Kind → Type 0 = λ found. is_some found ≡ false → event_line_by board pieces found ≡ fault_so NoKind in
+    let P : Option EventWord → Type 0 = λ found. is_some found ≡ false → event_line_by board pieces found ≡ fault_so NoKind in
     let told : event_line_by board pieces (kind_by (second_word pieces)) ≡ fault_so NoKind =
     (elim (kind_by (second_word pieces)) as P [
       | None ↦ λ absent. refl

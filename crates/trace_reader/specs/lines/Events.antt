@@ -14,12 +14,12 @@ use Rattle.history_model.specs.declared.event.Step.{Step}
 use Rattle.history_model.specs.declared.event.Step.TheVariants as steps
 use Rattle.history_model.specs.declared.event.Event.{Event}
 use Rattle.history_model.specs.declared.event.Event.TheVariants as events
-use Rattle.trace_reader.specs.declared.lines.kind.Kind.{Kind}
-use Rattle.trace_reader.specs.declared.lines.kind.Kind.TheVariants.{Land, Part, Read, Accept, Latch, Take, Stall, Nobody, Abort, Arrive}
+use Rattle.trace_reader.specs.declared.lines.kind.EventWord.{EventWord}
+use Rattle.trace_reader.specs.declared.lines.kind.EventWord.TheVariants.{Land, Part, Read, Accept, Latch, Take, Stall, Nobody, Abort, Arrive}
 use Rattle.trace_reader.specs.lines.Words.{only_where, value_of, bus_in, lane_in, by_in, target_in, op_in, begins_header, header_in, outcome_in, phases_in}
 
 -- the ten kinds, by their words
-abbrev pub later_kind_of : List ℕ → Option Kind
+abbrev pub later_kind_of : List ℕ → Option EventWord
 later_kind_of word =
     if bytes_eq word (codes "take") then Some Take
     else if bytes_eq word (codes "stall") then Some Stall
@@ -29,7 +29,7 @@ later_kind_of word =
     else None
 
 -- all ten
-abbrev pub kind_of : List ℕ → Option Kind
+abbrev pub kind_of : List ℕ → Option EventWord
 kind_of word =
     if bytes_eq word (codes "land") then Some Land
     else if bytes_eq word (codes "part") then Some Part
@@ -51,7 +51,7 @@ mark_at_end None = Some Plain
 mark_at_end (Some word) = mark_of word
 
 -- how many words a line of the kind has
-abbrev pub has_words_for : Kind → List (List ℕ) → Bool
+abbrev pub has_words_for : EventWord → List (List ℕ) → Bool
 has_words_for Land words = length words == 5
 has_words_for Part words = length words == 6
 has_words_for Read words = length words == 6
@@ -84,7 +84,7 @@ abbrev pub at_lane : Board → List (List ℕ) → Step → Option (Step × Plac
 at_lane board words step = option_map (λ lane. (step, Lane lane)) (word_as (lane_in board) words 4)
 
 -- what an act did, by its kind
-abbrev pub done_by : Board → Kind → List (List ℕ) → Option (Step × Place)
+abbrev pub done_by : Board → EventWord → List (List ℕ) → Option (Step × Place)
 done_by board Land words = at_target board words steps.Land
 done_by board Part words = option_and_then (λ phases. at_target board words (steps.Part phases)) (word_as phases_in words 5)
 done_by board Read words = option_and_then (λ value. at_reader board words (steps.Read value)) (word_as value_of words 5)
@@ -101,7 +101,7 @@ abbrev pub act_of : ℕ → By → OpId → Step × Place → Event
 act_of bus by op done = events.Act bus by op done.0 done.1
 
 -- the act of a line, if all its words name something
-abbrev pub act_in : Board → Kind → List (List ℕ) → Option Event
+abbrev pub act_in : Board → EventWord → List (List ℕ) → Option Event
 act_in board kind words =
     option_and_then (λ bus. option_and_then (λ by. option_and_then (λ op. option_map (act_of bus by op) (done_by board kind words))
     (word_as (op_in board) words 3)) (word_as (by_in board) words 2)) (word_as (bus_in board) words 0)
@@ -113,7 +113,7 @@ arrival_in board words =
     (mark_at_end (slice_get words 3))) (word_as (lane_in board) words 2)) (word_as (bus_in board) words 0)
 
 -- the event of a line of this kind
-abbrev pub event_in : Board → Kind → List (List ℕ) → Option Event
+abbrev pub event_in : Board → EventWord → List (List ℕ) → Option Event
 event_in board Land words = act_in board Land words
 event_in board Part words = act_in board Part words
 event_in board Read words = act_in board Read words

@@ -4,7 +4,7 @@ use Rattle.std.specs.List.{list_all, slice_split}
 use Rattle.std.specs.Str.{bytes_eq}
 use Rattle.board_model.specs.declared.board.Board.{Board}
 use Rattle.history_model.specs.declared.event.Event.{Event}
-use Rattle.trace_reader.specs.declared.lines.kind.Kind.{Kind}
+use Rattle.trace_reader.specs.declared.lines.kind.EventWord.{EventWord}
 use Rattle.trace_reader.specs.declared.lines.line.TraceLine.{TraceLine}
 use Rattle.trace_reader.specs.declared.lines.line.TraceLine.TheVariants.{Happens, Ends}
 use Rattle.trace_reader.specs.declared.lines.line.LineFault.{LineFault}
@@ -72,13 +72,13 @@ happens None = Err Unknown
 happens (Some event) = Ok (Happens event)
 
 -- the event of a line of this kind, or its fault
-abbrev pub event_line_by : Board → List (List ℕ) → Option Kind → Result TraceLine LineFault
+abbrev pub event_line_by : Board → List (List ℕ) → Option EventWord → Result TraceLine LineFault
 event_line_by board pieces None = Err NoKind
 event_line_by board pieces (Some kind) =
     if is_regular pieces && has_words_for kind pieces then happens (event_in board kind pieces) else Err Misshapen
 
 -- the second word tells the kind
-abbrev pub kind_by : Option (List ℕ) → Option Kind
+abbrev pub kind_by : Option (List ℕ) → Option EventWord
 kind_by None = None
 kind_by (Some word) = kind_of word
 

@@ -3,7 +3,7 @@ ghost use Rattle.std.specs.Option.{option_map};
 ghost use Rattle.trace_reader.specs.lines.Words.{value_of, bus_in, lane_in, by_in, target_in, op_in, outcome_in, phases_in};
 ghost use Rattle.trace_reader.specs.lines.Events.{mark_of, mark_at_end, has_words_for, word_as, at_target, reader_in, at_reader, at_lane, done_by, act_in, arrival_in, event_in};
 
-use crate::lines::kind::Kind;
+use crate::lines::kind::EventWord;
 use crate::lines::line::piece;
 use crate::lines::names::Names;
 use crate::lines::operation::op_in;
@@ -14,15 +14,19 @@ use board_model::Place;
 use history_model::{Event, Mark, Step};
 
 /// Whether the line has as many words as its kind, and an arrival no fourth one but a mark.
-pub(crate) fn has_words_for(kind: Kind, line: &[&[u8]]) -> bool
+pub(crate) fn has_words_for(kind: EventWord, line: &[&[u8]]) -> bool
     ensures { result ≡ has_words_for kind (map (λ piece. piece.now) line.now) }
 {
     let words = line.len();
     match kind {
-        Kind::Land | Kind::Accept | Kind::Latch | Kind::Stall | Kind::Abort => words == 5,
-        Kind::Part | Kind::Read | Kind::Take => words == 6,
-        Kind::Nobody => words == 4,
-        Kind::Arrive => 3 <= words && words <= 4 && mark_at_end(line).is_some(),
+        EventWord::Land
+        | EventWord::Accept
+        | EventWord::Latch
+        | EventWord::Stall
+        | EventWord::Abort => words == 5,
+        EventWord::Part | EventWord::Read | EventWord::Take => words == 6,
+        EventWord::Nobody => words == 4,
+        EventWord::Arrive => 3 <= words && words <= 4 && mark_at_end(line).is_some(),
     }
 }
 
@@ -39,16 +43,16 @@ fn mark_at_end(line: &[&[u8]]) -> Option<Mark>
 }
 
 /// The event of a line of this kind.
-pub(crate) fn event_in(names: &Names, kind: Kind, line: &[&[u8]]) -> Option<Event>
+pub(crate) fn event_in(names: &Names, kind: EventWord, line: &[&[u8]]) -> Option<Event>
     ensures { result ≡ event_in names.now kind (map (λ piece. piece.now) line.now) }
 {
     match kind {
-        Kind::Arrive => arrival_in(names, line),
+        EventWord::Arrive => arrival_in(names, line),
         _ => act_in(names, kind, line),
     }
 }
 
-fn act_in(names: &Names, kind: Kind, line: &[&[u8]]) -> Option<Event>
+fn act_in(names: &Names, kind: EventWord, line: &[&[u8]]) -> Option<Event>
     ensures { result ≡ act_in names.now kind (map (λ piece. piece.now) line.now) }
 {
     let bus = bus_in(names, piece(line, 0)?)?;
@@ -78,20 +82,20 @@ fn arrival_in(names: &Names, line: &[&[u8]]) -> Option<Event>
 }
 
 /// What an act did, and who claimed it.
-fn done_by(names: &Names, kind: Kind, line: &[&[u8]]) -> Option<(Step, Place)>
+fn done_by(names: &Names, kind: EventWord, line: &[&[u8]]) -> Option<(Step, Place)>
     ensures { result ≡ done_by names.now kind (map (λ piece. piece.now) line.now) }
 {
     match kind {
-        Kind::Land => at_target(names, line, Step::Land),
-        Kind::Part => at_target(names, line, Step::Part(phases_in(piece(line, 5)?)?)),
-        Kind::Read => at_reader(names, line, Step::Read(value_of(piece(line, 5)?)?)),
-        Kind::Accept => at_lane(names, line, Step::Accept),
-        Kind::Latch => at_lane(names, line, Step::Latch),
-        Kind::Take => at_lane(names, line, Step::Take(outcome_in(piece(line, 5)?)?)),
-        Kind::Stall => at_target(names, line, Step::Stall),
-        Kind::Nobody => Some((Step::MasterAbort, Place::Nobody)),
-        Kind::Abort => at_target(names, line, Step::TargetAbort),
-        Kind::Arrive => None,
+        EventWord::Land => at_target(names, line, Step::Land),
+        EventWord::Part => at_target(names, line, Step::Part(phases_in(piece(line, 5)?)?)),
+        EventWord::Read => at_reader(names, line, Step::Read(value_of(piece(line, 5)?)?)),
+        EventWord::Accept => at_lane(names, line, Step::Accept),
+        EventWord::Latch => at_lane(names, line, Step::Latch),
+        EventWord::Take => at_lane(names, line, Step::Take(outcome_in(piece(line, 5)?)?)),
+        EventWord::Stall => at_target(names, line, Step::Stall),
+        EventWord::Nobody => Some((Step::MasterAbort, Place::Nobody)),
+        EventWord::Abort => at_target(names, line, Step::TargetAbort),
+        EventWord::Arrive => None,
     }
 }
 

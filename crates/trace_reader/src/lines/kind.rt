@@ -3,7 +3,7 @@ ghost use Rattle.trace_reader.specs.lines.Events.{kind_of, later_kind_of};
 
 /// What the second word of an event line says.
 #[derive(Clone, Copy, Debug, PartialEq, Eq)]
-pub enum Kind {
+pub enum EventWord {
     Land,
     Part,
     Read,
@@ -16,37 +16,37 @@ pub enum Kind {
     Arrive,
 }
 
-pub(crate) fn kind_of(word: &[u8]) -> Option<Kind>
+pub(crate) fn kind_of(word: &[u8]) -> Option<EventWord>
     ensures { result ≡ kind_of word.now }
 {
     if word == b"land".as_slice() {
-        Some(Kind::Land)
+        Some(EventWord::Land)
     } else if word == b"part".as_slice() {
-        Some(Kind::Part)
+        Some(EventWord::Part)
     } else if word == b"read".as_slice() {
-        Some(Kind::Read)
+        Some(EventWord::Read)
     } else if word == b"accept".as_slice() {
-        Some(Kind::Accept)
+        Some(EventWord::Accept)
     } else if word == b"latch".as_slice() {
-        Some(Kind::Latch)
+        Some(EventWord::Latch)
     } else {
         later_kind_of(word)
     }
 }
 
-fn later_kind_of(word: &[u8]) -> Option<Kind>
+fn later_kind_of(word: &[u8]) -> Option<EventWord>
     ensures { result ≡ later_kind_of word.now }
 {
     if word == b"take".as_slice() {
-        Some(Kind::Take)
+        Some(EventWord::Take)
     } else if word == b"stall".as_slice() {
-        Some(Kind::Stall)
+        Some(EventWord::Stall)
     } else if word == b"nobody".as_slice() {
-        Some(Kind::Nobody)
+        Some(EventWord::Nobody)
     } else if word == b"tabort".as_slice() {
-        Some(Kind::Abort)
+        Some(EventWord::Abort)
     } else if word == b"arrive".as_slice() {
-        Some(Kind::Arrive)
+        Some(EventWord::Arrive)
     } else {
         None
     }

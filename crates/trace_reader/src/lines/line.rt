@@ -7,7 +7,7 @@ ghost use Rattle.trace_reader.specs.lines.Lines.{is_printing, is_unreadable, beg
 
 use crate::lines::cut::{fault_of_shape, words_of};
 use crate::lines::event::{event_in, has_words_for};
-use crate::lines::kind::{Kind, kind_of};
+use crate::lines::kind::{EventWord, kind_of};
 use crate::lines::names::Names;
 use crate::lines::words::number_of;
 use history_model::Event;
@@ -62,7 +62,11 @@ fn read_words(names: &Names, words: &[&[u8]]) -> Result<TraceLine, LineFault>
     }
 }
 
-fn read_event(names: &Names, words: &[&[u8]], kind: Option<Kind>) -> Result<TraceLine, LineFault>
+fn read_event(
+    names: &Names,
+    words: &[&[u8]],
+    kind: Option<EventWord>,
+) -> Result<TraceLine, LineFault>
     requires { is_regular (map (λ word. word.now) words.now) ≡ true }
     ensures { result ≡ event_line_by names.now (map (λ word. word.now) words.now) kind }
 {

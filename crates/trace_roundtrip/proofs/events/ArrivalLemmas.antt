@@ -22,7 +22,7 @@ use Rattle.board_roundtrip.specs.words.Printed.{is_word, has_words_alone, joined
 use Rattle.trace_text.specs.Words.{lane_word}
 use Rattle.trace_text.specs.Events.{mark_words, arrival_line}
 use Rattle.board_roundtrip.proofs.words.Laws.{decimal_word}
-use Rattle.trace_reader.specs.declared.lines.kind.Kind.TheVariants as kinds
+use Rattle.trace_reader.specs.declared.lines.kind.EventWord.TheVariants as kinds
 use Rattle.trace_reader.specs.lines.Words.{only_where, bus_in, lane_in}
 use Rattle.trace_reader.specs.declared.lines.line.TraceLine.TheVariants.{Happens}
 use Rattle.trace_reader.specs.lines.Events.{mark_at_end, has_words_for, arrival_in}

@@ -13,7 +13,7 @@ use Rattle.history_model.specs.declared.event.Event.{Event}
 use Rattle.board_printer.specs.Lines.{Line, spaced}
 use Rattle.board_roundtrip.specs.words.Printed.{is_word_byte, is_word, has_words_alone, joined}
 use Rattle.board_roundtrip.proofs.lines.AllowedTexts.{width}
-use Rattle.trace_reader.specs.declared.lines.kind.Kind.{Kind}
+use Rattle.trace_reader.specs.declared.lines.kind.EventWord.{EventWord}
 use Rattle.trace_reader.specs.declared.lines.line.TraceLine.TheVariants.{Happens}
 use Rattle.trace_reader.specs.lines.Events.{kind_of, has_words_for, event_in}
 use Rattle.trace_reader.specs.lines.Lines.{is_space, second_word, kind_by, is_printing, is_regular, happens, end_line, event_line_by, pieces_line, line_of}
@@ -111,7 +111,7 @@ words_regular (word ∷ words) good =
     rw (word_some word parts.0) (words_regular words parts.1)
 
 -- the words of a line of a kind are read as the event of that kind
-pub event_by_kind : (board : Board) (bus word : List ℕ) (rest : Line) (kind : Kind) (event : Event) → has_words_alone (bus ∷ word ∷ rest) ≡ true → width (bus ∷ word ∷ rest) ≤ 257 → bytes_eq bus (codes "end") ≡ false → kind_of word ≡ Some kind → has_words_for kind (bus ∷ word ∷ rest) ≡ true → event_in board kind (bus ∷ word ∷ rest) ≡ Some event → line_of board (joined (bus ∷ word ∷ rest)) ≡ Ok (Happens event)
+pub event_by_kind : (board : Board) (bus word : List ℕ) (rest : Line) (kind : EventWord) (event : Event) → has_words_alone (bus ∷ word ∷ rest) ≡ true → width (bus ∷ word ∷ rest) ≤ 257 → bytes_eq bus (codes "end") ≡ false → kind_of word ≡ Some kind → has_words_for kind (bus ∷ word ∷ rest) ≡ true → event_in board kind (bus ∷ word ∷ rest) ≡ Some event → line_of board (joined (bus ∷ word ∷ rest)) ≡ Ok (Happens event)
 event_by_kind board bus word rest kind event good few no_end told many read =
     let words : Line = bus ∷ word ∷ rest in
     let parts = and_parts (is_word bus) (has_words_alone (word ∷ rest)) good in

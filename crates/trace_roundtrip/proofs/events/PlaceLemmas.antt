@@ -20,9 +20,9 @@ use Rattle.board_roundtrip.proofs.lines.PartTexts.{word_length}
 use Rattle.board_roundtrip.specs.words.Printed.{is_word}
 use Rattle.trace_text.specs.Words.{lane_word, target_name, place_words, outcome_word}
 use Rattle.trace_text.specs.Events.{step_word, result_words, has_place, is_step_at}
-use Rattle.trace_reader.specs.declared.lines.kind.Kind.{Kind}
+use Rattle.trace_reader.specs.declared.lines.kind.EventWord.{EventWord}
 use Rattle.board_roundtrip.proofs.words.Laws.{decimal_word, eight_word}
-use Rattle.trace_reader.specs.declared.lines.kind.Kind.TheVariants as kinds
+use Rattle.trace_reader.specs.declared.lines.kind.EventWord.TheVariants as kinds
 use Rattle.trace_reader.specs.lines.Words.{header_in, target_in}
 use Rattle.trace_reader.specs.lines.Events.{kind_of, has_words_for, reader_in, done_by}
 use Rattle.trace_roundtrip.specs.events.Fits.{StepFits, PlaceFits}
@@ -33,7 +33,7 @@ use Rattle.trace_roundtrip.proofs.events.LaneLemmas.{lane_small, bridge_read, la
 use Rattle.trace_roundtrip.proofs.events.ResultLemmas.{value_read, outcome_read, outcome_plain, outcome_short, phases_read}
 
 -- the kind of a step
-abbrev pub kind_for : Step → Kind
+abbrev pub kind_for : Step → EventWord
 kind_for Land = kinds.Land
 kind_for (Part phases) = kinds.Part
 kind_for (Read value) = kinds.Read

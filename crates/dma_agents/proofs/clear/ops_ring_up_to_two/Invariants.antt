@@ -1,6 +1,6 @@
 use Rattle.std.proofs.Common.{◌≡◌, ◌+◌, ◌≤◌, drop, min}
 use Rattle.list_facts.specs.Lists.{total}
-use Rattle.law_delivered.specs.Clear.{rings}
+use Rattle.history_model.specs.Clear.{rings}
 use Rattle.dma_agents.proofs.clear.ops_ring_up_to_two.Given as goal
 
 -- what was counted and what is to come are all, up to two

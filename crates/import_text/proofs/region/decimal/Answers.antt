@@ -10,8 +10,8 @@ overflow_mul-value c =
 pub overflow_add-value : goal.overflow_add-value
 overflow_add-value c =
     let within = digits_within 10 c.loop-byte.value _ c.args.digits.now c.loop-byte.byte-index (omega arith) c.loop-byte-test.true c.loop-byte.invariant refl in
-    rw (c.from.ensures, c.digit_value.ensures) (omega (arith, within, c.requires))
+    rw (c.from.ensures, c.value_of_digit.ensures) (omega (arith, within, c.requires))
 
 pub loop-byte-preserved : goal.loop-byte-preserved
 loop-byte-preserved c =
-    rw (c.from.ensures, c.digit_value.ensures) (digits_step 10 c.loop-byte.value _ c.args.digits.now c.loop-byte.byte-index c.loop-byte-test.true c.loop-byte.invariant refl)
+    rw (c.from.ensures, c.value_of_digit.ensures) (digits_step 10 c.loop-byte.value _ c.args.digits.now c.loop-byte.byte-index c.loop-byte-test.true c.loop-byte.invariant refl)

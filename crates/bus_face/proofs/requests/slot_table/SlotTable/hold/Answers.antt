@@ -1,11 +1,11 @@
 use Rattle.std.proofs.Common.{◌≡◌, None, inl, inr, arith, refl, ap}
-use Rattle.bus_face.specs.declared.requests.slot_table.Slot.{Slot}
+use Rattle.bus_face.specs.declared.requests.slot_table.SlotEntry.{SlotEntry}
 use Rattle.bus_face.specs.requests.Slots.{slot_at}
 use Rattle.bus_face.proofs.requests.SlotLemmas.{slot_at-none, slot_at-push_same, slot_at-push_other, IsOneForEachNumber-push, IsHeld-push}
 use Rattle.bus_face.proofs.requests.slot_table.SlotTable.hold.Goals as goal
 
 -- the slot that is held now
-abbrev held_now : goal.After-push → Slot
+abbrev held_now : goal.After-push → SlotEntry
 held_now c = record { number = c.lowest_free-number.result; tag = c.args.tag; op = c.args.op; request = c.args.request }
 
 -- its number was free

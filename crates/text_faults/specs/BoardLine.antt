@@ -1,9 +1,9 @@
 -- The letter and the number by which a fault of the board text is told.
 use Rattle.std.specs.Prelude.{ℕ}
-use Rattle.board_statements.specs.declared.fault.Family.{Family}
-use Rattle.board_statements.specs.declared.fault.Family.TheVariants.{L, P, H}
-use Rattle.board_statements.specs.declared.fault.LineFault.{LineFault}
-use Rattle.board_statements.specs.declared.fault.LineFault.TheVariants.{BadByte, TooWide, TooLong, NoFirstLine, WrongWord, Missing, TooMany, IllFormed, Unaligned, NameUsed, NoOwner, PastItsBlock, BusUsed, OverLimit, PastItsSpace, NotTypeOne, NotServed, NoBridgeNumbers, WideWindow}
+use Rattle.text_faults.specs.declared.board_line.Family.{Family}
+use Rattle.text_faults.specs.declared.board_line.Family.TheVariants.{L, P, H}
+use Rattle.text_faults.specs.declared.board_line.LineFault.{LineFault}
+use Rattle.text_faults.specs.declared.board_line.LineFault.TheVariants.{BadByte, TooWide, TooLong, NoFirstLine, WrongWord, Missing, TooMany, IllFormed, Unaligned, NameUsed, NoOwner, PastItsBlock, BusUsed, OverLimit, PastItsSpace, NotTypeOne, NotServed, NoBridgeNumbers, WideWindow}
 
 -- L of the line, P of its words and its statement, H of a header
 abbrev pub family_of : LineFault → Family

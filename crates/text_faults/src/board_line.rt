@@ -1,4 +1,3 @@
-use board_text::NumberFault;
 use thiserror::Error;
 
 /// The letter of a fault of the board text.
@@ -57,7 +56,7 @@ pub enum LineFault {
 
 impl LineFault {
     ghost use Rattle.std.specs.Prelude.{◌≡◌};
-    ghost use Rattle.board_statements.specs.Faults.{family_of, code_of};
+    ghost use Rattle.text_faults.specs.BoardLine.{family_of, code_of};
 
     pub fn family(self) -> Family
         ensures { result ≡ family_of self }
@@ -89,20 +88,6 @@ impl LineFault {
             LineFault::BusUsed => 10,
             LineFault::OverLimit => 11,
             LineFault::PastItsSpace => 12,
-        }
-    }
-}
-
-impl From<NumberFault> for LineFault {
-    ghost use Rattle.std.specs.Prelude.{◌≡◌};
-    ghost use Rattle.board_statements.specs.Words.{number_fault};
-
-    ghost from_gives = { λ number fault. fault ≡ number_fault number };
-
-    fn from(number: NumberFault) -> LineFault {
-        match number {
-            NumberFault::TooWide => LineFault::TooWide,
-            NumberFault::NotDigits | NumberFault::OutOfRange => LineFault::IllFormed,
         }
     }
 }

@@ -1,7 +1,7 @@
 -- The number by which a fault is printed, behind an I.
 use Rattle.std.specs.Prelude.{ℕ}
-use Rattle.import_text.specs.declared.fault.LspciFault.{LspciFault}
-use Rattle.import_text.specs.declared.fault.LspciFault.TheVariants.{NoSlot, Repeated, NoRow, HighDevice, NoBoard}
+use Rattle.text_faults.specs.declared.lspci.LspciFault.{LspciFault}
+use Rattle.text_faults.specs.declared.lspci.LspciFault.TheVariants.{NoSlot, Repeated, NoRow, HighDevice, NoBoard}
 
 -- I1 to I5
 abbrev pub code_of : LspciFault → ℕ

@@ -1,7 +1,7 @@
 -- The number by which a fault of a device text is printed, behind a Q.
 use Rattle.std.specs.Prelude.{ℕ}
-use Rattle.text_faults.specs.declared.DeviceFault.{DeviceFault}
-use Rattle.text_faults.specs.declared.DeviceFault.TheVariants.{Misshapen, Misplaced, NameUsed, NotThere, OverLimit, NotClear}
+use Rattle.text_faults.specs.declared.device.DeviceFault.{DeviceFault}
+use Rattle.text_faults.specs.declared.device.DeviceFault.TheVariants.{Misshapen, Misplaced, NameUsed, NotThere, OverLimit, NotClear}
 
 -- Q1 to Q6
 abbrev pub code_of : DeviceFault → ℕ

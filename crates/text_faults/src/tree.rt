@@ -23,7 +23,7 @@ pub enum TreeFault {
 
 impl TreeFault {
     ghost use Rattle.std.specs.Prelude.{◌≡◌};
-    ghost use Rattle.board_checks.specs.Faults.{code_of};
+    ghost use Rattle.text_faults.specs.Tree.{code_of};
 
     /// Its number in what is printed, from V1 on.
     pub fn code(self) -> u8
