@@ -1,7 +1,5 @@
 //! A board: the tree of buses with its bridges, targets and masters, as its text names them, and
-//! who claims a request on a bus. What a board has to be stands in `specs/`: its form
-//! (`WellFormed`), claims (`Claims`), ways (`Ways`), requests, words and cost of operations, its
-//! bound, and when it is valid (`Valid`).
+//! who claims a request on a bus. Its form, claims, ways and validity are pages of `specs/`.
 #![tactic(auto)]
 
 mod agents;

@@ -1,7 +1,5 @@
 //! A segment: one bus of the board by itself, between the ends of its bridges' lanes. It knows only
-//! what it did and what came to it, and stands for that past whatever comes later. Its events
-//! have rising stamps, an arrival's above that of its item. It stops only where an item came that
-//! it may not take, where what a lane presents turns back, or where there is no room (`StopsAt`).
+//! what it did and what came to it, and stands for that past whatever comes later.
 #![tactic(auto)]
 
 mod ends;

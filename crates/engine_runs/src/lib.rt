@@ -1,9 +1,6 @@
 //! The engine that works the buses of a board one after another, phase by phase: in each phase each
 //! bus does one turn, and then all lanes are settled, so that what is sent in a phase arrives in the
-//! next one. What all buses did is a complete run of the board. On threads (`rings`, which `run`
-//! calls) each bus does its turns by itself, and what it sends may arrive in the same phase:
-//! whatever the threads do it is a complete run, and nothing is supposed of what arrived when. No
-//! clause can say that threads overlap; two tests show it.
+//! next one. What all buses did is a complete run of the board, and so it is on threads (`rings`).
 #![tactic(auto)]
 
 mod first;

@@ -1,8 +1,5 @@
 //! A history of a board: its events, and what a run is. `machine_steps` computes what is defined
-//! here of one step, `plain_replay` what is defined of a run. What is on a lane is in `Lanes` and
-//! `World`, turns in `Program`, what words hold in `Words`, what is presented and answered in
-//! `Answers`, runs in `Runs`, what one bus knows in `Local`, who was told of what in `Knowledge`,
-//! and how many events are left in `Left`.
+//! here of one step, `plain_replay` what is defined of a run.
 #![tactic(auto)]
 
 mod event;
