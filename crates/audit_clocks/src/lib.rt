@@ -19,5 +19,5 @@ pub use landed::{Landed, Track};
 pub use landings::Landings;
 pub use numbers::Numbers;
 pub use op_table::OpTable;
-pub use row::Row;
+pub use row::ClockRow;
 pub use word_table::WordTable;

@@ -10,4 +10,4 @@ mod words;
 
 pub use access::Access;
 pub use target::{TargetState, others_leave_targets};
-pub use words::WordTable;
+pub use words::TargetWords;

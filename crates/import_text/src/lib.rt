@@ -12,7 +12,7 @@ mod region;
 mod row;
 mod slot;
 
-pub use capability::Kind;
+pub use capability::CapabilityKind;
 pub use fault::ReadFault;
 pub use function::Function;
 pub use read::read_functions;

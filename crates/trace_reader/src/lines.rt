@@ -8,6 +8,6 @@ mod names;
 mod operation;
 mod words;
 
-pub use kind::Kind;
+pub use kind::EventWord;
 pub use line::{LineFault, TraceLine, read_line};
 pub use names::Names;

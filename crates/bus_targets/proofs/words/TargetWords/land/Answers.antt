@@ -1,7 +1,7 @@
 use Rattle.std.proofs.Common.{arith, ◌∙◌, ap}
 use Rattle.bus_targets.specs.Words.{WordsOfSpace}
 use Rattle.bus_targets.proofs.WordLemmas.{lands_more}
-use Rattle.bus_targets.proofs.words.WordTable.land.Goals as goal
+use Rattle.bus_targets.proofs.words.TargetWords.land.Goals as goal
 
 pub loop-phase-preserved : goal.loop-phase-preserved
 loop-phase-preserved c =

@@ -1,6 +1,6 @@
 use Rattle.std.proofs.Common.{◌≡◌, ◌+◌, ◌*◌, drop}
 use Rattle.bus_targets.specs.Words.{landed_at}
-use Rattle.bus_targets.proofs.words.WordTable.land.Given as goal
+use Rattle.bus_targets.proofs.words.TargetWords.land.Given as goal
 
 -- what the data phases to come make of the values is what all make of those at first
 abbrev pub invariant-loop-phase : goal.invariant-loop-phase
