@@ -1,4 +1,5 @@
-//! The ends of a bridge's lanes: plain ones, where all buses are worked on one thread, and rings, where each has its own.
+//! The ends of a bridge's lanes: plain ones, where all buses are worked on one thread, and rings,
+//! where each has its own.
 #![tactic(auto)]
 
 mod plain;

@@ -1,5 +1,5 @@
-//! The waves of a run: a value change dump of what each bus does, what is on each lane, and how far each master is, for
-//! a viewer such as GTKWave. Time is the number of the event.
+//! The waves of a run: a value change dump of what each bus does, what is on each lane, and how far
+//! each master is, for a viewer such as GTKWave. Time is the number of the event.
 #![tactic(auto)]
 
 mod code;

@@ -1,5 +1,5 @@
-//! Combining and byte merging of the memory writes of each program, as a host bridge does it in front
-//! of a bus (PCI Local Bus 2.2, section 3.2.6, from memory).
+//! Combining and byte merging of the memory writes of each program, as a host bridge does it in
+//! front of a bus (PCI Local Bus 2.2, section 3.2.6, from memory).
 #![tactic(auto)]
 
 mod combining;
