@@ -21,15 +21,16 @@ pub mod reads;
 
 pub use reads::reads_return;
 
-/// Every run of every valid board is fresh: every read that was told of a write, and reads a word of
-/// it, reads after the write has landed; every read returned what it last read at its target; and
-/// every read of a word that ended has read there.
+/// Every run of every valid board is fresh: every read that was told of a write, and reads a word
+/// of it, reads after the write has landed; every read returned what it last read at its target;
+/// and every read of a word that ended has read there.
 pub fn runs_are_fresh()
     ensures { (board : Board) (h : List Event) → IsValid board → Run board h → Fresh board h }
 {}
 
-/// An operation was told of a write exactly where it knows of it: it stands behind one with which its
-/// master came to know of the write, or it is a read that ended with a value and was taught of it.
+/// An operation was told of a write exactly where it knows of it: it stands behind one with which
+/// its master came to know of the write, or it is a read that ended with a value and was taught of
+/// it.
 pub fn told_is_known()
     ensures known { (board : Board) (h : List Event) (w : OpId) (r : OpId) → IsValid board →
         Run board h → Told board h w r → was_told board h w r ≡ true }
