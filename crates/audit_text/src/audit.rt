@@ -19,7 +19,8 @@ use std::alloc::{AllocError, Global};
 /// then `told N`.
 pub fn audit_text(alloc: Global, tree: &Tree, events: &[Event]) -> Result<List<u8>, NoMemory>
     requires { Run tree.now (history_of events.now) }
-    ensures { IfOk result (λ text. text ≡ audit_of tree.now (findings tree.now (history_of events.now))) }
+    ensures { IfOk result
+        (λ text. text ≡ audit_of tree.now (findings tree.now (history_of events.now))) }
 {
     let found = findings_of(alloc, tree, events)?;
     let mut text = String::new(alloc);
@@ -30,14 +31,16 @@ pub fn audit_text(alloc: Global, tree: &Tree, events: &[Event]) -> Result<List<u
 
 fn print_told(text: &mut String, told: usize) -> Result<(), AllocError>
     ensures { OnOk result
-        (string_bytes text.new ≡ string_bytes text.old ++ line_text (codes "told" ∷ decimal told ∷ [])) }
+        (string_bytes text.new ≡ string_bytes text.old ++
+        line_text (codes "told" ∷ decimal told ∷ [])) }
 {
     writeln!(text, "told {told}")
 }
 
 /// The lines, behind a text.
 fn print_findings(text: &mut String, board: &Board, found: &[Found]) -> Result<(), AllocError>
-    ensures { OnOk result (string_bytes text.new ≡ string_bytes text.old ++ findings_text board.now found.now) }
+    ensures { OnOk result
+        (string_bytes text.new ≡ string_bytes text.old ++ findings_text board.now found.now) }
 {
     for one in found {
         print_line(text, board, one)?;

@@ -18,8 +18,8 @@ fn shown_to(ledger: &Ledger, write: OpId, op: OpId) -> Option<OpId>
     }
 }
 
-/// The chain from the write to the operation with which its master came to know of it, over at most so
-/// many masters.
+/// The chain from the write to the operation with which its master came to know of it, over at most
+/// so many masters.
 fn chain_to(
     ledger: &Ledger,
     masters: usize,
@@ -28,7 +28,8 @@ fn chain_to(
     chain: &mut Vec<OpId>,
 ) -> Result<(), NoMemory>
     requires { TellsAlways ledger.now write }
-    ensures { OnOk result (chain.new.items ≡ chain.old.items ++ chain_to masters ledger.now write op) }
+    ensures { OnOk result
+        (chain.new.items ≡ chain.old.items ++ chain_to masters ledger.now write op) }
 {
     if masters == 0 {
         return Ok(());
@@ -64,7 +65,8 @@ fn push_two(chain: &mut Vec<OpId>, first: OpId, second: OpId) -> Result<(), NoMe
     Ok(())
 }
 
-/// An operation behind a chain that ends with the last; one that would follow itself is written once.
+/// An operation behind a chain that ends with the last; one that would follow itself is written
+/// once.
 fn push_joined(chain: &mut Vec<OpId>, last: OpId, op: OpId) -> Result<(), NoMemory>
     ensures { OnOk result (chain.new.items ≡ joined chain.old.items last op) }
 {
@@ -84,7 +86,8 @@ pub(crate) fn chain_from(
     read: OpId,
 ) -> Result<Vec<OpId>, NoMemory>
     requires { TellsAlways ledger.now write }
-    ensures { IfOk result (λ chain. chain.items ≡ chain_from masters ledger.now write read (since_of ledger.now write read.master)) }
+    ensures { IfOk result (λ chain. chain.items ≡
+        chain_from masters ledger.now write read (since_of ledger.now write read.master)) }
 {
     let mut chain = Vec::new(alloc);
     match ledger.since(write, read.master) {

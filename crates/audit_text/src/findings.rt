@@ -69,7 +69,8 @@ fn add_found(
     all: &mut Vec<Found>,
 ) -> Result<(), NoMemory>
     requires { Searchable ledger.now }
-    ensures { OnOk result (all.new.items ≡ all.old.items ++ findings_in (length board.now.masters) ledger.now (end_in event.now)) }
+    ensures { OnOk result (all.new.items ≡ all.old.items ++
+        findings_in (length board.now.masters) ledger.now (end_in event.now)) }
 {
     match found_in(alloc, board, ledger, event)? {
         Some(found) => {
@@ -88,7 +89,8 @@ fn found_in(
     event: &Event,
 ) -> Result<Option<Found>, NoMemory>
     requires { Searchable ledger.now }
-    ensures { IfOk result (λ found. listed found ≡ findings_in (length board.now.masters) ledger.now (end_in event.now)) }
+    ensures { IfOk result (λ found. listed found ≡
+        findings_in (length board.now.masters) ledger.now (end_in event.now)) }
 {
     match end_in(event) {
         None => Ok(None),
@@ -103,7 +105,8 @@ fn found_as(
     ended: Ended,
 ) -> Result<Option<Found>, NoMemory>
     requires { Searchable ledger.now }
-    ensures { IfOk result (λ found. listed found ≡ findings_as (length board.now.masters) ledger.now ended.op ended.value) }
+    ensures { IfOk result (λ found. listed found ≡
+        findings_as (length board.now.masters) ledger.now ended.op ended.value) }
 {
     match ended.value {
         None => Ok(None),
@@ -122,7 +125,8 @@ fn found_by(
     reading: &Reading,
 ) -> Result<Option<Found>, NoMemory>
     requires { Searchable ledger.now }
-    ensures { IfOk result (λ found. listed found ≡ findings_by (length board.now.masters) ledger.now read (Some reading.now)) }
+    ensures { IfOk result (λ found. listed found ≡
+        findings_by (length board.now.masters) ledger.now read (Some reading.now)) }
 {
     match last_known(ledger, reading, read) {
         None => Ok(None),
@@ -142,7 +146,8 @@ fn found_of(
     write: OpId,
 ) -> Result<Found, NoMemory>
     requires { TellsAlways ledger.now write }
-    ensures { IfOk result (λ found. listed (Some found) ≡ finding_of (length board.now.masters) ledger.now read reading.now (Some write)) }
+    ensures { IfOk result (λ found. listed (Some found) ≡
+        finding_of (length board.now.masters) ledger.now read reading.now (Some write)) }
 {
     let masters = board.masters.as_slice().len();
     let chain = chain_from(alloc, ledger, masters, write, read)?;

@@ -3,7 +3,8 @@ ghost use Rattle.std.specs.Prelude.{◌≡◌};
 use pci_command::{List, OpId, Space};
 use std::marker::Model;
 
-/// A read that ended with a value of its target, and whose master knew of a write of that dword before.
+/// A read that ended with a value of its target, and whose master knew of a write of that dword
+/// before.
 #[derive(Debug, Drop)]
 pub struct Found {
     pub read: OpId,
@@ -25,5 +26,15 @@ impl Model for Found {
 
     ghost Value = { Finding };
 
-    ghost view = { λ k. record { read = k.read; word = record { target = k.target; space = k.space; address = k.address }; value = k.value; write = k.write; chain = k.chain } };
+    ghost view = { λ k. record {
+      read = k.read;
+      word = record {
+        target = k.target;
+        space = k.space;
+        address = k.address;
+      };
+      value = k.value;
+      write = k.write;
+      chain = k.chain;
+    } };
 }

@@ -31,7 +31,8 @@ impl Model for Ledger {
 
     ghost Value = { Notes };
 
-    ghost view = { λ k. record { landings = k.landings; readings = k.readings; gots = k.gots; clocks = k.clocks } };
+    ghost view = { λ k.
+        record { landings = k.landings; readings = k.readings; gots = k.gots; clocks = k.clocks } };
 }
 
 impl Ledger {
@@ -61,7 +62,8 @@ impl Ledger {
         index: usize,
         event: &Event,
     ) -> Result<(), NoMemory>
-        requires { ToldsFor (length board.now.masters) self.old.landings.whole self.old.clocks.starts self.old.landings.landed self.old.landings.tolds }
+        requires { ToldsFor (length board.now.masters) self.old.landings.whole
+            self.old.clocks.starts self.old.landings.landed self.old.landings.tolds }
         ensures { OnOk result (Happens board.now index event.now self.old self.new) }
     {
         let masters = board.masters.as_slice().len();
@@ -141,9 +143,12 @@ fn record_read(
     clocks: &mut Clocks,
     readings: &mut OpTable<Reading>,
 ) -> Result<(), NoMemory>
-    requires { ToldsFor masters landings.old.whole clocks.old.starts landings.old.landed landings.old.tolds }
-    ensures reads { OnOk result (Reads masters index landings.old read clocks.old clocks.new readings.old readings.new) }
-    ensures tolds { OnOk result (ToldsFor masters landings.new.whole clocks.old.starts landings.new.landed landings.new.tolds) }
+    requires { ToldsFor masters landings.old.whole clocks.old.starts landings.old.landed
+        landings.old.tolds }
+    ensures reads { OnOk result
+        (Reads masters index landings.old read clocks.old clocks.new readings.old readings.new) }
+    ensures tolds { OnOk result (ToldsFor masters landings.new.whole clocks.old.starts
+        landings.new.landed landings.new.tolds) }
     ensures same { OnOk result (SameLandings landings.old landings.new) }
 {
     match read {

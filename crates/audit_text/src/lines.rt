@@ -12,7 +12,8 @@ use trace_text::{print_operation, target_name};
 
 /// The line of a read without its newline, behind a text.
 pub fn print_found(text: &mut String, board: &Board, found: &Found) -> Result<(), AllocError>
-    ensures { OnOk result (string_bytes text.new ≡ string_bytes text.old ++ finding_words board.now found.now) }
+    ensures { OnOk result
+        (string_bytes text.new ≡ string_bytes text.old ++ finding_words board.now found.now) }
 {
     print_finding(
         text,
@@ -29,7 +30,8 @@ pub fn print_found(text: &mut String, board: &Board, found: &Found) -> Result<()
 
 /// The line of a read, behind a text.
 pub(crate) fn print_line(text: &mut String, board: &Board, found: &Found) -> Result<(), AllocError>
-    ensures { OnOk result (string_bytes text.new ≡ string_bytes text.old ++ line_text (finding_line board.now found.now)) }
+    ensures { OnOk result (string_bytes text.new ≡ string_bytes text.old ++
+        line_text (finding_line board.now found.now)) }
 {
     print_found(text, board, found)?;
     writeln!(text)
@@ -47,7 +49,14 @@ fn print_finding(
     chain: &[OpId],
 ) -> Result<(), AllocError>
     ensures { OnOk result
-        (string_bytes text.new ≡ string_bytes text.old ++ finding_words board.now (record { read = read; word = record { target = target; space = space; address = address }; value = value; write = write; chain = chain.now })) }
+        (string_bytes text.new ≡ string_bytes text.old ++ finding_words board.now
+        (record {
+          read = read;
+          word = record { target = target; space = space; address = address };
+          value = value;
+          write = write;
+          chain = chain.now;
+        })) }
 {
     print_operation(text, board, &read)?;
     print_word(text, board, target, space, address)?;
@@ -64,7 +73,8 @@ fn print_word(
     address: u64,
 ) -> Result<(), AllocError>
     ensures { OnOk result
-        (string_bytes text.new ≡ string_bytes text.old ++ spaced (word_words board.now target space address) []) }
+        (string_bytes text.new ≡ string_bytes text.old ++
+        spaced (word_words board.now target space address) []) }
 {
     let name = target_name(board, target);
     write!(
@@ -77,7 +87,8 @@ fn print_word(
 
 fn print_known(text: &mut String, board: &Board, value: u32, write: OpId) -> Result<(), AllocError>
     ensures { OnOk result
-        (string_bytes text.new ≡ string_bytes text.old ++ spaced (known_words board.now value write) []) }
+        (string_bytes text.new ≡ string_bytes text.old ++
+        spaced (known_words board.now value write) []) }
 {
     write!(text, " {} knowing ", HexWord(value))?;
     print_operation(text, board, &write)
@@ -85,7 +96,8 @@ fn print_known(text: &mut String, board: &Board, value: u32, write: OpId) -> Res
 
 fn print_chain(text: &mut String, board: &Board, chain: &[OpId]) -> Result<(), AllocError>
     ensures { OnOk result
-        (string_bytes text.new ≡ string_bytes text.old ++ spaced (map (op_word board.now) chain.now) []) }
+        (string_bytes text.new ≡ string_bytes text.old ++
+        spaced (map (op_word board.now) chain.now) []) }
 {
     for op in chain {
         text.push_str(" ")?;

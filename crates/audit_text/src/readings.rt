@@ -60,7 +60,8 @@ pub(crate) fn read_in(board: &Board, event: &Event) -> Option<Read>
 }
 
 fn read_at(board: &Board, bus: u8, op: OpId, value: u32, target: u16) -> Option<Read>
-    ensures { result ≡ option_map (read_of op) (reading_of target value [] (request_of board.now op bus)) }
+    ensures { result ≡
+        option_map (read_of op) (reading_of target value [] (request_of board.now op bus)) }
 {
     let request = request_of(board, op, bus)?;
     let space = request.command.space();

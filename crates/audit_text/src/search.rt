@@ -3,7 +3,9 @@ ghost use Rattle.history_model.specs.Knowledge.{stands_after};
 ghost use Rattle.audit_clocks.specs.Tracks.{op_on};
 ghost use Rattle.audit_text.specs.Notes.{Notes};
 ghost use Rattle.audit_text.specs.Found.{knows_by, landed_before, last_known, first_shown};
-ghost use Rattle.audit_text.specs.Search.{writes_at, is_known, tells_of, is_whole, shows_at, KnowsAlways, TellsAlways, AreRising, FallsAlong, LastOn, FirstOn, later, earlier};
+ghost use Rattle.audit_text.specs.Search.{writes_at, is_known, tells_of, is_whole, shows_at};
+ghost use Rattle.audit_text.specs.Search.{KnowsAlways, TellsAlways, AreRising, FallsAlong, LastOn};
+ghost use Rattle.audit_text.specs.Search.{FirstOn, later, earlier};
 
 use crate::ledger::Ledger;
 use crate::readings::Reading;
@@ -27,7 +29,8 @@ pub(crate) fn last_known(ledger: &Ledger, reading: &Reading, read: OpId) -> Opti
 /// The last place of the track whose write the read knows.
 fn last_on(ledger: &Ledger, writes: &[OpId], places: &[usize], read: OpId) -> Option<usize>
     requires rises { AreRising places.now }
-    requires falls { FallsAlong (λ at. is_known ledger.now read (slice_get writes.now at)) places.now }
+    requires falls { FallsAlong (λ at. is_known ledger.now read (slice_get writes.now at))
+        places.now }
     ensures { LastOn (λ at. is_known ledger.now read (slice_get writes.now at)) places.now result }
 {
     let count = places.partition_point(|at| knows_at(ledger, writes, *at, read));
@@ -58,12 +61,13 @@ pub(crate) fn knows(ledger: &Ledger, write: OpId, op: OpId) -> bool
     }
 }
 
-/// The first write that landed in the dword of the reading before it, landed whole before it, and is
-/// the write or knows of it. A binary search for each author whose writes landed there, and a step
-/// for each write of the author of which a part landed.
+/// The first write that landed in the dword of the reading before it, landed whole before it, and
+/// is the write or knows of it. A binary search for each author whose writes landed there, and a
+/// step for each write of the author of which a part landed.
 pub(crate) fn first_shown(ledger: &Ledger, reading: &Reading, write: OpId) -> Option<OpId>
     requires { TellsAlways ledger.now write }
-    ensures { result ≡ first_shown ledger.now reading.now write (landed_before ledger.now reading.now) }
+    ensures { result ≡
+        first_shown ledger.now reading.now write (landed_before ledger.now reading.now) }
 {
     let writes = ledger.landed_before(reading);
     let mut first = None;
@@ -76,8 +80,8 @@ pub(crate) fn first_shown(ledger: &Ledger, reading: &Reading, write: OpId) -> Op
     op_on(writes, first)
 }
 
-/// The first place of the track whose operation landed whole before the reading, and is the write or
-/// knows of it.
+/// The first place of the track whose operation landed whole before the reading, and is the write
+/// or knows of it.
 fn first_on(
     ledger: &Ledger,
     reading: &Reading,
@@ -86,8 +90,10 @@ fn first_on(
     write: OpId,
 ) -> Option<usize>
     requires rises { AreRising places.now }
-    requires falls { FallsAlong (λ at. not (tells_of ledger.now write (slice_get writes.now at))) places.now }
-    ensures { FirstOn (λ at. shows_at ledger.now reading.now write (slice_get writes.now at)) places.now result }
+    requires falls { FallsAlong (λ at. not (tells_of ledger.now write (slice_get writes.now at)))
+        places.now }
+    ensures { FirstOn (λ at. shows_at ledger.now reading.now write (slice_get writes.now at))
+        places.now result }
 {
     let start = places.partition_point(|at| !tells_at(ledger, writes, *at, write));
     let (_, rest) = places.split_at(start);
@@ -112,7 +118,8 @@ fn first_whole(
     places: &[usize],
 ) -> Option<usize>
     requires { AreRising places.now }
-    ensures { FirstOn (λ at. is_whole ledger.now reading.now (slice_get writes.now at)) places.now result }
+    ensures { FirstOn (λ at. is_whole ledger.now reading.now (slice_get writes.now at)) places.now
+        result }
 {
     for place in places {
         match writes.get(*place) {

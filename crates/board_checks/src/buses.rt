@@ -1,12 +1,13 @@
 ghost use Rattle.std.specs.Prelude.{◌≡◌, Option, not, find, ◌||◌};
 ghost use Rattle.std.specs.List.{list_any};
 ghost use Rattle.board_model.specs.WellFormed.{has_bus};
-ghost use Rattle.board_model.specs.Valid.{has_bridge_to, is_bus, lacks_a_bus, is_numbered, is_behind, is_nested, are_beside, some_two, is_no_tree};
+ghost use Rattle.board_model.specs.Valid.{has_bridge_to, is_bus, lacks_a_bus, is_numbered};
+ghost use Rattle.board_model.specs.Valid.{is_behind, is_nested, are_beside, some_two, is_no_tree};
 
 use board_model::{Board, Bridge, Planned, bridge_to, has_bridge_to, is_bus};
 
-/// V1: whether the primary bus of a bridge, the bus of an agent, or the bridge of a discard or a drop
-/// is not there.
+/// V1: whether the primary bus of a bridge, the bus of an agent, or the bridge of a discard or a
+/// drop is not there.
 pub(crate) fn lacks_a_bus(board: &Board) -> bool
     ensures { result ≡ lacks_a_bus board.now }
 {
@@ -56,7 +57,8 @@ fn plan_lacks_a_bridge(board: &Board, plans: &[Planned]) -> bool
 }
 
 /// V2: whether the bus numbers are not those of a tree: a bridge has not primary < secondary <=
-/// subordinate, its buses are not behind the bridge above it, or those of two bridges of one bus meet.
+/// subordinate, its buses are not behind the bridge above it, or those of two bridges of one bus
+/// meet.
 pub(crate) fn is_no_tree(board: &Board) -> bool
     ensures { result ≡ is_no_tree board.now }
 {
@@ -64,7 +66,8 @@ pub(crate) fn is_no_tree(board: &Board) -> bool
 }
 
 fn some_out_of_place(board: &Board) -> bool
-    ensures { result ≡ list_any (λ bridge. not (is_numbered bridge) || not (is_nested board.now bridge)) board.now.bridges }
+    ensures { result ≡ list_any (λ bridge. not (is_numbered bridge) ||
+        not (is_nested board.now bridge)) board.now.bridges }
 {
     board
         .bridges

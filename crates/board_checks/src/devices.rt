@@ -1,10 +1,13 @@
 ghost use Rattle.std.specs.Prelude.{◌≡◌, ◌&&◌, ◌==◌};
 ghost use Rattle.std.specs.List.{list_any};
-ghost use Rattle.board_model.specs.Valid.{targets_share_a_device, bridges_share_a_device, is_device_of, some_two, has_devices_that_meet, is_header_write, writes_a_header};
+ghost use Rattle.board_model.specs.Valid.{targets_share_a_device, bridges_share_a_device};
+ghost use Rattle.board_model.specs.Valid.{is_device_of, some_two, has_devices_that_meet};
+ghost use Rattle.board_model.specs.Valid.{is_header_write, writes_a_header};
 
 use board_model::{Board, Bridge, Op, Target};
 
-/// V7: whether two targets, two bridges, or a target and a bridge on one bus have one device number.
+/// V7: whether two targets, two bridges, or a target and a bridge on one bus have one device
+/// number.
 pub(crate) fn has_devices_that_meet(board: &Board) -> bool
     ensures { result ≡ has_devices_that_meet board.now }
 {
@@ -80,7 +83,8 @@ fn is_header_write(board: &Board, op: &Op) -> bool
 }
 
 fn is_bridge_at(board: &Board, bus: u8, device: u8) -> bool
-    ensures { result ≡ list_any (λ bridge. bridge.parent == bus && bridge.device == device) board.now.bridges }
+    ensures { result ≡
+        list_any (λ bridge. bridge.parent == bus && bridge.device == device) board.now.bridges }
 {
     board
         .bridges

@@ -1,6 +1,7 @@
 ghost use Rattle.std.specs.Prelude.{◌≡◌};
 ghost use Rattle.std.specs.List.{list_any};
-ghost use Rattle.board_model.specs.Valid.{meets_in, child_meets, has_range_in_window, ranges_meet, targets_meet, some_two, has_ranges_that_meet, last_of};
+ghost use Rattle.board_model.specs.Valid.{meets_in, child_meets, has_range_in_window, ranges_meet};
+ghost use Rattle.board_model.specs.Valid.{targets_meet, some_two, has_ranges_that_meet, last_of};
 
 use crate::spans::{last_of, spans_meet};
 use crate::windows::window_meets;

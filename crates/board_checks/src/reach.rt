@@ -1,6 +1,8 @@
 ghost use Rattle.std.specs.Prelude.{◌≡◌, not};
 ghost use Rattle.std.specs.List.{list_any, list_all};
-ghost use Rattle.board_model.specs.Valid.{window_covers, bridge_covers, own_covers, is_reached, window_is_reached, last_of, ranges_are_reached, windows_are_reached, is_out_of_reach};
+ghost use Rattle.board_model.specs.Valid.{window_covers, bridge_covers, own_covers, is_reached};
+ghost use Rattle.board_model.specs.Valid.{window_is_reached, last_of, ranges_are_reached};
+ghost use Rattle.board_model.specs.Valid.{windows_are_reached, is_out_of_reach};
 
 use crate::spans::last_of;
 use board_model::{Board, Bridge, Target, Window, bridge_to};
@@ -14,7 +16,8 @@ pub(crate) fn is_out_of_reach(board: &Board) -> bool
 }
 
 fn some_range_is_out_of_reach(board: &Board) -> bool
-    ensures { result ≡ list_any (λ target. not (ranges_are_reached board.now target)) board.now.targets }
+    ensures { result ≡
+        list_any (λ target. not (ranges_are_reached board.now target)) board.now.targets }
 {
     board
         .targets
@@ -24,7 +27,8 @@ fn some_range_is_out_of_reach(board: &Board) -> bool
 }
 
 fn some_window_is_out_of_reach(board: &Board) -> bool
-    ensures { result ≡ list_any (λ bridge. not (windows_are_reached board.now bridge)) board.now.bridges }
+    ensures { result ≡
+        list_any (λ bridge. not (windows_are_reached board.now bridge)) board.now.bridges }
 {
     board
         .bridges

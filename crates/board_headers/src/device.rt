@@ -35,8 +35,7 @@ pub fn write_mask(register: u8) -> u32
     }
 }
 
-/// The dword after a data phase: the enabled bytes of the phase within the mask, and the rest of
-/// the old dword.
+/// The dword after a data phase: its enabled bytes within the mask, and the rest of the old dword.
 pub fn merge(old: u32, phase: &Phase, mask: u32) -> u32
     ensures { result ≡ merge_of old phase.now mask }
 {

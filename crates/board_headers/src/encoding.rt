@@ -1,5 +1,6 @@
 ghost use Rattle.std.specs.Prelude.{◌≡◌, ◌+◌, ◌/◌, ◌%◌, ◌^◌, ◌<◌, slice_set, if◌then◌else◌};
-ghost use Rattle.board_headers.specs.HeaderBytes.{header_bytes, bits, io_base, io_limit, io_base_upper, io_limit_upper, memory_base, memory_limit, is_wide, wide_bit, prefetchable_base, prefetchable_limit, prefetchable_base_upper, prefetchable_limit_upper, control_of};
+ghost use Rattle.board_headers.specs.HeaderBytes.{header_bytes, bits, io_base, io_limit, io_base_upper, io_limit_upper, memory_base, memory_limit, is_wide};
+ghost use Rattle.board_headers.specs.HeaderBytes.{wide_bit, prefetchable_base, prefetchable_limit, prefetchable_base_upper, prefetchable_limit_upper, control_of};
 
 use crate::control::{BridgeControl, CommandBits};
 use bitflags::Flags;

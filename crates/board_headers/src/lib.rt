@@ -1,5 +1,5 @@
 //! The type 1 configuration header of a bridge, written and read: PCI-to-PCI Bridge Architecture
-//! Specification 1.1, section 3.2 (from memory).
+//! Specification 1.1, section 3.2 (from memory). `tools/lspci-check` compares it with `lspci`.
 #![tactic(auto)]
 
 mod control;

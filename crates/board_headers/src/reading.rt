@@ -1,16 +1,16 @@
 ghost use Rattle.std.specs.Prelude.{◌≡◌, ◌+◌, ◌^◌, ◌<◌, IsTrue, IfOk};
 ghost use Rattle.board_model.specs.WellFormed.{is_window};
 ghost use Rattle.board_headers.specs.HeaderBytes.{register_2, register_4};
-ghost use Rattle.board_headers.specs.Windows.{reading_of, windows_of, is_type_1, is_enabled, has_refused_control, memory_window, prefetchable_window, prefetchable_upper, io_window, io_upper, window_between, has_whole_windows, has_ordered_buses};
+ghost use Rattle.board_headers.specs.Windows.{reading_of, windows_of, is_type_1, is_enabled, has_refused_control, memory_window};
+ghost use Rattle.board_headers.specs.Windows.{prefetchable_window, prefetchable_upper, io_window, io_upper, window_between, has_whole_windows, has_ordered_buses};
 
 use crate::control::{BridgeControl, CommandBits};
 use crate::{HeaderFault, Windows};
 use bitflags::Flags;
 use board_model::Window;
 
-/// What the 64 bytes of a header say, or its first fault. Identification, class and all else that
-/// is no bus number, no window register and no bit of the faults or of the master abort mode is
-/// ignored.
+/// What the 64 bytes of a header say, or its first fault. Ignored is, as identification and class,
+/// what is no bus number, no window register and no bit of the faults or the master abort mode.
 pub fn decode(bytes: &[u8; 64]) -> Result<Windows, HeaderFault>
     ensures reading { result ≡ reading_of bytes.now }
     ensures ordered_buses { IfOk result (λ windows. IsTrue (has_ordered_buses windows)) }

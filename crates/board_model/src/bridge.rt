@@ -1,5 +1,4 @@
-/// One direction through the bridge to secondary bus `bus`: up to its primary bus, or down to its
-/// secondary bus.
+/// One direction through the bridge to bus `bus`: up to its primary bus, or down to its secondary.
 #[derive(Clone, Copy, Debug, Default, PartialEq, Eq)]
 pub struct Lane {
     pub bus: u8,
@@ -13,8 +12,7 @@ pub struct Window {
     pub limit: u64,
 }
 
-/// A PCI-to-PCI bridge (PCI-to-PCI Bridge Architecture 1.1, section 3.2; section number from
-/// memory).
+/// A PCI-to-PCI bridge (PCI-to-PCI Bridge Architecture 1.1, section 3.2, from memory).
 #[derive(Clone, Copy, Debug, Default, PartialEq, Eq)]
 pub struct Bridge {
     /// Its secondary bus, by which the bridge is named.

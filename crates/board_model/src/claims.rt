@@ -1,13 +1,13 @@
 //! Who claims a request on a bus, found by a look at every agent of the board: PCI-to-PCI Bridge
-//! Architecture Specification 1.1, chapter 4 (address decoding) and section 3.1 (from memory; configuration
-//! transactions).
+//! Architecture Specification 1.1, chapter 4 (addresses), section 3.1 (configuration; from memory).
 ghost use Rattle.std.specs.Prelude.{◌≡◌, ◌/◌, ◌%◌, ◌^◌, ◌<◌, ◌≤◌, ◌==◌, ◌&&◌, length, nat_le, IsTrue};
 ghost use Rattle.std.specs.Option.{option_copied};
 ghost use Rattle.std.specs.List.{find, list_any, position_from};
 ghost use Rattle.board_model.specs.declared.bridge.Bridge.{Bridge};
 ghost use Rattle.board_model.specs.declared.agents.Target.{Target};
 ghost use Rattle.board_model.specs.WellFormed.{is_well_formed};
-ghost use Rattle.board_model.specs.Claims.{range_holds, bridge_holds, decodes_down, claim_upwards, claim_by_bridge, claim_by_address, claim_by_header, claim_by_device, claim_by_bus, is_type_0, device_in, bus_in, claim_in_configuration, claim_in_space, claim};
+ghost use Rattle.board_model.specs.Claims.{range_holds, bridge_holds, decodes_down, claim_upwards, claim_by_bridge, claim_by_address, claim_by_header};
+ghost use Rattle.board_model.specs.Claims.{claim_by_device, claim_by_bus, is_type_0, device_in, bus_in, claim_in_configuration, claim_in_space, claim};
 
 use crate::{Board, Bridge, Lane, Place, Range, Target, bridge_to, window_holds};
 use pci_command::{Request, Space};
@@ -21,8 +21,7 @@ pub fn claim(board: &Board, bus: u8, request: &Request) -> Place
     claim_in_space(board, bus, space, u128::from(request.address))
 }
 
-/// Who claims an access to this address of the space on the bus. The address may lie beyond the end
-/// of the space.
+/// Who claims an access to this address of the space on the bus, also to one beyond the space.
 pub fn claim_in_space(board: &Board, bus: u8, space: Space, address: u128) -> Place
     requires { IsTrue (is_well_formed board.now) }
     ensures { result ≡ claim_in_space board.now bus space address }

@@ -1,5 +1,5 @@
-//! What holds of every board: its form by name, its ways and its claims. Each law is the contract of a function that does
-//! nothing.
+//! What holds of every board: its form by name, its ways and its claims. Each law is the contract
+//! of a function that does nothing.
 ghost use Rattle.std.specs.Prelude.{◌≡◌, ◌<◌, ℕ, true, Some};
 ghost use Rattle.pci_command.specs.declared.request.Request.{Request};
 ghost use Rattle.board_model.specs.declared.bridge.Lane.{Lane as BridgeLane};
@@ -10,7 +10,8 @@ ghost use Rattle.board_model.specs.declared.bridge.Bridge.{Bridge};
 ghost use Rattle.board_model.specs.declared.agents.Range.{Range};
 ghost use Rattle.board_model.specs.declared.agents.Target.{Target};
 ghost use Rattle.board_model.specs.declared.agents.Master.{Master};
-ghost use Rattle.board_model.specs.WellFormed.{are_numbered_apart, is_window, IsWindow, is_well_formed_bridge, IsWellFormedBridge, is_block, IsBlock, is_well_formed_target, IsWellFormedTarget, is_well_formed_master, IsWellFormedMaster, is_well_formed, IsWellFormed};
+ghost use Rattle.board_model.specs.WellFormed.{are_numbered_apart, is_window, IsWindow, is_well_formed_bridge, IsWellFormedBridge, is_block, IsBlock};
+ghost use Rattle.board_model.specs.WellFormed.{is_well_formed_target, IsWellFormedTarget, is_well_formed_master, IsWellFormedMaster, is_well_formed, IsWellFormed};
 ghost use Rattle.board_model.specs.Valid.{IsValid};
 ghost use Rattle.board_model.specs.form_laws.Trees.{IsTree};
 ghost use Rattle.board_model.specs.form_laws.WayEnds.{WayEnds, GoesOn, rank};

@@ -1,5 +1,5 @@
 //! A board: the tree of buses with its bridges, targets and masters, as its text names them, and
-//! who claims a request on a bus.
+//! who claims a request on a bus. Its form, claims, ways and validity are pages of `specs/`.
 #![tactic(auto)]
 
 mod agents;

@@ -14,8 +14,7 @@ pub fn request_of(board: &Board, op: OpId, bus: u8) -> Option<Request>
     Some(request_on(found, bus))
 }
 
-/// The operation that a name names. There is none exactly where its master, its index or its try is
-/// not there.
+/// The operation that a name names; none exactly where its master, index or try is not there.
 pub fn op_of(board: &Board, op: OpId) -> Option<&Op>
     ensures { option_map (λ found. found.now) result ≡ op_of board.now op }
 {

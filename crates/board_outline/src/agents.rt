@@ -1,6 +1,7 @@
 ghost use Rattle.std.specs.Prelude.{◌≡◌, ◌++◌, ◌==◌, OnOk, string_bytes, codes, if◌then◌else◌};
 ghost use Rattle.std.specs.List.{flat_map};
-ghost use Rattle.board_outline.specs.Outline.{blanks, operations_text, master_text, target_text, master_on, target_on};
+ghost use Rattle.board_outline.specs.Outline.{blanks, operations_text, master_text, target_text};
+ghost use Rattle.board_outline.specs.Outline.{master_on, target_on};
 
 use crate::spans::print_ranges;
 use board_model::{Master, Target};

@@ -1,6 +1,7 @@
 ghost use Rattle.std.specs.Prelude.{◌≡◌, ◌++◌, OnOk, string_bytes};
 ghost use Rattle.std.specs.Option.{option_copied};
-ghost use Rattle.board_outline.specs.Outline.{depth_text, mode_text, windows_text, kept_text, bridge_text, head_text};
+ghost use Rattle.board_outline.specs.Outline.{depth_text, mode_text, windows_text, kept_text};
+ghost use Rattle.board_outline.specs.Outline.{bridge_text, head_text};
 
 use crate::spans::print_window;
 use board_model::Bridge;

@@ -1,5 +1,6 @@
 ghost use Rattle.std.specs.Prelude.{◌≡◌, ◌++◌, IfOk, OnOk, string_bytes};
-ghost use Rattle.board_outline.specs.Outline.{depth_of, leads_to, bus_text, place_text, outline_text};
+ghost use Rattle.board_outline.specs.Outline.{depth_of, leads_to, bus_text, place_text};
+ghost use Rattle.board_outline.specs.Outline.{outline_text};
 
 use crate::agents::{print_blanks, print_masters, print_targets};
 use crate::bridges::print_head;
@@ -17,7 +18,8 @@ pub fn print_outline(alloc: Global, board: &Board) -> Result<List<u8>, NoMemory>
 }
 
 fn print_buses(text: &mut String, board: &Board) -> Result<(), AllocError>
-    ensures { OnOk result (string_bytes text.new ≡ string_bytes text.old ++ outline_text board.now) }
+    ensures { OnOk result
+        (string_bytes text.new ≡ string_bytes text.old ++ outline_text board.now) }
 {
     for bus in 0..256u16 {
         print_place(text, board, bus as u8)?;
@@ -37,7 +39,8 @@ fn print_place(text: &mut String, board: &Board, bus: u8) -> Result<(), AllocErr
 }
 
 fn print_bus(text: &mut String, board: &Board, bus: u8) -> Result<(), AllocError>
-    ensures { OnOk result (string_bytes text.new ≡ string_bytes text.old ++ bus_text board.now bus) }
+    ensures { OnOk result
+        (string_bytes text.new ≡ string_bytes text.old ++ bus_text board.now bus) }
 {
     let depth = depth_of(board, bus);
     print_blanks(text, depth)?;

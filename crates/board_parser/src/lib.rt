@@ -1,4 +1,5 @@
-//! A board text is read as a board, or its first fault is told with its line.
+//! A board text is read as a board, or its first fault is told with its line. A line adds to a
+//! draft what `add` defines, or is refused by its first fault, in the order of `docs/formats.md`.
 #![tactic(auto)]
 
 pub mod draft;

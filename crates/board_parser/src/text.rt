@@ -22,8 +22,8 @@ pub fn parse(alloc: Global, bytes: &[u8]) -> Result<Board, ParseFault>
     Ok(sheet.into_board(alloc)?)
 }
 
-/// The sheet of a text, to which more can be added, or the first fault of the text, as `parse` tells
-/// it. A text has fewer than 2^31 bytes.
+/// The sheet of a text, to which more can be added, or the first fault of the text, as `parse`
+/// tells it. A text has fewer than 2^31 bytes.
 pub fn parse_sheet(alloc: Global, bytes: &[u8]) -> Result<Sheet, ParseFault>
     requires { length bytes.now < 2 ^ 31 }
     ensures read { TellsSheet result (sheet_read bytes.now) }

@@ -3,7 +3,8 @@ ghost use Rattle.std.specs.List.{AllByRecursion};
 ghost use Rattle.board_model.specs.WellFormed.{is_well_formed};
 ghost use Rattle.board_printer.specs.Boards.{board_text};
 ghost use Rattle.board_parser.specs.Boards.{board_read};
-ghost use Rattle.board_roundtrip.specs.lines.Ranges.{BridgeFits, TargetFits, MasterFits, RangeFits, OpeningFits, OpFits, PhaseFits, PlannedFits};
+ghost use Rattle.board_roundtrip.specs.lines.Ranges.{BridgeFits, TargetFits, MasterFits, RangeFits};
+ghost use Rattle.board_roundtrip.specs.lines.Ranges.{OpeningFits, OpFits, PhaseFits, PlannedFits};
 ghost use Rattle.board_roundtrip.specs.lines.Fits.{DetailsFit, ProgramFits, BoardFits};
 
 use crate::boards_are_read;

@@ -1,6 +1,7 @@
 //! What is printed of a board is read as the same board. The law is the contract of a function that
-//! does nothing. A board of the program meets it: this is the contract of functions that look at its
-//! fields and change nothing.
+//! does nothing. A board of the program meets it: this is the contract of functions that look at
+//! its fields and change nothing. In a `pciboard 1` text it is of addresses, sizes and limits below
+//! 2^32.
 #![tactic(auto)]
 
 mod fits;
@@ -23,5 +24,6 @@ pub use words::{lines_are_read_again, numbers_are_read_again};
 
 /// The canonical text of a well-formed board is read as that board.
 pub fn boards_are_read()
-    ensures { (board : Board) → BoardFits board → is_well_formed board ≡ true → board_read (board_text board) ≡ Ok board }
+    ensures { (board : Board) → BoardFits board → is_well_formed board ≡ true →
+        board_read (board_text board) ≡ Ok board }
 {}

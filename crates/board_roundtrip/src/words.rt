@@ -13,9 +13,12 @@ ghost use Rattle.board_roundtrip.specs.words.Printed.{is_word, has_words_alone, 
 /// The lines of a text of lines of words are these lines, and the words of each are its words; no
 /// line has a byte that no line may have.
 pub fn lines_are_read_again()
-    ensures lines { (lines : List Line) → list_all has_words_alone lines ≡ true → lines_of (text_of lines) ≡ map joined lines }
-    ensures words { (words : Line) → has_words_alone words ≡ true → words_of (joined words) ≡ words }
-    ensures allowed { (words : Line) → has_words_alone words ≡ true → list_all is_allowed (joined words) ≡ true }
+    ensures lines { (lines : List Line) → list_all has_words_alone lines ≡ true →
+        lines_of (text_of lines) ≡ map joined lines }
+    ensures words { (words : Line) → has_words_alone words ≡ true →
+        words_of (joined words) ≡ words }
+    ensures allowed { (words : Line) → has_words_alone words ≡ true →
+        list_all is_allowed (joined words) ≡ true }
 {}
 
 /// Numbers are read as what they were printed of, and what they are printed as are words.

@@ -1,6 +1,7 @@
 ghost use Rattle.std.specs.Prelude.{false};
 ghost use Rattle.board_statements.specs.Words.{Gives, choice, give};
-ghost use Rattle.board_statements.specs.Bridges.{window, base_limit, depth, abort_mode, bridge_options, bridge_form, header_form};
+ghost use Rattle.board_statements.specs.Bridges.{window, base_limit, depth, abort_mode};
+ghost use Rattle.board_statements.specs.Bridges.{bridge_options, bridge_form, header_form};
 
 use crate::Statement;
 use crate::words::Words;

@@ -1,9 +1,12 @@
 //! What one word is read as.
 
-ghost use Rattle.std.specs.Prelude.{◌≡◌, ◌==◌, ◌+◌, ◌*◌, ◌<◌, ◌≤◌, ◌^◌, true, false, length, slice_index, IfOk, MatchOption};
+ghost use Rattle.std.specs.Prelude.{◌≡◌, ◌==◌, ◌+◌, ◌*◌, ◌<◌, ◌≤◌, ◌^◌, true, false, length};
+ghost use Rattle.std.specs.Prelude.{slice_index, IfOk, MatchOption};
 ghost use Rattle.std.specs.List.{position_or_len, list_all};
 ghost use Rattle.std.specs.Char.{digit_value, is_digit};
-ghost use Rattle.board_statements.specs.Words.{hex_of, decimal_of, long_of, lower_of, data_word_of, digit_of, enables_of, name_of, fixed_of, header_of, in_pairs, has_mark, before_mark, behind_mark};
+ghost use Rattle.board_statements.specs.Words.{hex_of, decimal_of, long_of, lower_of, data_word_of};
+ghost use Rattle.board_statements.specs.Words.{digit_of, enables_of, name_of, fixed_of, header_of};
+ghost use Rattle.board_statements.specs.Words.{in_pairs, has_mark, before_mark, behind_mark};
 
 use crate::words::is_word;
 use board_model::Name;
@@ -121,7 +124,9 @@ fn digit_of(byte: u8) -> Result<u8, LineFault>
 
 /// The parts of a word before and behind the first such mark, if it has one.
 pub fn parts(word: &[u8], mark: u8) -> Option<(&[u8], &[u8])>
-    ensures { MatchOption result (has_mark mark word.now ≡ false) (λ found. (has_mark mark word.now ≡ true) × (found.0.now ≡ before_mark mark word.now) × (found.1.now ≡ behind_mark mark word.now)) }
+    ensures { MatchOption result
+        (has_mark mark word.now ≡ false) (λ found. (has_mark mark word.now ≡ true) ×
+        (found.0.now ≡ before_mark mark word.now) × (found.1.now ≡ behind_mark mark word.now)) }
 {
     let at = length_before(word, mark);
     if at == word.len() {
@@ -181,7 +186,8 @@ fn in_pairs(word: &[u8]) -> [u8; 64]
 fn pair_at(word: &[u8], at: usize) -> u8
     requires inside { at + 1 < length word.now }
     requires digits { list_all (λ byte. is_digit byte 16) word.now ≡ true }
-    ensures { result ≡ 16 * digit_value (slice_index word.now at) + digit_value (slice_index word.now (at + 1)) }
+    ensures { result ≡
+        16 * digit_value (slice_index word.now at) + digit_value (slice_index word.now (at + 1)) }
 {
     16 * value_of_digit(word[at]) + value_of_digit(word[at + 1])
 }

@@ -1,6 +1,10 @@
 ghost use Rattle.std.specs.Prelude.{◌≡◌, false};
 ghost use Rattle.board_statements.specs.Words.{Gives, one_word};
-ghost use Rattle.board_statements.specs.Masters.{master_form, read_form, burst_words, burst_write_form, port_write_form, register_read_form, register_write_form, poll_form, planned_form, discard_form, drop_form, direction_of_word};
+ghost use Rattle.board_statements.specs.Masters.{master_form, read_form, burst_words};
+ghost use Rattle.board_statements.specs.Masters.{burst_write_form, port_write_form};
+ghost use Rattle.board_statements.specs.Masters.{register_read_form, register_write_form};
+ghost use Rattle.board_statements.specs.Masters.{poll_form, planned_form, discard_form, drop_form};
+ghost use Rattle.board_statements.specs.Masters.{direction_of_word};
 
 use crate::Statement;
 use crate::targets::is_wide_in;

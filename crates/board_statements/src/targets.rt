@@ -1,6 +1,8 @@
 ghost use Rattle.std.specs.Prelude.{◌≡◌};
 ghost use Rattle.board_statements.specs.Words.{Gives, one_word};
-ghost use Rattle.board_statements.specs.Targets.{is_wide_in, space_word, target_form, id_form, stall_form, burst_form, range_form, claim_form, abort_form, opening_form};
+ghost use Rattle.board_statements.specs.Targets.{is_wide_in, space_word, target_form, id_form};
+ghost use Rattle.board_statements.specs.Targets.{stall_form, burst_form, range_form, claim_form};
+ghost use Rattle.board_statements.specs.Targets.{abort_form, opening_form};
 
 use crate::Statement;
 use crate::words::{Words, is_word};

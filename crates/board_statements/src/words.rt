@@ -1,10 +1,12 @@
-ghost use Rattle.std.specs.Prelude.{◌≡◌, ◌==◌, ◌<◌, ◌≤◌, [], ◌∷◌, List, length, MatchOption, MatchResult};
+ghost use Rattle.std.specs.Prelude.{◌≡◌, ◌==◌, ◌<◌, ◌≤◌, [], ◌∷◌, List, length, MatchOption};
+ghost use Rattle.std.specs.Prelude.{MatchResult};
 ghost use Rattle.std.specs.List.{position_or_len};
 ghost use Rattle.std.specs.Prelude.{if◌then◌else◌};
 ghost use Rattle.std.specs.Str.{bytes_eq};
 ghost use Rattle.board_text.specs.Tokens.{is_separator, is_comment, words_of};
 ghost use Rattle.board_statements.specs.Cuts.{words_in, is_no_separator};
-ghost use Rattle.board_statements.specs.Words.{Gives, begins_with, behind_first, hex, decimal, fixed, name, long, data_word, header_bytes};
+ghost use Rattle.board_statements.specs.Words.{Gives, begins_with, behind_first, hex, decimal};
+ghost use Rattle.board_statements.specs.Words.{fixed, name, long, data_word, header_bytes};
 
 use crate::kinds::{data_word_of, decimal_of, fixed_of, header_of, hex_of, long_of, name_of};
 use board_model::Name;
@@ -47,7 +49,8 @@ impl<'a> Words<'a> {
 
     /// Takes the next word.
     pub fn take(&mut self) -> Result<&'a [u8], LineFault>
-        ensures { MatchResult result (λ word. self.old ≡ word.now ∷ self.new) (λ fault. (fault ≡ LineFault.Missing) × (self.old ≡ [])) }
+        ensures { MatchResult result (λ word. self.old ≡ word.now ∷ self.new)
+            (λ fault. (fault ≡ LineFault.Missing) × (self.old ≡ [])) }
     {
         match next_word(self.rest) {
             None => Err(LineFault::Missing),
@@ -61,7 +64,8 @@ impl<'a> Words<'a> {
     /// Whether the next word is the expected one, which is then taken.
     pub fn skips(&mut self, expected: &[u8]) -> bool
         ensures tells { result ≡ begins_with expected.now self.old }
-        ensures takes { self.new ≡ (if begins_with expected.now self.old then behind_first self.old else self.old) }
+        ensures takes { self.new ≡
+            (if begins_with expected.now self.old then behind_first self.old else self.old) }
     {
         match next_word(self.rest) {
             Some((word, rest)) if is_word(word, expected) => {
@@ -147,7 +151,8 @@ pub fn is_word(word: &[u8], expected: &[u8]) -> bool
 
 // The first word of a text without a comment, and what stands behind it.
 fn next_word(text: &[u8]) -> Option<(&[u8], &[u8])>
-    ensures { MatchOption result (words_in text.now ≡ []) (λ found. words_in text.now ≡ found.0.now ∷ words_in found.1.now) }
+    ensures { MatchOption result
+        (words_in text.now ≡ []) (λ found. words_in text.now ≡ found.0.now ∷ words_in found.1.now) }
 {
     let (_between, from_word) = text.split_at(length_of_gap(text));
     if from_word.is_empty() {

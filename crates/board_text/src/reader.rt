@@ -1,4 +1,5 @@
-ghost use Rattle.std.specs.Prelude.{◌≡◌, ◌+◌, ◌<◌, ◌≤◌, ◌^◌, ◌↔◌, ◌∷◌, length, drop, slice_range, Some, None, IfSome, IsNone, MatchResult};
+ghost use Rattle.std.specs.Prelude.{◌≡◌, ◌+◌, ◌<◌, ◌≤◌, ◌^◌, ◌↔◌, ◌∷◌, length, drop, slice_range};
+ghost use Rattle.std.specs.Prelude.{Some, None, IfSome, IsNone, MatchResult};
 ghost use Rattle.std.specs.List.{position_or_len, list_all};
 ghost use Rattle.board_text.specs.Lines.{is_newline, is_allowed, lines_of, line_fault};
 
@@ -20,8 +21,10 @@ pub enum BadLine {
 /// no line exactly from the end of the text on.
 pub fn next_line(bytes: &[u8], at: usize) -> Option<(&[u8], usize)>
     ensures end { IsNone result ↔ (length bytes.now ≤ at) }
-    ensures line { IfSome result (λ found. lines_of (drop at bytes.now) ≡ found.0.now ∷ lines_of (drop found.1 bytes.now)) }
-    ensures place { IfSome result (λ found. found.0.now ≡ slice_range bytes.now at (at + length found.0.now)) }
+    ensures line { IfSome result
+        (λ found. lines_of (drop at bytes.now) ≡ found.0.now ∷ lines_of (drop found.1 bytes.now)) }
+    ensures place { IfSome result
+        (λ found. found.0.now ≡ slice_range bytes.now at (at + length found.0.now)) }
     ensures next { IfSome result (λ found. found.1 ≡ at + length found.0.now + 1) }
     ensures within { IfSome result (λ found. at + length found.0.now ≤ length bytes.now) }
 {
@@ -37,7 +40,8 @@ pub fn next_line(bytes: &[u8], at: usize) -> Option<(&[u8], usize)>
 /// Refuses a line longer than 256 bytes, and else one with a byte other than the tab and 20 to 7e.
 /// The line is given without its newline.
 pub fn check_line(line: &[u8]) -> Result<(), BadLine>
-    ensures { MatchResult result (λ _. line_fault line.now ≡ None) (λ fault. line_fault line.now ≡ Some fault) }
+    ensures { MatchResult result (λ _. line_fault line.now ≡ None)
+        (λ fault. line_fault line.now ≡ Some fault) }
 {
     if line.len() > 256 {
         return Err(BadLine::TooLong);

@@ -1,6 +1,7 @@
 ghost use Rattle.std.specs.Prelude.{◌≡◌, ◌+◌, ◌<◌, ◌≤◌, ◌^◌, length, map, IfOk};
 ghost use Rattle.std.specs.List.{position_or_len, slice_split, All};
-ghost use Rattle.board_text.specs.Tokens.{is_separator, is_comment, uncommented, placed, tokens_of, words_of, slice_at, IsWithin};
+ghost use Rattle.board_text.specs.Tokens.{is_separator, is_comment, uncommented, placed, tokens_of};
+ghost use Rattle.board_text.specs.Tokens.{words_of, slice_at, IsWithin};
 
 use pci_command::{List, NoMemory};
 use std::alloc::Global;
@@ -18,7 +19,8 @@ pub struct Token {
 pub fn tokens_of(alloc: Global, line: &[u8], start: u32) -> Result<List<Token>, NoMemory>
     requires { start + length line.now < 2 ^ 32 }
     ensures places { IfOk result (λ tokens. tokens ≡ tokens_of start line.now) }
-    ensures words { IfOk result (λ tokens. map (slice_at start line.now) tokens ≡ words_of line.now) }
+    ensures words { IfOk result
+        (λ tokens. map (slice_at start line.now) tokens ≡ words_of line.now) }
     ensures within { IfOk result (All (IsWithin start (start + length line.now))) }
 {
     let (text, _comment) = line.split_at(length_before_comment(line));

@@ -59,7 +59,8 @@ impl MasterState {
     /// ended nothing changes.
     pub fn ended(&mut self, board: &Board, outcome: Outcome)
         requires { IsTrue (is_well_formed board.now) }
-        ensures kept { self.new ≡ record self.old { turn = turn_behind board.now outcome self.old.turn } }
+        ensures kept { self.new ≡
+            record self.old { turn = turn_behind board.now outcome self.old.turn } }
         ensures stands { EndsTurn board.now self.old outcome self.new }
     {
         self.go_on(board, outcome);
@@ -67,7 +68,8 @@ impl MasterState {
 
     fn go_on(&mut self, board: &Board, outcome: Outcome)
         requires { IsTrue (is_well_formed board.now) }
-        ensures { self.new ≡ record self.old { turn = turn_behind board.now outcome self.old.turn } }
+        ensures { self.new ≡
+            record self.old { turn = turn_behind board.now outcome self.old.turn } }
     {
         self.turn = behind(board, self.turn, outcome);
     }
@@ -86,5 +88,6 @@ fn behind(board: &Board, turn: Option<OpId>, outcome: Outcome) -> Option<OpId>
 
 /// An event that ends no operation of a master leaves its turn as it was.
 pub fn others_leave_turns()
-    ensures { (board : BoardTree) (p : List EventOfRun) (m : MasterView) (e : EventOfRun) → IsOfOther m.master (ended e) → MasterStands board p m → MasterStands board (e ∷ p) m }
+    ensures { (board : BoardTree) (p : List EventOfRun) (m : MasterView) (e : EventOfRun) →
+        IsOfOther m.master (ended e) → MasterStands board p m → MasterStands board (e ∷ p) m }
 {}

@@ -89,5 +89,7 @@ fn add_at(gone: &mut [PhaseCounts], op: OpId, phases: u8)
 
 /// An event that is no part of a write leaves all counts as they were.
 pub fn other_events_leave_counts()
-    ensures { (board : BoardTree) (p : Items Event) (gone : Items (Items ℕ)) (e : Event) → ((o : OpName) → parted_by o e ≡ 0) → ThroughStands board p gone → ThroughStands board (e ∷ p) gone }
+    ensures { (board : BoardTree) (p : Items Event) (gone : Items (Items ℕ)) (e : Event) →
+        ((o : OpName) → parted_by o e ≡ 0) → ThroughStands board p gone →
+        ThroughStands board (e ∷ p) gone }
 {}

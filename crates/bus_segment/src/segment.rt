@@ -235,7 +235,9 @@ impl<L: LaneEnd + Drop> Segment<L> {
         requires spare { vec_len self.old.events < vec_capacity self.old.events }
         ensures bus { self.new.bus ≡ self.old.bus }
         ensures spare { vec_capacity self.old.events ≤ vec_capacity self.new.events }
-        ensures keeps { Keeps L.had L.sent L.got L.kept L.paired lane place later arrival self.old.stamp self.old.ends.items self.old.events.items self.new.stamp self.new.ends.items self.new.events.items self.new.stopped }
+        ensures keeps { Keeps L.had L.sent L.got L.kept L.paired lane place later arrival
+            self.old.stamp self.old.ends.items self.old.events.items self.new.stamp
+            self.new.ends.items self.new.events.items self.new.stopped }
     {
         let back = sent_at(place, arrival.back);
         if !has_room(self.ends.as_slice(), back) {

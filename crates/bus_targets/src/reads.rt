@@ -16,7 +16,8 @@ pub(crate) fn addresses_read(
     target: &Target,
     space: Space,
 ) -> Result<Vec<u64>, NoMemory>
-    ensures { IfOk result (λ addresses. AllByRecursion (KnowsProgram target.now space addresses.items) board.now.masters) }
+    ensures { IfOk result (λ addresses.
+        AllByRecursion (KnowsProgram target.now space addresses.items) board.now.masters) }
 {
     let mut addresses = Vec::new(alloc);
     for master in board.masters.as_slice() {
@@ -32,7 +33,8 @@ fn push_reads(
     ops: &[Op],
 ) -> Result<(), NoMemory>
     ensures stays { OnOk result (StillThere addresses.old.items addresses.new.items) }
-    ensures reads { OnOk result (AllByRecursion (KnowsRead target.now space addresses.new.items) ops.now) }
+    ensures reads { OnOk result
+        (AllByRecursion (KnowsRead target.now space addresses.new.items) ops.now) }
 {
     for op in ops {
         push_read(addresses, target, space, op)?;

@@ -1,4 +1,5 @@
-ghost use Rattle.std.specs.Prelude.{◌≡◌, ◌-◌, ◌<◌, ℕ, List, [], ◌∷◌, length, Option, Some, IfOk, IsSome, if◌then◌else◌, nat_lt, slice_get, take};
+ghost use Rattle.std.specs.Prelude.{◌≡◌, ◌-◌, ◌<◌, ℕ, List, [], ◌∷◌, length, Option, Some, IfOk};
+ghost use Rattle.std.specs.Prelude.{IsSome, if◌then◌else◌, nat_lt, slice_get, take};
 ghost use Rattle.board_model.specs.declared.board.Board.{Board as BoardTree};
 ghost use Rattle.board_model.specs.declared.agents.Target.{Target as TargetAgent};
 ghost use Rattle.board_model.specs.Ways.{aborts_at, address_in};
@@ -31,11 +32,18 @@ impl Model for TargetState {
 
     ghost Value = { TargetView };
 
-    ghost view = { λ t. record { target = t.target; stalls = t.stalls; memory = t.memory; ports = t.ports; registers = t.registers } };
+    ghost view = { λ t. record {
+      target = t.target;
+      stalls = t.stalls;
+      memory = t.memory;
+      ports = t.ports;
+      registers = t.registers;
+    } };
 }
 
 impl TargetState {
-    ghost use Rattle.bus_targets.specs.State.{words_in, access_by, accessed_in, landed, after_access};
+    ghost use Rattle.bus_targets.specs.State.{words_in, access_by, accessed_in, landed};
+    ghost use Rattle.bus_targets.specs.State.{after_access};
     ghost use Rattle.bus_targets.specs.Words.{value_at};
     ghost use Rattle.bus_targets.specs.Stands.{StandsAtFirst, AnswersAsTarget};
 
@@ -67,7 +75,8 @@ impl TargetState {
     /// at most its burst of data phases, and disconnects where more are left (PCI Local Bus 2.2,
     /// section 3.3.3.2, from memory). It takes no memory.
     pub fn access(&mut self, board: &Board, request: &Request) -> Access
-        ensures answer { result ≡ access_by self.old request.now (slice_get board.now.targets self.old.target) }
+        ensures answer { result ≡
+            access_by self.old request.now (slice_get board.now.targets self.old.target) }
         ensures changed { self.new ≡ after_access self.old request.now result }
         ensures stands { AnswersAsTarget board.now self.old request.now result self.new }
     {
@@ -78,7 +87,8 @@ impl TargetState {
 
     /// The answer alone.
     fn answer(&self, board: &Board, request: &Request) -> Access
-        ensures { result ≡ access_by self.now request.now (slice_get board.now.targets self.now.target) }
+        ensures { result ≡
+            access_by self.now request.now (slice_get board.now.targets self.now.target) }
     {
         match board.targets.as_slice().get(self.target as usize) {
             Some(agent) => self.answer_of(agent, request),
@@ -145,7 +155,8 @@ impl TargetState {
 
 /// What happens at no target, or at another one, leaves a target as it was.
 pub fn others_leave_targets()
-    ensures { (board : BoardTree) (p : List Event) (t : TargetView) (e : Event) → HappensElsewhere t.target e → TargetStands board p t → TargetStands board (e ∷ p) t }
+    ensures { (board : BoardTree) (p : List Event) (t : TargetView) (e : Event) →
+        HappensElsewhere t.target e → TargetStands board p t → TargetStands board (e ∷ p) t }
 {}
 
 /// The words of one space of the target that operations read, as they open.

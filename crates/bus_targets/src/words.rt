@@ -39,8 +39,10 @@ impl TargetWords {
         mut addresses: Vec<u64>,
     ) -> Result<TargetWords, NoMemory>
         ensures rises { IfOk result (λ words. IsStrictlyIncreasing words.addresses) }
-        ensures kept { IfOk result (λ words. (address : ℕ) → Contains addresses.items address → Contains words.addresses address) }
-        ensures opens { IfOk result (λ words. words.values ≡ map (λ address. opens_as board.now (record { target = target; space = space; address = address })) words.addresses) }
+        ensures kept { IfOk result (λ words. (address : ℕ) → Contains addresses.items address →
+            Contains words.addresses address) }
+        ensures opens { IfOk result (λ words. words.values ≡ map (λ address. opens_as board.now
+            (record { target = target; space = space; address = address })) words.addresses) }
     {
         addresses.sort_unstable();
         addresses.dedup();
@@ -67,7 +69,8 @@ impl TargetWords {
 
     /// A data phase lands at the address.
     fn merge(&mut self, space: Space, address: u128, phase: &Phase)
-        ensures { self.new ≡ record self.old { values = merged_at space self.old.addresses address phase.now self.old.values } }
+        ensures { self.new ≡ record self.old
+            { values = merged_at space self.old.addresses address phase.now self.old.values } }
     {
         let mask = mask_of(space, address);
         if let Some(place) = self.find(address) {
@@ -78,7 +81,8 @@ impl TargetWords {
     /// Data phases land from the address on, four bytes apart.
     pub fn land(&mut self, space: Space, at: u128, phases: &[Phase])
         requires { at ≤ 2 ^ 120 }
-        ensures { self.new ≡ record self.old { values = landed_at space self.old.addresses at phases.now self.old.values } }
+        ensures { self.new ≡ record self.old
+            { values = landed_at space self.old.addresses at phases.now self.old.values } }
     {
         let mut next = at;
         for phase in phases {
@@ -96,7 +100,8 @@ fn open(
     space: Space,
     addresses: &[u64],
 ) -> Result<Vec<u32>, NoMemory>
-    ensures { IfOk result (λ values. values.items ≡ map (λ address. opens_as board.now (record { target = target; space = space; address = address })) addresses.now) }
+    ensures { IfOk result (λ values. values.items ≡ map (λ address. opens_as board.now
+        (record { target = target; space = space; address = address })) addresses.now) }
 {
     let mut values = Vec::new(alloc);
     for address in addresses {

@@ -8,7 +8,9 @@ ghost use Rattle.board_parser.specs.draft.Steps.{Answers};
 ghost use Rattle.text_faults.specs.declared.board_line.LineFault.{LineFault};
 ghost use Rattle.text_faults.specs.declared.device.DeviceFault.TheVariants.{Misplaced};
 ghost use Rattle.dma_agents.specs.Put.{cut};
-ghost use Rattle.dma_agents.specs.Adding.{Adds, stands, is_placed, poll_of, read_of, write_of, limited, add_one, add_ops, begins, begins_on, bus_of, bus_there, added, line_added};
+ghost use Rattle.dma_agents.specs.Adding.{Adds, stands, is_placed, poll_of, read_of, write_of};
+ghost use Rattle.dma_agents.specs.Adding.{limited, add_one, add_ops, begins, begins_on, bus_of};
+ghost use Rattle.dma_agents.specs.Adding.{bus_there, added, line_added};
 
 use crate::{DeviceLine, DeviceOwner, Flag, Put, cut};
 use board_model::{Name, Op};
@@ -206,7 +208,8 @@ fn add_one(alloc: Global, sheet: Sheet, op: Op) -> Result<Sheet, LineError>
 
 // A limit of the board is the only fault that is left.
 fn limited(added: Result<Sheet, AddFault>) -> Result<Sheet, LineError>
-    ensures { (expected : Result Draft LineFault) → Answers added expected → Adds result (limited expected) }
+    ensures { (expected : Result Draft LineFault) → Answers added expected →
+        Adds result (limited expected) }
 {
     match added {
         Ok(sheet) => Ok(sheet),

@@ -1,13 +1,16 @@
 //! Whether a flag is clear on a board.
 
-ghost use Rattle.std.specs.Prelude.{◌≡◌, ◌==◌, ◌+◌, ◌*◌, ◌<◌, ◌≤◌, ◌^◌, ◌∷◌, [], min, filter, not, ◌&&◌, length, if◌then◌else◌};
+ghost use Rattle.std.specs.Prelude.{◌≡◌, ◌==◌, ◌+◌, ◌*◌, ◌<◌, ◌≤◌, ◌^◌, ◌∷◌, [], min, filter, not};
+ghost use Rattle.std.specs.Prelude.{◌&&◌, length, if◌then◌else◌};
 ghost use Rattle.std.specs.List.{list_all, list_any};
 ghost use Rattle.list_facts.specs.Lists.{total};
 ghost use Rattle.pci_command.specs.declared.command.Space.TheVariants.{Mem};
 ghost use Rattle.pci_command.specs.declared.phases.Phase.{Phase as DataPhase};
 ghost use Rattle.board_model.specs.declared.agents.Master.{Master as MasterAgent};
 ghost use Rattle.history_model.specs.Words.{opens_in, opening_word};
-ghost use Rattle.history_model.specs.Clear.{is_value, phases_at, written_at, brings_value, rings, is_whole, rings_whole, holds, opens_otherwise, is_clear};
+ghost use Rattle.history_model.specs.Clear.{is_value, phases_at, written_at, brings_value, rings};
+ghost use Rattle.history_model.specs.Clear.{is_whole, rings_whole, holds, opens_otherwise};
+ghost use Rattle.history_model.specs.Clear.{is_clear};
 
 use board_model::{Board, Master, Op, Opening, Target, is_in_ranges, request_on};
 use pci_command::{Command, Phase, Space};
@@ -85,7 +88,8 @@ pub(crate) fn is_value(word: u32, value: u32) -> bool
 
 // Every write at the address writes whole dwords there, and brings the value alone.
 fn write_whole(masters: &[Master], address: u64, value: u32) -> bool
-    ensures { result ≡ list_all (λ (master : MasterAgent). list_all (rings_whole address value) master.ops) masters.now }
+    ensures { result ≡ list_all
+        (λ (master : MasterAgent). list_all (rings_whole address value) master.ops) masters.now }
 {
     masters
         .iter()
@@ -161,7 +165,8 @@ fn are_dwords_whole(phases: &[Phase], at: u128, address: u64) -> bool
 fn rings_in(phases: &[Phase], at: u128, address: u64, value: u32) -> u64
     requires space { at + 4 * length phases.now < 2 ^ 128 }
     requires few { length phases.now ≤ 8 }
-    ensures count { result ≡ total (λ (phase : DataPhase). if brings_value value phase then 1 else 0) (phases_at address at phases.now) }
+    ensures count { result ≡ total (λ (phase : DataPhase).
+        if brings_value value phase then 1 else 0) (phases_at address at phases.now) }
     ensures few { result ≤ length phases.now }
 {
     match phases {
@@ -180,7 +185,8 @@ fn rings_in(phases: &[Phase], at: u128, address: u64, value: u32) -> u64
 // How often the masters bring the value to the address, where more than twice counts as twice.
 #[tactic(auto, using(crate::proofs::ClearLemmas::capped))]
 fn rings_up_to_two(masters: &[Master], address: u64, value: u32) -> u64
-    ensures { result ≡ min (total (λ (master : MasterAgent). total (rings address value) master.ops) masters.now) 2 }
+    ensures { result ≡ min
+        (total (λ (master : MasterAgent). total (rings address value) master.ops) masters.now) 2 }
 {
     let mut found = 0;
     for master in masters {

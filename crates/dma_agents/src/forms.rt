@@ -3,7 +3,9 @@
 ghost use Rattle.std.specs.Prelude.{◌≡◌, Ok};
 ghost use Rattle.board_text.specs.Tokens.{words_of};
 ghost use Rattle.board_statements.specs.Words.{Gives, one_word};
-ghost use Rattle.dma_agents.specs.DeviceLines.{name_in, flag_form, device_form, handler_form, put_form, get_form, look_form, send_form, wait_form, word_form, form_behind, device_line};
+ghost use Rattle.dma_agents.specs.DeviceLines.{name_in, flag_form, device_form, handler_form};
+ghost use Rattle.dma_agents.specs.DeviceLines.{put_form, get_form, look_form, send_form, wait_form};
+ghost use Rattle.dma_agents.specs.DeviceLines.{word_form, form_behind, device_line};
 
 use crate::messages::message;
 use crate::{DeviceLine, Flag, Put};

@@ -12,7 +12,8 @@ ghost use Rattle.std.specs.Prelude.{Some, Ok, Err};
 ghost use Rattle.history_model.specs.declared.event.Event.{Event};
 ghost use Rattle.history_model.specs.Clear.{is_clear};
 ghost use Rattle.history_model.specs.Runs.{Run, Complete, history_of};
-ghost use Rattle.dma_agents.specs.Worked.{worked_text, twice_text, twice_fault, worked_made, worked_board, worked_events};
+ghost use Rattle.dma_agents.specs.Worked.{worked_text, twice_text, twice_fault, worked_made};
+ghost use Rattle.dma_agents.specs.Worked.{worked_board, worked_events};
 ghost use Rattle.dma_agents.specs.Made.{Made, board_in, made_read};
 ghost use Rattle.dma_agents.specs.declared.put.Put.{Put};
 ghost use Rattle.dma_agents.specs.Put.{cut, bytes_of, bytes_put};
@@ -26,16 +27,20 @@ pub fn put_is_written_once()
 
 /// Six bytes from 10000003 on.
 pub fn worked()
-    ensures { cut (record { address = 0x1000_0003; length = 6; seed = 0xa0 }) ≡ Write MemWrite 0x1000_0000 (record { value = 0xa000_0000; enables = 8 } ∷ record { value = 0xa4a3_a2a1; enables = 15 } ∷ record { value = 0xa5; enables = 1 } ∷ []) ∷ [] }
+    ensures { cut (record { address = 0x1000_0003; length = 6; seed = 0xa0 }) ≡
+        Write MemWrite 0x1000_0000 (record { value = 0xa000_0000; enables = 8 } ∷
+        record { value = 0xa4a3_a2a1; enables = 15 } ∷ record { value = 0xa5; enables = 1 } ∷ []) ∷
+        [] }
 {}
 
 /// The board of a device text is well formed.
 pub fn made_boards_are_well_formed()
-    ensures { (text : List ℕ) (board : Board) → board_in (made_read text) ≡ Ok board → is_well_formed board ≡ true }
+    ensures { (text : List ℕ) (board : Board) → board_in (made_read text) ≡ Ok board →
+        is_well_formed board ≡ true }
 {}
 
-/// Each flag of the board of a device text is clear: what a poll of the masters of its devices waits
-/// for, in all bits, is brought by one write.
+/// Each flag of the board of a device text is clear: what a poll of the masters of its devices
+/// waits for, in all bits, is brought by one write.
 pub fn made_flags_are_clear()
     ensures { (text : List ℕ) (made : Made) (p : OpId) (address value tries : ℕ) →
         made_read text ≡ Ok made → made.first ≤ p.master →

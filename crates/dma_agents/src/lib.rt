@@ -1,5 +1,6 @@
 //! Devices that write in memory by themselves, ring doorbells and interrupt by messages: a text of
-//! such devices on a board is read as the board with their masters, whose flags are clear.
+//! such devices on a board is read as the board with their masters, whose flags are clear. The
+//! bytes of a put are written each once and in order.
 #![tactic(auto)]
 
 mod add;

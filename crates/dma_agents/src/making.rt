@@ -1,10 +1,13 @@
 //! The lines of devices, one after another.
 
-ghost use Rattle.std.specs.Prelude.{◌≡◌, ◌+◌, ◌<◌, ◌≤◌, ◌^◌, ◌∷◌, [], ◌++◌, length, drop, codes, IfOk};
+ghost use Rattle.std.specs.Prelude.{◌≡◌, ◌+◌, ◌<◌, ◌≤◌, ◌^◌, ◌∷◌, [], ◌++◌, length, drop, codes};
+ghost use Rattle.std.specs.Prelude.{IfOk};
 ghost use Rattle.std.specs.List.{list_all};
 ghost use Rattle.board_text.specs.Lines.{lines_of};
 ghost use Rattle.dma_agents.specs.Adding.{Adds, line_added};
-ghost use Rattle.dma_agents.specs.Made.{TellsMaking, owner_behind, flag_of, waits_behind, is_line, is_blank, fault_behind, behind_end, said_by, with_draft, line_read, lines_read};
+ghost use Rattle.dma_agents.specs.Made.{TellsMaking, owner_behind, flag_of, waits_behind, is_line};
+ghost use Rattle.dma_agents.specs.Made.{is_blank, fault_behind, behind_end, said_by, with_draft};
+ghost use Rattle.dma_agents.specs.Made.{line_read, lines_read};
 
 use crate::add::{LineError, line_added};
 use crate::forms::device_line;
@@ -118,7 +121,8 @@ fn with_line(
     number: u32,
     line: DeviceLine,
 ) -> Result<Making, LineError>
-    ensures { Adds result (with_draft making number line (line_added making.owner making.sheet line)) }
+    ensures { Adds result
+        (with_draft making number line (line_added making.owner making.sheet line)) }
 {
     let Making {
         sheet,

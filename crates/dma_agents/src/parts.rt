@@ -1,4 +1,5 @@
-ghost use Rattle.std.specs.Prelude.{◌≡◌, ◌+◌, ◌<◌, ◌≤◌, ◌^◌, ◌∷◌, [], length, drop, codes, IfOk, IfErr, IfSome, IfNone, Err};
+ghost use Rattle.std.specs.Prelude.{◌≡◌, ◌+◌, ◌<◌, ◌≤◌, ◌^◌, ◌∷◌, [], length, drop, codes, IfOk};
+ghost use Rattle.std.specs.Prelude.{IfErr, IfSome, IfNone, Err};
 ghost use Rattle.dma_agents.specs.declared.fault.MakeFault.{MakeFault as Fault};
 ghost use Rattle.text_faults.specs.declared.device.DeviceFault.TheVariants.{Misshapen};
 ghost use Rattle.dma_agents.specs.Made.{is_line, begins_devices, made_read};

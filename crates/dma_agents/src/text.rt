@@ -18,8 +18,8 @@ use board_parser::{ParseFault, Sheet, parse_sheet};
 use pci_command::List;
 use std::alloc::Global;
 
-/// The board of a device text: that of its board part, with the masters of its devices and handlers;
-/// or the first fault of the text. A text has fewer than 2^31 bytes.
+/// The board of a device text: that of its board part, with the masters of its devices and
+/// handlers; or the first fault of the text. A text has fewer than 2^31 bytes.
 pub fn make(alloc: Global, bytes: &[u8]) -> Result<Board, MakeFault>
     requires { length bytes.now < 2 ^ 31 }
     ensures made { Tells result (made_read bytes.now) }

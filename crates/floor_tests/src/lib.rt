@@ -1,5 +1,5 @@
-//! Tests of the crates below the engines and of the calls that no word of the program reaches, by values worked
-//! out by hand: each public call once.
+//! Tests of the crates below the engines and of the calls that no word of the program reaches, by
+//! values worked out by hand: each public call once.
 #![tactic(auto)]
 
 #[cfg(test)]

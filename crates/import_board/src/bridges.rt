@@ -1,6 +1,12 @@
 ghost use Rattle.std.specs.Prelude.{◌≡◌, ◌++◌, ◌<◌, OnOk, not, string_bytes};
 ghost use Rattle.import_bridges.specs.declared.fate.WindowFate.TheVariants.{Closed};
-ghost use Rattle.import_board.specs.Text.{window_words, open_words, closed_note, control_bit, bridge_place, bridge_windows, bridge_line, own_range_lines, primary_note, number_notes, control_notes, master_words, vga_words, isa_words, reset_words, decoding_words, enable_notes, is_master, is_subtractive, abort_words, note_if, bridge_notes, bridge_body, bridge_lines};
+ghost use Rattle.import_board.specs.Text.{window_words, open_words, closed_note, control_bit};
+ghost use Rattle.import_board.specs.Text.{bridge_place, bridge_windows, bridge_line};
+ghost use Rattle.import_board.specs.Text.{own_range_lines, primary_note, number_notes};
+ghost use Rattle.import_board.specs.Text.{control_notes, master_words, vga_words, isa_words};
+ghost use Rattle.import_board.specs.Text.{reset_words, decoding_words, enable_notes, is_master};
+ghost use Rattle.import_board.specs.Text.{is_subtractive, abort_words, note_if, bridge_notes};
+ghost use Rattle.import_board.specs.Text.{bridge_body, bridge_lines};
 
 use crate::notes::{print_bus, print_device_note, print_judged, print_left_out, print_title};
 use board_model::Window;
@@ -17,7 +23,8 @@ pub(crate) fn print_bridges(
     functions: &[Function],
     fates: &[BridgeFate],
 ) -> Result<(), AllocError>
-    ensures { OnOk result (string_bytes text.new ≡ string_bytes text.old ++ bridge_lines machine.now functions.now fates.now) }
+    ensures { OnOk result (string_bytes text.new ≡ string_bytes text.old ++
+        bridge_lines machine.now functions.now fates.now) }
 {
     let mut left = functions;
     let mut fates_left = fates;
@@ -39,7 +46,8 @@ fn print_body(
     function: &Function,
     fate: &BridgeFate,
 ) -> Result<(), AllocError>
-    ensures { OnOk result (string_bytes text.new ≡ string_bytes text.old ++ bridge_body machine.now function.now fate.now) }
+    ensures { OnOk result (string_bytes text.new ≡ string_bytes text.old ++
+        bridge_body machine.now function.now fate.now) }
 {
     match fate {
         BridgeFate::LeftOut(reason) => writeln!(text, "# left out: {reason}"),
@@ -56,7 +64,8 @@ fn print_bridge(
     function: &Function,
     bridge: &TakenBridge,
 ) -> Result<(), AllocError>
-    ensures { OnOk result (string_bytes text.new ≡ string_bytes text.old ++ bridge_line machine.now function.now bridge.now) }
+    ensures { OnOk result (string_bytes text.new ≡ string_bytes text.old ++
+        bridge_line machine.now function.now bridge.now) }
 {
     print_place(text, machine, bridge)?;
     print_windows(text, bridge)?;
@@ -65,7 +74,8 @@ fn print_bridge(
 }
 
 fn print_place(text: &mut String, machine: &Machine, bridge: &TakenBridge) -> Result<(), AllocError>
-    ensures { OnOk result (string_bytes text.new ≡ string_bytes text.old ++ bridge_place machine.now bridge.now) }
+    ensures { OnOk result
+        (string_bytes text.new ≡ string_bytes text.old ++ bridge_place machine.now bridge.now) }
 {
     write!(text, "bridge {} on ", bridge.bus)?;
     print_bus(text, machine, bridge.parent)?;
@@ -73,7 +83,8 @@ fn print_place(text: &mut String, machine: &Machine, bridge: &TakenBridge) -> Re
 }
 
 fn print_windows(text: &mut String, bridge: &TakenBridge) -> Result<(), AllocError>
-    ensures { OnOk result (string_bytes text.new ≡ string_bytes text.old ++ bridge_windows bridge.now) }
+    ensures { OnOk result
+        (string_bytes text.new ≡ string_bytes text.old ++ bridge_windows bridge.now) }
 {
     print_open(text, "mem", bridge.mem)?;
     print_open(text, "pref", bridge.pref)?;
@@ -91,7 +102,8 @@ fn print_abort(text: &mut String, mode: bool) -> Result<(), AllocError>
 }
 
 fn print_window(text: &mut String, word: &str, window: Window) -> Result<(), AllocError>
-    ensures { OnOk result (string_bytes text.new ≡ string_bytes text.old ++ window_words word.now window) }
+    ensures { OnOk result
+        (string_bytes text.new ≡ string_bytes text.old ++ window_words word.now window) }
 {
     write!(
         text,
@@ -102,7 +114,8 @@ fn print_window(text: &mut String, word: &str, window: Window) -> Result<(), All
 }
 
 fn print_open(text: &mut String, word: &str, fate: WindowFate) -> Result<(), AllocError>
-    ensures { OnOk result (string_bytes text.new ≡ string_bytes text.old ++ open_words word.now fate) }
+    ensures { OnOk result
+        (string_bytes text.new ≡ string_bytes text.old ++ open_words word.now fate) }
 {
     match fate {
         WindowFate::Open(window) => {
@@ -114,7 +127,8 @@ fn print_open(text: &mut String, word: &str, fate: WindowFate) -> Result<(), All
 }
 
 fn print_closed(text: &mut String, word: &str, fate: WindowFate) -> Result<(), AllocError>
-    ensures { OnOk result (string_bytes text.new ≡ string_bytes text.old ++ closed_note word.now fate) }
+    ensures { OnOk result
+        (string_bytes text.new ≡ string_bytes text.old ++ closed_note word.now fate) }
 {
     match fate {
         WindowFate::Closed(window, reason) => print_left_window(text, word, window, reason),
@@ -128,7 +142,8 @@ fn print_left_window(
     window: Window,
     reason: NoWindow,
 ) -> Result<(), AllocError>
-    ensures { OnOk result (string_bytes text.new ≡ string_bytes text.old ++ closed_note word.now (Closed window reason)) }
+    ensures { OnOk result (string_bytes text.new ≡ string_bytes text.old ++
+        closed_note word.now (Closed window reason)) }
 {
     print_left_out(text)?;
     print_window(text, word, window)?;
@@ -141,7 +156,8 @@ fn print_notes(
     function: &Function,
     bridge: &TakenBridge,
 ) -> Result<(), AllocError>
-    ensures { OnOk result (string_bytes text.new ≡ string_bytes text.old ++ bridge_notes function.now bridge.now) }
+    ensures { OnOk result
+        (string_bytes text.new ≡ string_bytes text.old ++ bridge_notes function.now bridge.now) }
 {
     print_closed(text, "mem", bridge.mem)?;
     print_closed(text, "pref", bridge.pref)?;
@@ -152,7 +168,8 @@ fn print_notes(
 }
 
 fn print_own_ranges(text: &mut String, function: &Function) -> Result<(), AllocError>
-    ensures { OnOk result (string_bytes text.new ≡ string_bytes text.old ++ own_range_lines function.now) }
+    ensures { OnOk result
+        (string_bytes text.new ≡ string_bytes text.old ++ own_range_lines function.now) }
 {
     let own = judged_of_bridge(function);
     let mut left = own.as_slice();
@@ -168,7 +185,8 @@ fn print_numbers(
     function: &Function,
     bridge: &TakenBridge,
 ) -> Result<(), AllocError>
-    ensures { OnOk result (string_bytes text.new ≡ string_bytes text.old ++ number_notes function.now bridge.now) }
+    ensures { OnOk result
+        (string_bytes text.new ≡ string_bytes text.old ++ number_notes function.now bridge.now) }
 {
     print_device_note(text, bridge.device, function.slot.device)?;
     print_primary_note(
@@ -179,7 +197,8 @@ fn print_numbers(
 }
 
 fn print_primary_note(text: &mut String, primary: u8, bus: u8) -> Result<(), AllocError>
-    ensures { OnOk result (string_bytes text.new ≡ string_bytes text.old ++ primary_note primary bus) }
+    ensures { OnOk result
+        (string_bytes text.new ≡ string_bytes text.old ++ primary_note primary bus) }
 {
     if primary == bus {
         return Ok(());
@@ -196,7 +215,8 @@ fn control_bit(bit: u8, function: &Function) -> bool
 }
 
 fn print_control(text: &mut String, function: &Function) -> Result<(), AllocError>
-    ensures { OnOk result (string_bytes text.new ≡ string_bytes text.old ++ control_notes function.now) }
+    ensures { OnOk result
+        (string_bytes text.new ≡ string_bytes text.old ++ control_notes function.now) }
 {
     print_master(text, !is_master(function))?;
     print_enables(text, function)?;
@@ -217,7 +237,8 @@ fn is_subtractive(function: &Function) -> bool
 
 #[tactic(auto, unfolding(crate::specs::Text::master_words))]
 fn print_master(text: &mut String, holds: bool) -> Result<(), AllocError>
-    ensures { OnOk result (string_bytes text.new ≡ string_bytes text.old ++ note_if holds master_words) }
+    ensures { OnOk result
+        (string_bytes text.new ≡ string_bytes text.old ++ note_if holds master_words) }
 {
     if !holds {
         return Ok(());
@@ -229,7 +250,8 @@ fn print_master(text: &mut String, holds: bool) -> Result<(), AllocError>
 }
 
 fn print_enables(text: &mut String, function: &Function) -> Result<(), AllocError>
-    ensures { OnOk result (string_bytes text.new ≡ string_bytes text.old ++ enable_notes function.now) }
+    ensures { OnOk result
+        (string_bytes text.new ≡ string_bytes text.old ++ enable_notes function.now) }
 {
     print_vga(text, control_bit(3, function))?;
     print_isa(text, control_bit(2, function))?;
@@ -238,7 +260,8 @@ fn print_enables(text: &mut String, function: &Function) -> Result<(), AllocErro
 
 #[tactic(auto, unfolding(crate::specs::Text::vga_words))]
 fn print_vga(text: &mut String, holds: bool) -> Result<(), AllocError>
-    ensures { OnOk result (string_bytes text.new ≡ string_bytes text.old ++ note_if holds vga_words) }
+    ensures { OnOk result
+        (string_bytes text.new ≡ string_bytes text.old ++ note_if holds vga_words) }
 {
     if !holds {
         return Ok(());
@@ -248,7 +271,8 @@ fn print_vga(text: &mut String, holds: bool) -> Result<(), AllocError>
 
 #[tactic(auto, unfolding(crate::specs::Text::isa_words))]
 fn print_isa(text: &mut String, holds: bool) -> Result<(), AllocError>
-    ensures { OnOk result (string_bytes text.new ≡ string_bytes text.old ++ note_if holds isa_words) }
+    ensures { OnOk result
+        (string_bytes text.new ≡ string_bytes text.old ++ note_if holds isa_words) }
 {
     if !holds {
         return Ok(());
@@ -261,7 +285,8 @@ fn print_isa(text: &mut String, holds: bool) -> Result<(), AllocError>
 
 #[tactic(auto, unfolding(crate::specs::Text::reset_words))]
 fn print_reset(text: &mut String, holds: bool) -> Result<(), AllocError>
-    ensures { OnOk result (string_bytes text.new ≡ string_bytes text.old ++ note_if holds reset_words) }
+    ensures { OnOk result
+        (string_bytes text.new ≡ string_bytes text.old ++ note_if holds reset_words) }
 {
     if !holds {
         return Ok(());
@@ -271,7 +296,8 @@ fn print_reset(text: &mut String, holds: bool) -> Result<(), AllocError>
 
 #[tactic(auto, unfolding(crate::specs::Text::decoding_words))]
 fn print_decoding(text: &mut String, holds: bool) -> Result<(), AllocError>
-    ensures { OnOk result (string_bytes text.new ≡ string_bytes text.old ++ note_if holds decoding_words) }
+    ensures { OnOk result
+        (string_bytes text.new ≡ string_bytes text.old ++ note_if holds decoding_words) }
 {
     if !holds {
         return Ok(());

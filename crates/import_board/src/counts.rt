@@ -3,7 +3,11 @@ ghost use Rattle.std.specs.List.{list_any, count_by};
 ghost use Rattle.list_facts.specs.Lists.{total};
 ghost use Rattle.import_targets.specs.Devices.{is_target, is_placed, claims_something};
 ghost use Rattle.import_targets.specs.Registers.{found_in};
-ghost use Rattle.import_board.specs.Counts.{capped, is_taken, is_closed, one_if, windows_left, own_ranges, ranges_placed, ranges_not_placed, ranges_taken, is_lost, ranges_left, functions_left, is_far, has_far_window, is_far_bridge, is_far_range, has_far_range, is_far_device};
+ghost use Rattle.import_board.specs.Counts.{capped, is_taken, is_closed, one_if, windows_left};
+ghost use Rattle.import_board.specs.Counts.{own_ranges, ranges_placed, ranges_not_placed};
+ghost use Rattle.import_board.specs.Counts.{ranges_taken, is_lost, ranges_left, functions_left};
+ghost use Rattle.import_board.specs.Counts.{is_far, has_far_window, is_far_bridge, is_far_range};
+ghost use Rattle.import_board.specs.Counts.{has_far_range, is_far_device};
 
 use board_model::Window;
 use import_bridges::{BridgeFate, Machine, WindowFate};
@@ -215,7 +219,8 @@ fn ranges_left_in(devices: &[Device]) -> u64
 }
 
 pub(crate) fn ranges_left(machine: &Machine, fates: &[BridgeFate], devices: &[Device]) -> u64
-    ensures { result ≡ capped (own_ranges machine.now.bridges fates.now + total ranges_left devices.now) }
+    ensures { result ≡
+        capped (own_ranges machine.now.bridges fates.now + total ranges_left devices.now) }
 {
     own_ranges(machine.bridges.as_slice(), fates).saturating_add(ranges_left_in(devices))
 }
@@ -254,7 +259,8 @@ fn functions_left_in(devices: &[Device]) -> u64
 }
 
 pub(crate) fn functions_left(fates: &[BridgeFate], devices: &[Device]) -> u64
-    ensures { result ≡ capped (count_by (λ fate. not (is_taken fate)) fates.now + total functions_left devices.now) }
+    ensures { result ≡ capped (count_by (λ fate. not (is_taken fate)) fates.now +
+        total functions_left devices.now) }
 {
     functions_left_in(devices).saturating_add(bridges_left(fates) as u64)
 }

@@ -1,6 +1,12 @@
 ghost use Rattle.std.specs.Prelude.{◌≡◌, ◌++◌, ◌≤◌, OnOk, length, string_bytes};
 ghost use Rattle.import_targets.specs.Devices.{claims_something};
-ghost use Rattle.import_board.specs.Text.{target_name, id_line, target_line, target_lines, why_line, left_target, left_with_target, ranges_lines, why_no_target, head_by, range_of_device, silence_note, registers_lines, kind_line, body_by_kind, body_of_function, lost_line, function_body, function_lines, functions_lines, device_lines, devices_lines};
+ghost use Rattle.import_board.specs.Text.{target_name, id_line, target_line, target_lines};
+ghost use Rattle.import_board.specs.Text.{why_line, left_target, left_with_target, ranges_lines};
+ghost use Rattle.import_board.specs.Text.{why_no_target, head_by, range_of_device, silence_note};
+ghost use Rattle.import_board.specs.Text.{registers_lines, kind_line, body_by_kind};
+ghost use Rattle.import_board.specs.Text.{body_of_function, lost_line, function_body};
+ghost use Rattle.import_board.specs.Text.{function_lines, functions_lines, device_lines};
+ghost use Rattle.import_board.specs.Text.{devices_lines};
 
 use crate::counts::{is_lost, is_target};
 use crate::notes::{
@@ -20,7 +26,8 @@ pub(crate) fn print_devices(
     functions: &[Function],
     devices: &[Device],
 ) -> Result<(), AllocError>
-    ensures { OnOk result (string_bytes text.new ≡ string_bytes text.old ++ devices_lines machine.now functions.now devices.now) }
+    ensures { OnOk result (string_bytes text.new ≡ string_bytes text.old ++
+        devices_lines machine.now functions.now devices.now) }
 {
     let mut functions_left = functions;
     let mut left = devices;
@@ -40,7 +47,8 @@ fn print_device(
     device: &Device,
     functions: &[Function],
 ) -> Result<(), AllocError>
-    ensures { OnOk result (string_bytes text.new ≡ string_bytes text.old ++ device_lines machine.now device.now functions.now) }
+    ensures { OnOk result (string_bytes text.new ≡ string_bytes text.old ++
+        device_lines machine.now device.now functions.now) }
 {
     match functions.split_first() {
         None => Ok(()),
@@ -57,7 +65,8 @@ fn print_head(
     first: &Function,
     device: &Device,
 ) -> Result<(), AllocError>
-    ensures { OnOk result (string_bytes text.new ≡ string_bytes text.old ++ head_by machine.now first.now device.now device.now.fate) }
+    ensures { OnOk result (string_bytes text.new ≡ string_bytes text.old ++
+        head_by machine.now first.now device.now device.now.fate) }
 {
     match device.fate {
         DeviceFate::Target(number) => print_target(text, machine, first, device, number),
@@ -67,7 +76,8 @@ fn print_head(
 }
 
 fn print_left_target(text: &mut String, device: &Device) -> Result<(), AllocError>
-    ensures { OnOk result (string_bytes text.new ≡ string_bytes text.old ++ left_target device.now) }
+    ensures { OnOk result
+        (string_bytes text.new ≡ string_bytes text.old ++ left_target device.now) }
 {
     print_left_out(text)?;
     print_target_name(text, device)?;
@@ -83,7 +93,8 @@ fn print_why_line(text: &mut String, device: &Device) -> Result<(), AllocError>
 }
 
 fn print_target_name(text: &mut String, device: &Device) -> Result<(), AllocError>
-    ensures { OnOk result (string_bytes text.new ≡ string_bytes text.old ++ target_name device.now) }
+    ensures { OnOk result
+        (string_bytes text.new ≡ string_bytes text.old ++ target_name device.now) }
 {
     let bus = HexByte(device.bus);
     let number = HexByte(device.device);
@@ -97,7 +108,8 @@ fn print_target(
     device: &Device,
     number: u8,
 ) -> Result<(), AllocError>
-    ensures { OnOk result (string_bytes text.new ≡ string_bytes text.old ++ target_lines machine.now first.now device.now number) }
+    ensures { OnOk result (string_bytes text.new ≡ string_bytes text.old ++
+        target_lines machine.now first.now device.now number) }
 {
     print_target_line(text, machine, device, number)?;
     print_id(text, first)?;
@@ -110,7 +122,8 @@ fn print_target_line(
     device: &Device,
     number: u8,
 ) -> Result<(), AllocError>
-    ensures { OnOk result (string_bytes text.new ≡ string_bytes text.old ++ target_line machine.now device.now number) }
+    ensures { OnOk result (string_bytes text.new ≡ string_bytes text.old ++
+        target_line machine.now device.now number) }
 {
     print_target_name(text, device)?;
     text.push_str(" on ")?;
@@ -130,7 +143,8 @@ fn print_id(text: &mut String, first: &Function) -> Result<(), AllocError>
 }
 
 fn print_why_no_target(text: &mut String, device: &Device) -> Result<(), AllocError>
-    ensures { OnOk result (string_bytes text.new ≡ string_bytes text.old ++ why_no_target device.now device.now.fate) }
+    ensures { OnOk result (string_bytes text.new ≡ string_bytes text.old ++
+        why_no_target device.now device.now.fate) }
 {
     match device.fate {
         DeviceFate::SixTargets => write!(text, "bus {} has its 6 targets", device.bus),
@@ -146,7 +160,8 @@ fn print_functions(
     functions: &[Function],
     judged: &[List<Judged>],
 ) -> Result<(), AllocError>
-    ensures { OnOk result (string_bytes text.new ≡ string_bytes text.old ++ functions_lines device.now functions.now judged.now) }
+    ensures { OnOk result (string_bytes text.new ≡ string_bytes text.old ++
+        functions_lines device.now functions.now judged.now) }
 {
     match (functions.split_first(), judged.split_first()) {
         (Some((function, functions)), Some((one, more))) => {
@@ -163,7 +178,8 @@ fn print_function(
     function: &Function,
     judged: &[Judged],
 ) -> Result<(), AllocError>
-    ensures { OnOk result (string_bytes text.new ≡ string_bytes text.old ++ function_lines device.now function.now judged.now) }
+    ensures { OnOk result (string_bytes text.new ≡ string_bytes text.old ++
+        function_lines device.now function.now judged.now) }
 {
     print_title(text, function)?;
     print_function_body(text, device, function, judged)
@@ -175,7 +191,8 @@ fn print_function_body(
     function: &Function,
     judged: &[Judged],
 ) -> Result<(), AllocError>
-    ensures { OnOk result (string_bytes text.new ≡ string_bytes text.old ++ function_body device.now function.now judged.now) }
+    ensures { OnOk result (string_bytes text.new ≡ string_bytes text.old ++
+        function_body device.now function.now judged.now) }
 {
     if is_lost(device.fate) {
         print_lost(text, device.bus)
@@ -199,7 +216,8 @@ fn print_by_kind(
     kind: u8,
     judged: &[Judged],
 ) -> Result<(), AllocError>
-    ensures { OnOk result (string_bytes text.new ≡ string_bytes text.old ++ body_by_kind device.now kind judged.now) }
+    ensures { OnOk result
+        (string_bytes text.new ≡ string_bytes text.old ++ body_by_kind device.now kind judged.now) }
 {
     if kind > 1 {
         print_kind_line(text, kind)
@@ -215,14 +233,16 @@ fn print_kind_line(text: &mut String, kind: u8) -> Result<(), AllocError>
 }
 
 fn print_registers(text: &mut String, device: &Device, judged: &[Judged]) -> Result<(), AllocError>
-    ensures { OnOk result (string_bytes text.new ≡ string_bytes text.old ++ registers_lines device.now judged.now) }
+    ensures { OnOk result
+        (string_bytes text.new ≡ string_bytes text.old ++ registers_lines device.now judged.now) }
 {
     print_ranges(text, device, judged)?;
     print_silence(text, claims_something(judged))
 }
 
 fn print_ranges(text: &mut String, device: &Device, judged: &[Judged]) -> Result<(), AllocError>
-    ensures { OnOk result (string_bytes text.new ≡ string_bytes text.old ++ ranges_lines device.now judged.now) }
+    ensures { OnOk result
+        (string_bytes text.new ≡ string_bytes text.old ++ ranges_lines device.now judged.now) }
 {
     match judged.split_first() {
         None => Ok(()),
@@ -249,7 +269,8 @@ fn print_range_of_device(
     device: &Device,
     judged: &Judged,
 ) -> Result<(), AllocError>
-    ensures { OnOk result (string_bytes text.new ≡ string_bytes text.old ++ range_of_device device.now judged.now) }
+    ensures { OnOk result
+        (string_bytes text.new ≡ string_bytes text.old ++ range_of_device device.now judged.now) }
 {
     if is_target(device.fate) || !is_placed(judged.fate) {
         return print_judged(text, judged);
@@ -262,7 +283,8 @@ fn print_left_with_target(
     device: &Device,
     found: &FoundFunction,
 ) -> Result<(), AllocError>
-    ensures { OnOk result (string_bytes text.new ≡ string_bytes text.old ++ left_with_target device.now found.now) }
+    ensures { OnOk result
+        (string_bytes text.new ≡ string_bytes text.old ++ left_with_target device.now found.now) }
 {
     print_left_out(text)?;
     print_range(text, found)?;

@@ -8,8 +8,8 @@ use import_text::{Function, ReadFault, read_functions};
 use pci_command::{List, NoMemory};
 use std::alloc::Global;
 
-/// The board text of the machine of which `lspci -vvxxx` wrote this, below the root that is asked for,
-/// or else below the least bus of the least domain; or the first fault of what `lspci` wrote.
+/// The board text of the machine of which `lspci -vvxxx` wrote this, below the root that is asked
+/// for, or else below the least bus of the least domain; or the first fault of what `lspci` wrote.
 pub fn import_board(alloc: Global, text: &[u8], root: Option<Root>) -> Result<List<u8>, ReadFault>
     requires { length text.now < 2 ^ 31 }
     ensures { TellsBoard result (imported root text.now) }

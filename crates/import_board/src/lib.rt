@@ -1,5 +1,5 @@
-//! The board text of a machine: its bridges with their windows, a target for each device that claims
-//! addresses, and for all that a board cannot have a comment with the reason.
+//! The board text of a machine: its bridges with their windows, a target for each device that
+//! claims addresses, and for all that a board cannot have a comment with the reason.
 #![tactic(auto)]
 
 mod bridges;

@@ -1,7 +1,9 @@
 ghost use Rattle.std.specs.Prelude.{◌≡◌, ◌++◌, ◌==◌, [], OnOk, string_bytes, codes};
 ghost use Rattle.std.specs.Fmt.{decimal};
 ghost use Rattle.import_targets.specs.declared.fate.RangeFate.TheVariants.{LeftOut};
-ghost use Rattle.import_board.specs.Text.{left_out_words, bus_on_board, kind_words, title, name_words, size_words, range_words, range_line, judged_by, judged_line, device_note};
+ghost use Rattle.import_board.specs.Text.{left_out_words, bus_on_board, kind_words, title};
+ghost use Rattle.import_board.specs.Text.{name_words, size_words, range_words, range_line};
+ghost use Rattle.import_board.specs.Text.{judged_by, judged_line, device_note};
 
 use board_model::Window;
 use board_printer::{Address, space_word};
@@ -40,7 +42,8 @@ pub(crate) fn print_left_out(text: &mut String) -> Result<(), AllocError>
 
 /// The root is bus 0 of the board.
 pub(crate) fn print_bus(text: &mut String, machine: &Machine, bus: u8) -> Result<(), AllocError>
-    ensures { OnOk result (string_bytes text.new ≡ string_bytes text.old ++ bus_on_board machine.now bus) }
+    ensures { OnOk result
+        (string_bytes text.new ≡ string_bytes text.old ++ bus_on_board machine.now bus) }
 {
     let number = if bus == machine.root.bus { 0 } else { bus };
     write!(text, "{number}")
@@ -119,7 +122,8 @@ fn print_range_line(text: &mut String, space: Space, span: Window) -> Result<(),
 
 /// What becomes of a register.
 pub(crate) fn print_judged(text: &mut String, judged: &Judged) -> Result<(), AllocError>
-    ensures { OnOk result (string_bytes text.new ≡ string_bytes text.old ++ judged_line judged.now) }
+    ensures { OnOk result
+        (string_bytes text.new ≡ string_bytes text.old ++ judged_line judged.now) }
 {
     match judged.fate {
         RangeFate::Taken(span) => print_range_line(text, judged.found.space, span),
@@ -132,7 +136,8 @@ fn print_left_range(
     found: &FoundFunction,
     reason: NoRange,
 ) -> Result<(), AllocError>
-    ensures { OnOk result (string_bytes text.new ≡ string_bytes text.old ++ judged_by found.now (LeftOut reason)) }
+    ensures { OnOk result
+        (string_bytes text.new ≡ string_bytes text.old ++ judged_by found.now (LeftOut reason)) }
 {
     print_left_out(text)?;
     print_range(text, found)?;
@@ -141,7 +146,8 @@ fn print_left_range(
 
 /// Where a device number is another than that of the text.
 pub(crate) fn print_device_note(text: &mut String, number: u8, own: u8) -> Result<(), AllocError>
-    ensures { OnOk result (string_bytes text.new ≡ string_bytes text.old ++ device_note number own) }
+    ensures { OnOk result
+        (string_bytes text.new ≡ string_bytes text.old ++ device_note number own) }
 {
     if number == own {
         return Ok(());

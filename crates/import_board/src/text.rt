@@ -1,5 +1,7 @@
 ghost use Rattle.std.specs.Prelude.{◌≡◌, ◌++◌, ◌<◌, ◌^◌, IfOk, OnOk, length, string_bytes};
-ghost use Rattle.import_board.specs.Text.{import_text, head_lines, version_line, taken_line, left_counts, left_line, root_note, elsewhere_words, elsewhere_line, elsewhere_note, root_notes, domain_text};
+ghost use Rattle.import_board.specs.Text.{import_text, head_lines, version_line, taken_line};
+ghost use Rattle.import_board.specs.Text.{left_counts, left_line, root_note, elsewhere_words};
+ghost use Rattle.import_board.specs.Text.{elsewhere_line, elsewhere_note, root_notes, domain_text};
 
 use crate::bridges::print_bridges;
 use crate::counts::{
@@ -33,7 +35,8 @@ fn print_text(
     fates: &[BridgeFate],
     devices: &[Device],
 ) -> Result<(), AllocError>
-    ensures { OnOk result (string_bytes text.new ≡ string_bytes text.old ++ import_text machine.now fates.now devices.now) }
+    ensures { OnOk result (string_bytes text.new ≡ string_bytes text.old ++
+        import_text machine.now fates.now devices.now) }
 {
     print_head(text, machine, fates, devices)?;
     print_bridges(text, machine, machine.bridges.as_slice(), fates)?;
@@ -46,7 +49,8 @@ fn print_head(
     fates: &[BridgeFate],
     devices: &[Device],
 ) -> Result<(), AllocError>
-    ensures { OnOk result (string_bytes text.new ≡ string_bytes text.old ++ head_lines machine.now fates.now devices.now) }
+    ensures { OnOk result (string_bytes text.new ≡ string_bytes text.old ++
+        head_lines machine.now fates.now devices.now) }
 {
     print_version(text, has_far(fates, devices))?;
     print_taken(text, fates, devices)?;
@@ -73,7 +77,8 @@ fn print_taken(
     fates: &[BridgeFate],
     devices: &[Device],
 ) -> Result<(), AllocError>
-    ensures { OnOk result (string_bytes text.new ≡ string_bytes text.old ++ taken_line fates.now devices.now) }
+    ensures { OnOk result
+        (string_bytes text.new ≡ string_bytes text.old ++ taken_line fates.now devices.now) }
 {
     let bridges = bridges_taken(fates);
     let targets = targets_taken(devices);
@@ -90,7 +95,8 @@ fn print_left(
     fates: &[BridgeFate],
     devices: &[Device],
 ) -> Result<(), AllocError>
-    ensures { OnOk result (string_bytes text.new ≡ string_bytes text.old ++ left_line machine.now fates.now devices.now) }
+    ensures { OnOk result (string_bytes text.new ≡ string_bytes text.old ++
+        left_line machine.now fates.now devices.now) }
 {
     let functions = functions_left(fates, devices);
     let windows = windows_left(fates);
@@ -104,7 +110,8 @@ fn print_left_counts(
     windows: u64,
     ranges: u64,
 ) -> Result<(), AllocError>
-    ensures { OnOk result (string_bytes text.new ≡ string_bytes text.old ++ left_counts functions windows ranges) }
+    ensures { OnOk result
+        (string_bytes text.new ≡ string_bytes text.old ++ left_counts functions windows ranges) }
 {
     writeln!(
         text,
@@ -114,7 +121,8 @@ fn print_left_counts(
 
 /// What is said of the root and of other domains.
 fn print_root(text: &mut String, machine: &Machine) -> Result<(), AllocError>
-    ensures { OnOk result (string_bytes text.new ≡ string_bytes text.old ++ root_notes machine.now) }
+    ensures { OnOk result
+        (string_bytes text.new ≡ string_bytes text.old ++ root_notes machine.now) }
 {
     print_root_bus(text, machine.root.bus)?;
     print_elsewhere(text, machine.elsewhere, machine.root.domain)
@@ -130,7 +138,8 @@ fn print_root_bus(text: &mut String, bus: u8) -> Result<(), AllocError>
 }
 
 fn print_elsewhere(text: &mut String, many: u64, domain: u32) -> Result<(), AllocError>
-    ensures { OnOk result (string_bytes text.new ≡ string_bytes text.old ++ elsewhere_note many domain) }
+    ensures { OnOk result
+        (string_bytes text.new ≡ string_bytes text.old ++ elsewhere_note many domain) }
 {
     if many == 0 {
         return Ok(());
@@ -139,7 +148,8 @@ fn print_elsewhere(text: &mut String, many: u64, domain: u32) -> Result<(), Allo
 }
 
 fn print_elsewhere_line(text: &mut String, many: u64, domain: u32) -> Result<(), AllocError>
-    ensures { OnOk result (string_bytes text.new ≡ string_bytes text.old ++ elsewhere_line many domain) }
+    ensures { OnOk result
+        (string_bytes text.new ≡ string_bytes text.old ++ elsewhere_line many domain) }
 {
     print_elsewhere_words(text, many)?;
     print_domain(text, domain)?;

@@ -2,7 +2,10 @@ ghost use Rattle.std.specs.Prelude.{◌≡◌, ◌+◌, ◌<◌, ◌^◌, ◌==�
 ghost use Rattle.std.specs.List.{find, list_any, count_by};
 ghost use Rattle.std.specs.Option.{option_copied};
 ghost use Rattle.import_bridges.specs.declared.fate.BridgeFate.TheVariants.{Taken};
-ghost use Rattle.import_bridges.specs.Bridges.{secondary_of, subordinate_of, place_of, last_by, last_behind, shares_buses, is_full, bridge_with, bridge_behind, bridge_fate, taken_of, fates_behind, bridge_fates, taken_among};
+ghost use Rattle.import_bridges.specs.Bridges.{secondary_of, subordinate_of, place_of, last_by};
+ghost use Rattle.import_bridges.specs.Bridges.{last_behind, shares_buses, is_full, bridge_with};
+ghost use Rattle.import_bridges.specs.Bridges.{bridge_behind, bridge_fate, taken_of, fates_behind};
+ghost use Rattle.import_bridges.specs.Bridges.{bridge_fates, taken_among};
 
 use crate::devices::device_number;
 use crate::header::byte_at;

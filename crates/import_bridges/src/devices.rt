@@ -1,6 +1,7 @@
 ghost use Rattle.std.specs.Prelude.{◌≡◌};
 ghost use Rattle.std.specs.List.{list_any};
-ghost use Rattle.import_bridges.specs.Bridges.{has_device, is_in_text, is_place, is_given, is_free, greatest_below, device_number};
+ghost use Rattle.import_bridges.specs.Bridges.{has_device, is_in_text, is_place, is_given, is_free};
+ghost use Rattle.import_bridges.specs.Bridges.{greatest_below, device_number};
 
 use crate::Machine;
 use import_text::Function;

@@ -1,5 +1,5 @@
-//! A machine as `lspci` tells of it: the functions below one root, and which of its bridges and their
-//! windows a board can have.
+//! A machine as `lspci` tells of it: the functions below one root, and which of its bridges and
+//! their windows a board can have.
 #![tactic(auto)]
 
 mod bridges;

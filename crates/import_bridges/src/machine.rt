@@ -1,5 +1,7 @@
 ghost use Rattle.std.specs.Prelude.{◌≡◌, ◌<◌, ◌+◌, ◌-◌, ◌^◌, ◌≤◌, filter, length, IfOk};
-ghost use Rattle.import_bridges.specs.Functions.{least, bus_of, least_domain, is_in, first_root, root_by, slot_number, bridge_number, place_in, put_in_order, with_function, machine_by};
+ghost use Rattle.import_bridges.specs.Functions.{least, bus_of, least_domain, is_in, first_root};
+ghost use Rattle.import_bridges.specs.Functions.{root_by, slot_number, bridge_number, place_in};
+ghost use Rattle.import_bridges.specs.Functions.{put_in_order, with_function, machine_by};
 
 use crate::header::{byte_at, is_bridge};
 use import_text::Function;
@@ -139,7 +141,8 @@ fn bridge_number(function: &Function) -> u32
 }
 
 fn put_bridge(bridges: &mut Vec<Function>, function: Function) -> Result<(), NoMemory>
-    ensures { IfOk result (λ _. bridges.new.items ≡ put_in_order bridge_number function bridges.old.items) }
+    ensures { IfOk result
+        (λ _. bridges.new.items ≡ put_in_order bridge_number function bridges.old.items) }
 {
     let place = place_of_bridge(bridges.as_slice(), bridge_number(&function));
     bridges.insert(place, function)?;
@@ -147,7 +150,8 @@ fn put_bridge(bridges: &mut Vec<Function>, function: Function) -> Result<(), NoM
 }
 
 fn put_other(others: &mut Vec<Function>, function: Function) -> Result<(), NoMemory>
-    ensures { IfOk result (λ _. others.new.items ≡ put_in_order slot_number function others.old.items) }
+    ensures { IfOk result
+        (λ _. others.new.items ≡ put_in_order slot_number function others.old.items) }
 {
     let place = place_of_other(others.as_slice(), slot_number(&function));
     others.insert(place, function)?;

@@ -1,8 +1,13 @@
 ghost use Rattle.std.specs.Prelude.{◌≡◌, ◌<◌, ◌^◌, option_to_list};
 ghost use Rattle.std.specs.List.{find, list_any};
 ghost use Rattle.std.specs.Option.{option_copied};
-ghost use Rattle.board_headers.specs.Windows.{memory_window, prefetchable_window, prefetchable_upper, io_window, io_upper, window_between};
-ghost use Rattle.import_bridges.specs.Windows.{open_in, windows_in, lies_in, shares, leads_to, is_reached, passes_some, meeting, why_closed, open_or, window_fate, decodes, memory_fate, prefetchable_fate, io_fate};
+ghost use Rattle.board_headers.specs.Windows.{memory_window, prefetchable_window};
+ghost use Rattle.board_headers.specs.Windows.{prefetchable_upper, io_window, io_upper};
+ghost use Rattle.board_headers.specs.Windows.{window_between};
+ghost use Rattle.import_bridges.specs.Windows.{open_in, windows_in, lies_in, shares, leads_to};
+ghost use Rattle.import_bridges.specs.Windows.{is_reached, passes_some, meeting, why_closed};
+ghost use Rattle.import_bridges.specs.Windows.{open_or, window_fate, decodes, memory_fate};
+ghost use Rattle.import_bridges.specs.Windows.{prefetchable_fate, io_fate};
 
 use crate::header::{byte_at, decodes, register_2, register_4};
 use crate::{NoWindow, TakenBridge, WindowFate};
@@ -76,8 +81,8 @@ fn shares_windows(space: Space, window: Window, bridge: &TakenBridge) -> bool
     }
 }
 
-/// Whether what is in the window passes down to the bus: it is the root, or one window of the bridge to
-/// it has all of it.
+/// Whether what is in the window passes down to the bus: it is the root, or one window of the
+/// bridge to it has all of it.
 pub fn is_reached(root: u8, taken: &[TakenBridge], bus: u8, space: Space, window: Window) -> bool
     ensures { result ≡ is_reached root taken.now bus space window }
 {
@@ -121,7 +126,8 @@ struct Side {
 }
 
 fn why_closed(taken: &[TakenBridge], side: Side, is_zero: bool, window: Window) -> Option<NoWindow>
-    ensures { result ≡ why_closed side.root taken.now side.bus side.space is_zero side.is_on window }
+    ensures { result ≡
+        why_closed side.root taken.now side.bus side.space is_zero side.is_on window }
 {
     if is_zero {
         return Some(NoWindow::Zero);
@@ -141,7 +147,8 @@ fn window_fate(
     zero_limit: u64,
     window: Option<Window>,
 ) -> WindowFate
-    ensures { result ≡ window_fate side.root taken.now side.bus side.space zero_limit side.is_on window }
+    ensures { result ≡
+        window_fate side.root taken.now side.bus side.space zero_limit side.is_on window }
 {
     match window {
         None => WindowFate::Absent,
@@ -153,7 +160,12 @@ fn window_fate(
 }
 
 fn side_of(root: u8, function: &Function, space: Space) -> Side
-    ensures { result ≡ record { root = root; bus = function.now.slot.bus; space = space; is_on = decodes space function.now } }
+    ensures { result ≡ record {
+      root = root;
+      bus = function.now.slot.bus;
+      space = space;
+      is_on = decodes space function.now;
+    } }
 {
     Side {
         root,

@@ -1,7 +1,11 @@
-ghost use Rattle.std.specs.Prelude.{◌≡◌, ◌++◌, ◌<◌, ◌≤◌, ◌^◌, ◌==◌, length, map, take, drop, [], if◌then◌else◌, IfOk};
+ghost use Rattle.std.specs.Prelude.{◌≡◌, ◌++◌, ◌<◌, ◌≤◌, ◌^◌, ◌==◌, length, map, take, drop, []};
+ghost use Rattle.std.specs.Prelude.{if◌then◌else◌, IfOk};
 ghost use Rattle.std.specs.List.{list_any, count_by};
 ghost use Rattle.import_bridges.specs.Bridges.{place_of};
-ghost use Rattle.import_targets.specs.Devices.{is_placed, claims_something, device_fate, same_device, begins_with, run_length, judged_device, target_place, is_target, placed_by, by_device, devices_behind, devices_of};
+ghost use Rattle.import_targets.specs.Devices.{is_placed, claims_something, device_fate};
+ghost use Rattle.import_targets.specs.Devices.{same_device, begins_with, run_length, judged_device};
+ghost use Rattle.import_targets.specs.Devices.{target_place, is_target, placed_by, by_device};
+ghost use Rattle.import_targets.specs.Devices.{devices_behind, devices_of};
 
 use crate::functions::functions_behind;
 use crate::{Device, DeviceFate, Judged, Placed, RangeFate};
@@ -45,7 +49,8 @@ fn push_devices(
     functions: &[Function],
 ) -> Result<(), NoMemory>
     requires given { taken.old.given.items ≡ map place_of bridges.now ++ taken.old.targets.items }
-    ensures { IfOk result (λ _. devices.new.items ≡ devices.old.items ++ devices_behind machine.now bridges.now taken.old.placed.items taken.old.targets.items (by_device functions.now)) }
+    ensures { IfOk result (λ _. devices.new.items ≡ devices.old.items ++ devices_behind machine.now
+        bridges.now taken.old.placed.items taken.old.targets.items (by_device functions.now)) }
 {
     let mut left = functions;
     while let [first, ..] = left {
@@ -73,10 +78,14 @@ fn judged_device(
     functions: &[Function],
 ) -> Result<Device, NoMemory>
     requires given { taken.old.given.items ≡ map place_of bridges.now ++ taken.old.targets.items }
-    ensures device { IfOk result (λ device. device ≡ judged_device machine.now bridges.now taken.old.placed.items taken.old.targets.items first.now functions.now) }
-    ensures placed { IfOk result (λ device. taken.new.placed.items ≡ taken.old.placed.items ++ placed_by device) }
-    ensures targets { IfOk result (λ device. taken.new.targets.items ≡ taken.old.targets.items ++ target_place device.bus device.fate) }
-    ensures given { IfOk result (λ device. taken.new.given.items ≡ map place_of bridges.now ++ taken.new.targets.items) }
+    ensures device { IfOk result (λ device. device ≡ judged_device machine.now bridges.now
+        taken.old.placed.items taken.old.targets.items first.now functions.now) }
+    ensures placed { IfOk result
+        (λ device. taken.new.placed.items ≡ taken.old.placed.items ++ placed_by device) }
+    ensures targets { IfOk result (λ device. taken.new.targets.items ≡ taken.old.targets.items ++
+        target_place device.bus device.fate) }
+    ensures given { IfOk result
+        (λ device. taken.new.given.items ≡ map place_of bridges.now ++ taken.new.targets.items) }
 {
     let place = DevicePlace {
         bus: first.slot.bus,
@@ -104,9 +113,13 @@ fn judged_device(
 /// A target has its device number, and what was placed for it stays: for no other device does it.
 fn settle(taken: &mut Taken, before: usize, bus: u8, fate: DeviceFate) -> Result<(), NoMemory>
     requires { before ≤ length taken.old.placed.items }
-    ensures placed { IfOk result (λ _. taken.new.placed.items ≡ take before taken.old.placed.items ++ (if is_target fate then drop before taken.old.placed.items else [])) }
-    ensures targets { IfOk result (λ _. taken.new.targets.items ≡ taken.old.targets.items ++ target_place bus fate) }
-    ensures given { IfOk result (λ _. taken.new.given.items ≡ taken.old.given.items ++ target_place bus fate) }
+    ensures placed { IfOk result
+        (λ _. taken.new.placed.items ≡ take before taken.old.placed.items ++
+        (if is_target fate then drop before taken.old.placed.items else [])) }
+    ensures targets { IfOk result
+        (λ _. taken.new.targets.items ≡ taken.old.targets.items ++ target_place bus fate) }
+    ensures given { IfOk result
+        (λ _. taken.new.given.items ≡ taken.old.given.items ++ target_place bus fate) }
 {
     match fate {
         DeviceFate::Target(device) => {
@@ -126,7 +139,8 @@ fn device_fate(
     functions: &[List<Judged>],
 ) -> DeviceFate
     requires { taken.now.given.items ≡ map place_of bridges.now ++ taken.now.targets.items }
-    ensures { result ≡ device_fate machine.now bridges.now taken.now.targets.items place.bus place.device functions.now }
+    ensures { result ≡ device_fate machine.now bridges.now taken.now.targets.items place.bus
+        place.device functions.now }
 {
     if !is_led_to(machine, bridges, place.bus) {
         return DeviceFate::NoWay;

@@ -73,8 +73,8 @@ pub enum DeviceFate {
     Target(u8),
 }
 
-/// All functions with one bus and device number, and what becomes of the registers of each, in their
-/// order.
+/// All functions with one bus and device number, and what becomes of the registers of each, in
+/// their order.
 #[derive(Debug, Drop)]
 pub struct Device {
     /// By the text.

@@ -1,5 +1,7 @@
 ghost use Rattle.std.specs.Prelude.{◌≡◌, ◌<◌, ◌≤◌, ◌+◌, ◌++◌, ◌^◌, option_to_list, length};
-ghost use Rattle.import_targets.specs.Registers.{value_at, size_at, is_io, is_wide, low_base, is_there, base_at, space_by, flaw_at, found_at, behind, found_from, registers_of, found_in};
+ghost use Rattle.import_targets.specs.Registers.{value_at, size_at, is_io, is_wide, low_base};
+ghost use Rattle.import_targets.specs.Registers.{is_there, base_at, space_by, flaw_at, found_at};
+ghost use Rattle.import_targets.specs.Registers.{behind, found_from, registers_of, found_in};
 
 use arrayvec::ArrayVec;
 use import_bridges::{header_type, register_4};

@@ -3,7 +3,9 @@ ghost use Rattle.std.specs.List.{flat_map};
 ghost use Rattle.import_targets.specs.declared.fate.RangeFate.TheVariants.{LeftOut};
 ghost use Rattle.import_targets.specs.Registers.{found_in};
 ghost use Rattle.import_targets.specs.Ranges.{TakesFew};
-ghost use Rattle.import_targets.specs.Devices.{judged_behind, why_of_bridge, judged_of_bridge, placed_of, registers_used, placed_in, used_in, functions_behind};
+ghost use Rattle.import_targets.specs.Devices.{judged_behind, why_of_bridge, judged_of_bridge};
+ghost use Rattle.import_targets.specs.Devices.{placed_of, registers_used, placed_in, used_in};
+ghost use Rattle.import_targets.specs.Devices.{functions_behind};
 
 use crate::found::found_in;
 use crate::ranges::{Before, range_fate, registers_for};
@@ -49,8 +51,10 @@ pub(crate) fn functions_behind(
     placed: &mut Vec<Placed>,
     functions: &[Function],
 ) -> Result<List<List<Judged>>, NoMemory>
-    ensures judged { IfOk result (λ judged. judged ≡ functions_behind root bridges.now bus placed.old.items 0 functions.now) }
-    ensures placed { IfOk result (λ judged. placed.new.items ≡ placed.old.items ++ flat_map (placed_in bus) judged) }
+    ensures judged { IfOk result (λ judged. judged ≡
+        functions_behind root bridges.now bus placed.old.items 0 functions.now) }
+    ensures placed { IfOk result
+        (λ judged. placed.new.items ≡ placed.old.items ++ flat_map (placed_in bus) judged) }
 {
     let mut judged = Vec::new(alloc);
     push_functions(alloc, &mut judged, root, bridges, bus, placed, 0, functions)?;
@@ -69,8 +73,11 @@ fn push_functions(
     functions: &[Function],
 ) -> Result<(), NoMemory>
     requires { used ≤ 6 }
-    ensures judged { IfOk result (λ _. judged.new.items ≡ judged.old.items ++ functions_behind root bridges.now bus placed.old.items used functions.now) }
-    ensures placed { IfOk result (λ _. placed.new.items ≡ placed.old.items ++ flat_map (placed_in bus) (functions_behind root bridges.now bus placed.old.items used functions.now)) }
+    ensures judged { IfOk result (λ _. judged.new.items ≡ judged.old.items ++
+        functions_behind root bridges.now bus placed.old.items used functions.now) }
+    ensures placed { IfOk result
+        (λ _. placed.new.items ≡ placed.old.items ++ flat_map (placed_in bus)
+        (functions_behind root bridges.now bus placed.old.items used functions.now)) }
 {
     match functions.split_first() {
         None => Ok(()),
@@ -83,8 +90,8 @@ fn push_functions(
     }
 }
 
-/// What becomes of the registers of a function. Ranges that are taken are placed, and their registers
-/// are used.
+/// What becomes of the registers of a function. Ranges that are taken are placed, and their
+/// registers are used.
 fn judged_behind(
     alloc: Global,
     root: u8,
@@ -95,8 +102,10 @@ fn judged_behind(
     function: &Function,
 ) -> Result<List<Judged>, NoMemory>
     requires { used.old ≤ 6 }
-    ensures judged { IfOk result (λ judged. judged ≡ judged_behind root bridges.now bus function.now placed.old.items used.old (found_in function.now)) }
-    ensures placed { IfOk result (λ judged. placed.new.items ≡ placed.old.items ++ placed_in bus judged) }
+    ensures judged { IfOk result (λ judged. judged ≡ judged_behind root bridges.now bus function.now
+        placed.old.items used.old (found_in function.now)) }
+    ensures placed { IfOk result
+        (λ judged. placed.new.items ≡ placed.old.items ++ placed_in bus judged) }
     ensures used { IfOk result (λ judged. used.new ≡ used.old + used_in judged) }
     ensures few { used.new ≤ 6 }
 {
@@ -127,9 +136,12 @@ fn push_judged(
     found: &[FoundFunction],
 ) -> Result<(), NoMemory>
     requires { used.old ≤ 6 }
-    ensures judged { IfOk result (λ _. judged.new.items ≡ judged.old.items ++ judged_behind root bridges.now bus function.now placed.old.items used.old found.now) }
-    ensures placed { IfOk result (λ _. placed.new.items ≡ placed.old.items ++ placed_in bus (judged_behind root bridges.now bus function.now placed.old.items used.old found.now)) }
-    ensures used { IfOk result (λ _. used.new ≡ used.old + used_in (judged_behind root bridges.now bus function.now placed.old.items used.old found.now)) }
+    ensures judged { IfOk result (λ _. judged.new.items ≡ judged.old.items ++
+        judged_behind root bridges.now bus function.now placed.old.items used.old found.now) }
+    ensures placed { IfOk result (λ _. placed.new.items ≡ placed.old.items ++ placed_in bus
+        (judged_behind root bridges.now bus function.now placed.old.items used.old found.now)) }
+    ensures used { IfOk result (λ _. used.new ≡ used.old + used_in
+        (judged_behind root bridges.now bus function.now placed.old.items used.old found.now)) }
     ensures few { used.new ≤ 6 }
 {
     match found.split_first() {
@@ -159,7 +171,8 @@ fn place(
 ) -> Result<(), NoMemory>
     requires small { used.old ≤ 6 }
     requires few { TakesFew used.old fate }
-    ensures placed { IfOk result (λ _. placed.new.items ≡ placed.old.items ++ placed_of bus space fate) }
+    ensures placed { IfOk result
+        (λ _. placed.new.items ≡ placed.old.items ++ placed_of bus space fate) }
     ensures used { IfOk result (λ _. used.new ≡ used.old + registers_used fate) }
     ensures few { used.new ≤ 6 }
 {

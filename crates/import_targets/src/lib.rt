@@ -1,5 +1,5 @@
-//! What the devices of a machine ask for in their base address registers, and which of them a board can
-//! have as targets, with which ranges.
+//! What the devices of a machine ask for in their base address registers, and which of them a board
+//! can have as targets, with which ranges.
 #![tactic(auto)]
 
 mod devices;

@@ -1,7 +1,10 @@
 ghost use Rattle.std.specs.Prelude.{◌≡◌, ◌<◌, ◌≤◌, ◌+◌, ◌*◌, ◌^◌, IsTrue, IfNone};
 ghost use Rattle.std.specs.List.{list_any};
 ghost use Rattle.std.specs.Option.{option_copied};
-ghost use Rattle.import_targets.specs.Ranges.{unit_of, rounded_base, rounded_end, end_of_space, size_or_zero, fits, does_fit, span_of, registers_for, meets, meeting, why_not_placed, why_unflawed, why_by, why_no_range, range_fate, TakesFew};
+ghost use Rattle.import_targets.specs.Ranges.{unit_of, rounded_base, rounded_end, end_of_space};
+ghost use Rattle.import_targets.specs.Ranges.{size_or_zero, fits, does_fit, span_of, registers_for};
+ghost use Rattle.import_targets.specs.Ranges.{meets, meeting, why_not_placed, why_unflawed, why_by};
+ghost use Rattle.import_targets.specs.Ranges.{why_no_range, range_fate, TakesFew};
 
 use crate::{FoundFunction, NoRange, Placed, RangeFate};
 use board_model::Window;
@@ -61,8 +64,8 @@ fn does_fit(found: &FoundFunction) -> bool
     end <= whole && base < end && end - base < whole
 }
 
-/// The addresses of the range that a register asks for, rounded outwards to multiples of 64 bytes in
-/// memory and of 4 in I/O.
+/// The addresses of the range that a register asks for, rounded outwards to multiples of 64 bytes
+/// in memory and of 4 in I/O.
 pub(crate) fn span_of(found: &FoundFunction) -> Window
     requires { IsTrue (does_fit found.now) }
     ensures { result ≡ span_of found.now }
@@ -87,7 +90,8 @@ fn meets_placed(placed: &[Placed], bus: u8, space: Space, span: Window) -> bool
     placed.iter().any(|one| one.bus == bus && one.space == space && shares(span, one.span))
 }
 
-/// What was taken before a range: bridges, the ranges on all buses, and the registers of its own target.
+/// What was taken before a range: bridges, the ranges on all buses, and the registers of its own
+/// target.
 #[derive(Clone, Copy)]
 pub(crate) struct Before<'a> {
     pub root: u8,
@@ -99,7 +103,8 @@ pub(crate) struct Before<'a> {
 fn why_not_placed(before: Before<'_>, bus: u8, space: Space, span: Window) -> Option<NoRange>
     requires { before.used ≤ 6 }
     ensures few { IfNone result (before.entry.used + registers_for span ≤ 6) }
-    ensures reason { result ≡ why_not_placed before.entry.root before.entry.bridges.now before.entry.placed.now before.entry.used bus space span }
+    ensures reason { result ≡ why_not_placed before.entry.root before.entry.bridges.now
+        before.entry.placed.now before.entry.used bus space span }
 {
     if before.used + registers_for(span) > 6 {
         return Some(NoRange::SixRegisters);
@@ -123,7 +128,8 @@ pub(crate) fn range_fate(
 ) -> RangeFate
     requires { before.used ≤ 6 }
     ensures few { TakesFew before.entry.used result }
-    ensures fate { result ≡ range_fate before.entry.root before.entry.bridges.now before.entry.placed.now before.entry.used bus function.now found.now }
+    ensures fate { result ≡ range_fate before.entry.root before.entry.bridges.now
+        before.entry.placed.now before.entry.used bus function.now found.now }
 {
     match why_no_range(before, bus, function, found) {
         Some(reason) => RangeFate::LeftOut(reason),
@@ -138,7 +144,8 @@ fn why_no_range(
     found: &FoundFunction,
 ) -> Option<NoRange>
     requires { before.used ≤ 6 }
-    ensures reason { result ≡ why_no_range before.entry.root before.entry.bridges.now before.entry.placed.now before.entry.used bus function.now found.now }
+    ensures reason { result ≡ why_no_range before.entry.root before.entry.bridges.now
+        before.entry.placed.now before.entry.used bus function.now found.now }
     ensures fits { IfNone result (IsTrue (does_fit found.now)) }
     ensures few { IfNone result (before.entry.used + registers_for (span_of found.now) ≤ 6) }
 {

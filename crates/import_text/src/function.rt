@@ -1,7 +1,10 @@
 ghost use Rattle.std.specs.Prelude.{◌≡◌, ◌<◌, ◌≤◌, ◌^◌, ◌+◌, length, IfOk, find};
 ghost use Rattle.std.specs.Option.{option_copied};
 ghost use Rattle.std.specs.List.{position_or_len};
-ghost use Rattle.import_text.specs.Functions.{is_slot, is_row_at, is_region_of, is_capability, bytes_told, size_told, kind_told, row_at, header_in, size_of, sizes_in, kind_in, own_entries, function_of, functions_of};
+ghost use Rattle.import_text.specs.Functions.{is_slot, is_row_at, is_region_of, is_capability};
+ghost use Rattle.import_text.specs.Functions.{bytes_told, size_told, kind_told, row_at, header_in};
+ghost use Rattle.import_text.specs.Functions.{size_of, sizes_in, kind_in, own_entries, function_of};
+ghost use Rattle.import_text.specs.Functions.{functions_of};
 
 use crate::Slot;
 use crate::capability::CapabilityKind;

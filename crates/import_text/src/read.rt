@@ -1,5 +1,6 @@
 ghost use Rattle.std.specs.Prelude.{◌≡◌, ◌<◌, ◌≤◌, ◌^◌, ◌+◌, [], length, IfOk};
-ghost use Rattle.import_text.specs.Functions.{repeated_after, lacks_row, lacking, has_high_device, high, functions_read, judged, Tells};
+ghost use Rattle.import_text.specs.Functions.{repeated_after, lacks_row, lacking, has_high_device};
+ghost use Rattle.import_text.specs.Functions.{high, functions_read, judged, Tells};
 
 use crate::fault::ReadFault;
 use crate::function::{Function, functions_of};

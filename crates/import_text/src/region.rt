@@ -3,7 +3,9 @@ ghost use Rattle.std.specs.List.{list_all, position_or_len};
 ghost use Rattle.std.specs.Char.{digit_value, is_digit};
 ghost use Rattle.std.specs.Str.Parse.{digits_value};
 ghost use Rattle.board_text.specs.Numbers.{is_numeral};
-ghost use Rattle.import_text.specs.Regions.{indent, unit_value, size_by, size_between, is_close, size_in, size_at, or_else, last_size, is_region, indented, region_size, region_number};
+ghost use Rattle.import_text.specs.Regions.{indent, unit_value, size_by, size_between, is_close};
+ghost use Rattle.import_text.specs.Regions.{size_in, size_at, or_else, last_size, is_region};
+ghost use Rattle.import_text.specs.Regions.{indented, region_size, region_number};
 
 use crate::digits::{begins_with, behind, byte_at};
 use crate::slot::first;

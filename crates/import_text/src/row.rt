@@ -1,6 +1,7 @@
 ghost use Rattle.std.specs.Prelude.{◌≡◌, ◌==◌, IfOk};
 ghost use Rattle.std.specs.List.{list_all};
-ghost use Rattle.import_text.specs.Rows.{has_byte, byte_in, has_bytes, bytes_in, row_text, is_row, offset_of, row_bytes};
+ghost use Rattle.import_text.specs.Rows.{has_byte, byte_in, has_bytes, bytes_in, row_text, is_row};
+ghost use Rattle.import_text.specs.Rows.{offset_of, row_bytes};
 
 use crate::digits::{behind, byte_at, hex_length, is_hex, number_or_zero, two_digits};
 use pci_command::{List, NoMemory};

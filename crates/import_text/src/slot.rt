@@ -1,5 +1,6 @@
 ghost use Rattle.std.specs.Prelude.{◌≡◌, ◌≤◌, length, map, take, IfOk};
-ghost use Rattle.import_text.specs.Slots.{has_domain, place_start, domain_in, is_place, slot_in, slot_of, shown, name_of};
+ghost use Rattle.import_text.specs.Slots.{has_domain, place_start, domain_in, is_place, slot_in};
+ghost use Rattle.import_text.specs.Slots.{slot_of, shown, name_of};
 
 use crate::digits::{behind, byte_at, hex_length, hex_value, is_hex, number_or_zero, two_digits};
 use pci_command::{List, NoMemory};

@@ -81,7 +81,8 @@ impl HeldSource {
 }
 
 impl Source for HeldSource {
-    ghost use Rattle.std.specs.Prelude.{Some, true, [], ◌≡◌, ◌≤◌, ◌↔◌, min, length, take, IfOk, IsErr, OnErr};
+    ghost use Rattle.std.specs.Prelude.{Some, true, [], ◌≡◌, ◌≤◌, ◌↔◌, min, length, take, IfOk};
+    ghost use Rattle.std.specs.Prelude.{IsErr, OnErr};
     ghost use Rattle.std.specs.Io.{ReadsAtMost};
     ghost use Rattle.std.specs.Io.KnownBytes.{ReadConsumes};
     ghost use Rattle.io_ports.specs.Faults.{Rose};

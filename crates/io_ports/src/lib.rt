@@ -1,5 +1,10 @@
 //! Bytes in and out: a source and a sink that say what they hold and took and count their faults,
-//! over memory for tests and over `std::io` for programs.
+//! over memory for tests and over `std::io` for programs. Each read gives the next bytes and
+//! their number, 0 for a buffer that is not empty only at the end; each write appends what it
+//! says; a failure gives or takes no byte, and comes only where the count of faults rose or
+//! stands at its last value. Ports in memory fail exactly at the calls that they were told. A
+//! file tells nothing, so what a `WritePort` tells is what it passed on and the writer took,
+//! which the clause `passed` ties to every writer that tells its own bytes.
 #![tactic(auto)]
 
 mod counts;

@@ -33,7 +33,8 @@ impl Model for MemorySink {
       faults = sink.faults;
     } };
 
-    ghost invariant = { λ sink. (length sink.bytes.items ≤ sink.size) × (sink.size ≤ vec_capacity sink.bytes) × (0 < sink.most) };
+    ghost invariant = { λ sink. (length sink.bytes.items ≤ sink.size) ×
+        (sink.size ≤ vec_capacity sink.bytes) × (0 < sink.most) };
 }
 
 impl MemorySink {
@@ -46,7 +47,14 @@ impl MemorySink {
         size: usize,
     ) -> Result<MemorySink, NoMemory>
         requires { 0 < most }
-        ensures { IfOk result (λ sink. sink ≡ record { taken = []; most = most; size = size; failing = failing; calls = 0; faults = 0 }) }
+        ensures { IfOk result (λ sink. sink ≡ record {
+          taken = [];
+          most = most;
+          size = size;
+          failing = failing;
+          calls = 0;
+          faults = 0;
+        }) }
     {
         let bytes = Vec::with_capacity(alloc, size)?;
         Ok(MemorySink {
@@ -88,7 +96,8 @@ impl Sink for MemorySink {
 
         // The calls that are listed fail, and those that find no room. Each other call takes as
         // much as it can.
-        ensures listed { IsErr result ↔ (FailsNext self.old.failing self.old.calls ⊎ HasNoRoom self.old piece.now) }
+        ensures listed { IsErr result ↔
+            (FailsNext self.old.failing self.old.calls ⊎ HasNoRoom self.old piece.now) }
         ensures full { IfOk result (λ n. n ≡ write_len self.old piece.now) }
         ensures after { self.new ≡ sink_after self.old piece.now result }
     {

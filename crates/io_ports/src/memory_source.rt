@@ -39,7 +39,8 @@ impl MemorySource {
     /// fails at the calls whose numbers, from 1, are listed.
     pub fn new(bytes: Bytes, most: usize, failing: List<u32>) -> MemorySource
         requires { 0 < most }
-        ensures { result ≡ record { rest = bytes; most = most; failing = failing; calls = 0; faults = 0 } }
+        ensures { result ≡
+            record { rest = bytes; most = most; failing = failing; calls = 0; faults = 0 } }
     {
         MemorySource {
             bytes,

@@ -24,7 +24,8 @@ impl<W> Model for WritePort<W> {
 
     ghost Value = { WriterState W };
 
-    ghost view = { λ port. record { writer = port.inner; taken = port.taken.bytes; faults = port.faults } };
+    ghost view = { λ port.
+        record { writer = port.inner; taken = port.taken.bytes; faults = port.faults } };
 }
 
 impl<W> WritePort<W> {
@@ -66,7 +67,8 @@ impl<W: Write> Sink for WritePort<W> {
         ensures failed { OnErr result (Rose self.old.faults self.new.faults) }
 
         // What it tells of a call is what the writer took in it, where that one tells it.
-        ensures passed { WriteAppends (W.contents self.old.writer) (W.contents self.new.writer) result piece.now }
+        ensures passed { WriteAppends (W.contents self.old.writer)
+            (W.contents self.new.writer) result piece.now }
 
         // Each failure counts, and nothing else does.
         ensures after { self.new.faults ≡ faults_after self.old.faults result }

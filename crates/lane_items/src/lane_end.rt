@@ -1,6 +1,8 @@
-ghost use Rattle.std.specs.Prelude.{◌≡◌, ℕ, ◌+◌, ◌<◌, ◌≤◌, List, [], ◌∷◌, ◌++◌, length, option_to_list, IfNone};
+ghost use Rattle.std.specs.Prelude.{◌≡◌, ℕ, ◌+◌, ◌<◌, ◌≤◌, List, [], ◌∷◌, ◌++◌, length};
+ghost use Rattle.std.specs.Prelude.{option_to_list, IfNone};
 ghost use Rattle.lane_items.specs.declared.item.Item.{Item};
-ghost use Rattle.lane_items.specs.Lane.{in_hand, GotInOrder, left_count, Crosses, IsEmptied, KeepsPairs};
+ghost use Rattle.lane_items.specs.Lane.{in_hand, GotInOrder, left_count, Crosses, IsEmptied};
+ghost use Rattle.lane_items.specs.Lane.{KeepsPairs};
 
 use crate::Item;
 

@@ -1,7 +1,7 @@
 //! What the audit of a run says, as definitions: for each read that ended with a value of its
-//! target, the last write of the word that its master knew of before, and the chain of operations by
-//! which it came to know of it. What an audit says is so, it leaves out no such read, and it names
-//! none twice. The laws are the contracts of functions that do nothing.
+//! target, the last write of the word that its master knew of before, and the chain of operations
+//! by which it came to know of it. What an audit says is so, it leaves out no such read, and it
+//! names none twice. The laws are the contracts of functions that do nothing.
 #![tactic(auto)]
 
 ghost use Rattle.std.specs.Prelude.{◌≡◌, ◌≤◌, ℕ, true, List, ◌∷◌, Some, is_some, length};
@@ -18,7 +18,8 @@ ghost use Rattle.law_audit.specs.Links.{IsChain};
 ghost use Rattle.law_audit.specs.Sound.{AreSound, AreAll, AreOnce};
 
 /// What a master knows of all writes is one number for each author: in every run of a valid board a
-/// master knows of a write exactly where its number for the write's master is above the write's index.
+/// master knows of a write exactly where its number for the write's master is above the write's
+/// index.
 pub fn clocks()
     ensures { (board : Board) (h : List Event) (w : OpId) (master : ℕ) → IsValid board →
         Run board h → is_write board w ≡ true →
@@ -47,8 +48,8 @@ pub fn few_masters()
 {}
 
 /// In every run of every valid board each operation of a chain of an audit tells the next: a later
-/// operation of its master, or a read that saw it; the chain begins with the write and ends with the
-/// operation that was told.
+/// operation of its master, or a read that saw it; the chain begins with the write and ends with
+/// the operation that was told.
 pub fn chains_tell()
     ensures { (board : Board) (h : List Event) (w : OpId) (r : OpId) (chain : List OpId) →
         IsValid board → Run board h → chain_of board h w r ≡ Some chain →

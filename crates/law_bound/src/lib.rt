@@ -1,6 +1,6 @@
 //! Runs end: each event of a run of a valid board lowers how many can still follow, so that a run
-//! has at most as many events as the board's bound. Each law is the contract of a function that does
-//! nothing, or that only calls the laws which it rests on.
+//! has at most as many events as the board's bound. Each law is the contract of a function that
+//! does nothing, or that only calls the laws which it rests on.
 #![tactic(auto)]
 
 ghost use Rattle.std.specs.Prelude.{◌≡◌, ◌+◌, ◌++◌, ◌∷◌, ◌≤◌, List, [], length, true};
@@ -43,7 +43,8 @@ pub fn left_falls()
     delayed_events_lower_left();
 }
 
-/// So at most as many events follow as are left, and a run has at most as many as the board's bound.
+/// So at most as many events follow as are left, and a run has at most as many as the board's
+/// bound.
 pub fn runs_end()
     ensures follow { (board : Board) (later h : List Event) → IsValid board →
         Run board (later ++ h) → length later + left_of board (later ++ h) ≤ left_of board h }

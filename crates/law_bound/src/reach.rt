@@ -11,8 +11,8 @@ ghost use Rattle.history_model.specs.Runs.{Run};
 ghost use Rattle.law_bound.specs.reach.Reach.{Reaches};
 
 /// The lanes that hold a slot for an operation are the first so many of its way from its master's
-/// bus: the operation is its master's turn and no posted write, each lane holds one slot for it, and
-/// on each but the last its request stands.
+/// bus: the operation is its master's turn and no posted write, each lane holds one slot for it,
+/// and on each but the last its request stands.
 pub fn slots_reach()
     ensures { (board : Board) (h : List Event) (lane : BridgeLane) → IsValid board → Run board h →
         AllByRecursion (Reaches board h lane) (world_of board h lane).held }

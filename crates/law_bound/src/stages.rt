@@ -1,5 +1,5 @@
-//! How far the lanes of its way have brought a delayed request, and what is left of it, in every run
-//! of every valid board. The law is the contract of a function that does nothing.
+//! How far the lanes of its way have brought a delayed request, and what is left of it, in every
+//! run of every valid board. The law is the contract of a function that does nothing.
 ghost use Rattle.std.specs.Prelude.{◌≡◌, ◌+◌, ◌*◌, List, Some, length, slice_get};
 ghost use Rattle.list_facts.specs.Lists.{total};
 ghost use Rattle.pci_command.specs.declared.op_id.OpId.{OpId};
@@ -21,5 +21,6 @@ pub fn stages_and_left()
     ensures { (board : Board) (h : List Event) (o : OpId) (op : Op) (master : Master) →
         IsValid board → Run board h → op_of board o ≡ Some op →
         slice_get board.masters o.master ≡ Some master →
-        delayed_left (world_of board h) o (way board op master.bus) + total (stage_at board op o (world_of board h)) (way board op master.bus) ≡ 5 * length (way board op master.bus) + 1 }
+        delayed_left (world_of board h) o (way board op master.bus) + total (stage_at board op o
+        (world_of board h)) (way board op master.bus) ≡ 5 * length (way board op master.bus) + 1 }
 {}

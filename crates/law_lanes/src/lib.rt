@@ -1,9 +1,10 @@
 //! What holds of slots, credits and depths after every run of every board. Each law is the contract
-//! of a function that does nothing. What a clause says `under_either_rule` holds of bridges that keep
-//! no local master too.
+//! of a function that does nothing. What a clause says `under_either_rule` holds of bridges that
+//! keep no local master too.
 #![tactic(auto)]
 
-ghost use Rattle.std.specs.Prelude.{◌≡◌, ◌++◌, ◌∷◌, ℕ, List, Bool, true, false, Some, None, is_some};
+ghost use Rattle.std.specs.Prelude.{◌≡◌, ◌++◌, ◌∷◌, ℕ, List, Bool, true, false, Some, None};
+ghost use Rattle.std.specs.Prelude.{is_some};
 ghost use Rattle.std.specs.List.{AllByRecursion, list_any};
 ghost use Rattle.pci_command.specs.declared.request.Request.{Request};
 ghost use Rattle.pci_command.specs.declared.op_id.OpId.{OpId};
@@ -55,12 +56,14 @@ pub use rules::{asked_on_way, depths_to_eight, parts, quiet_bridges_by_rule};
 pub fn slots()
     ensures counted { (board : Board) (h : List Event) (lane : BridgeLane) → Run board h →
         Slots (both (world_of board h) lane) }
-    ensures under_either_rule { (rule : Rule) (board : Board) (h : List Event) (lane : BridgeLane) → RunBy rule board h →
+    ensures under_either_rule { (rule : Rule) (board : Board) (h : List Event) (lane : BridgeLane) →
+        RunBy rule board h →
         Slots (both (world_by rule board h) lane) }
     ensures one_item { (board : Board) (h : List Event) (lane : BridgeLane) → Run board h →
         AllByRecursion (HasOneItem (both (world_of board h) lane)) (world_of board h lane).held }
     ensures dropped { (board : Board) (h : List Event) (lane : BridgeLane) → Run board h →
-        AllByRecursion (GoneHeld (world_of board h lane).held) (world_of board h (lane_back lane)).flight }
+        AllByRecursion (GoneHeld (world_of board h lane).held)
+        (world_of board h (lane_back lane)).flight }
 {}
 
 /// The credits of each lane: it owes the posted writes in flight and standing, and those whose
@@ -68,22 +71,25 @@ pub fn slots()
 pub fn credits()
     ensures counted { (board : Board) (h : List Event) (lane : BridgeLane) → Run board h →
         Credits (both (world_of board h) lane) }
-    ensures under_either_rule { (rule : Rule) (board : Board) (h : List Event) (lane : BridgeLane) → RunBy rule board h →
+    ensures under_either_rule { (rule : Rule) (board : Board) (h : List Event) (lane : BridgeLane) →
+        RunBy rule board h →
         Credits (both (world_by rule board h) lane) }
 {}
 
-/// The depths of a bridge bound what is on each of its lanes. A bridge is found by its number, which
-/// no other has; and where no depth is above eight, at most eight posted writes are owed, eight slots
-/// held, 32 items in flight and 24 standing on any lane.
+/// The depths of a bridge bound what is on each of its lanes. A bridge is found by its number,
+/// which no other has; and where no depth is above eight, at most eight posted writes are owed,
+/// eight slots held, 32 items in flight and 24 standing on any lane.
 pub fn depths()
     ensures of_bridge { (board : Board) (h : List Event) (lane : BridgeLane) (bridge : Bridge) →
         bridge_to board lane.bus ≡ Some bridge → Run board h →
         Within bridge.posted bridge.delayed (world_of board h lane) }
-    ensures under_either_rule { (rule : Rule) (board : Board) (h : List Event) (lane : BridgeLane) (bridge : Bridge) →
+    ensures under_either_rule { (rule : Rule) (board : Board) (h : List Event) (lane : BridgeLane)
+        (bridge : Bridge) →
         bridge_to board lane.bus ≡ Some bridge → RunBy rule board h →
         Within bridge.posted bridge.delayed (world_by rule board h lane) }
     ensures of_each { (board : Board) (h : List Event) → DifferentNumbers board → Run board h →
-        AllByRecursion (λ (bridge : Bridge). (up : Bool) → Within bridge.posted bridge.delayed (world_of board h (record { bus = bridge.bus; up = up }))) board.bridges }
+        AllByRecursion (λ (bridge : Bridge). (up : Bool) → Within bridge.posted bridge.delayed
+        (world_of board h (record { bus = bridge.bus; up = up }))) board.bridges }
     ensures to_eight { (board : Board) (h : List Event) (lane : BridgeLane) →
         DepthsToEight board → Run board h → Within 8 8 (world_of board h lane) }
 {}
@@ -98,7 +104,8 @@ pub fn prefixes()
 pub fn standing()
     ensures stands { (board : Board) (h : List Event) (lane : BridgeLane) → Run board h →
         AllByRecursion CanStand (world_of board h lane).standing }
-    ensures under_either_rule { (rule : Rule) (board : Board) (h : List Event) (lane : BridgeLane) → RunBy rule board h →
+    ensures under_either_rule { (rule : Rule) (board : Board) (h : List Event) (lane : BridgeLane) →
+        RunBy rule board h →
         AllByRecursion CanStand (world_by rule board h lane).standing }
 {}
 
@@ -111,8 +118,8 @@ pub fn quiet_bridges()
         bridge_to board lane.bus ≡ None → Run board h → world_of board h lane ≡ empty_lane }
 {}
 
-/// Each held slot is held for a delayed request that its lane claims on the bus where it begins, and
-/// was latched by the master of the operation on that bus, or by a lane that ends there.
+/// Each held slot is held for a delayed request that its lane claims on the bus where it begins,
+/// and was latched by the master of the operation on that bus, or by a lane that ends there.
 pub fn latched()
     ensures { (board : Board) (h : List Event) (lane : BridgeLane) → DifferentNumbers board →
         DelayedAreSingle board → Run board h →
@@ -150,7 +157,8 @@ pub fn presented()
 
 /// Each completion is taken by the operation that it was made for.
 pub fn matched()
-    ensures taken { (board : Board) (h : List Event) (on : ℕ) (by : By) (o : OpId) (outcome : Outcome) (lane : BridgeLane) →
+    ensures taken { (board : Board) (h : List Event) (on : ℕ) (by : By) (o : OpId)
+        (outcome : Outcome) (lane : BridgeLane) →
         DifferentNumbers board → DelayedAreSingle board →
         Run board (Act on by o (Take outcome) (Lane lane) ∷ h) →
         TakesItsOwn board h on by o outcome lane }
@@ -158,11 +166,12 @@ pub fn matched()
         DelayedAreSingle board → Run board h → Matched board h }
 {}
 
-/// What is in flight to a bridge is lawful there: there is room, each completion finds its slot held
-/// for its operation, and each credit a posted write that is owed.
+/// What is in flight to a bridge is lawful there: there is room, each completion finds its slot
+/// held for its operation, and each credit a posted write that is owed.
 pub fn lawful()
     ensures { (board : Board) (h : List Event) (lane : BridgeLane) → Run board h →
-        AllByRecursion (λ (item : Carried). is_lawful_on board (world_of board h) lane item ≡ true) (world_of board h lane).flight }
+        AllByRecursion (λ (item : Carried). is_lawful_on board (world_of board h) lane item ≡ true)
+        (world_of board h lane).flight }
 {}
 
 /// A well-formed board is one of those that the laws speak of: its bridges have different numbers,

@@ -1,6 +1,7 @@
 //! The order of what is on the lanes of bridges, in every run of every board. Each law is the
 //! contract of a function that does nothing.
-ghost use Rattle.std.specs.Prelude.{◌≡◌, ◌++◌, ◌+◌, ◌<◌, ◌≤◌, List, [], Some, true, length, slice_get};
+ghost use Rattle.std.specs.Prelude.{◌≡◌, ◌++◌, ◌+◌, ◌<◌, ◌≤◌, List, [], Some, true, length};
+ghost use Rattle.std.specs.Prelude.{slice_get};
 ghost use Rattle.std.specs.List.{AllByRecursion};
 ghost use Rattle.list_facts.specs.Lists.{total};
 ghost use Rattle.pci_command.specs.declared.op_id.OpId.{OpId};
@@ -32,7 +33,8 @@ ghost use Rattle.law_lanes.specs.order.One.{times, ends_at_master, lands_from_ma
 /// those in flight.
 pub fn posts_keep_their_order()
     ensures { (board : Board) (h : List Event) (lane : BridgeLane) → Run board h →
-        entered lane h ≡ left board lane h ++ posts (world_of board h lane).standing ++ posts (world_of board h lane).flight }
+        entered lane h ≡ left board lane h ++ posts (world_of board h lane).standing ++
+        posts (world_of board h lane).flight }
 {}
 
 /// What was sent on a lane is what came on it, in the order of sending, and then what is in flight:
@@ -49,7 +51,8 @@ pub fn sent_is_received()
 /// which no completion was taken or discarded and no word came that they were dropped.
 pub fn owed_and_held()
     ensures owed { (board : Board) (h : List Event) (lane : BridgeLane) → Run board h →
-        (world_of board h lane).owed + total room_count (came board (lane_back lane) h) ≡ length (entered lane h) }
+        (world_of board h lane).owed + total room_count (came board (lane_back lane) h) ≡
+        length (entered lane h) }
     ensures held { (board : Board) (h : List Event) (lane : BridgeLane) → Run board h →
         length (world_of board h lane).held + freed board lane h ≡ latched lane h }
 {}
@@ -109,8 +112,8 @@ pub fn posts_are_on_their_way()
 /// is, or at the end of a lane as the oldest posted write that stands there, and there a target
 /// claims it and does not abort it; or it landed. This needs that all data phases of a write are
 /// claimed by whom the first one is, and aborted as it is, which holds on every well-formed board.
-/// On any board fewer data phases go through in parts than an operation has, if it has one, as every
-/// operation has on a well-formed board: the last ones land.
+/// On any board fewer data phases go through in parts than an operation has, if it has one, as
+/// every operation has on a well-formed board: the last ones land.
 pub fn parts_wait_for_the_rest()
     ensures waits { (board : Board) (h : List Event) (o : OpId) (op : Op) (master : Master) →
         WritesHaveOneClaimant board → WritesAbortWhole board → op_of board o ≡ Some op →

@@ -20,6 +20,7 @@ pub fn runs_go_on()
 pub fn next_goes_on()
     ensures allowed { (board : Board) (h : List Event) →
         IfSome (next_of board h) (Allowed board h) }
-    ensures complete { (board : Board) (h : List Event) → IsValid board → BusesFit board → Run board h →
+    ensures complete { (board : Board) (h : List Event) → IsValid board → BusesFit board →
+        Run board h →
         (next_of board h ≡ None) ↔ Complete board h }
 {}

@@ -1,6 +1,6 @@
-//! What holds under either rule of the bridge, for judging by it: of bridges that keep the local master
-//! with a delayed request, and of bridges that keep none. Each law is the contract of a function that
-//! does nothing.
+//! What holds under either rule of the bridge, for judging by it: of bridges that keep the local
+//! master with a delayed request, and of bridges that keep none. Each law is the contract of a
+//! function that does nothing.
 ghost use Rattle.std.specs.Prelude.{◌≡◌, ◌≤◌, ◌<◌, ℕ, List, Some, None, true, false, length};
 ghost use Rattle.pci_command.specs.declared.op_id.OpId.{OpId};
 ghost use Rattle.board_model.specs.declared.board.Board.{Board};
@@ -28,8 +28,8 @@ pub fn quiet_bridges_by_rule()
         world_by rule board h lane ≡ empty_lane }
 {}
 
-/// Where no depth of a bridge is above eight, at most eight posted writes are owed, eight slots held,
-/// 32 items in flight and 24 standing on any lane.
+/// Where no depth of a bridge is above eight, at most eight posted writes are owed, eight slots
+/// held, 32 items in flight and 24 standing on any lane.
 pub fn depths_to_eight()
     ensures { (rule : Rule) (board : Board) (h : List Event) (lane : BridgeLane) →
         DepthsToEight board → RunBy rule board h → Within 8 8 (world_by rule board h lane) }
@@ -41,13 +41,16 @@ pub fn parts()
     ensures some_left { (rule : Rule) (board : Board) (h : List Event) (o : OpId) (op : Op) →
         op_of board o ≡ Some op → RunBy rule board h → 1 ≤ through h o →
         through h o < length (phases_of op) }
-    ensures delayed_are_whole { (rule : Rule) (board : Board) (h : List Event) (o : OpId) (on : ℕ) (request : Request) →
+    ensures delayed_are_whole { (rule : Rule) (board : Board) (h : List Event) (o : OpId) (on : ℕ)
+        (request : Request) →
         DelayedAreSingle board → RunBy rule board h → request_of board o on ≡ Some request →
         is_posted request ≡ false → through h o ≡ 0 }
 {}
 
 /// A delayed operation that a lane presents has the lane on its way from its master's bus.
 pub fn asked_on_way()
-    ensures { (rule : Rule) (board : Board) (h : List Event) (on : ℕ) (lane : BridgeLane) (o : OpId) (op : Op) → IsValid board → RunBy rule board h → op_of board o ≡ Some op → is_posted (request_on op on) ≡ false
+    ensures { (rule : Rule) (board : Board) (h : List Event) (on : ℕ) (lane : BridgeLane) (o : OpId)
+        (op : Op) → IsValid board → RunBy rule board h → op_of board o ≡ Some op →
+        is_posted (request_on op on) ≡ false
         → wants_by rule board h on (ByLane lane) o ≡ true → AskedWay board lane o }
 {}

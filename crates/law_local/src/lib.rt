@@ -1,9 +1,10 @@
-//! What a bus knows is what it did and what came to it, whenever that was sent. These laws weave the
-//! buses together: what each did by what it knows makes up a run of the board, if no item arrives
-//! before it was sent, and in every such run what the buses know is what the lanes carry. So a
-//! program may let each bus go on by itself, in any order, and put its events in order afterwards.
-//! Each law is the contract of a function that does nothing. What is ever sent on each lane is
-//! `sent`.
+//! What a bus knows is what it did and what came to it, whenever that was sent. These laws weave
+//! the buses together: what each did by what it knows makes up a run of the board, if no item
+//! arrives before it was sent, and in every such run what the buses know is what the lanes carry.
+//! So a program may let each bus go on by itself, in any order, and put its events in order
+//! afterwards. Each law is the contract of a function that does nothing. What is ever sent on each
+//! lane is `sent`. On a lane that ends on the bus where it begins nothing is sent (`BetweenBuses`).
+//! Both engines rest on these laws.
 #![tactic(auto)]
 
 ghost use Rattle.std.specs.Prelude.{ℕ, ◌≢◌, List, ◌∷◌};
@@ -35,17 +36,18 @@ pub use room::{
     settle_has_room,
 };
 
-/// Events of all buses, each allowed by what its bus knows, are a run where no item arrives before it
-/// was sent; and on each lane there is what the buses at its ends know.
+/// Events of all buses, each allowed by what its bus knows, are a run where no item arrives before
+/// it was sent; and on each lane there is what the buses at its ends know.
 pub fn woven_runs()
     ensures { (board : Board) (sent : BridgeLane → List Carried) (h : List Event) →
         IsValid board → BetweenBuses board sent → AllWoven board sent h → JointRun board sent h }
 {}
 
-/// Local runs of all buses in the order of their stamps are a run, where each item arrives at a stamp
-/// above that of its sending; and on each lane there is what the buses at its ends know.
+/// Local runs of all buses in the order of their stamps are a run, where each item arrives at a
+/// stamp above that of its sending; and on each lane there is what the buses at its ends know.
 pub fn sorted_parts_run()
-    ensures { (board : Board) (sent : BridgeLane → List Carried) (part : ℕ → List Stamped) (all : List Stamped) → IsValid board → BetweenBuses board sent →
+    ensures { (board : Board) (sent : BridgeLane → List Carried) (part : ℕ → List Stamped)
+        (all : List Stamped) → IsValid board → BetweenBuses board sent →
         LocalParts board sent part → IsMerged board part all → JointRun board sent (events_of all) }
 {}
 

@@ -1,8 +1,8 @@
-//! Bridges that keep no local master with a delayed request: any master on the same side that presents
-//! the same request may take the completion (PCI-to-PCI Bridge Architecture Specification 1.1, chapter
-//! 5, Delayed Transactions; from memory). On which boards that makes no difference, and on the others
-//! which reads of a run come out stale. Each law is the contract of a function that does nothing, or
-//! that only calls the laws which it rests on.
+//! Bridges that keep no local master with a delayed request: any master on the same side that
+//! presents the same request may take the completion (PCI-to-PCI Bridge Architecture Specification
+//! 1.1, chapter 5, Delayed Transactions; from memory). On which boards that makes no difference,
+//! and on the others which reads of a run come out stale. Each law is the contract of a function
+//! that does nothing, or that only calls the laws which it rests on.
 #![tactic(auto)]
 
 ghost use Rattle.std.specs.Prelude.{◌≡◌, ◌↔◌, ◌∷◌, [], List, ℕ, Some, None, Contains};
@@ -26,7 +26,8 @@ pub mod clocks;
 pub use clocks::{landed_starts_stay, told_by_clocks};
 use law_delivered::laws_of_runs;
 
-/// On a board on which masters are apart, bridges that keep no local master have the very same runs.
+/// On a board on which masters are apart, bridges that keep no local master have the very same
+/// runs.
 pub fn apart_runs_are_alike()
     ensures { (board : Board) (h : List Event) → IsValid board → Apart board →
         UntaggedRun board h ↔ Run board h }
@@ -47,7 +48,8 @@ pub fn apart_is_tested()
     ensures { (board : Board) → IsValid board → (is_apart board ≡ true) ↔ Apart board }
 {}
 
-/// On bridges that keep no local master, who was told of a write by a chain is who knows of it event by event.
+/// On bridges that keep no local master, who was told of a write by a chain is who knows of it
+/// event by event.
 pub fn told_is_known()
     ensures { (board : Board) (h : List Event) (w r : OpId) → UntaggedRun board h →
         UntaggedTold board h w r ↔ (untagged_was_told board h w r ≡ true) }
@@ -71,7 +73,12 @@ pub fn stale_reads_are_listed()
 
 /// The read that was given what another master's request had read before: it was told of the write.
 pub fn taken_is_stale()
-    ensures { stale_of taken_board (history_of taken_events) ≡ record { read = record { master = 2; index = 1; attempt = 0 }; write = record { master = 0; index = 0; attempt = 0 }; event = 3 } ∷ [] }
+    ensures { stale_of taken_board (history_of taken_events) ≡
+        record {
+          read = record { master = 2; index = 1; attempt = 0 };
+          write = record { master = 0; index = 0; attempt = 0 };
+          event = 3;
+        } ∷ [] }
 {}
 
 /// A completion that the wrong master takes.

@@ -1,5 +1,6 @@
 //! The ordering table of a bridge, after appendix E of the PCI Local Bus Specification 2.2: which
-//! transaction may pass which older one that goes the same way through the bridge.
+//! transaction may pass which older one that goes the same way through the bridge. Yes/No is read
+//! as Yes (`specs/Order.antt`).
 #![tactic(auto)]
 
 ghost use Rattle.std.specs.Prelude.{◌≡◌, ◌↔◌, IsTrue, IsNone, All, false, not, position};

@@ -20,8 +20,11 @@ pub(crate) fn chain_from(
     places: &Places,
     read: OpId,
 ) -> Result<Vec<OpId>, NoMemory>
-    requires { ArePlaces (aware_of board.now places.now.write (history_of events.now)) places.now.since }
-    ensures { IfOk result (λ chain. chain.items ≡ chain_from board.now places.now.write (history_of events.now) read ((aware_of board.now places.now.write (history_of events.now)).since read.master)) }
+    requires { ArePlaces (aware_of board.now places.now.write (history_of events.now))
+        places.now.since }
+    ensures { IfOk result
+        (λ chain. chain.items ≡ chain_from board.now places.now.write (history_of events.now) read
+        ((aware_of board.now places.now.write (history_of events.now)).since read.master)) }
 {
     match places.first_of(read.master) {
         None => Ok(Vec::new(alloc)),
@@ -44,8 +47,10 @@ fn chain_to(
     op: OpId,
     steps: usize,
 ) -> Result<Vec<OpId>, NoMemory>
-    requires { ArePlaces (aware_of board.now places.now.write (history_of events.now)) places.now.since }
-    ensures { IfOk result (λ chain. chain.items ≡ chain_to steps board.now places.now.write (history_of events.now) op) }
+    requires { ArePlaces (aware_of board.now places.now.write (history_of events.now))
+        places.now.since }
+    ensures { IfOk result (λ chain. chain.items ≡
+        chain_to steps board.now places.now.write (history_of events.now) op) }
 {
     if steps == 0 {
         return Ok(Vec::new(alloc));
@@ -92,7 +97,8 @@ fn join(chain: &mut Vec<OpId>, last: OpId, op: OpId) -> Result<(), NoMemory>
 /// Of the writes that the operation saw, if it ended with a value, that whose first landing is
 /// earliest among those that are the write or were told of it.
 fn first_seen(board: &Board, events: &[Event], op: OpId, places: &Places) -> Option<OpId>
-    requires { ArePlaces (aware_of board.now places.now.write (history_of events.now)) places.now.since }
+    requires { ArePlaces (aware_of board.now places.now.write (history_of events.now))
+        places.now.since }
     ensures { result ≡ first_shown board.now places.now.write (history_of events.now) op }
 {
     let count = count_to_end(events, op);

@@ -1,4 +1,5 @@
-ghost use Rattle.std.specs.Prelude.{◌≡◌, ◌≤◌, ◌<◌, ◌^◌, ◌||◌, ◌==◌, [], List, false, get_or, length, take, Some};
+ghost use Rattle.std.specs.Prelude.{◌≡◌, ◌≤◌, ◌<◌, ◌^◌, ◌||◌, ◌==◌, [], List, false, get_or};
+ghost use Rattle.std.specs.Prelude.{length, take, Some};
 ghost use Rattle.pci_command.specs.declared.phases.Phase.{Phase};
 ghost use Rattle.pci_command.specs.declared.op_id.OpId.{OpId};
 ghost use Rattle.board_model.specs.Requests.{request_of};
@@ -6,7 +7,8 @@ ghost use Rattle.history_model.specs.declared.event.Event.{Event};
 ghost use Rattle.history_model.specs.Runs.{history_of};
 ghost use Rattle.history_model.specs.Knowledge.{is_land_of, has_landed};
 ghost use Rattle.history_model.specs.Words.{through, brought, brings, landings_of};
-ghost use Rattle.plain_audit.specs.Places.{dword, has_some, reaches_dword, op_shows, first_shown, or_op, event_shows};
+ghost use Rattle.plain_audit.specs.Places.{dword, has_some, reaches_dword, op_shows, first_shown};
+ghost use Rattle.plain_audit.specs.Places.{or_op, event_shows};
 
 use crate::places::Places;
 use board_model::{Board, Place, Word, request_of};
@@ -78,7 +80,8 @@ fn brings(board: &Board, done: &[Event], event: &Event, word: Word) -> bool
 /// The same of a step at the target of the dword.
 #[tactic(auto, using(crate::proofs::PlaceLemmas::none_brought))]
 fn brings_at(board: &Board, done: &[Event], bus: u8, op: OpId, step: Step, word: Word) -> bool
-    ensures { result ≡ has_some (landings_of op step (through (history_of done.now) op) (dword word) (request_of board.now op bus)) }
+    ensures { result ≡ has_some (landings_of op step (through (history_of done.now) op) (dword word)
+        (request_of board.now op bus)) }
 {
     if !brings_phases(step) {
         return false;
@@ -103,7 +106,8 @@ fn brings_phases(step: Step) -> bool
 #[tactic(auto, using(crate::proofs::PlaceLemmas::reached_landings))]
 fn brings_in(request: &Request, gone: u128, step: Step, word: Word) -> bool
     requires { gone ≤ 2 ^ 100 }
-    ensures { (o : OpId) → result ≡ has_some (landings_of o step gone (dword word) (Some request.now)) }
+    ensures { (o : OpId) →
+        result ≡ has_some (landings_of o step gone (dword word) (Some request.now)) }
 {
     let space = request.command.space();
     if space != word.space {
@@ -117,7 +121,8 @@ fn brings_in(request: &Request, gone: u128, step: Step, word: Word) -> bool
 /// Of the writes that landed in the dword, the first that landed whole and is the write, or was
 /// told of it by these places.
 pub fn first_shown(board: &Board, before: &[Event], word: Word, places: &Places) -> Option<OpId>
-    ensures { result ≡ first_shown board.now places.now.write places.now.since (history_of before.now) (dword word) }
+    ensures { result ≡ first_shown board.now places.now.write places.now.since
+        (history_of before.now) (dword word) }
 {
     let mut shown = None;
     for index in 0..before.len() {
@@ -136,7 +141,9 @@ fn or_shown(
     shown: Option<OpId>,
 ) -> Option<OpId>
     requires { index < length before.now }
-    ensures { (d : Event) → result ≡ or_op shown (event_shows places.now.write places.now.since (history_of before.now) (has_some (brought board.now (history_of (take index before.now)) (dword word) (get_or before.now index d))) (get_or before.now index d)) }
+    ensures { (d : Event) → result ≡ or_op shown (event_shows places.now.write places.now.since
+        (history_of before.now) (has_some (brought board.now (history_of (take index before.now))
+        (dword word) (get_or before.now index d))) (get_or before.now index d)) }
 {
     match shown {
         Some(op) => Some(op),
@@ -151,7 +158,8 @@ fn or_shown(
 /// The operation of the event, if it brought a data phase, landed whole and is the write, or was
 /// told of it.
 fn shown_by(before: &[Event], event: &Event, brings: bool, places: &Places) -> Option<OpId>
-    ensures { result ≡ event_shows places.now.write places.now.since (history_of before.now) brings event.now }
+    ensures { result ≡
+        event_shows places.now.write places.now.since (history_of before.now) brings event.now }
 {
     match *event {
         Event::Act { op, .. } if brings && is_shown(before, op, places) => Some(op),

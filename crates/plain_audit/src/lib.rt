@@ -2,7 +2,8 @@
 //! operation. PCI Local Bus Specification 2.2, appendix E (from memory).
 #![tactic(auto)]
 
-ghost use Rattle.std.specs.Prelude.{◌≡◌, ◌↔◌, ◌||◌, is_some, List as Items, Some, IsTrue, IsSome, IfOk};
+ghost use Rattle.std.specs.Prelude.{◌≡◌, ◌↔◌, ◌||◌, is_some, List as Items, Some, IsTrue, IsSome};
+ghost use Rattle.std.specs.Prelude.{IfOk};
 ghost use Rattle.pci_command.specs.declared.op_id.OpId.{OpId};
 ghost use Rattle.board_model.specs.declared.board.Board.{Board};
 ghost use Rattle.board_model.specs.Valid.{IsValid};
@@ -59,7 +60,8 @@ fn was_told(board: &Board, events: &[Event], write: OpId, read: OpId) -> bool
 
 /// What the places say of the operation, which ended by these events if it ended with a value.
 fn is_told(board: &Board, ended: &[Event], read: OpId, places: &Places) -> bool
-    ensures { result ≡ (knows_by places.now.since read || is_some (last_shown board.now places.now.write places.now.since (history_of ended.now) read)) }
+    ensures { result ≡ (knows_by places.now.since read || is_some
+        (last_shown board.now places.now.write places.now.since (history_of ended.now) read)) }
 {
     places.knows(read) || last_shown(board, ended, read, places).is_some()
 }
@@ -93,9 +95,12 @@ pub fn chain(
     read: OpId,
 ) -> Result<Option<List<OpId>>, NoMemory>
     requires { Run tree.now (history_of events.now) }
-    ensures chain { IfOk result (λ found. found ≡ chain_of tree.now (history_of events.now) write read) }
-    ensures told { IfOk result (λ found. IsSome found ↔ Told tree.now (history_of events.now) write read) }
-    ensures tells { IfOk result (λ found. (chain : Items OpId) → found ≡ Some chain → IsChain tree.now (history_of events.now) write read chain) }
+    ensures chain { IfOk result
+        (λ found. found ≡ chain_of tree.now (history_of events.now) write read) }
+    ensures told { IfOk result
+        (λ found. IsSome found ↔ Told tree.now (history_of events.now) write read) }
+    ensures tells { IfOk result (λ found. (chain : Items OpId) → found ≡ Some chain →
+        IsChain tree.now (history_of events.now) write read chain) }
 {
     told_is_known();
     chains_tell();

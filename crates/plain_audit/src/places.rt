@@ -48,7 +48,8 @@ impl Places {
     /// One more event happens, the last of these.
     fn learn(&mut self, board: &Board, past: &[Event], event: &Event)
         ensures write { self.new.write ≡ self.old.write }
-        ensures places { self.new.since ≡ learned board.now self.old.write self.old.since (history_of past.now) (ended event.now) }
+        ensures places { self.new.since ≡ learned board.now self.old.write self.old.since
+            (history_of past.now) (ended event.now) }
     {
         if let Some(op) = ended_op(event) {
             if self.is_open(op) && self.brings_it(board, past, event, op) {
@@ -79,7 +80,8 @@ impl Places {
     /// Whether the end of the operation by this event, the last of these, tells its master of the
     /// write.
     fn brings_it(&self, board: &Board, past: &[Event], event: &Event, op: OpId) -> bool
-        ensures { result ≡ brings_it board.now self.now.write self.now.since (history_of past.now) (ended event.now) op }
+        ensures { result ≡ brings_it board.now self.now.write self.now.since (history_of past.now)
+            (ended event.now) op }
     {
         same_op(op, self.write)
             || (ends_with_value(event) && last_shown(board, past, op, self).is_some())

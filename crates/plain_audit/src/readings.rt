@@ -18,7 +18,8 @@ use pci_command::{OpId, Outcome, same_op};
 /// What the operation last read at a target in these events, the first event first: of the writes
 /// that it saw there, the first that is the write or was told of it.
 pub(crate) fn last_shown(board: &Board, events: &[Event], op: OpId, places: &Places) -> Option<OpId>
-    ensures { result ≡ last_shown board.now places.now.write places.now.since (history_of events.now) op }
+    ensures { result ≡
+        last_shown board.now places.now.write places.now.since (history_of events.now) op }
 {
     let mut shown = None;
     for (index, event) in events.iter().enumerate() {
@@ -36,7 +37,8 @@ fn shown_after(
     places: &Places,
     shown: Option<OpId>,
 ) -> Option<OpId>
-    ensures { result ≡ shown_after board.now places.now.write places.now.since shown (reading_in board.now (history_of done.now) op event.now) }
+    ensures { result ≡ shown_after board.now places.now.write places.now.since shown
+        (reading_in board.now (history_of done.now) op event.now) }
 {
     match *event {
         Event::Act {
@@ -70,7 +72,8 @@ pub(crate) fn count_to_end(events: &[Event], op: OpId) -> usize
 
 /// Whether the event ends this operation with a value.
 fn ends_with_value_of(event: &Event, op: OpId) -> bool
-    ensures { result ≡ (is_op op (ended_op (ended event.now)) && ended_with_value (ended event.now)) }
+    ensures { result ≡
+        (is_op op (ended_op (ended event.now)) && ended_with_value (ended event.now)) }
 {
     match ended_op(event) {
         Some(ended) => same_op(ended, op) && ends_with_value(event),

@@ -1,6 +1,10 @@
 ghost use Rattle.std.specs.Prelude.{◌≡◌, ◌<◌};
 ghost use Rattle.std.specs.List.{list_all, list_any};
-ghost use Rattle.board_model.specs.WellFormed.{is_within, is_block, is_range_in, is_well_formed_range, is_dword_in, is_well_formed_opening, is_well_formed_target, is_target_named, is_master_named, are_masters_named_apart, are_targets_named_apart};
+ghost use Rattle.board_model.specs.WellFormed.{is_within, is_block, is_range_in};
+ghost use Rattle.board_model.specs.WellFormed.{is_well_formed_range, is_dword_in};
+ghost use Rattle.board_model.specs.WellFormed.{is_well_formed_opening, is_well_formed_target};
+ghost use Rattle.board_model.specs.WellFormed.{is_target_named, is_master_named};
+ghost use Rattle.board_model.specs.WellFormed.{are_masters_named_apart, are_targets_named_apart};
 
 use board_model::{Master, Opening, Range, Target, registers_fit};
 use pci_command::Space;

@@ -1,6 +1,7 @@
 ghost use Rattle.std.specs.Prelude.{◌≡◌, ◌<◌};
 ghost use Rattle.std.specs.List.{list_all, list_any};
-ghost use Rattle.board_model.specs.WellFormed.{is_within, is_window, is_well_formed_bridge, has_bus, are_numbered_apart};
+ghost use Rattle.board_model.specs.WellFormed.{is_within, is_window, is_well_formed_bridge};
+ghost use Rattle.board_model.specs.WellFormed.{has_bus, are_numbered_apart};
 
 use board_model::{Bridge, Window};
 

@@ -1,8 +1,10 @@
-ghost use Rattle.std.specs.Prelude.{◌≡◌, ◌+◌, ◌-◌, ◌<◌, ◌≤◌, Some, None, length, nat_le, count_by, ◌==◌, ◌&&◌, if◌then◌else◌};
+ghost use Rattle.std.specs.Prelude.{◌≡◌, ◌+◌, ◌-◌, ◌<◌, ◌≤◌, Some, None, length, nat_le, count_by};
+ghost use Rattle.std.specs.Prelude.{◌==◌, ◌&&◌, if◌then◌else◌};
 ghost use Rattle.std.specs.List.{list_all};
 ghost use Rattle.list_facts.specs.Lists.{total};
 ghost use Rattle.board_model.specs.Requests.{tries_of};
-ghost use Rattle.board_model.specs.WellFormed.{is_within, is_well_formed_plan, children_on, agents_on, are_few, operations_in};
+ghost use Rattle.board_model.specs.WellFormed.{is_within, is_well_formed_plan, children_on};
+ghost use Rattle.board_model.specs.WellFormed.{agents_on, are_few, operations_in};
 
 use board_model::{Board, Master, Op, Planned, tries_of};
 
@@ -13,7 +15,8 @@ pub(crate) fn are_few(board: &Board) -> bool
 }
 
 fn few_children(board: &Board) -> bool
-    ensures { result ≡ list_all (λ bridge. nat_le (children_on board.now bridge.parent) 8) board.now.bridges }
+    ensures { result ≡
+        list_all (λ bridge. nat_le (children_on board.now bridge.parent) 8) board.now.bridges }
 {
     board
         .bridges
@@ -23,7 +26,8 @@ fn few_children(board: &Board) -> bool
 }
 
 fn few_agents_by_targets(board: &Board) -> bool
-    ensures { result ≡ list_all (λ target. nat_le (agents_on board.now target.bus) 8) board.now.targets }
+    ensures { result ≡
+        list_all (λ target. nat_le (agents_on board.now target.bus) 8) board.now.targets }
 {
     board
         .targets
@@ -33,7 +37,8 @@ fn few_agents_by_targets(board: &Board) -> bool
 }
 
 fn few_agents_by_masters(board: &Board) -> bool
-    ensures { result ≡ list_all (λ master. nat_le (agents_on board.now master.bus) 8) board.now.masters }
+    ensures { result ≡
+        list_all (λ master. nat_le (agents_on board.now master.bus) 8) board.now.masters }
 {
     board
         .masters
@@ -99,7 +104,8 @@ pub(crate) fn operations_fit(masters: &[Master]) -> bool
 
 /// How many more operations there may be behind these, where `most` may be with them.
 fn operations_left(ops: &[Op], most: u32) -> Option<u32>
-    ensures { result ≡ (if nat_le (total tries_of ops.now) most then Some (most - total tries_of ops.now) else None) }
+    ensures { result ≡ (if nat_le
+        (total tries_of ops.now) most then Some (most - total tries_of ops.now) else None) }
 {
     let mut left = most;
     for op in ops {

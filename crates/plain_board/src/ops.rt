@@ -1,6 +1,9 @@
 ghost use Rattle.std.specs.Prelude.{◌≡◌, length};
 ghost use Rattle.std.specs.List.{list_all};
-ghost use Rattle.board_model.specs.WellFormed.{is_within, read_space, write_space, is_well_formed_phase, is_well_formed_read, is_burst_in, is_well_formed_write, is_well_formed_op, is_well_formed_master};
+ghost use Rattle.board_model.specs.WellFormed.{is_within, read_space, write_space};
+ghost use Rattle.board_model.specs.WellFormed.{is_well_formed_phase, is_well_formed_read};
+ghost use Rattle.board_model.specs.WellFormed.{is_burst_in, is_well_formed_write};
+ghost use Rattle.board_model.specs.WellFormed.{is_well_formed_op, is_well_formed_master};
 
 use crate::agents::is_dword_in;
 use board_model::{Master, Op};

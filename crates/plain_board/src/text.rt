@@ -1,6 +1,7 @@
 ghost use Rattle.std.specs.Prelude.{◌≡◌, ◌<◌, ◌^◌, length, map, None, IfOk, IfErr};
 ghost use Rattle.board_text.specs.Lines.{lines_of};
-ghost use Rattle.plain_board.specs.Text.{token_lines, word_lines, slices_of, first_fault, IsFirstFault};
+ghost use Rattle.plain_board.specs.Text.{token_lines, word_lines, slices_of, first_fault};
+ghost use Rattle.plain_board.specs.Text.{IsFirstFault};
 
 use board_text::{BadLine, Token, check_line, next_line, tokens_of};
 use pci_command::{List, NoMemory};
@@ -52,7 +53,8 @@ impl<T: Drop> From<AllocFailed<T>> for TextFault {
 pub fn lines(alloc: Global, bytes: &[u8]) -> Result<List<Line>, TextFault>
     requires { length bytes.now < 2 ^ 31 }
     ensures read { IfOk result (λ found. found ≡ token_lines 1 0 (lines_of bytes.now)) }
-    ensures words { IfOk result (λ found. map (slices_of bytes.now) found ≡ word_lines 1 (lines_of bytes.now)) }
+    ensures words { IfOk result
+        (λ found. map (slices_of bytes.now) found ≡ word_lines 1 (lines_of bytes.now)) }
     ensures sound { IfOk result (λ _. first_fault 1 (lines_of bytes.now) ≡ None) }
     ensures faulty { IfErr result (IsFirstFault (lines_of bytes.now)) }
 {

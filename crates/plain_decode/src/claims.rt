@@ -1,6 +1,9 @@
 ghost use Rattle.std.specs.Prelude.{◌≡◌, ◌≢◌, ◌<◌, All, IfSome, length, ◌&&◌, ◌==◌, nat_le};
 ghost use Rattle.std.specs.List.{find, list_any, position_from};
-ghost use Rattle.board_model.specs.Claims.{range_holds, decodes_down, claim_upwards, claim_by_bridge, claim_by_address, claim_by_header, claim_by_device, claim_by_bus, claim_in_configuration, claim, device_in, bus_in, is_type_0};
+ghost use Rattle.board_model.specs.Claims.{range_holds, decodes_down, claim_upwards};
+ghost use Rattle.board_model.specs.Claims.{claim_by_bridge, claim_by_address, claim_by_header};
+ghost use Rattle.board_model.specs.Claims.{claim_by_device, claim_by_bus, claim_in_configuration};
+ghost use Rattle.board_model.specs.Claims.{claim, device_in, bus_in, is_type_0};
 ghost use Rattle.plain_decode.specs.ReadBack.{IsReadBack, AreReadBack};
 
 use crate::{CfgRoute, claim_down, claim_up, convert_cfg, decoding_is_claim};
@@ -23,7 +26,8 @@ fn claim_by_address(board: &Board, bus: u8, space: Space, address: u64) -> Place
     requires decodable { AreReadBack board.now }
     requires by_address { space ≢ Space.Cfg }
     ensures { result ≡ claim_by_address board.now bus space address
-        (position_from (λ target. target.bus == bus && list_any (range_holds space address) target.ranges) 0 board.now.targets) }
+        (position_from (λ target. target.bus == bus &&
+        list_any (range_holds space address) target.ranges) 0 board.now.targets) }
 {
     match target_at(board.targets.as_slice(), bus, space, address) {
         Some(target) => Place::Target(target as u16),
@@ -33,7 +37,8 @@ fn claim_by_address(board: &Board, bus: u8, space: Space, address: u64) -> Place
 
 /// The place of the first target on the bus one of whose ranges holds the address.
 fn target_at(targets: &[Target], bus: u8, space: Space, address: u64) -> Option<usize>
-    ensures first { result ≡ position_from (λ target. target.bus == bus && list_any (range_holds space address) target.ranges) 0 targets.now }
+    ensures first { result ≡ position_from (λ target. target.bus == bus &&
+        list_any (range_holds space address) target.ranges) 0 targets.now }
     ensures within { IfSome result (λ place. place < length targets.now) }
 {
     targets.iter().position(|target| target.bus == bus
@@ -110,7 +115,8 @@ fn device_in(address: u64) -> u8
 fn claim_by_device(board: &Board, bus: u8, device: u8) -> Place
     requires { AreReadBack board.now }
     ensures { result ≡ claim_by_device board.now bus device
-        (position_from (λ target. target.bus == bus && target.device == device) 0 board.now.targets) }
+        (position_from (λ target. target.bus == bus &&
+        target.device == device) 0 board.now.targets) }
 {
     match target_device(board.targets.as_slice(), bus, device) {
         Some(target) => Place::Target(target as u16),
@@ -123,7 +129,8 @@ fn claim_by_device(board: &Board, bus: u8, device: u8) -> Place
 
 /// The place of the first target on the bus with that device number.
 fn target_device(targets: &[Target], bus: u8, device: u8) -> Option<usize>
-    ensures first { result ≡ position_from (λ target. target.bus == bus && target.device == device) 0 targets.now }
+    ensures first { result ≡
+        position_from (λ target. target.bus == bus && target.device == device) 0 targets.now }
     ensures within { IfSome result (λ place. place < length targets.now) }
 {
     targets
@@ -133,7 +140,8 @@ fn target_device(targets: &[Target], bus: u8, device: u8) -> Option<usize>
 
 /// The first bridge below the bus with that device number.
 fn bridge_device(bridges: &[Bridge], bus: u8, device: u8) -> Option<Bridge>
-    ensures { result ≡ find (λ bridge. bridge.parent == bus && bridge.device == device) bridges.now }
+    ensures { result ≡
+        find (λ bridge. bridge.parent == bus && bridge.device == device) bridges.now }
 {
     bridges
         .iter()
@@ -146,7 +154,8 @@ fn bridge_device(bridges: &[Bridge], bus: u8, device: u8) -> Option<Bridge>
 fn child_to(bridges: &[Bridge], bus: u8, address: u64) -> Option<Bridge>
     requires { All IsReadBack bridges.now }
     ensures { result ≡ find
-        (λ bridge. bridge.parent == bus && nat_le bridge.bus (bus_in address) && nat_le (bus_in address) bridge.last)
+        (λ bridge. bridge.parent == bus && nat_le bridge.bus (bus_in address) &&
+        nat_le (bus_in address) bridge.last)
         bridges.now }
 {
     bridges
@@ -158,7 +167,8 @@ fn child_to(bridges: &[Bridge], bus: u8, address: u64) -> Option<Bridge>
 fn leads_on(bridge: &Bridge, bus: u8, address: u64) -> bool
     requires { IsReadBack bridge.now }
     ensures { result
-        ≡ (bridge.now.parent == bus && nat_le bridge.now.bus (bus_in address) && nat_le (bus_in address) bridge.now.last) }
+        ≡ (bridge.now.parent == bus && nat_le bridge.now.bus (bus_in address) &&
+        nat_le (bus_in address) bridge.now.last) }
 {
     decoding_is_claim();
     if bridge.parent != bus {

@@ -1,6 +1,7 @@
 //! How a bridge decodes addresses, and who claims a request, by the windows that headers say:
-//! PCI-to-PCI Bridge Architecture Specification 1.1, chapter 4 and section 3.1 (from memory). No word
-//! of the program calls it: claims by the board's own numbers are the same, which is proved here.
+//! PCI-to-PCI Bridge Architecture Specification 1.1, chapter 4 and section 3.1 (from memory). No
+//! word of the program calls it: claims by the board's own numbers are the same, which is proved
+//! here.
 #![tactic(auto)]
 
 mod claims;

@@ -5,7 +5,9 @@ ghost use Rattle.history_model.specs.World.{world_of};
 ghost use Rattle.history_model.specs.Program.{turn_of};
 ghost use Rattle.history_model.specs.Answers.{wants, answer};
 ghost use Rattle.history_model.specs.Runs.{Run, history_of};
-ghost use Rattle.history_model.specs.Next.{first_bus, first_in, first_below, up_from, given_on, first_lane, act_given, act_of, act_of_item, act_of_lane, act_of_turn, act_of_masters, act_on, first_act};
+ghost use Rattle.history_model.specs.Next.{first_bus, first_in, first_below, up_from, given_on};
+ghost use Rattle.history_model.specs.Next.{first_lane, act_given, act_of, act_of_item, act_of_lane};
+ghost use Rattle.history_model.specs.Next.{act_of_turn, act_of_masters, act_on, first_act};
 
 use crate::answers::answer;
 use crate::lanes::{down_to, lanes_after_events, up_from};
@@ -47,7 +49,8 @@ fn act_on(board: &Board, before: &[Event], bus: u8) -> Option<Event>
 fn act_of_lanes(board: &Board, before: &[Event], bus: u8) -> Option<Event>
     requires formed { IsTrue (is_well_formed board.now) }
     requires run { Run board.now (history_of before.now) }
-    ensures { result ≡ first_lane board.now bus (act_of_lane board.now (history_of before.now) bus) }
+    ensures { result ≡
+        first_lane board.now bus (act_of_lane board.now (history_of before.now) bus) }
 {
     match act_from(board, before, bus, down_to(bus)) {
         Some(event) => Some(event),
@@ -60,7 +63,8 @@ fn act_of_lanes(board: &Board, before: &[Event], bus: u8) -> Option<Event>
 fn act_from_below(board: &Board, before: &[Event], bus: u8) -> Option<Event>
     requires formed { IsTrue (is_well_formed board.now) }
     requires run { Run board.now (history_of before.now) }
-    ensures { result ≡ first_bus (λ child. given_on board.now bus (act_of_lane board.now (history_of before.now) bus) (up_from child)) }
+    ensures { result ≡ first_bus (λ child. given_on board.now bus
+        (act_of_lane board.now (history_of before.now) bus) (up_from child)) }
 {
     for child in 0..256u16 {
         if let Some(event) = act_from(board, before, bus, up_from(child as u8)) {
@@ -74,7 +78,8 @@ fn act_from_below(board: &Board, before: &[Event], bus: u8) -> Option<Event>
 fn act_from(board: &Board, before: &[Event], bus: u8, lane: Lane) -> Option<Event>
     requires formed { IsTrue (is_well_formed board.now) }
     requires run { Run board.now (history_of before.now) }
-    ensures { result ≡ given_on board.now bus (act_of_lane board.now (history_of before.now) bus) lane }
+    ensures { result ≡
+        given_on board.now bus (act_of_lane board.now (history_of before.now) bus) lane }
 {
     if ends_on(board, bus, lane) {
         act_of_lane(board, before, bus, lane)
@@ -102,7 +107,8 @@ fn act_of_items(
 ) -> Option<Event>
     requires formed { IsTrue (is_well_formed board.now) }
     requires run { Run board.now (history_of before.now) }
-    ensures { result ≡ first_in (act_of_item board.now (history_of before.now) bus lane) standing.now }
+    ensures { result ≡
+        first_in (act_of_item board.now (history_of before.now) bus lane) standing.now }
 {
     for item in standing {
         if let Some(event) = act_of_item(board, before, bus, lane, *item) {
@@ -170,7 +176,8 @@ fn act_of_turn(board: &Board, before: &[Event], bus: u8, turn: Option<OpId>) -> 
 fn act_of(board: &Board, before: &[Event], presented: Presented) -> Option<Event>
     requires formed { IsTrue (is_well_formed board.now) }
     requires run { Run board.now (history_of before.now) }
-    ensures { result ≡ act_of board.now (history_of before.now) presented.bus presented.by presented.op }
+    ensures { result ≡
+        act_of board.now (history_of before.now) presented.bus presented.by presented.op }
 {
     if wants(board, before, presented) {
         act_given(presented, answer(board, before, presented))

@@ -2,7 +2,8 @@ ghost use Rattle.std.specs.Prelude.{◌≡◌, ◌↔◌, IsTrue, IsOk, true};
 ghost use Rattle.board_model.specs.WellFormed.{is_well_formed};
 ghost use Rattle.history_model.specs.Answers.{wants, answer};
 ghost use Rattle.history_model.specs.Runs.{Run, Allowed, history_of, next_mark};
-ghost use Rattle.machine_steps.specs.Whys.{IsNotPresented, IsAnsweredOtherwise, IsRetried, HasNothingInFlight, IsMarkedOtherwise};
+ghost use Rattle.machine_steps.specs.Whys.{IsNotPresented, IsAnsweredOtherwise, IsRetried};
+ghost use Rattle.machine_steps.specs.Whys.{HasNothingInFlight, IsMarkedOtherwise};
 ghost use Rattle.machine_steps.specs.Verdicts.{cause_in, HoldsOfAct, HoldsOfArrival};
 
 use crate::answers::answer;
@@ -17,11 +18,16 @@ pub fn allowed(board: &Board, before: &[Event], event: &Event) -> Result<(), Why
     requires formed { IsTrue (is_well_formed board.now) }
     requires run { Run board.now (history_of before.now) }
     ensures ok { IsOk result ↔ Allowed board.now (history_of before.now) event.now }
-    ensures not_presented { (result ≡ Err Why.NotPresented) ↔ IsNotPresented board.now (history_of before.now) event.now }
-    ensures answered_otherwise { (result ≡ Err Why.AnsweredOtherwise) ↔ IsAnsweredOtherwise board.now (history_of before.now) event.now }
-    ensures retried { (result ≡ Err Why.GetsRetry) ↔ IsRetried board.now (history_of before.now) event.now }
-    ensures nothing_in_flight { (result ≡ Err Why.NothingInFlight) ↔ HasNothingInFlight board.now (history_of before.now) event.now }
-    ensures marked_otherwise { (result ≡ Err Why.MarkedOtherwise) ↔ IsMarkedOtherwise board.now (history_of before.now) event.now }
+    ensures not_presented { (result ≡ Err Why.NotPresented) ↔
+        IsNotPresented board.now (history_of before.now) event.now }
+    ensures answered_otherwise { (result ≡ Err Why.AnsweredOtherwise) ↔
+        IsAnsweredOtherwise board.now (history_of before.now) event.now }
+    ensures retried { (result ≡ Err Why.GetsRetry) ↔
+        IsRetried board.now (history_of before.now) event.now }
+    ensures nothing_in_flight { (result ≡ Err Why.NothingInFlight) ↔
+        HasNothingInFlight board.now (history_of before.now) event.now }
+    ensures marked_otherwise { (result ≡ Err Why.MarkedOtherwise) ↔
+        IsMarkedOtherwise board.now (history_of before.now) event.now }
 {
     match *event {
         Event::Act {
@@ -45,7 +51,8 @@ fn act_allowed(
     requires formed { IsTrue (is_well_formed board.now) }
     requires run { Run board.now (history_of before.now) }
     ensures { let h = history_of before.now in
-        HoldsOfAct (wants board.now h presented.bus presented.by presented.op) (answer board.now h presented.bus presented.by presented.op) step place (cause_in result) }
+        HoldsOfAct (wants board.now h presented.bus presented.by presented.op)
+        (answer board.now h presented.bus presented.by presented.op) step place (cause_in result) }
 {
     if wants(board, before, presented) {
         answer_allows(answer(board, before, presented), step, place)

@@ -1,4 +1,5 @@
-ghost use Rattle.std.specs.Prelude.{◌≡◌, ◌+◌, ◌*◌, ◌^◌, ◌≤◌, ◌<◌, IsTrue, length, slice_get, if◌then◌else◌, nat_lt};
+ghost use Rattle.std.specs.Prelude.{◌≡◌, ◌+◌, ◌*◌, ◌^◌, ◌≤◌, ◌<◌, IsTrue, length, slice_get};
+ghost use Rattle.std.specs.Prelude.{if◌then◌else◌, nat_lt};
 ghost use Rattle.std.specs.Option.{option_copied};
 ghost use Rattle.std.specs.List.{find};
 ghost use Rattle.pci_command.specs.Command.{is_read};
@@ -8,7 +9,9 @@ ghost use Rattle.board_model.specs.Claims.{claim};
 ghost use Rattle.board_model.specs.Ways.{aborts_at};
 ghost use Rattle.history_model.specs.World.{world_of};
 ghost use Rattle.history_model.specs.Words.{without};
-ghost use Rattle.history_model.specs.Answers.{answer, answer_in, answer_to, answer_by, target_answer, target_step, header_answer, lane_answer, bridge_to};
+ghost use Rattle.history_model.specs.Answers.{answer, answer_in, answer_to, answer_by};
+ghost use Rattle.history_model.specs.Answers.{target_answer, target_step, header_answer};
+ghost use Rattle.history_model.specs.Answers.{lane_answer, bridge_to};
 ghost use Rattle.history_model.specs.Runs.{Run, history_of};
 
 use crate::lanes::lanes_after_events;
@@ -27,7 +30,8 @@ use pci_command::Request;
 pub fn answer(board: &Board, before: &[Event], presented: Presented) -> Answer
     requires formed { IsTrue (is_well_formed board.now) }
     requires run { Run board.now (history_of before.now) }
-    ensures { result ≡ answer board.now (history_of before.now) presented.bus presented.by presented.op }
+    ensures { result ≡
+        answer board.now (history_of before.now) presented.bus presented.by presented.op }
 {
     match request_of(board, presented.op, presented.bus) {
         Some(request) => {
@@ -50,7 +54,8 @@ fn answer_to(
     requires run { Run board.now (history_of before.now) }
     requires fits { gone ≤ 2 ^ 100 }
     ensures { let h = history_of before.now in let rest = without gone request.now in
-        result ≡ answer_by board.now (world_of board.now h) h presented.bus presented.by presented.op rest (claim board.now presented.bus rest) }
+        result ≡ answer_by board.now (world_of board.now h) h presented.bus presented.by
+        presented.op rest (claim board.now presented.bus rest) }
 {
     let address = address_left(request, gone);
     match claim_in_space(board, presented.bus, request.command.space(), address) {
@@ -69,7 +74,8 @@ fn target_answer(
     gone: u128,
 ) -> Answer
     requires { gone ≤ 2 ^ 100 }
-    ensures { result ≡ target_answer board.now (history_of before.now) place (without gone request.now) (slice_get board.now.targets place) }
+    ensures { result ≡ target_answer board.now (history_of before.now) place
+        (without gone request.now) (slice_get board.now.targets place) }
 {
     match board.targets.as_slice().get(place as usize) {
         Some(target) => Answer::Gives {
@@ -91,7 +97,8 @@ fn target_step(
     target: &Target,
 ) -> Step
     requires { gone ≤ 2 ^ 100 }
-    ensures { result ≡ target_step board.now (history_of before.now) place (without gone request.now) target.now }
+    ensures { result ≡
+        target_step board.now (history_of before.now) place (without gone request.now) target.now }
 {
     let space = request.command.space();
     let address = address_left(request, gone);
@@ -122,7 +129,8 @@ fn lane_answer(
     requires formed { IsTrue (is_well_formed board.now) }
     requires run { Run board.now (history_of before.now) }
     ensures { result ≡
-        lane_answer board.now (world_of board.now (history_of before.now)) presented.bus presented.by presented.op request.now lane (bridge_to board.now lane.bus) }
+        lane_answer board.now (world_of board.now (history_of before.now)) presented.bus
+        presented.by presented.op request.now lane (bridge_to board.now lane.bus) }
 {
     match bridge_to(board, lane.bus) {
         Some(bridge) => {

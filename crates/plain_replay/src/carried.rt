@@ -3,7 +3,8 @@ ghost use Rattle.list_facts.specs.Lists.{total};
 ghost use Rattle.board_model.specs.Requests.{op_of};
 ghost use Rattle.history_model.specs.World.{world_of};
 ghost use Rattle.history_model.specs.Runs.{history_of};
-ghost use Rattle.history_model.specs.Left.{post_left, flying_left, standing_left, lane_left, bridge_left};
+ghost use Rattle.history_model.specs.Left.{post_left, flying_left, standing_left, lane_left};
+ghost use Rattle.history_model.specs.Left.{bridge_left};
 ghost use Rattle.judge_lanes.specs.Running.{IsRunning};
 
 use crate::lanes::lanes_after_events;
@@ -16,7 +17,8 @@ use pci_command::OpId;
 /// What posted writes and credits on the lanes of all bridges have left.
 pub(crate) fn bridges_left(board: &Board, events: &[Event]) -> u64
     requires { IsRunning board.now (history_of events.now) }
-    ensures value { result ≡ total (bridge_left board.now (history_of events.now)) board.now.bridges }
+    ensures value { result ≡
+        total (bridge_left board.now (history_of events.now)) board.now.bridges }
     ensures fits { result ≤ 20000000 * 31 }
 {
     let mut left = 0;
@@ -29,7 +31,9 @@ pub(crate) fn bridges_left(board: &Board, events: &[Event]) -> u64
 /// The same of the bridge to the bus.
 fn bridge_left(board: &Board, events: &[Event], bus: u8) -> u64
     requires { IsRunning board.now (history_of events.now) }
-    ensures value { result ≡ lane_left board.now (history_of events.now) (record { bus = bus; up = false }) + lane_left board.now (history_of events.now) (record { bus = bus; up = true }) }
+    ensures value { result ≡
+        lane_left board.now (history_of events.now) (record { bus = bus; up = false }) +
+        lane_left board.now (history_of events.now) (record { bus = bus; up = true }) }
     ensures fits { result ≤ 20000000 }
 {
     let down = Lane { bus, up: false };
@@ -86,7 +90,8 @@ fn flying_left(board: &Board, events: &[Event], lane: Lane, item: Carried) -> u3
 fn stand_left(board: &Board, events: &[Event], lane: Lane, items: &[Carried]) -> u64
     requires running { IsRunning board.now (history_of events.now) }
     requires few { length items.now ≤ 24 }
-    ensures value { result ≡ total (standing_left board.now (history_of events.now) lane) items.now }
+    ensures value { result ≡
+        total (standing_left board.now (history_of events.now) lane) items.now }
     ensures fits { result ≤ 70000 * 24 }
 {
     let mut left = 0;
@@ -111,7 +116,8 @@ fn standing_left(board: &Board, events: &[Event], lane: Lane, item: Carried) -> 
 /// What a posted write that a lane carries has left from the bus on where the lane ends.
 fn post_left(board: &Board, events: &[Event], lane: Lane, op: OpId) -> u32
     requires { IsRunning board.now (history_of events.now) }
-    ensures value { result ≡ post_left board.now (history_of events.now) lane op (op_of board.now op) }
+    ensures value { result ≡
+        post_left board.now (history_of events.now) lane op (op_of board.now op) }
     ensures fits { result ≤ 66300 }
 {
     match op_of(board, op) {

@@ -26,7 +26,8 @@ pub fn complete(board: &Board, events: &[Event]) -> bool
 #[tactic(auto, using(board_model::proofs::claims::FewLemmas::few_masters_before, board_model::proofs::claims::FewLemmas::master_more))]
 fn have_ended(board: &Board, events: &[Event]) -> bool
     requires { IsTrue (is_well_formed board.now) }
-    ensures { IsTrue result ↔ ((master : ℕ) → master < length board.now.masters → turn_of board.now (history_of events.now) master ≡ None) }
+    ensures { IsTrue result ↔ ((master : ℕ) → master < length board.now.masters →
+        turn_of board.now (history_of events.now) master ≡ None) }
 {
     for (index, master) in board.masters.as_slice().iter().enumerate() {
         // It is one of 256 buses, with eight masters at most on each.
@@ -42,8 +43,10 @@ fn have_ended(board: &Board, events: &[Event]) -> bool
 fn are_idle(board: &Board, events: &[Event]) -> bool
     requires formed { IsTrue (is_well_formed board.now) }
     requires run { Run board.now (history_of events.now) }
-    ensures { IsTrue result ↔ AllByRecursion (λ (bridge : Bridge). IsIdle (world_of board.now (history_of events.now) (record { bus = bridge.bus; up = false }))
-        × IsIdle (world_of board.now (history_of events.now) (record { bus = bridge.bus; up = true }))) board.now.bridges }
+    ensures { IsTrue result ↔ AllByRecursion (λ (bridge : Bridge). IsIdle (world_of board.now
+        (history_of events.now) (record { bus = bridge.bus; up = false }))
+        × IsIdle (world_of board.now (history_of events.now)
+        (record { bus = bridge.bus; up = true }))) board.now.bridges }
 {
     for bridge in board.bridges.as_slice() {
         if !has_idle_lanes(board, events, bridge.bus) {
@@ -56,7 +59,8 @@ fn are_idle(board: &Board, events: &[Event]) -> bool
 fn has_idle_lanes(board: &Board, events: &[Event], bus: u8) -> bool
     requires formed { IsTrue (is_well_formed board.now) }
     requires run { Run board.now (history_of events.now) }
-    ensures { IsTrue result ↔ (IsIdle (world_of board.now (history_of events.now) (record { bus = bus; up = false }))
+    ensures { IsTrue result ↔
+        (IsIdle (world_of board.now (history_of events.now) (record { bus = bus; up = false }))
         × IsIdle (world_of board.now (history_of events.now) (record { bus = bus; up = true }))) }
 {
     let lanes = lanes_after_events(board, events, bus);

@@ -1,7 +1,8 @@
 ghost use Rattle.std.specs.Prelude.{◌≡◌, IsTrue};
 ghost use Rattle.board_model.specs.WellFormed.{is_well_formed};
 ghost use Rattle.history_model.specs.Runs.{Run, history_of, next_mark};
-ghost use Rattle.history_model.specs.Next.{first_bus, up_from, given_on, first_lane, arrival_of, arrival_at, first_arrival};
+ghost use Rattle.history_model.specs.Next.{first_bus, up_from, given_on, first_lane, arrival_of};
+ghost use Rattle.history_model.specs.Next.{arrival_at, first_arrival};
 
 use crate::arrivals::next_mark;
 use crate::lanes::{down_to, up_from};
@@ -41,7 +42,8 @@ fn arrival_on(board: &Board, before: &[Event], bus: u8) -> Option<Event>
 fn arrival_from_below(board: &Board, before: &[Event], bus: u8) -> Option<Event>
     requires formed { IsTrue (is_well_formed board.now) }
     requires run { Run board.now (history_of before.now) }
-    ensures { result ≡ first_bus (λ child. given_on board.now bus (arrival_at board.now (history_of before.now)) (up_from child)) }
+    ensures { result ≡ first_bus (λ child. given_on board.now bus
+        (arrival_at board.now (history_of before.now)) (up_from child)) }
 {
     for child in 0..256u16 {
         if let Some(event) = arrival_from(board, before, bus, up_from(child as u8)) {

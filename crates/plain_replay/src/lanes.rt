@@ -13,7 +13,8 @@ use judge_lanes::BridgeLanes;
 pub fn lanes_after_events(board: &Board, before: &[Event], bus: u8) -> BridgeLanes
     requires formed { IsTrue (is_well_formed board.now) }
     requires run { Run board.now (history_of before.now) }
-    ensures { result ≡ both (world_of board.now (history_of before.now)) (record { bus = bus; up = false }) }
+    ensures { result ≡
+        both (world_of board.now (history_of before.now)) (record { bus = bus; up = false }) }
 {
     let mut lanes = BridgeLanes::new();
     for event in before {

@@ -45,7 +45,8 @@ fn tokens_left(tokens: u32, used: u64) -> u32
 /// What discards have left: after each an operation goes its way once more.
 pub(crate) fn discards_left(board: &Board, events: &[Event]) -> u64
     requires { IsRunning board.now (history_of events.now) }
-    ensures value { result ≡ total (discard_left board.now (world_of board.now (history_of events.now))) board.now.discards }
+    ensures value { result ≡ total (discard_left board.now
+        (world_of board.now (history_of events.now))) board.now.discards }
     ensures fits { result ≤ 1020 * 1024 }
 {
     let longest = longest_way(board, board.masters.as_slice());
@@ -60,7 +61,8 @@ pub(crate) fn discards_left(board: &Board, events: &[Event]) -> u64
 fn discard_left(board: &Board, events: &[Event], longest: u8, planned: Planned) -> u32
     requires running { IsRunning board.now (history_of events.now) }
     requires longest { longest ≡ longest_way board.now }
-    ensures value { result ≡ discard_left board.now (world_of board.now (history_of events.now)) planned }
+    ensures value { result ≡
+        discard_left board.now (world_of board.now (history_of events.now)) planned }
     ensures fits { result ≤ 1020 }
 {
     if dones_on(board, events, planned) < u64::from(planned.count) {
@@ -73,7 +75,8 @@ fn discard_left(board: &Board, events: &[Event], longest: u8, planned: Planned) 
 /// How many completions came on the lane of a line.
 fn dones_on(board: &Board, events: &[Event], planned: Planned) -> u64
     requires { IsRunning board.now (history_of events.now) }
-    ensures { result ≡ (world_of board.now (history_of events.now) (record { bus = planned.bus; up = planned.up })).dones }
+    ensures { result ≡ (world_of board.now (history_of events.now)
+        (record { bus = planned.bus; up = planned.up })).dones }
 {
     let lanes = lanes_after_events(board, events, planned.bus);
     lanes.lane(planned.up).dones()
@@ -82,7 +85,8 @@ fn dones_on(board: &Board, events: &[Event], planned: Planned) -> u64
 /// What drops have left.
 pub(crate) fn drops_left(board: &Board, events: &[Event]) -> u64
     requires { IsRunning board.now (history_of events.now) }
-    ensures value { result ≡ total (drop_left (world_of board.now (history_of events.now))) board.now.drops }
+    ensures value { result ≡
+        total (drop_left (world_of board.now (history_of events.now))) board.now.drops }
     ensures fits { result ≤ 3 * 1024 }
 {
     let mut left = 0;
@@ -108,7 +112,8 @@ fn drop_left(board: &Board, events: &[Event], planned: Planned) -> u8
 /// How many delayed requests came on the lane of a line.
 fn asks_on(board: &Board, events: &[Event], planned: Planned) -> u64
     requires { IsRunning board.now (history_of events.now) }
-    ensures { result ≡ (world_of board.now (history_of events.now) (record { bus = planned.bus; up = planned.up })).asks }
+    ensures { result ≡ (world_of board.now (history_of events.now)
+        (record { bus = planned.bus; up = planned.up })).asks }
 {
     let lanes = lanes_after_events(board, events, planned.bus);
     lanes.lane(planned.up).asks()

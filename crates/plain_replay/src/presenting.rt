@@ -2,7 +2,8 @@ ghost use Rattle.std.specs.Prelude.{◌≡◌, IsTrue, slice_get, true};
 ghost use Rattle.board_model.specs.WellFormed.{is_well_formed};
 ghost use Rattle.history_model.specs.World.{world_of};
 ghost use Rattle.history_model.specs.Program.{turn_of};
-ghost use Rattle.history_model.specs.Answers.{wants, wants_in, is_on, is_turn, presents, presents_by};
+ghost use Rattle.history_model.specs.Answers.{wants, wants_in, is_on, is_turn, presents};
+ghost use Rattle.history_model.specs.Answers.{presents_by};
 ghost use Rattle.history_model.specs.Runs.{Run, history_of};
 
 use crate::lanes::lanes_after_events;
@@ -17,7 +18,8 @@ use pci_command::{OpId, same_op};
 pub fn wants(board: &Board, before: &[Event], presented: Presented) -> bool
     requires formed { IsTrue (is_well_formed board.now) }
     requires run { Run board.now (history_of before.now) }
-    ensures { result ≡ wants board.now (history_of before.now) presented.bus presented.by presented.op }
+    ensures { result ≡
+        wants board.now (history_of before.now) presented.bus presented.by presented.op }
 {
     let Presented { bus, by, op } = presented;
     match by {
@@ -41,7 +43,8 @@ fn is_turn(board: &Board, before: &[Event], op: OpId) -> bool
 fn presents(board: &Board, before: &[Event], lane: Lane, bus: u8, op: OpId) -> bool
     requires formed { IsTrue (is_well_formed board.now) }
     requires run { Run board.now (history_of before.now) }
-    ensures { result ≡ presents board.now bus op (world_of board.now (history_of before.now) lane).standing }
+    ensures { result ≡
+        presents board.now bus op (world_of board.now (history_of before.now) lane).standing }
 {
     let lanes = lanes_after_events(board, before, lane.bus);
     may_go(board, Rule::Tagged, bus, op, lanes.lane(lane.up).standing())

@@ -32,7 +32,8 @@ pub(crate) fn programs_left(board: &Board, events: &[Event]) -> u64
 fn program_left(board: &Board, events: &[Event], index: u16, master: &Master) -> u64
     requires running { IsRunning board.now (history_of events.now) }
     requires short { total (cost_of board.now master.now.bus) master.now.ops ≤ 500000 }
-    ensures value { result ≡ program_left board.now (history_of events.now) master.now (turn_of board.now (history_of events.now) index) }
+    ensures value { result ≡ program_left board.now (history_of events.now) master.now
+        (turn_of board.now (history_of events.now) index) }
     ensures fits { result ≤ 2 ^ 50 }
     ensures on_a_bus { master.now.bus < 256 }
 {
@@ -48,7 +49,8 @@ fn program_left(board: &Board, events: &[Event], index: u16, master: &Master) ->
 
 fn turn_left(board: &Board, events: &[Event], on: u8, op: OpId) -> u64
     requires { IsRunning board.now (history_of events.now) }
-    ensures value { result ≡ turn_left board.now (history_of events.now) on op (op_of board.now op) }
+    ensures value { result ≡
+        turn_left board.now (history_of events.now) on op (op_of board.now op) }
     ensures fits { result ≤ 2 ^ 49 }
 {
     match op_of(board, op) {

@@ -6,7 +6,8 @@ ghost use Rattle.history_model.specs.Lanes.{is_done_for};
 ghost use Rattle.history_model.specs.World.{world_of};
 ghost use Rattle.history_model.specs.Runs.{history_of};
 ghost use Rattle.history_model.specs.Local.{is_ask_of, is_gone_of};
-ghost use Rattle.history_model.specs.Left.{is_slot_of, lane_or, reach_of, slot_left, reach_left, delayed_left};
+ghost use Rattle.history_model.specs.Left.{is_slot_of, lane_or, reach_of, slot_left, reach_left};
+ghost use Rattle.history_model.specs.Left.{delayed_left};
 ghost use Rattle.judge_lanes.specs.Running.{IsRunning};
 
 use crate::lanes::lanes_after_events;
@@ -19,7 +20,8 @@ use pci_command::OpId;
 /// What a try of a delayed request has left, by the place of the item of its furthest slot.
 pub(crate) fn delayed_left(board: &Board, events: &[Event], on: u8, op: OpId, found: &Op) -> u32
     requires { IsRunning board.now (history_of events.now) }
-    ensures value { result ≡ delayed_left (world_of board.now (history_of events.now)) op (way board.now found.now on) }
+    ensures value { result ≡
+        delayed_left (world_of board.now (history_of events.now)) op (way board.now found.now on) }
     ensures fits { result ≤ 2000 }
 {
     let long = route_of(board, found, on).lanes;
@@ -31,8 +33,10 @@ pub(crate) fn delayed_left(board: &Board, events: &[Event], on: u8, op: OpId, fo
 /// How far the slots of the operation reach on the first so many lanes of its way.
 fn reach_of(board: &Board, events: &[Event], on: u8, op: OpId, found: &Op, most: u8) -> Reach
     requires { IsRunning board.now (history_of events.now) }
-    ensures lanes { result.lanes ≡ (reach_of (world_of board.now (history_of events.now)) op (route_within most board.now found.now on).lanes).lanes }
-    ensures last { result.last ≡ (reach_of (world_of board.now (history_of events.now)) op (route_within most board.now found.now on).lanes).last }
+    ensures lanes { result.lanes ≡ (reach_of (world_of board.now (history_of events.now)) op
+        (route_within most board.now found.now on).lanes).lanes }
+    ensures last { result.last ≡ (reach_of (world_of board.now (history_of events.now)) op
+        (route_within most board.now found.now on).lanes).last }
     ensures short { result.lanes ≤ most }
 {
     if most == 0 {
@@ -55,7 +59,8 @@ fn reach_of(board: &Board, events: &[Event], on: u8, op: OpId, found: &Op, most:
 /// Whether a slot is held for the operation where the lane begins.
 fn holds_slot(board: &Board, events: &[Event], lane: Lane, op: OpId) -> bool
     requires { IsRunning board.now (history_of events.now) }
-    ensures { result ≡ list_any (is_slot_of op) (world_of board.now (history_of events.now) lane).held }
+    ensures { result ≡
+        list_any (is_slot_of op) (world_of board.now (history_of events.now) lane).held }
 {
     let lanes = lanes_after_events(board, events, lane.bus);
     has_slot(lanes.lane(lane.up), op)
@@ -70,7 +75,8 @@ fn reach_left(
     last: Option<Lane>,
 ) -> u32
     requires { IsRunning board.now (history_of events.now) }
-    ensures value { result ≡ reach_left (world_of board.now (history_of events.now)) op long far last }
+    ensures value { result ≡
+        reach_left (world_of board.now (history_of events.now)) op long far last }
     ensures fits { result ≤ 2000 }
 {
     match last {

@@ -1,4 +1,5 @@
-ghost use Rattle.std.specs.Prelude.{◌≡◌, ◌+◌, ◌*◌, ◌^◌, ◌<◌, ◌≤◌, ℕ, ◌==◌, if◌then◌else◌, List, [], ◌∷◌, length, take, drop, IsTrue, Some, None, false};
+ghost use Rattle.std.specs.Prelude.{◌≡◌, ◌+◌, ◌*◌, ◌^◌, ◌<◌, ◌≤◌, ℕ, ◌==◌, if◌then◌else◌, List, []};
+ghost use Rattle.std.specs.Prelude.{◌∷◌, length, take, drop, IsTrue, Some, None, false};
 ghost use Rattle.pci_command.specs.declared.phases.Phase.{Phase};
 ghost use Rattle.pci_command.specs.declared.op_id.OpId.{OpId};
 ghost use Rattle.pci_command.specs.Same.{same_op, same_space};
@@ -6,7 +7,9 @@ ghost use Rattle.pci_command.specs.Command.{space_of};
 ghost use Rattle.board_model.specs.declared.bridge.Place.TheVariants.{Target as AtTarget};
 ghost use Rattle.board_model.specs.Ways.{Dword, address_in};
 ghost use Rattle.board_headers.specs.device.Registers.{merge_of};
-ghost use Rattle.history_model.specs.Words.{through, parted_by, phases_parted, without, brings, landings_at, landings_in, landings_of, landings_by, brought, merged, mask_in, opens_as, value_of};
+ghost use Rattle.history_model.specs.Words.{through, parted_by, phases_parted, without, brings};
+ghost use Rattle.history_model.specs.Words.{landings_at, landings_in, landings_of, landings_by};
+ghost use Rattle.history_model.specs.Words.{brought, merged, mask_in, opens_as, value_of};
 ghost use Rattle.machine_steps.specs.Values.{value_merged};
 ghost use Rattle.history_model.specs.Answers.{stalls_used, stalls_by, stalls_in};
 ghost use Rattle.history_model.specs.Runs.{history_of};
@@ -70,7 +73,8 @@ fn stalls_by(event: &Event, target: u16) -> u8
 
 /// What the dword holds after these events.
 pub(crate) fn value_of(board: &Board, before: &[Event], word: Word) -> u32
-    ensures { result ≡ value_of board.now (history_of before.now) (record { target = word.target; space = word.space; address = word.address }) }
+    ensures { result ≡ value_of board.now (history_of before.now)
+        (record { target = word.target; space = word.space; address = word.address }) }
 {
     let mut value = opens_as(board, word.target, word.space, word.address);
     for (index, event) in before.iter().enumerate() {
@@ -82,7 +86,11 @@ pub(crate) fn value_of(board: &Board, before: &[Event], word: Word) -> u32
 /// What one more event makes of the dword.
 #[tactic(auto, using(machine_steps::proofs::ValueLemmas::nothing_brought))]
 fn value_after(board: &Board, done: &[Event], event: &Event, word: Word, value: u32) -> u32
-    ensures { let dword : Dword = record { target = word.target; space = word.space; address = word.address } in
+    ensures { let dword : Dword = record {
+      target = word.target;
+      space = word.space;
+      address = word.address;
+    } in
         result ≡ merged dword value (brought board.now (history_of done.now) dword event.now) }
 {
     match *event {
@@ -129,7 +137,8 @@ pub fn value_landed(
     value: u32,
 ) -> u32
     requires { gone ≤ 2 ^ 100 }
-    ensures { (target : ℕ) (o : OpId) → let word : Dword = record { target = target; space = space; address = address } in
+    ensures { (target : ℕ) (o : OpId) →
+        let word : Dword = record { target = target; space = space; address = address } in
         result ≡ merged word value (landings_of o step gone word (Some request.now)) }
 {
     if request.command.space() != space {

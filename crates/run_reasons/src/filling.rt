@@ -46,7 +46,8 @@ fn all_arrive(kept: &mut Kept, tree: &Tree, by: By, at: Place)
     }
 }
 
-/// On the lanes of one bridge: a request that is dropped on its arrival sends word on the other lane.
+/// On the lanes of one bridge: a request that is dropped on its arrival sends word on the other
+/// lane.
 fn arrive_at(kept: &mut Kept, tree: &Tree, bus: u8)
     requires { Stands tree.now kept.old }
     ensures { Stands tree.now kept.new }

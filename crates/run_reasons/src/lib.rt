@@ -1,6 +1,6 @@
-//! Why the first event of a trace that is not allowed is not, and what is left of a run that has not
-//! ended: sentences for who reads them, of what is so after the events before it. Nothing is claimed of
-//! what they say.
+//! Why the first event of a trace that is not allowed is not, and what is left of a run that has
+//! not ended: sentences for who reads them, of what is so after the events before it. Nothing is
+//! claimed of what they say.
 #![tactic(auto)]
 
 mod cause;

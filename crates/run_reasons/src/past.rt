@@ -1,5 +1,5 @@
-//! When things happened, before an event that is told of: looked for among the events before it, whose
-//! numbers count from 1.
+//! When things happened, before an event that is told of: looked for among the events before it,
+//! whose numbers count from 1.
 use board_model::{Board, Lane, Place};
 use history_model::{By, Carried, Event, Mark, Step};
 use machine_steps::lane_outcome;
@@ -123,8 +123,8 @@ impl<'a> Past<'a> {
         }
     }
 
-    /// Whether the event sends anything on the lane: a request that is taken there, the answer of what
-    /// leaves the lane back, and the word that a request was dropped there.
+    /// Whether the event sends anything on the lane: a request that is taken there, the answer of
+    /// what leaves the lane back, and the word that a request was dropped there.
     fn is_sent(&self, lane: Lane, event: &Event) -> bool {
         match *event {
             Event::Act { op, .. } => { enters(lane, event) || self.ends(back_of(lane), op, event) }

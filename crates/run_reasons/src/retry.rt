@@ -62,8 +62,8 @@ fn what_lacks(scene: &Scene, presented: Presented, cause: Cause) -> Result<Strin
     Ok(lacks)
 }
 
-/// What is held, or what is waited for, by which the answer is Retry: of a request that a further bridge
-/// latched all that is so there, or that alone.
+/// What is held, or what is waited for, by which the answer is Retry: of a request that a further
+/// bridge latched all that is so there, or that alone.
 pub(crate) fn held_words(
     scene: &Scene,
     presented: Presented,
@@ -113,8 +113,8 @@ fn list_of(scene: &Scene, what: &str, lane: Lane, ops: &[OpId]) -> Result<String
     Ok(list)
 }
 
-/// Where the request of a slot is, or its completion: on the lanes of the furthest bridge that holds a
-/// slot for it, or that this bridge latched it.
+/// Where the request of a slot is, or its completion: on the lanes of the furthest bridge that
+/// holds a slot for it, or that this bridge latched it.
 fn waited_words(scene: &Scene, lane: Lane, slot: Slot, is_whole: bool) -> Result<String, NoMemory> {
     match furthest(scene, slot.op) {
         Some((event, further, held)) if !is_same(further, lane) => {
@@ -128,8 +128,8 @@ fn waited_words(scene: &Scene, lane: Lane, slot: Slot, is_whole: bool) -> Result
     }
 }
 
-/// The last bridge that latched the operation as a lane presented it, and still holds a slot for it:
-/// the event by which it did, the lane, and the slot.
+/// The last bridge that latched the operation as a lane presented it, and still holds a slot for
+/// it: the event by which it did, the lane, and the slot.
 fn furthest(scene: &Scene, op: OpId) -> Option<(usize, Lane, Slot)> {
     let mut found = None;
     for (index, event) in scene.past.events().iter().enumerate() {

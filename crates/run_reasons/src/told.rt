@@ -22,8 +22,8 @@ pub enum Findings {
         why: Why,
         reason: Reason,
     },
-    /// All are allowed: a sentence for each master that has not ended, and for each item that has not
-    /// left, of the first nine.
+    /// All are allowed: a sentence for each master that has not ended, and for each item that has
+    /// not left, of the first nine.
     Left(Vec<String>),
 }
 

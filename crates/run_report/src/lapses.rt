@@ -1,7 +1,8 @@
 ghost use Rattle.std.specs.Prelude.{◌≡◌, ◌++◌, IfOk, OnOk, length, slice_get, string_bytes};
 ghost use Rattle.std.specs.List.{find, filter_map, filter};
 ghost use Rattle.std.specs.Option.{option_map, option_copied};
-ghost use Rattle.run_report.specs.Lapses.{lost_by, spent_by, lapse_of, lapse_told, is_by, is_of, lapse_line, program_lapses, lapses_text};
+ghost use Rattle.run_report.specs.Lapses.{lost_by, spent_by, lapse_of, lapse_told, is_by, is_of};
+ghost use Rattle.run_report.specs.Lapses.{lapse_line, program_lapses, lapses_text};
 
 use board_model::{Board, Master, Op, op_of};
 use history_model::{By, Event, Step};
@@ -148,7 +149,8 @@ fn print_program(
     master: Option<&Master>,
 ) -> Result<(), AllocError>
     ensures { OnOk result (string_bytes text.new
-        ≡ string_bytes text.old ++ program_lapses lapses.now place (option_map (λ m. m.now) master.entry)) }
+        ≡ string_bytes text.old ++
+        program_lapses lapses.now place (option_map (λ m. m.now) master.entry)) }
 {
     match master {
         None => Ok(()),

@@ -1,5 +1,7 @@
 //! The report of a run: how large its board is, how long it is, and how many events of each kind
-//! there were on each bus.
+//! there were on each bus. The way counts of a board (`way_counts`) are those of its complete
+//! runs, where it has no stalls, bursts in parts, polls, discards and drops (`IsSteady`), whoever
+//! made the run.
 #![tactic(auto)]
 
 mod lapses;

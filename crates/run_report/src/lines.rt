@@ -14,7 +14,8 @@ pub(crate) fn print_size(
     masters: usize,
     operations: u64,
 ) -> Result<(), AllocError>
-    ensures { OnOk result (string_bytes text.new ≡ string_bytes text.old ++ line_text (size_line buses masters operations)) }
+    ensures { OnOk result (string_bytes text.new ≡ string_bytes text.old ++
+        line_text (size_line buses masters operations)) }
 {
     writeln!(
         text,
@@ -24,7 +25,8 @@ pub(crate) fn print_size(
 
 /// How long the run is, and how long it may be.
 pub(crate) fn print_length(text: &mut String, events: usize, bound: u64) -> Result<(), AllocError>
-    ensures { OnOk result (string_bytes text.new ≡ string_bytes text.old ++ line_text (length_line events bound)) }
+    ensures { OnOk result
+        (string_bytes text.new ≡ string_bytes text.old ++ line_text (length_line events bound)) }
 {
     writeln!(text, "events {events} bound {bound}")
 }
@@ -36,7 +38,8 @@ pub(crate) fn print_buses(
     tallies: &[Tally; 256],
 ) -> Result<(), AllocError>
     ensures { OnOk result (string_bytes text.new
-        ≡ string_bytes text.old ++ buses_text board.now (λ bus. count_in (tally_at tallies.now bus))) }
+        ≡ string_bytes text.old ++
+        buses_text board.now (λ bus. count_in (tally_at tallies.now bus))) }
 {
     for bus in 0..256u16 {
         let bus = bus as u8;
@@ -48,7 +51,8 @@ pub(crate) fn print_buses(
 }
 
 fn print_bus(text: &mut String, bus: u8, tally: &Tally) -> Result<(), AllocError>
-    ensures { OnOk result (string_bytes text.new ≡ string_bytes text.old ++ line_text (bus_line bus (count_in tally.now))) }
+    ensures { OnOk result (string_bytes text.new ≡ string_bytes text.old ++
+        line_text (bus_line bus (count_in tally.now))) }
 {
     writeln!(
         text,

@@ -36,7 +36,8 @@ pub fn whole_report(alloc: Global, tree: &Tree, events: &[Event]) -> Result<List
 }
 
 fn print_report(text: &mut String, tree: &Tree, events: &[Event]) -> Result<(), AllocError>
-    ensures { OnOk result (string_bytes text.new ≡ string_bytes text.old ++ report_of tree.now (history_of events.now)) }
+    ensures { OnOk result (string_bytes text.new ≡ string_bytes text.old ++
+        report_of tree.now (history_of events.now)) }
 {
     let board = tree.board();
     print_size(

@@ -2,7 +2,8 @@ ghost use Rattle.std.specs.Prelude.{◌≡◌, ◌+◌, ◌%◌};
 
 use std::fmt;
 
-/// The code of the signal of this number: its digits in base 94, the lowest first, each as a printing character.
+/// The code of the signal of this number: its digits in base 94, the lowest first, each as a
+/// printing character.
 #[derive(Clone, Copy, Debug, PartialEq, Eq)]
 pub(crate) struct Code(pub(crate) usize);
 

@@ -5,8 +5,10 @@ ghost use Rattle.history_model.specs.Runs.{Run, history_of};
 ghost use Rattle.run_waves.specs.declared.signal.Signal.TheVariants.{Bus};
 ghost use Rattle.run_waves.specs.Shown.{Moment, beginning, idle_part, shown};
 ghost use Rattle.run_waves.specs.Signals.{signals_of};
-ghost use Rattle.run_waves.specs.Scenes.{Follows, IsAt, Reads, ReadsFrom, shown_of, scene_of, shown_on, new_line, bus_change};
-ghost use Rattle.run_waves.specs.Dump.{same_shown, value_line, value_lines, time_line, change_line, change_lines, first_lines, moments, dump_lines, dump_of};
+ghost use Rattle.run_waves.specs.Scenes.{Follows, IsAt, Reads, ReadsFrom, shown_of, scene_of};
+ghost use Rattle.run_waves.specs.Scenes.{shown_on, new_line, bus_change};
+ghost use Rattle.run_waves.specs.Dump.{same_shown, value_line, value_lines, time_line, change_line};
+ghost use Rattle.run_waves.specs.Dump.{change_lines, first_lines, moments, dump_lines, dump_of};
 
 use crate::head::print_head;
 use crate::lines::{is_idle, print_idle, print_part, print_reading};
@@ -54,7 +56,8 @@ fn print_dump(
 fn print_first(text: &mut String, signals: &[Signal], shown: &[Reading]) -> Result<(), AllocError>
     requires { length signals.now ≡ length shown.now }
     ensures { (board : Board) (rest : List Line) → ReadsFrom board beginning signals.now shown.now 0
-        → OnOk result (string_bytes text.new ++ text_of rest ≡ string_bytes text.old ++ text_of (first_lines board signals.now rest)) }
+        → OnOk result (string_bytes text.new ++ text_of rest ≡ string_bytes text.old ++
+        text_of (first_lines board signals.now rest)) }
 {
     print_time(text, 0)?;
     writeln!(text, "$dumpvars")?;
@@ -122,7 +125,8 @@ fn readings_of(
 fn print_values(text: &mut String, signals: &[Signal], shown: &[Reading]) -> Result<(), AllocError>
     requires { length signals.now ≡ length shown.now }
     ensures { (board : Board) → ReadsFrom board beginning signals.now shown.now 0
-        → OnOk result (string_bytes text.new ≡ string_bytes text.old ++ text_of (value_lines board beginning 0 signals.now)) }
+        → OnOk result (string_bytes text.new ≡ string_bytes text.old ++
+        text_of (value_lines board beginning 0 signals.now)) }
 {
     for number in 0..signals.len() {
         print_value(text, number, signals[number], shown[number])?;
@@ -138,7 +142,8 @@ fn print_value(
     reading: Reading,
 ) -> Result<(), AllocError>
     ensures { (board : Board) → Reads board beginning signal reading
-        → OnOk result (string_bytes text.new ≡ string_bytes text.old ++ line_text (value_line number (shown board beginning signal))) }
+        → OnOk result (string_bytes text.new ≡ string_bytes text.old ++
+        line_text (value_line number (shown board beginning signal))) }
 {
     match signal {
         Signal::Bus { part, .. } => print_idle(text, number, part),
@@ -161,7 +166,8 @@ fn print_moment(
     ensures text { (before after : Moment) → Follows before after →
         from ≡ scene_of board.now before → ReadsFrom board.now before signals.now shown.old.items 0
         → IsAt board.now after watch.now.kept watch.now.waits.items watch.now.scene
-        → OnOk result (string_bytes text.new ≡ string_bytes text.old ++ text_of (time_line number ∷ change_lines board.now before after 0 signals.now)) }
+        → OnOk result (string_bytes text.new ≡ string_bytes text.old ++
+        text_of (time_line number ∷ change_lines board.now before after 0 signals.now)) }
     ensures reads { (before after : Moment) → Follows before after →
         from ≡ scene_of board.now before → ReadsFrom board.now before signals.now shown.old.items 0
         → IsAt board.now after watch.now.kept watch.now.waits.items watch.now.scene
@@ -184,7 +190,8 @@ fn print_changes(
     ensures text { (before after : Moment) → Follows before after →
         from ≡ scene_of board.now before → ReadsFrom board.now before signals.now shown.old 0
         → IsAt board.now after watch.now.kept watch.now.waits.items watch.now.scene
-        → OnOk result (string_bytes text.new ≡ string_bytes text.old ++ text_of (change_lines board.now before after 0 signals.now)) }
+        → OnOk result (string_bytes text.new ≡ string_bytes text.old ++
+        text_of (change_lines board.now before after 0 signals.now)) }
     ensures reads { (before after : Moment) → Follows before after →
         from ≡ scene_of board.now before → ReadsFrom board.now before signals.now shown.old 0
         → IsAt board.now after watch.now.kept watch.now.waits.items watch.now.scene
@@ -214,7 +221,8 @@ fn print_change(
     ensures text { (before after : Moment) → from ≡ scene_of board.now before →
         Reads board.now before signal old
         → IsAt board.now after watch.now.kept watch.now.waits.items watch.now.scene
-        → OnOk result (string_bytes text.new ≡ string_bytes text.old ++ text_of (change_line board.now before after number signal)) }
+        → OnOk result (string_bytes text.new ≡ string_bytes text.old ++
+        text_of (change_line board.now before after number signal)) }
     ensures reads { (after : Moment) →
         IsAt board.now after watch.now.kept watch.now.waits.items watch.now.scene
         → IfOk result (λ reading. Reads board.now after signal reading) }

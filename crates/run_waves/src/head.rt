@@ -1,8 +1,10 @@
-ghost use Rattle.std.specs.Prelude.{◌≡◌, ◌≤◌, [], ◌∷◌, ◌++◌, drop, length, IsTrue, IfOk, OnOk, string_bytes};
+ghost use Rattle.std.specs.Prelude.{◌≡◌, ◌≤◌, [], ◌∷◌, ◌++◌, drop, length, IsTrue, IfOk, OnOk};
+ghost use Rattle.std.specs.Prelude.{string_bytes};
 ghost use Rattle.board_model.specs.WellFormed.{is_well_formed};
 ghost use Rattle.board_printer.specs.Lines.{spaced, line_text, text_of};
 ghost use Rattle.run_waves.specs.Signals.{signals_on, signals_of};
-ghost use Rattle.run_waves.specs.Dump.{kind_of, part_word, count_word, name_of, var_line, var_lines, scope_title, scope_lines, all_scopes, head_lines};
+ghost use Rattle.run_waves.specs.Dump.{kind_of, part_word, count_word, name_of, var_line};
+ghost use Rattle.run_waves.specs.Dump.{var_lines, scope_title, scope_lines, all_scopes, head_lines};
 
 use crate::code::Code;
 use crate::signal::{BusPart, LaneCount, Signal};

@@ -1,5 +1,7 @@
-//! The waves of a run: a value change dump of what each bus does, what is on each lane, and how far each master is, for
-//! a viewer such as GTKWave. Time is the number of the event.
+//! The waves of a run: a value change dump of what each bus does, what is on each lane, and how far
+//! each master is, for a viewer such as GTKWave. Time is the number of the event. That viewers read
+//! the bytes so is not proved. That a master waits exactly where it presented its turn before rests
+//! on the order of programs.
 #![tactic(auto)]
 
 mod code;

@@ -4,7 +4,8 @@ ghost use Rattle.board_model.specs.declared.board.Board.{Board};
 ghost use Rattle.board_printer.specs.Lines.{line_text};
 ghost use Rattle.trace_text.specs.Words.{place_words};
 ghost use Rattle.run_waves.specs.Shown.Shown.{Text};
-ghost use Rattle.run_waves.specs.Shown.{idle_part, kind_word, initiator_word, op_shown, to_shown, value_shown, item_word};
+ghost use Rattle.run_waves.specs.Shown.{idle_part, kind_word, initiator_word, op_shown, to_shown};
+ghost use Rattle.run_waves.specs.Shown.{value_shown, item_word};
 ghost use Rattle.run_waves.specs.Scenes.{scene_part, shown_of, value_in};
 ghost use Rattle.run_waves.specs.Dump.{value_line, same_shown};
 

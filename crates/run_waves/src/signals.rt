@@ -1,7 +1,8 @@
 ghost use Rattle.std.specs.Prelude.{◌≡◌, ◌++◌, OnOk, IsTrue};
 ghost use Rattle.std.specs.List.{flat_map};
 ghost use Rattle.board_model.specs.WellFormed.{is_well_formed};
-ghost use Rattle.run_waves.specs.Signals.{signals_on, happenings, lane_counts, lanes_on, progress, tokens_left, masters_on, targets_on};
+ghost use Rattle.run_waves.specs.Signals.{signals_on, happenings, lane_counts, lanes_on, progress};
+ghost use Rattle.run_waves.specs.Signals.{tokens_left, masters_on, targets_on};
 
 use crate::signal::{BusPart, LaneCount, Signal};
 use board_model::{Board, Lane};

@@ -13,7 +13,8 @@ use judge_state::Kept;
 use pci_command::{NoMemory, same_op};
 use std::alloc::Global;
 
-/// A run as it goes on: what it leaves, which masters presented their turn before, and what happens now.
+/// A run as it goes on: what it leaves, which masters presented their turn before, and what happens
+/// now.
 #[derive(Drop)]
 pub(crate) struct Watch {
     kept: Kept,
@@ -31,7 +32,8 @@ impl Watch {
     ghost use Rattle.judge_state.specs.Stands.{StandsFor, Stands};
     ghost use Rattle.std.specs.Prelude.{false, slice_get};
     ghost use Rattle.std.specs.Option.{option_map_or};
-    ghost use Rattle.run_waves.specs.Shown.{Moment, past, beginning, next, ops_of, index_of, try_of, stalls_of, item_by, first_of};
+    ghost use Rattle.run_waves.specs.Shown.{Moment, past, beginning, next, ops_of, index_of};
+    ghost use Rattle.run_waves.specs.Shown.{try_of, stalls_of, item_by, first_of};
     ghost use Rattle.run_waves.specs.Scenes.{IsAt, Reads, waits_next};
 
     /// Before the first event.

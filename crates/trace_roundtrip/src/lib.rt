@@ -1,5 +1,7 @@
-//! What is printed of a board and its events is read as that board and those events. Each law is the
-//! contract of a function that does nothing.
+//! What is printed of a board and its events is read as that board and those events. Each law is
+//! the contract of a function that does nothing. It is of well-formed boards that have each bus
+//! they name, and of fewer than 2^32 events that have lines over the board, as those of its runs
+//! have (`runs_have_lines`).
 #![tactic(auto)]
 
 mod events;
@@ -28,5 +30,8 @@ pub use written::run_text;
 /// The text of a trace is read as its board and its events, where the board is well formed and has
 /// every bus that it names, and each event has a line over it.
 pub fn traces_are_read()
-    ensures { (board : Board) (events : List Event) → BoardFits board → is_well_formed board ≡ true → lacks_a_bus board ≡ false → AllByRecursion EventFits events → AllByRecursion (HasLine board) events → length events < 2 ^ 32 → trace_read (trace_of board events) ≡ Ok (board, events) }
+    ensures { (board : Board) (events : List Event) → BoardFits board →
+        is_well_formed board ≡ true → lacks_a_bus board ≡ false → AllByRecursion EventFits events →
+        AllByRecursion (HasLine board) events → length events < 2 ^ 32 →
+        trace_read (trace_of board events) ≡ Ok (board, events) }
 {}

@@ -19,12 +19,15 @@ pub(crate) use printed::run_has_lines;
 /// A completion in flight or standing on a lane says what came of its request: a value, that the
 /// write was taken, or that it was aborted.
 pub fn completions_say_how()
-    ensures flying { (board : Board) (h : List Event) (lane : BridgeLane) → Run board h → AllByRecursion SaysHow (world_of board h lane).flight }
-    ensures standing { (board : Board) (h : List Event) (lane : BridgeLane) → Run board h → AllByRecursion SaysHow (world_of board h lane).standing }
+    ensures flying { (board : Board) (h : List Event) (lane : BridgeLane) → Run board h →
+        AllByRecursion SaysHow (world_of board h lane).flight }
+    ensures standing { (board : Board) (h : List Event) (lane : BridgeLane) → Run board h →
+        AllByRecursion SaysHow (world_of board h lane).standing }
 {}
 
 /// Every event of a run of a well-formed board that has every bus it names has a line in a trace of
 /// it.
 pub fn runs_have_lines()
-    ensures { (board : Board) (h : List Event) → is_well_formed board ≡ true → lacks_a_bus board ≡ false → Run board h → AllByRecursion (HasLine board) h }
+    ensures { (board : Board) (h : List Event) → is_well_formed board ≡ true →
+        lacks_a_bus board ≡ false → Run board h → AllByRecursion (HasLine board) h }
 {}

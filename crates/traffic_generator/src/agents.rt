@@ -1,6 +1,7 @@
 ghost use Rattle.std.specs.Prelude.{◌≡◌, IfOk, IsTrue};
 ghost use Rattle.board_model.specs.Names.{is_name};
-ghost use Rattle.traffic_generator.specs.Generated.{bridge_to, target_on, generated_bridges, generated_targets};
+ghost use Rattle.traffic_generator.specs.Generated.{bridge_to, target_on, generated_bridges};
+ghost use Rattle.traffic_generator.specs.Generated.{generated_targets};
 
 use board_model::{Bridge, Name, Range, Target, Window};
 use pci_command::{List, NoMemory, Space};

@@ -1,6 +1,7 @@
 ghost use Rattle.std.specs.Prelude.{◌≡◌, ◌≤◌, IfOk, OnOk, IsTrue};
 ghost use Rattle.board_model.specs.Names.{is_name};
-ghost use Rattle.traffic_generator.specs.Generated.{program, program_drawn, generated_masters, generated};
+ghost use Rattle.traffic_generator.specs.Generated.{program, program_drawn, generated_masters};
+ghost use Rattle.traffic_generator.specs.Generated.{generated};
 
 use crate::agents::{ON_0, ON_2, ON_4, bridges, targets};
 use crate::draws::Draws;

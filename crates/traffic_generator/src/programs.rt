@@ -1,5 +1,6 @@
 ghost use Rattle.std.specs.Prelude.{◌≡◌, ◌<◌, ◌^◌, ◌++◌, IfOk, OnOk};
-ghost use Rattle.traffic_generator.specs.Generated.{block, words_in, round, round_drawn, program, program_drawn};
+ghost use Rattle.traffic_generator.specs.Generated.{block, words_in, round, round_drawn, program};
+ghost use Rattle.traffic_generator.specs.Generated.{program_drawn};
 
 use crate::draws::Draws;
 use board_model::Op;
@@ -23,7 +24,8 @@ pub(crate) fn program(
     rounds: u16,
     aims: Aims,
 ) -> Result<List<Op>, NoMemory>
-    ensures value { IfOk result (λ ops. ops ≡ program aims.first aims.second rounds draws.old.state) }
+    ensures value { IfOk result
+        (λ ops. ops ≡ program aims.first aims.second rounds draws.old.state) }
     ensures state { OnOk result (draws.new.state ≡ program_drawn rounds draws.old.state) }
 {
     let mut ops = Vec::new(alloc);
@@ -34,7 +36,8 @@ pub(crate) fn program(
 }
 
 fn push_round(ops: &mut Vec<Op>, draws: &mut Draws, aims: Aims) -> Result<(), NoMemory>
-    ensures value { OnOk result (ops.new.items ≡ ops.old.items ++ round aims.first aims.second draws.old.state) }
+    ensures value { OnOk result
+        (ops.new.items ≡ ops.old.items ++ round aims.first aims.second draws.old.state) }
     ensures state { OnOk result (draws.new.state ≡ round_drawn draws.old.state) }
 {
     let address = block(aims.first, draws.draw());

@@ -1,5 +1,5 @@
-//! Whether the masters of a board are apart: no lane of it ever takes one delayed request from two of
-//! them, so that no completion of one can be taken by the other, and bridges that keep no local
+//! Whether the masters of a board are apart: no lane of it ever takes one delayed request from two
+//! of them, so that no completion of one can be taken by the other, and bridges that keep no local
 //! master have the same runs.
 #![tactic(auto)]
 

@@ -15,8 +15,8 @@ use law_untagged::apart_is_tested;
 use pci_command::NoMemory;
 use std::alloc::Global;
 
-/// Whether no lane of the tree ever takes one delayed request from two masters. Then bridges that keep
-/// no local master with it have the same runs as bridges that do.
+/// Whether no lane of the tree ever takes one delayed request from two masters. Then bridges that
+/// keep no local master with it have the same runs as bridges that do.
 ///
 /// Each operation is looked at once: it is compared with those of earlier masters that have its
 /// address, of which of each master those are kept that ask for something else.

@@ -7,7 +7,8 @@ ghost use Rattle.board_model.specs.Ways.{route_within, start_of};
 ghost use Rattle.board_model.specs.WellFormed.{is_well_formed};
 ghost use Rattle.history_model.specs.World.{same_lane};
 ghost use Rattle.law_untagged.specs.ApartTest.{delayed_way, meets_on, ops_meet};
-ghost use Rattle.untagged_apart.specs.Look.{NeverSame, AddressesDiffer, RegistersDiffer, IsThere, register_in, address_in};
+ghost use Rattle.untagged_apart.specs.Look.{NeverSame, AddressesDiffer, RegistersDiffer, IsThere};
+ghost use Rattle.untagged_apart.specs.Look.{register_in, address_in};
 
 use board_model::{Board, Lane, Op, Place, claim, end_of, primary_of, request_on};
 use pci_command::{Command, Request, Space, same_request};
@@ -45,7 +46,8 @@ fn bridges_of(board: &Board) -> u8
 /// The same on the lanes of the way from the bus on, at most so many.
 fn meets_within(board: &Board, on: u8, op: &Op, other_on: u8, other: &Op, most: u8) -> bool
     requires { IsTrue (is_well_formed board.now) }
-    ensures { result ≡ list_any (meets_on board.now op.now other_on other.now) (route_within most board.now op.now on).lanes }
+    ensures { result ≡ list_any (meets_on board.now op.now other_on other.now)
+        (route_within most board.now op.now on).lanes }
 {
     if most == 0 {
         return false;

@@ -1,6 +1,6 @@
-//! Traces judged by the machine whose bridges keep no local master: whether the events are a run there,
-//! and which of its reads come out stale. PCI-to-PCI Bridge Architecture Specification 1.1, chapter 5,
-//! Delayed Transactions (from memory).
+//! Traces judged by the machine whose bridges keep no local master: whether the events are a run
+//! there, and which of its reads come out stale. PCI-to-PCI Bridge Architecture Specification 1.1,
+//! chapter 5, Delayed Transactions (from memory).
 #![tactic(auto)]
 
 ghost use Rattle.std.specs.Prelude.{◌<◌, ◌^◌, length, IfOk};
@@ -21,10 +21,10 @@ use std::alloc::Global;
 use untagged_run::{Followed, follow};
 pub use verdict::{Stale, Untagged};
 
-/// What these events of a valid board are on bridges that keep no local master, the first event first.
-/// There are fewer than 2^32. Whether they are a run takes one look at each, and the list two more: an
-/// event takes a step for each master, and a read that ends a binary search for each master that writes
-/// its dword.
+/// What these events of a valid board are on bridges that keep no local master, the first event
+/// first. There are fewer than 2^32. Whether they are a run takes one look at each, and the list
+/// two more: an event takes a step for each master, and a read that ends a binary search for each
+/// master that writes its dword.
 pub fn check_untagged(alloc: Global, tree: &Tree, events: &[Event]) -> Result<Untagged, NoMemory>
     requires { length events.now < 2 ^ 32 }
     ensures { IfOk result (JudgesUntagged tree.now events.now) }

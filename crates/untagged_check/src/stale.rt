@@ -9,7 +9,8 @@ ghost use Rattle.untagged_run.specs.Course.{AreGots};
 ghost use Rattle.machine_steps.specs.Endings.{ended_op};
 ghost use Rattle.untagged_run.specs.told.Knowers.{Knows};
 ghost use Rattle.untagged_check.specs.Judged.{reads_of, listed};
-ghost use Rattle.untagged_check.specs.Found.{IndexesRun, first_unlanded, found_at, found_by, found_ending, found_with};
+ghost use Rattle.untagged_check.specs.Found.{IndexesRun, first_unlanded, found_at, found_by};
+ghost use Rattle.untagged_check.specs.Found.{found_ending, found_with};
 
 use crate::index::WriteIndex;
 use crate::verdict::Stale;
@@ -31,7 +32,8 @@ pub(crate) fn stale_reads(
 ) -> Result<Vec<Stale>, NoMemory>
     requires run { RunBy Untagged tree.now (history_of events.now) }
     requires gots { AreGots tree.now events.now gots.now }
-    ensures { IfOk result (λ stale. reads_of stale.items ≡ stale_of tree.now (history_of events.now)) }
+    ensures { IfOk result
+        (λ stale. reads_of stale.items ≡ stale_of tree.now (history_of events.now)) }
 {
     let mut stale = Vec::new(alloc);
     list_reads(&mut stale, alloc, tree, events, gots)?;
@@ -88,7 +90,8 @@ fn list_each(
     Ok(())
 }
 
-/// The read that the event ends, if it ends one, and which got this, is added where it breaks freshness.
+/// The read that the event ends, if it ends one, and which got this, is added where it breaks
+/// freshness.
 fn add_ended(
     stale: &mut Vec<Stale>,
     index: &WriteIndex,
@@ -96,7 +99,9 @@ fn add_ended(
     event: &Event,
     got: Option<Got>,
 ) -> Result<(), NoMemory>
-    ensures { OnOk result ((board : Board) (h : List Event) → IndexesRun board h index.now → reads_of stale.new.items ≡ reads_of stale.old.items ++ found_ending board h knowers.now.known got (ended_op (ended event.now))) }
+    ensures { OnOk result ((board : Board) (h : List Event) → IndexesRun board h index.now →
+        reads_of stale.new.items ≡ reads_of stale.old.items ++
+        found_ending board h knowers.now.known got (ended_op (ended event.now))) }
 {
     match ended_op(event) {
         None => Ok(()),
@@ -116,7 +121,8 @@ fn add(stale: &mut Vec<Stale>, found: Option<Stale>) -> Result<(), NoMemory>
 
 /// The read, which got this, where it breaks freshness, and the first write for which it does.
 fn stale_at(index: &WriteIndex, knowers: &Knowers, got: Option<Got>, read: OpId) -> Option<Stale>
-    ensures { (board : Board) (h : List Event) → IndexesRun board h index.now → listed result ≡ found_at board h read got (slice_get knowers.now.known read.master) }
+    ensures { (board : Board) (h : List Event) → IndexesRun board h index.now →
+        listed result ≡ found_at board h read got (slice_get knowers.now.known read.master) }
 {
     match knowers.known(read.master) {
         None => None,
@@ -126,7 +132,8 @@ fn stale_at(index: &WriteIndex, knowers: &Knowers, got: Option<Got>, read: OpId)
 
 /// The same by what its master knows.
 fn stale_with(index: &WriteIndex, known: &Numbers, got: Option<Got>, read: OpId) -> Option<Stale>
-    ensures { (board : Board) (h : List Event) → IndexesRun board h index.now → listed result ≡ found_with board h read known.now got }
+    ensures { (board : Board) (h : List Event) → IndexesRun board h index.now →
+        listed result ≡ found_with board h read known.now got }
 {
     match got {
         None => None,
@@ -136,7 +143,8 @@ fn stale_with(index: &WriteIndex, known: &Numbers, got: Option<Got>, read: OpId)
 
 /// The first write of the dword that had not landed before the reading, and that is known.
 fn first_unlanded(index: &WriteIndex, known: &Numbers, got: Got) -> Option<OpId>
-    ensures { (board : Board) (h : List Event) → IndexesRun board h index.now → result ≡ first_unlanded board h got.word (got.event - 1) known.now }
+    ensures { (board : Board) (h : List Event) → IndexesRun board h index.now →
+        result ≡ first_unlanded board h got.word (got.event - 1) known.now }
 {
     let before = (got.event as usize).saturating_sub(1);
     index.first(got.word, before, known)

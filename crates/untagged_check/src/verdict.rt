@@ -10,7 +10,8 @@ pub enum Untagged {
     Run { stale: List<Stale> },
 }
 
-/// A read that was told of a write, and got a word of it from a reading before the write had landed.
+/// A read that was told of a write, and got a word of it from a reading before the write had
+/// landed.
 #[derive(Clone, Copy, Debug, PartialEq, Eq)]
 pub struct Stale {
     pub read: OpId,

@@ -1,7 +1,10 @@
-//! Worked traces, computed to be runs by the definitions alone, and beside them events that are none.
+//! Worked traces, computed to be runs by the definitions alone, and beside them events that are
+//! none. Each entry of the first column of the ordering table has its example. `premises` has
+//! boards and histories on which a law is false without one of its premises.
 #![tactic(auto)]
 
-ghost use Rattle.std.specs.Prelude.{◌≡◌, ℕ, false, IsTrue, Some, None, [], ◌∷◌, ◌++◌, map, take, reverse};
+ghost use Rattle.std.specs.Prelude.{◌≡◌, ℕ, false, IsTrue, Some, None, [], ◌∷◌, ◌++◌, map, take};
+ghost use Rattle.std.specs.Prelude.{reverse};
 ghost use Rattle.board_model.specs.Ways.{bound_of};
 ghost use Rattle.board_model.specs.Valid.{IsValid};
 ghost use Rattle.history_model.specs.declared.event.Step.TheVariants.{Land, Read, Accept, Latch};
@@ -13,20 +16,30 @@ ghost use Rattle.law_audit.specs.Chains.{chain_of};
 ghost use Rattle.law_audit.specs.Audit.{findings};
 ghost use Rattle.law_audit.specs.Sound.{AreSound};
 ghost use Rattle.worked_runs.specs.Audited.{relay_chain, relay_findings, one_word_findings};
-ghost use Rattle.worked_runs.specs.Relay.{relay_board, relay_events, first_write, first_flag, second_write, last_read};
-ghost use Rattle.worked_runs.specs.Wrong.{wrong_value, early_completion, second_accept, all_at_once, plain_arrival, marked_arrival};
-ghost use Rattle.worked_runs.specs.OneBus.{one_word_board, one_word_events, answers_board, answers_events};
+ghost use Rattle.worked_runs.specs.Relay.{relay_board, relay_events, first_write, first_flag};
+ghost use Rattle.worked_runs.specs.Relay.{second_write, last_read};
+ghost use Rattle.worked_runs.specs.Wrong.{wrong_value, early_completion, second_accept};
+ghost use Rattle.worked_runs.specs.Wrong.{all_at_once, plain_arrival, marked_arrival};
+ghost use Rattle.worked_runs.specs.OneBus.{one_word_board, one_word_events, answers_board};
+ghost use Rattle.worked_runs.specs.OneBus.{answers_events};
 ghost use Rattle.worked_runs.specs.ThreeBridges.{three_bridges_board, three_bridges_events};
-ghost use Rattle.worked_runs.specs.Bursts.{burst_board, burst_events, parted_board, parted_events, between_board, between_events, parted_write, read_between};
+ghost use Rattle.worked_runs.specs.Bursts.{burst_board, burst_events, parted_board, parted_events};
+ghost use Rattle.worked_runs.specs.Bursts.{between_board, between_events, parted_write};
+ghost use Rattle.worked_runs.specs.Bursts.{read_between};
 ghost use Rattle.worked_runs.specs.Flags.{flag_board, flag_events};
 ghost use Rattle.worked_runs.specs.Credits.{credits_board, credits_events};
-ghost use Rattle.worked_runs.specs.Unclaimed.{unclaimed_board, unclaimed_events, aborted_board, aborted_events};
-ghost use Rattle.worked_runs.specs.Discards.{discarded_board, discarded_events, landed_twice_board, landed_twice_events, dropped_board, dropped_events};
+ghost use Rattle.worked_runs.specs.Unclaimed.{unclaimed_board, unclaimed_events, aborted_board};
+ghost use Rattle.worked_runs.specs.Unclaimed.{aborted_events};
+ghost use Rattle.worked_runs.specs.Discards.{discarded_board, discarded_events, landed_twice_board};
+ghost use Rattle.worked_runs.specs.Discards.{landed_twice_events, dropped_board, dropped_events};
 ghost use Rattle.worked_runs.specs.Registers.{registers_board, registers_events};
 ghost use Rattle.worked_runs.specs.Registers.{written_board, written_events};
 ghost use Rattle.worked_runs.specs.Wide.{wide_board, wide_events};
-ghost use Rattle.worked_runs.specs.Passing.{passing_board, passing_events, behind_board, behind_events, read_behind, io_write_behind, write_behind};
-ghost use Rattle.worked_runs.specs.Crossing.{crossing_board, crossing_events, crossing_posted_board, crossing_posted_events};
+ghost use Rattle.worked_runs.specs.Passing.{passing_board, passing_events, behind_board};
+ghost use Rattle.worked_runs.specs.Passing.{behind_events, read_behind, io_write_behind};
+ghost use Rattle.worked_runs.specs.Passing.{write_behind};
+ghost use Rattle.worked_runs.specs.Crossing.{crossing_board, crossing_events};
+ghost use Rattle.worked_runs.specs.Crossing.{crossing_posted_board, crossing_posted_events};
 ghost use Rattle.worked_runs.specs.Stealing.{stealing_board, stealing_events, held_back_events};
 
 mod left;
@@ -81,7 +94,8 @@ pub fn parted()
 pub fn between()
     ensures run { Run between_board (history_of between_events) }
     ensures complete { Complete between_board (history_of between_events) }
-    ensures unseen { saw between_board (history_of between_events) read_between parted_write ≡ false }
+    ensures unseen { saw between_board (history_of between_events) read_between parted_write ≡
+        false }
 {}
 
 /// Data and flag on two buses, the consumer on a third.
@@ -160,25 +174,28 @@ pub fn wrong_reads()
     ensures turn { ¬ Run one_word_board (history_of (reverse one_word_events)) }
 {}
 
-/// A completion of a read does not pass a posted write that stands before it. It guards the entry of
-/// the ordering table for a read's completion behind a posted write: No.
+/// A completion of a read does not pass a posted write that stands before it. It guards the entry
+/// of the ordering table for a read's completion behind a posted write: No.
 pub fn completion_waits_for_posted_write()
     ensures before { Run flag_board (history_of (take 11 flag_events)) }
     ensures behind { ¬ Run flag_board (history_of (take 11 flag_events ++ early_completion ∷ [])) }
 {}
 
-/// Neither does a delayed request, to read or to write. It guards the entries for both behind a posted
-/// write: No.
+/// Neither does a delayed request, to read or to write. It guards the entries for both behind a
+/// posted write: No.
 pub fn request_waits_for_posted_write()
-    ensures read_before { Run (behind_board read_behind) (history_of (take 4 (behind_events Latch (Read 0)))) }
+    ensures read_before { Run (behind_board read_behind)
+        (history_of (take 4 (behind_events Latch (Read 0)))) }
     ensures read { ¬ Run (behind_board read_behind) (history_of (behind_events Latch (Read 0))) }
-    ensures write_before { Run (behind_board io_write_behind) (history_of (take 4 (behind_events Latch Land))) }
+    ensures write_before { Run (behind_board io_write_behind)
+        (history_of (take 4 (behind_events Latch Land))) }
     ensures write { ¬ Run (behind_board io_write_behind) (history_of (behind_events Latch Land)) }
 {}
 
 /// Nor does a younger posted write. It guards the entry for two posted writes: No.
 pub fn posted_write_waits_for_posted_write()
-    ensures before { Run (behind_board write_behind) (history_of (take 4 (behind_events Accept Land))) }
+    ensures before { Run (behind_board write_behind)
+        (history_of (take 4 (behind_events Accept Land))) }
     ensures behind { ¬ Run (behind_board write_behind) (history_of (behind_events Accept Land)) }
 {}
 
@@ -212,10 +229,13 @@ pub fn whole_burst()
     ensures { ¬ Run between_board (history_of (take 2 between_events ++ all_at_once ∷ [])) }
 {}
 
-/// A mark of the board can neither be left off nor put on, and nothing arrives that is not in flight.
+/// A mark of the board can neither be left off nor put on, and nothing arrives that is not in
+/// flight.
 pub fn wrong_arrivals()
-    ensures left_off { ¬ Run discarded_board (history_of (take 7 discarded_events ++ plain_arrival ∷ [])) }
-    ensures put_on { ¬ Run discarded_board (history_of (take 15 discarded_events ++ marked_arrival ∷ [])) }
+    ensures left_off { ¬ Run discarded_board
+        (history_of (take 7 discarded_events ++ plain_arrival ∷ [])) }
+    ensures put_on { ¬ Run discarded_board
+        (history_of (take 15 discarded_events ++ marked_arrival ∷ [])) }
     ensures nothing { ¬ Run one_word_board (history_of (plain_arrival ∷ [])) }
 {}
 
@@ -226,7 +246,8 @@ pub fn relay()
     ensures complete { Complete relay_board (history_of relay_events) }
     ensures told { Told relay_board (history_of relay_events) first_write last_read }
     ensures seen { IsTrue (saw relay_board (history_of relay_events) last_read first_write) }
-    ensures chain { chain_of relay_board (history_of relay_events) first_write last_read ≡ Some relay_chain }
+    ensures chain { chain_of relay_board (history_of relay_events) first_write last_read ≡
+        Some relay_chain }
     ensures not_told { chain_of relay_board (history_of relay_events) last_read first_write ≡ None }
     ensures findings { findings relay_board (history_of relay_events) ≡ relay_findings }
 {}
@@ -237,7 +258,8 @@ pub fn relay_is_found()
     ensures { AreSound relay_board (history_of relay_events) }
 {}
 
-/// But the first master is told of nothing: not of the write by which the second one told the third.
+/// But the first master is told of nothing: not of the write by which the second one told the
+/// third.
 pub fn relay_goes_one_way()
     ensures { ¬ Told relay_board (history_of relay_events) second_write first_flag }
 {}
@@ -251,9 +273,11 @@ pub fn bounds()
     ensures wide { bound_of wide_board ≡ 9 }
 {}
 
-/// What is left of the read over three bridges falls by one with each event, from the bound to nothing.
+/// What is left of the read over three bridges falls by one with each event, from the bound to
+/// nothing.
 pub fn left_falls()
-    ensures { map (λ (n : ℕ). left_of three_bridges_board (history_of (take n three_bridges_events)))
+    ensures { map (λ (n : ℕ). left_of three_bridges_board
+        (history_of (take n three_bridges_events)))
         (0 ∷ 1 ∷ 2 ∷ 3 ∷ 4 ∷ 5 ∷ 6 ∷ 7 ∷ 8 ∷ 9 ∷ 10 ∷ 11 ∷ 12 ∷ 13 ∷ [])
         ≡ 13 ∷ 12 ∷ 11 ∷ 10 ∷ 9 ∷ 8 ∷ 7 ∷ 6 ∷ 5 ∷ 4 ∷ 3 ∷ 2 ∷ 1 ∷ 0 ∷ [] }
 {}
@@ -262,7 +286,8 @@ pub fn left_falls()
 pub fn left_by_place()
     ensures parted { map (λ (n : ℕ). left_of parted_board (history_of (take n parted_events)))
         (0 ∷ 1 ∷ 2 ∷ 3 ∷ 4 ∷ 5 ∷ 6 ∷ 7 ∷ 8 ∷ 9 ∷ []) ≡ 9 ∷ 8 ∷ 7 ∷ 6 ∷ 5 ∷ 4 ∷ 3 ∷ 2 ∷ 1 ∷ 0 ∷ [] }
-    ensures discarded { map (λ (n : ℕ). left_of discarded_board (history_of (take n discarded_events)))
+    ensures discarded { map (λ (n : ℕ). left_of discarded_board
+        (history_of (take n discarded_events)))
         (0 ∷ 7 ∷ 8 ∷ 17 ∷ []) ≡ 17 ∷ 10 ∷ 9 ∷ 0 ∷ [] }
     ensures dropped { map (λ (n : ℕ). left_of dropped_board (history_of (take n dropped_events)))
         (0 ∷ 1 ∷ 2 ∷ 3 ∷ 8 ∷ []) ≡ 8 ∷ 7 ∷ 6 ∷ 5 ∷ 0 ∷ [] }

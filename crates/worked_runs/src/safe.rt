@@ -1,5 +1,5 @@
-//! What a board says of all its runs: a table of clocks that is consistent, and a read that is safe;
-//! and why the law of safe reads has its premises.
+//! What a board says of all its runs: a table of clocks that is consistent, and a read that is
+//! safe; and why the law of safe reads has its premises.
 
 ghost use Rattle.std.specs.Prelude.{◌≡◌, List, Some, false, true};
 ghost use Rattle.board_model.specs.Valid.{IsValid};
@@ -46,8 +46,8 @@ pub fn only_runs_return_what_is_safe()
     ensures other { given_value early_history data_read ≡ Some 0 }
 {}
 
-/// A delayed write that was told of may land again, where its completion is discarded, and behind the
-/// write that was told of it: so that is excluded of posted writes alone.
+/// A delayed write that was told of may land again, where its completion is discarded, and behind
+/// the write that was told of it: so that is excluded of posted writes alone.
 pub fn told_writes_may_land_again()
     ensures valid { IsValid again_board }
     ensures run { Run again_board (history_of again_events) }

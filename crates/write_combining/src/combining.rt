@@ -10,11 +10,11 @@ use pci_command::{List, NoMemory};
 use std::alloc::Global;
 use std::mem;
 
-/// The board of the tree behind a host bridge that joins the memory writes of each program: from left
-/// to right, the write in hand takes in the next as long as combining or merging allows it. It is valid,
-/// with a bound that is not higher; each program has the same other operations in the same order, and
-/// between each two of them the same bytes are brought to each address in the same order; and joined
-/// again it is the same.
+/// The board of the tree behind a host bridge that joins the memory writes of each program: from
+/// left to right, the write in hand takes in the next as long as combining or merging allows it. It
+/// is valid, with a bound that is not higher; each program has the same other operations in the
+/// same order, and between each two of them the same bytes are brought to each address in the same
+/// order; and joined again it is the same.
 pub fn combine(alloc: Global, tree: &Tree) -> Result<Board, NoMemory>
     ensures combined { IfOk result (λ board. board ≡ combined tree.now) }
     ensures keeps { IfOk result (KeepsBoard tree.now) }

@@ -4,7 +4,8 @@ ghost use Rattle.std.specs.List.{list_any};
 ghost use Rattle.pci_command.specs.declared.command.Space.TheVariants.{Mem};
 ghost use Rattle.board_model.specs.WellFormed.{is_burst_in};
 ghost use Rattle.write_combining.specs.Writes.{memory_write};
-ghost use Rattle.write_combining.specs.Joins.{may_combine, may_merge, is_prefetchable, join_writes, join_of};
+ghost use Rattle.write_combining.specs.Joins.{may_combine, may_merge, is_prefetchable, join_writes};
+ghost use Rattle.write_combining.specs.Joins.{join_of};
 ghost use Rattle.write_combining.specs.Views.{write_of};
 ghost use Rattle.write_combining.specs.Kept.{KeepsPair};
 
@@ -20,9 +21,9 @@ pub(crate) struct Write<'a> {
     pub(crate) phases: &'a Phases,
 }
 
-/// The write that two neighbouring operations are joined into, in front of the buses of the board: it
-/// brings the same bytes in the same order as the two. There is none exactly where neither combining
-/// nor merging allows it. Any two operations may be asked, also such as no board has.
+/// The write that two neighbouring operations are joined into, in front of the buses of the board:
+/// it brings the same bytes in the same order as the two. There is none exactly where neither
+/// combining nor merging allows it. Any two operations may be asked, also such as no board has.
 pub fn join(board: &Board, earlier: &Op, later: &Op) -> Option<Op>
     ensures joined { result ≡ join_of board.now earlier.now later.now }
     ensures bytes { IfSome result (KeepsPair earlier.now later.now) }
@@ -62,7 +63,8 @@ fn memory_write(op: &Op) -> Option<Write<'_>>
 }
 
 fn joined_phases(board: &Board, earlier: &Write<'_>, later: &Write<'_>) -> Option<Phases>
-    ensures { option_map (λ phases. record { address = earlier.now.address; phases = phases }) result
+    ensures { option_map (λ phases. record { address = earlier.now.address; phases = phases })
+        result
         ≡ join_writes board.now (write_of earlier.now) (write_of later.now) }
 {
     let before = earlier.phases.as_slice();
@@ -94,7 +96,8 @@ fn may_merge(
     last: &Phase,
     first: &Phase,
 ) -> bool
-    ensures { result ≡ may_merge board.now (write_of earlier.now) (write_of later.now) last.now first.now }
+    ensures { result ≡
+        may_merge board.now (write_of earlier.now) (write_of later.now) last.now first.now }
 {
     let end = u128::from(earlier.address) + 4 * earlier.phases.len() as u128;
     let phases = (earlier.phases.len() + later.phases.len()).saturating_sub(1);

@@ -4,7 +4,10 @@ ghost use Rattle.board_model.specs.WellFormed.{has_bus, children_on};
 ghost use Rattle.board_parser.specs.draft.Steps.{Changes};
 ghost use Rattle.board_parser.specs.declared.draft.draft.AgentPlace.TheVariants.{Nobody};
 ghost use Rattle.board_parser.specs.draft.Drafts.{board_of};
-ghost use Rattle.board_parser.specs.draft.Bridges.{is_whole, are_windows_whole, is_ordered, are_windows_ordered, put_bridge, add_bridge, fault_of, is_too_wide, bridge_of, put_header, add_header};
+ghost use Rattle.board_parser.specs.draft.Bridges.{is_whole, are_windows_whole, is_ordered};
+ghost use Rattle.board_parser.specs.draft.Bridges.{are_windows_ordered, put_bridge, add_bridge};
+ghost use Rattle.board_parser.specs.draft.Bridges.{fault_of, is_too_wide, bridge_of, put_header};
+ghost use Rattle.board_parser.specs.draft.Bridges.{add_header};
 
 use crate::draft::add::close;
 use crate::draft::lists::push;
@@ -103,7 +106,8 @@ pub(crate) fn add_header(
     posted: u8,
     delayed: u8,
 ) -> Result<(), AddFault>
-    ensures { Changes result draft.new (add_header draft.old.wide (board_of draft.old) device bytes.now posted delayed) }
+    ensures { Changes result draft.new
+        (add_header draft.old.wide (board_of draft.old) device bytes.now posted delayed) }
 {
     close(alloc, draft)?;
     put_header(alloc, draft, device, posted, delayed, decode(bytes))
@@ -118,7 +122,8 @@ fn put_header(
     reading: Result<Windows, HeaderFault>,
 ) -> Result<(), AddFault>
     requires { draft.old.owner ≡ Nobody }
-    ensures { Changes result draft.new (put_header draft.old.wide draft.old.board device posted delayed reading) }
+    ensures { Changes result draft.new
+        (put_header draft.old.wide draft.old.board device posted delayed reading) }
 {
     match reading {
         Err(fault) => Err(AddFault::Fault(fault_of(fault))),

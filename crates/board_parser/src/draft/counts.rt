@@ -48,7 +48,8 @@ impl Agent {
 }
 
 impl Counts {
-    ghost use Rattle.std.specs.Prelude.{◌≡◌, ℕ, ◌+◌, ◌<◌, ◌≤◌, OnOk, Some, slice_index, string_bytes};
+    ghost use Rattle.std.specs.Prelude.{◌≡◌, ℕ, ◌+◌, ◌<◌, ◌≤◌, OnOk, Some, slice_index};
+    ghost use Rattle.std.specs.Prelude.{string_bytes};
     ghost use Rattle.std.specs.HashSet.{contains_text};
     ghost use Rattle.board_parser.specs.draft.Drafts.{empty_board};
     ghost use Rattle.board_parser.specs.draft.Counts.{IsCountOf, IsGrown, fault_in, name_and_bus};

@@ -2,7 +2,8 @@ ghost use Rattle.std.specs.Prelude.{◌≡◌};
 ghost use Rattle.board_model.specs.WellFormed.{operations_in};
 ghost use Rattle.board_parser.specs.draft.Steps.{Changes};
 ghost use Rattle.board_parser.specs.draft.Drafts.{board_of};
-ghost use Rattle.board_parser.specs.draft.Targets.{on_target, set_identity, set_stalls, set_burst, add_range, add_abort, add_opening};
+ghost use Rattle.board_parser.specs.draft.Targets.{on_target, set_identity, set_stalls, set_burst};
+ghost use Rattle.board_parser.specs.draft.Targets.{add_range, add_abort, add_opening};
 ghost use Rattle.board_parser.specs.draft.Masters.{does};
 
 use crate::draft::masters::add_op;

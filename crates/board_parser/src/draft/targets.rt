@@ -3,7 +3,9 @@ ghost use Rattle.list_facts.specs.Lists.{total};
 ghost use Rattle.board_model.specs.WellFormed.{registers_of};
 ghost use Rattle.board_parser.specs.draft.Steps.{Changes};
 ghost use Rattle.board_parser.specs.draft.Drafts.{board_of};
-ghost use Rattle.board_parser.specs.draft.Targets.{agent_fault, new_target, add_target, unit_of, end_of, is_in_units, fits, put_range, put_abort, add_range, add_abort, add_opening};
+ghost use Rattle.board_parser.specs.draft.Targets.{agent_fault, new_target, add_target, unit_of};
+ghost use Rattle.board_parser.specs.draft.Targets.{end_of, is_in_units, fits, put_range, put_abort};
+ghost use Rattle.board_parser.specs.draft.Targets.{add_range, add_abort, add_opening};
 
 use crate::draft::add::close;
 use crate::draft::lists::{empty, push};
@@ -23,7 +25,8 @@ pub(crate) fn add_target(
     device: u8,
 ) -> Result<(), AddFault>
     requires { fault ≡ agent_fault (board_of draft.old) name bus }
-    ensures { Changes result draft.new (add_target draft.old.wide (board_of draft.old) name bus device) }
+    ensures { Changes result draft.new
+        (add_target draft.old.wide (board_of draft.old) name bus device) }
 {
     close(alloc, draft)?;
     if let Some(fault) = fault {

@@ -1,4 +1,5 @@
-ghost use Rattle.std.specs.Prelude.{◌≡◌, ◌+◌, ◌%◌, ◌<◌, ◌≤◌, ◌↔◌, ℕ, List, length, count_ones, IsNone, IfSome, OnSome, IfNone};
+ghost use Rattle.std.specs.Prelude.{◌≡◌, ◌+◌, ◌%◌, ◌<◌, ◌≤◌, ◌↔◌, ℕ, List, length, count_ones};
+ghost use Rattle.std.specs.Prelude.{IsNone, IfSome, OnSome, IfNone};
 ghost use Rattle.bus_agents.specs.arbiter.Grant.{Asks, IsGranted, Grants, EachOnce, line_behind};
 
 use std::marker::Model;
@@ -52,7 +53,8 @@ impl Arbiter {
     /// No line waits for longer than one round: in any n grants to n lines that ask every time, and
     /// no others, each of them is granted once. A law about `grant`, which does nothing by itself.
     pub fn round_is_fair(&self, lines: u32)
-        ensures { (granted : List ℕ) → Grants self.now lines granted → length granted ≡ count_ones lines → EachOnce lines granted }
+        ensures { (granted : List ℕ) → Grants self.now lines granted →
+            length granted ≡ count_ones lines → EachOnce lines granted }
     {
         let _next = self.next;
     }

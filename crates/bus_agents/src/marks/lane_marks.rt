@@ -26,7 +26,12 @@ impl Model for LaneMarks {
 
     ghost Value = { MarksView };
 
-    ghost view = { λ m. record { asks = m.asks; dones = m.dones; drops = m.drops.items; discards = m.discards.items } };
+    ghost view = { λ m. record {
+      asks = m.asks;
+      dones = m.dones;
+      drops = m.drops.items;
+      discards = m.discards.items;
+    } };
 
     ghost invariant = { λ m. IsNonDecreasing m.drops.items × IsNonDecreasing m.discards.items };
 }
@@ -67,7 +72,8 @@ impl LaneMarks {
     /// A delayed request arrives.
     fn ask(&mut self) -> Mark
         requires { self.old.asks + 1 < 2 ^ 64 }
-        ensures mark { result ≡ (if list_any (λ number. number == self.old.asks + 1) self.old.drops then Drop else Plain) }
+        ensures mark { result ≡ (if list_any
+            (λ number. number == self.old.asks + 1) self.old.drops then Drop else Plain) }
         ensures counted { self.new ≡ record self.old { asks = self.old.asks + 1 } }
     {
         self.asks += 1;
@@ -81,7 +87,8 @@ impl LaneMarks {
     /// A completion arrives.
     fn done(&mut self) -> Mark
         requires { self.old.dones + 1 < 2 ^ 64 }
-        ensures mark { result ≡ (if list_any (λ number. number == self.old.dones + 1) self.old.discards then Discard else Plain) }
+        ensures mark { result ≡ (if list_any
+            (λ number. number == self.old.dones + 1) self.old.discards then Discard else Plain) }
         ensures counted { self.new ≡ record self.old { dones = self.old.dones + 1 } }
     {
         self.dones += 1;

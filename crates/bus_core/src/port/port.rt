@@ -117,8 +117,7 @@ impl Port {
         self.face.offers()
     }
 
-    /// An item that is offered ended on this bus: it leaves, and the answer is what goes back for it,
-    /// with the stamp.
+    /// An offered item ended on this bus: it leaves, and what goes back is told, with the stamp.
     pub fn ended(&mut self, offer: &Offer, outcome: Outcome, stamp: u32) -> Item
         requires { Contains (offers_of self.old.face) offer.now }
         ensures lane { self.new.lane ≡ self.old.lane }

@@ -16,8 +16,8 @@ pub struct Done {
 }
 
 /// The delayed completions that stand, by the slot of their request: at most one of a slot, and in
-/// all at most `depth`, which is from 1 to 8 (PCI Local Bus 2.2, section 3.3.3.3.5, from memory). It takes no
-/// memory.
+/// all at most `depth`, which is from 1 to 8 (PCI Local Bus 2.2, section 3.3.3.3.5, from memory).
+/// It takes no memory.
 #[derive(Debug, Drop)]
 pub struct DoneTable {
     limit: u8,

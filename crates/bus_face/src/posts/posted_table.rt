@@ -4,8 +4,7 @@ use arrayvec::ArrayVec;
 use pci_command::OpId;
 use std::marker::Model;
 
-/// A posted memory write that stands: its operation, and the number of its arrival at this half of
-/// the bridge.
+/// A posted memory write that stands: its operation, and the number of its arrival at this half.
 #[derive(Clone, Copy, Debug, Default, PartialEq, Eq)]
 pub struct Post {
     pub op: OpId,
@@ -64,8 +63,7 @@ impl PostedTable {
         self.standing.push(Post { op, arrival });
     }
 
-    /// Operation and arrival of the posted write that came first. There is none exactly where
-    /// none stands.
+    /// Operation and arrival of the posted write that came first; none exactly where none stands.
     pub fn head(&self) -> Option<(OpId, u64)>
         ensures first { result ≡ first_of self.now.posts }
         ensures empty { IsNone result ↔ (self.now.posts ≡ []) }

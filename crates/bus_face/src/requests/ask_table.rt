@@ -73,8 +73,7 @@ impl AskTable {
         });
     }
 
-    /// Whether a request at a lower place, which came earlier, is the same as the one at this
-    /// place.
+    /// Whether a request at a lower place, which came earlier, is the same as that at this place.
     pub fn older_equal(&self, place: u8) -> bool
         requires { place < length self.now.asks }
         ensures older { IsTrue result ↔ HasOlderEqual self.now.asks place }

@@ -72,8 +72,7 @@ impl SlotTable {
         None
     }
 
-    /// The operation for which the slot of this number is held. There is none exactly where the
-    /// slot is free.
+    /// The operation for which the slot of this number is held; none exactly where it is free.
     pub fn operation(&self, slot: u8) -> Option<OpId>
         ensures value { result ≡ option_map (λ held. held.op) (slot_at slot self.now.slots) }
         ensures held { IsSome result ↔ IsHeld slot self.now.slots }
@@ -87,8 +86,7 @@ impl SlotTable {
         None
     }
 
-    /// The lowest free slot is held, with this tag, operation and request. The answer is its
-    /// number.
+    /// The lowest free slot is held, with this tag, operation and request; its number is told.
     pub fn hold(&mut self, tag: u8, op: OpId, request: Request) -> u8
         requires { length self.old.slots < self.old.depth }
         ensures lowest { IsLowestFree result self.old.slots }

@@ -71,8 +71,7 @@ fn serve<L: LaneEnd + Drop>(segment: &mut Segment<L>, board: &Board, line: u8)
     }
 }
 
-/// The lane of the port at this place presents each thing that it offers now, as long as the segment
-/// does not stop.
+/// The lane of the port at this place presents all that it offers now, until the segment stops.
 fn serve_lane<L: LaneEnd + Drop>(segment: &mut Segment<L>, board: &Board, place: u8)
     requires formed { IsTrue (is_well_formed board.now) }
     requires going { segment.old.stopped ≡ false }

@@ -146,7 +146,9 @@ impl<L: LaneEnd + Drop> Worker<L> {
         requires place { place < length self.old.segment.ends.items }
         requires other_place { other_place < length other.old.segment.ends.items }
         requires may { MaySettle L.had L.sent L.got L.kept L.paired self.old.segment.ends.items place other.old.segment.ends.items other_place }
-        ensures settles { SettlesAt L.had L.sent L.got L.kept L.paired self.old.segment.ends.items place other.old.segment.ends.items other_place self.new.segment.ends.items other.new.segment.ends.items }
+        ensures settles { SettlesAt L.had L.sent L.got L.kept L.paired self.old.segment.ends.items
+            place other.old.segment.ends.items other_place self.new.segment.ends.items
+            other.new.segment.ends.items }
         ensures bus { self.new.segment.bus ≡ self.old.segment.bus }
         ensures stamp { self.new.segment.stamp ≡ self.old.segment.stamp }
         ensures stopped { self.new.segment.stopped ≡ self.old.segment.stopped }

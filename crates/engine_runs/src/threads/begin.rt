@@ -30,8 +30,7 @@ pub(crate) fn recorded<L: LaneEnd + Drop>(workers: &[Worker<L>]) -> usize
     count
 }
 
-/// Each worker begins a phase: later events have stamps from this number on, and there is room for
-/// those of a turn.
+/// Each worker begins a phase: later events have stamps from this number on, and a turn has room.
 pub(crate) fn begin_all<L: LaneEnd + Drop>(
     workers: &mut [Worker<L>],
     from: u32,

@@ -1,4 +1,5 @@
-ghost use Rattle.std.specs.Prelude.{◌≡◌, ◌↔◌, ℕ, ◌+◌, ◌<◌, ◌≤◌, List, [], ◌∷◌, ◌++◌, length, drop, option_to_list, slice_get, IsTrue, IsNone, IfNone};
+ghost use Rattle.std.specs.Prelude.{◌≡◌, ◌↔◌, ℕ, ◌+◌, ◌<◌, ◌≤◌, List, [], ◌∷◌, ◌++◌, length, drop};
+ghost use Rattle.std.specs.Prelude.{option_to_list, slice_get, IsTrue, IsNone, IfNone};
 ghost use Rattle.lane_items.specs.declared.item.Item.{Item};
 ghost use Rattle.lane_items.specs.Lane.{in_hand, KeepsPairs};
 ghost use Rattle.lane_ends.specs.plain.Plain.{PlainState};
@@ -22,9 +23,14 @@ impl Model for PlainEnd {
 
     ghost Value = { PlainState };
 
-    ghost view = { λ end. record { got = take end.taken end.hand.items; hand = drop end.taken end.hand.items; sent = end.sent.items } };
+    ghost view = { λ end. record {
+      got = take end.taken end.hand.items;
+      hand = drop end.taken end.hand.items;
+      sent = end.sent.items;
+    } };
 
-    ghost invariant = { λ end. (end.taken ≤ length end.hand.items) × (length end.hand.items ≤ 32) × (length end.sent.items ≤ 32) };
+    ghost invariant = { λ end. (end.taken ≤ length end.hand.items) × (length end.hand.items ≤ 32) ×
+        (length end.sent.items ≤ 32) };
 }
 
 impl PlainEnd {
@@ -43,7 +49,8 @@ impl PlainEnd {
     /// What is in hand, oldest first.
     pub fn hand(&self) -> &[Item]
         ensures hand { result.now ≡ self.now.hand }
-        ensures in_hand { result.now ≡ in_hand (⟦<PlainEnd as LaneEnd>⟧.had self.now) (⟦<PlainEnd as LaneEnd>⟧.got self.now) }
+        ensures in_hand { result.now ≡
+            in_hand (⟦<PlainEnd as LaneEnd>⟧.had self.now) (⟦<PlainEnd as LaneEnd>⟧.got self.now) }
     {
         &self.hand.as_slice()[self.taken..]
     }
@@ -130,7 +137,8 @@ impl LaneEnd for PlainEnd {
     fn receive(&mut self) -> Option<Item>
         ensures item { result ≡ slice_get self.old.hand 0 }
         ensures none { IsNone result ↔ (self.old.hand ≡ []) }
-        ensures got { self.new ≡ record self.old { got = self.old.got ++ option_to_list result; hand = drop 1 self.old.hand } }
+        ensures got { self.new ≡ record self.old
+            { got = self.old.got ++ option_to_list result; hand = drop 1 self.old.hand } }
     {
         let item = self.hand.as_slice().get(self.taken).copied()?;
         self.taken += 1;

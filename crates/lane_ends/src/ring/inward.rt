@@ -14,13 +14,15 @@ pub struct Inward {
     pub begun: Snapshot<Consumer<Item>>,
     pub hand: ArrayVec<Item, 32>,
     pub taken: usize,
-    pub ghost grew: { received ring ≡ received begun.value ++ drop (length (received begun.value)) (received ring) },
+    pub ghost grew: { received ring ≡ received begun.value ++
+        drop (length (received begun.value)) (received ring) },
     pub ghost in_hand: { taken ≤ length hand.items },
     pub ghost hand_first: { taken < length hand.items → received ring ≡ received begun.value },
 }
 
 impl Inward {
-    ghost use Rattle.std.specs.Prelude.{◌≡◌, ◌+◌, ◌<◌, ◌≤◌, List, [], ◌∷◌, ◌++◌, length, option_to_list, Some, IfNone};
+    ghost use Rattle.std.specs.Prelude.{◌≡◌, ◌+◌, ◌<◌, ◌≤◌, List, [], ◌∷◌, ◌++◌, length};
+    ghost use Rattle.std.specs.Prelude.{option_to_list, Some, IfNone};
     ghost use Rattle.rtrb.specs.Ring.{received, SameConsumer};
     ghost use Rattle.lane_items.specs.declared.item.Item.{Item};
     ghost use Rattle.lane_items.specs.Lane.{in_hand};

@@ -24,7 +24,8 @@ pub fn cross(near: &mut Outward, far: &mut Inward)
     requires lane { AreOneLane near.old far.old }
     requires all { KnowsAll near.old far.old }
     requires fits { left_count far.old.hand.items (got_in far.old) (sent_out near.old) ≤ 32 }
-    ensures crosses { Crosses far.old.hand.items (got_in far.old) (sent_out near.old) (length near.old.waiting.items) far.new.hand.items }
+    ensures crosses { Crosses far.old.hand.items (got_in far.old) (sent_out near.old)
+        (length near.old.waiting.items) far.new.hand.items }
     ensures begins { Begins near.new far.new }
 {
     let left = behind(&far.hand, far.taken);

@@ -6,14 +6,16 @@ use lane_items::Item;
 use rtrb::Producer;
 use std::snapshot::Snapshot;
 
-/// The near end of one lane: it pushes into a ring, and keeps in order what the ring had no slot for.
+/// The near end of one lane: it pushes into a ring, and keeps in order what the ring had no slot
+/// for.
 #[derive(Drop)]
 pub struct Outward {
     pub ring: Producer<Item>,
     // the ring's end as it was when the phase began
     pub begun: Snapshot<Producer<Item>>,
     pub waiting: ArrayVec<Item, 32>,
-    pub ghost grew: { sent ring ≡ sent begun.value ++ drop (length (sent begun.value)) (sent ring) },
+    pub ghost grew: { sent ring ≡ sent begun.value ++
+        drop (length (sent begun.value)) (sent ring) },
 }
 
 impl Outward {

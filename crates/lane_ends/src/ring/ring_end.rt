@@ -61,13 +61,16 @@ impl LaneEnd for RingEnd {
     }
 }
 
-/// The two ends of one bridge, over two rings of 32 items each, with nothing in hand and nothing sent.
-/// It fails only where there is no memory for the rings.
+/// The two ends of one bridge, over two rings of 32 items each, with nothing in hand and nothing
+/// sent. It fails only where there is no memory for the rings.
 pub fn ring_pair(alloc: Global) -> Result<(RingEnd, RingEnd), NoMemory>
     ensures paired { IfOk result (λ ends. ⟦<RingEnd as LaneEnd>⟧.paired ends.0 ends.1) }
-    ensures empty { IfOk result (λ ends. (⟦<RingEnd as LaneEnd>⟧.had ends.0 ≡ []) × (⟦<RingEnd as LaneEnd>⟧.had ends.1 ≡ [])) }
-    ensures first { IfOk result (λ ends. IsEmptied (⟦<RingEnd as LaneEnd>⟧.sent ends.0) (⟦<RingEnd as LaneEnd>⟧.got ends.0) (⟦<RingEnd as LaneEnd>⟧.kept ends.0)) }
-    ensures second { IfOk result (λ ends. IsEmptied (⟦<RingEnd as LaneEnd>⟧.sent ends.1) (⟦<RingEnd as LaneEnd>⟧.got ends.1) (⟦<RingEnd as LaneEnd>⟧.kept ends.1)) }
+    ensures empty { IfOk result (λ ends. (⟦<RingEnd as LaneEnd>⟧.had ends.0 ≡ []) ×
+        (⟦<RingEnd as LaneEnd>⟧.had ends.1 ≡ [])) }
+    ensures first { IfOk result (λ ends. IsEmptied (⟦<RingEnd as LaneEnd>⟧.sent ends.0)
+        (⟦<RingEnd as LaneEnd>⟧.got ends.0) (⟦<RingEnd as LaneEnd>⟧.kept ends.0)) }
+    ensures second { IfOk result (λ ends. IsEmptied (⟦<RingEnd as LaneEnd>⟧.sent ends.1)
+        (⟦<RingEnd as LaneEnd>⟧.got ends.1) (⟦<RingEnd as LaneEnd>⟧.kept ends.1)) }
 {
     let (down, from_above) = RingBuffer::new(alloc, 32)?;
     let (up, from_below) = RingBuffer::new(alloc, 32)?;

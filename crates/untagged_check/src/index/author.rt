@@ -60,8 +60,8 @@ impl Author {
         Ok(())
     }
 
-    /// The first write that had not landed before so many events, if so many operations of the program
-    /// reach it: where they do not, they reach no later one.
+    /// The first write that had not landed before so many events, if so many operations of the
+    /// program reach it: where they do not, they reach no later one.
     pub(crate) fn first(&self, events: usize, count: usize) -> Option<OpId>
         ensures { result ≡ first_of events count self.now }
     {

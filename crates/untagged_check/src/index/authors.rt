@@ -43,8 +43,8 @@ impl Authors {
         Ok(Authors { authors })
     }
 
-    /// The first write that had not landed before so many events, and that these numbers reach. A binary
-    /// search for each master.
+    /// The first write that had not landed before so many events, and that these numbers reach. A
+    /// binary search for each master.
     pub(crate) fn first(&self, events: usize, bounds: &Numbers) -> Option<OpId>
         ensures { result ≡ first_in events bounds.now self.now }
     {

@@ -19,7 +19,8 @@ pub(crate) fn list_writes(
     tree: &Tree,
     landed: &OpTable<usize>,
 ) -> Result<(), NoMemory>
-    ensures { OnOk result (Lists tree.now landed.now (ops_by 0 tree.now.masters) writes.old writes.new) }
+    ensures { OnOk result
+        (Lists tree.now landed.now (ops_by 0 tree.now.masters) writes.old writes.new) }
 {
     let board = tree.board();
     for (number, master) in board.masters.as_slice().iter().enumerate() {
@@ -40,7 +41,8 @@ fn list_program(
 ) -> Result<(), NoMemory>
     requires decodable { IsDecodable board.now }
     requires few { length ops.now ≤ 1024 }
-    ensures { OnOk result (Lists board.now landed.now (ops_from master 0 ops.now) writes.old writes.new) }
+    ensures { OnOk result
+        (Lists board.now landed.now (ops_from master 0 ops.now) writes.old writes.new) }
 {
     for place in 0..ops.len() {
         let op = OpId {

@@ -35,8 +35,8 @@ impl WriteIndex {
     ghost use Rattle.untagged_check.specs.index.Kept.{Indexes, Writes};
     ghost use Rattle.untagged_check.specs.index.Pending.{first_pending};
 
-    /// Of the writes of the board; the table has of each that landed whole how many events there were
-    /// before. It looks up each dword that a write names.
+    /// Of the writes of the board; the table has of each that landed whole how many events there
+    /// were before. It looks up each dword that a write names.
     pub fn new(alloc: Global, tree: &Tree, landed: &OpTable<usize>) -> Result<WriteIndex, NoMemory>
         ensures { IfOk result (λ index. Indexes tree.now landed.now index) }
     {
@@ -45,11 +45,12 @@ impl WriteIndex {
         Ok(index)
     }
 
-    /// The first write of the dword, by master, then by its place in the program, that had not landed
-    /// whole before so many events, among so many operations of each master's program. It takes one
-    /// look-up, and a binary search for each master that writes there.
+    /// The first write of the dword, by master, then by its place in the program, that had not
+    /// landed whole before so many events, among so many operations of each master's program. It
+    /// takes one look-up, and a binary search for each master that writes there.
     pub fn first(&self, word: Word, events: usize, bounds: &Numbers) -> Option<OpId>
-        ensures { (board : Board) (landed : List (OpId × ℕ)) → Indexes board landed self.now → result ≡ first_pending board landed word events bounds.now }
+        ensures { (board : Board) (landed : List (OpId × ℕ)) → Indexes board landed self.now →
+            result ≡ first_pending board landed word events bounds.now }
     {
         match self.words.get(word) {
             Some(authors) => authors.first(events, bounds),

@@ -80,7 +80,8 @@ fn put_at(
     request: &Request,
     write: Write,
 ) -> Result<(), NoMemory>
-    ensures { OnOk result (Writes write (words_at target request.now (Some agent.now)) writes.old writes.new) }
+    ensures { OnOk result
+        (Writes write (words_at target request.now (Some agent.now)) writes.old writes.new) }
 {
     let space = request.command.space();
     let address = u128::from(request.address);
@@ -105,7 +106,8 @@ fn put_phases(
     write: Write,
 ) -> Result<(), NoMemory>
     requires { first.address ≤ 2 ^ 120 }
-    ensures { OnOk result (Writes write (dwords_from first.target first.space first.address phases.now) writes.old writes.new) }
+    ensures { OnOk result (Writes write
+        (dwords_from first.target first.space first.address phases.now) writes.old writes.new) }
 {
     let mut next = first.address;
     for _ in phases {
