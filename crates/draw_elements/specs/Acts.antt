@@ -146,6 +146,10 @@ abbrev pub refused_place : Layout → Option Item → Event → ℕ
 refused_place layout item (ActEvent on by o step place) = initiator_place layout by o item
 refused_place layout item (Arrive lane mark) = face_place lane layout
 
--- that cross, in the row of this number
+-- the lines of that cross, in the row of this number, up to the end of its group
+unfoldable pub refused_path : ℕ → ℕ → ℕ → List ℕ
+refused_path first n x = codes "<path d=\"M" ++ (decimal (x - 6) ++ (32 ∷ (height_text first n 2 ++ codes "l12 12m0 -12l-12 12\"/></g>\n")))
+
+-- that cross
 unfoldable pub refused_text : ℕ → ℕ → ℕ → List ℕ
-refused_text first n x = codes "<g class=\"x\"><path d=\"M" ++ (decimal (x - 6) ++ (32 ∷ (height_text first n 2 ++ codes "l12 12m0 -12l-12 12\"/></g>\n")))
+refused_text first n x = codes "<g class=\"x\">" ++ refused_path first n x

@@ -51,10 +51,13 @@ route_text first route = 77 ∷ (decimal route.from ++ 32 ∷ (y first route.sen
 abbrev pub rim_down : ℕ → Route → List ℕ
 rim_down first route = if nat_lt route.came route.left then 86 ∷ y first route.left else []
 
+-- a path of this class
+unfoldable pub path_open : List ℕ → List ℕ
+path_open class = codes "<path class=\"" ++ (class ++ codes "\" d=\"")
+
 -- the rim of an item, along its line and its bar, of this class
 abbrev pub item_rim : List ℕ → ℕ → Route → List ℕ
-item_rim class first route =
-    codes "<path class=\"" ++ (class ++ (codes "\" d=\"" ++ (route_text first route ++ (rim_down first route ++ codes "\"/>\n"))))
+item_rim class first route = path_open class ++ (route_text first route ++ (rim_down first route ++ codes "\"/>\n"))
 
 -- the title: what it is, its operation and lane, and its events
 abbrev pub came_text : Item → List ℕ

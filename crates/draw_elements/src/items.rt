@@ -1,5 +1,5 @@
 ghost use Rattle.std.specs.Prelude.{◌≡◌, ◌++◌, string_bytes, IfOk, OnOk};
-ghost use Rattle.draw_elements.specs.Items.{route_of, or_end, route_text, rim_down, item_rim, title_of, title_text, came_text, left_text, bar_text, cross_sign, sign_text, slant_text, group_text, item_text};
+ghost use Rattle.draw_elements.specs.Items.{route_of, or_end, route_text, rim_down, path_open, item_rim, title_of, title_text, came_text, left_text, bar_text, cross_sign, sign_text, slant_text, group_text, item_text};
 
 use crate::columns::Columns;
 use crate::height::{Height, print_circle};
@@ -89,10 +89,17 @@ pub fn print_item_rim(
     ensures { OnOk result (string_bytes text.new
         ≡ string_bytes text.old ++ item_rim class.now first route.now) }
 {
-    write!(text, "<path class=\"{class}\" d=\"")?;
+    print_path_open(text, class)?;
     print_route(text, first, route)?;
     print_down(text, first, route)?;
     text.push_str("\"/>\n")
+}
+
+#[tactic(auto, unfolding(crate::specs::Items::path_open))]
+fn print_path_open(text: &mut String, class: &str) -> Result<(), AllocError>
+    ensures { OnOk result (string_bytes text.new ≡ string_bytes text.old ++ path_open class.now) }
+{
+    write!(text, "<path class=\"{class}\" d=\"")
 }
 
 fn print_down(text: &mut String, first: u32, route: &Route) -> Result<(), AllocError>

@@ -3,7 +3,9 @@ ghost use Rattle.board_printer.specs.Lines.{spaced};
 ghost use Rattle.trace_text.specs.Words.{place_words};
 ghost use Rattle.trace_text.specs.Events.{result_words, mark_words, act_line, arrival_line};
 ghost use Rattle.board_model.specs.Requests.{request_of};
-ghost use Rattle.draw_elements.specs.Labels.{words_text, event_text, item_note, arrival_note, space_note, phases_note, data_note, request_note, reaches, enters, is_new, tells_request, act_note, note_of};
+ghost use Rattle.draw_elements.specs.Labels.{words_text, event_text, item_note, arrival_note, note_of};
+ghost use Rattle.draw_elements.specs.Labels.{space_note, phases_note, data_note, request_note};
+ghost use Rattle.draw_elements.specs.Labels.{reaches, enters, is_new, tells_request, act_note};
 
 use crate::words::kind_word;
 use board_model::{Board, Lane, Place, end_of, request_of};
@@ -159,15 +161,7 @@ fn tells_request(by: By, step: Step, place: Place) -> bool
 fn reaches(step: Step) -> bool
     ensures { result ≡ reaches step }
 {
-    match step {
-        Step::Land | Step::Part(_) | Step::Read(_) => true,
-        Step::Accept
-        | Step::Latch
-        | Step::Take(_)
-        | Step::Stall
-        | Step::MasterAbort
-        | Step::TargetAbort => false,
-    }
+    matches!(step, Step::Land | Step::Part(_) | Step::Read(_))
 }
 
 fn is_new(by: By, step: Step) -> bool
@@ -182,16 +176,7 @@ fn is_new(by: By, step: Step) -> bool
 fn enters(step: Step) -> bool
     ensures { result ≡ enters step }
 {
-    match step {
-        Step::Accept | Step::Latch => true,
-        Step::Land
-        | Step::Part(_)
-        | Step::Read(_)
-        | Step::Take(_)
-        | Step::Stall
-        | Step::MasterAbort
-        | Step::TargetAbort => false,
-    }
+    matches!(step, Step::Accept | Step::Latch)
 }
 
 fn print_request_of(text: &mut String, board: &Board, bus: u8, op: OpId) -> Result<(), AllocError>

@@ -1,5 +1,5 @@
 ghost use Rattle.std.specs.Prelude.{◌≡◌, ◌++◌, string_bytes, IfOk, OnOk};
-ghost use Rattle.draw_elements.specs.Acts.{bar_or_face, initiator_place, refused_place, refused_text};
+ghost use Rattle.draw_elements.specs.Acts.{bar_or_face, initiator_place, refused_place, refused_path, refused_text};
 
 use crate::columns::Columns;
 use crate::height::Height;
@@ -43,14 +43,19 @@ fn bar_or_face(columns: &Columns, lane: Lane, item: Option<Item>) -> Result<u64,
 pub fn print_refused(text: &mut String, first: u32, n: u32, x: u64) -> Result<(), AllocError>
     ensures { OnOk result (string_bytes text.new ≡ string_bytes text.old ++ refused_text first n x) }
 {
+    text.push_str("<g class=\"x\">")?;
+    print_refused_path(text, first, n, x)
+}
+
+#[tactic(auto, unfolding(crate::specs::Acts::refused_path))]
+fn print_refused_path(text: &mut String, first: u32, n: u32, x: u64) -> Result<(), AllocError>
+    ensures { OnOk result (string_bytes text.new ≡ string_bytes text.old ++ refused_path first n x) }
+{
     let top = Height {
         first,
         row: n,
         down: 2,
     };
-    writeln!(
-        text,
-        "<g class=\"x\"><path d=\"M{} {top}l12 12m0 -12l-12 12\"/></g>",
-        x.saturating_sub(6)
-    )
+    let from = x.saturating_sub(6);
+    writeln!(text, "<path d=\"M{from} {top}l12 12m0 -12l-12 12\"/></g>")
 }

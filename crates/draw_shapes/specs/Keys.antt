@@ -10,9 +10,13 @@ use Rattle.draw_elements.specs.Acts.{head_text}
 unfoldable pub mark_size : ℕ → List ℕ
 mark_size size = 104 ∷ (decimal size ++ (codes "v16h-" ++ (decimal size ++ codes "z\"/>\n")))
 
--- that mark, of this class and width and in the row of this number
+-- where that mark begins, of this class and in the row of this number
+unfoldable pub mark_open : List ℕ → ℕ → ℕ → ℕ → List ℕ
+mark_open class first n x = codes "<path class=\"" ++ (class ++ (codes "\" d=\"M" ++ (decimal x ++ (32 ∷ height_text first n 0))))
+
+-- that mark, of this width
 unfoldable pub mark_text : List ℕ → ℕ → ℕ → ℕ → ℕ → List ℕ
-mark_text class first n x size = codes "<path class=\"" ++ (class ++ (codes "\" d=\"M" ++ (decimal x ++ (32 ∷ (height_text first n 0 ++ mark_size size)))))
+mark_text class first n x size = mark_open class first n x ++ mark_size size
 
 -- a dotted line in a row from a place to another
 unfoldable pub dotted_text : ℕ → ℕ → ℕ → ℕ → List ℕ

@@ -1,5 +1,5 @@
 ghost use Rattle.std.specs.Prelude.{◌≡◌, ◌++◌, string_bytes, OnOk};
-ghost use Rattle.draw_shapes.specs.Keys.{mark_size, mark_text, dotted_text, wait_bar, wait_text, bracket_title, bracket_down, bracket_path, bracket_text};
+ghost use Rattle.draw_shapes.specs.Keys.{mark_size, mark_open, mark_text, dotted_text, wait_bar, wait_text, bracket_title, bracket_down, bracket_path, bracket_text};
 
 use draw_elements::{Height, faint, print_circle, print_head};
 use draw_items::Wait;
@@ -27,13 +27,26 @@ pub(crate) fn print_mark(
 ) -> Result<(), AllocError>
     ensures { OnOk result (string_bytes text.new ≡ string_bytes text.old ++ mark_text class.now first n x size) }
 {
+    print_mark_open(text, class, first, n, x)?;
+    print_mark_size(text, size)
+}
+
+#[tactic(auto, unfolding(crate::specs::Keys::mark_open))]
+fn print_mark_open(
+    text: &mut String,
+    class: &str,
+    first: u32,
+    n: u32,
+    x: u64,
+) -> Result<(), AllocError>
+    ensures { OnOk result (string_bytes text.new ≡ string_bytes text.old ++ mark_open class.now first n x) }
+{
     let top = Height {
         first,
         row: n,
         down: 0,
     };
-    write!(text, "<path class=\"{class}\" d=\"M{x} {top}")?;
-    print_mark_size(text, size)
+    write!(text, "<path class=\"{class}\" d=\"M{x} {top}")
 }
 
 #[tactic(auto, unfolding(crate::specs::Keys::mark_size))]

@@ -1,4 +1,5 @@
 ghost use Rattle.std.specs.Prelude.{◌≡◌};
+ghost use Rattle.std.specs.List.{find};
 ghost use Rattle.draw_told.specs.Ahead.{ends_on, unpresented, retried, waiting_in, carried_of, waits_for, is_post, is_held, is_ahead, first_ahead, ahead_of_event, ahead_in};
 
 use crate::close::Close;
@@ -75,7 +76,15 @@ fn retried(traffic: &Traffic, event: Event) -> Option<Item>
 fn first_ahead(board: &Board, items: &[Item], item: Option<Item>) -> Option<Item>
     ensures { result ≡ first_ahead board.now items.now item }
 {
-    let item = item?;
+    match item {
+        Some(item) => first_before(board, items, item),
+        None => None,
+    }
+}
+
+fn first_before(board: &Board, items: &[Item], item: Item) -> Option<Item>
+    ensures { result ≡ find (is_ahead board.now item) items.now }
+{
     items
         .iter()
         .copied()

@@ -1,5 +1,5 @@
 -- draw: what is written for a trace text, the status that it ends with, and why it is refused.
-use Rattle.std.specs.Prelude.{◌≡◌, ¬, ◌<◌, ◌≤◌, ℕ, List, ◌++◌, length, Option}
+use Rattle.std.specs.Prelude.{◌≡◌, ◌<◌, ◌≤◌, ℕ, List, ◌++◌, length, Option}
 use Rattle.board_model.specs.declared.board.Board.{Board}
 use Rattle.board_model.specs.Valid.{IsValid}
 use Rattle.history_model.specs.declared.event.Event.{Event}
