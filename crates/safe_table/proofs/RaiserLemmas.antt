@@ -225,13 +225,13 @@ last_put rows p w old mid new rises before (inr one) is rest master posted o =
     let limit : List WordWrite → ℕ = limit_without rows p master posted o in
     let now : new ++ rest ≡ one.front ++ (one.last ∷ w ∷ rest) =
     ap (λ ws. ws ++ rest) (is ∙ ap (λ ws. ws ++ w ∷ []) one.after ∙ append_assoc one.front (one.last ∷ []) (w ∷ [])) ∙ append_assoc one.front (one.last ∷ w ∷ []) rest in
-    let then : old ++ w ∷ rest ≡ one.front ++ (one.one ∷ one.last ∷ w ∷ rest) =
+    let before_it : old ++ w ∷ rest ≡ one.front ++ (one.one ∷ one.last ∷ w ∷ rest) =
     ap (λ ws. ws ++ w ∷ rest) one.before ∙ append_assoc one.front (one.one ∷ one.last ∷ []) (w ∷ rest) in
     ap limit now
     ∙ reach_append rows p master posted o one.front (one.last ∷ w ∷ rest)
     ∙ ap (greater (limit one.front)) (third_reaches rows p master posted one.one one.last w o rest rises one.first one.second before)
     ∙ sym (reach_append rows p master posted o one.front (one.one ∷ one.last ∷ w ∷ rest))
-    ∙ sym (ap limit then)
+    ∙ sym (ap limit before_it)
 
 -- one that does not come before the poll reaches nothing
 pub last_not : (rows : List ProgramRows) (p : OpId) (w : WordWrite) (lasts : List WordWrite) → before_in rows w.op p ≡ false → PutsLast rows p w lasts lasts
