@@ -13,7 +13,7 @@ mod trace_lines;
 mod wanted;
 
 pub(crate) use board_lines::{Case, text_of_line};
-pub(crate) use device_lines::{Pointed, text_of_device};
+pub(crate) use device_lines::text_of_device;
 pub(crate) use limits::bus_not_there;
 pub(crate) use operations::{master_of, op_at, operation_text, operations_of};
 pub(crate) use text::Text;
