@@ -4,6 +4,7 @@ use crate::texts::places::{byte_at, count_words, first_word, word_at};
 use crate::texts::text::Text;
 use crate::texts::wanted::Wanted;
 use board_statements::{Words, has_words};
+use board_text::check_line;
 
 /// What is said of the line of this number of a device text, which is none that may stand there, and
 /// what of it is pointed at; if something is said.
@@ -12,7 +13,7 @@ pub(crate) fn text_of_device(input: &[u8], number: u32) -> Option<(Text, Spot)> 
         return Some((Text::Plain(text), Spot::Word(0)));
     }
     let (_, line) = line_at(input, number)?;
-    if !has_words(line) {
+    if check_line(line).is_err() || !has_words(line) {
         return None;
     }
     match first_misfit(line) {
