@@ -7,7 +7,7 @@ use Rattle.std.specs.Char.{digit_value, is_digit}
 use Rattle.pci_command.specs.declared.phases.Phase.{Phase}
 use Rattle.board_model.specs.Names.{is_name}
 use Rattle.board_text.specs.declared.numbers.NumberFault.{NumberFault}
-use Rattle.board_text.specs.Numbers.{hex_answer, decimal_answer}
+use Rattle.board_text.specs.Numbers.{hex_answer, decimal_answer, number_fault}
 use Rattle.text_faults.specs.declared.board_line.LineFault.{LineFault}
 use Rattle.text_faults.specs.declared.board_line.LineFault.TheVariants.{TooWide, WrongWord, Missing, TooMany, IllFormed}
 
