@@ -43,7 +43,7 @@ first_under board k (suc n) =
     ∙ ap (λ a. option_or a (first_in (arrival_now board k) (lanes_ending 256 board n))) (first_under board k n)
 
 pub first_of_all : (board : Board) (k : KeptState) → first_in (arrival_now board k) (all_lanes board) ≡ first_bus (arrival_on board k)
-unfolding all_lanes, first_bus
+unfolding all_lanes first_bus
 first_of_all board k = first_under board k 256
 
 -- On the lanes of a still bridge nothing arrives.

@@ -189,7 +189,8 @@ fn presenting(event: &Event) -> Option<u8>
 {
     match *event {
         Event::Act {
-            by: By::Lane(lane), ..
+            by: By::Lane(lane),
+            ..
         } => Some(lane.bus),
         Event::Act { .. } | Event::Arrive { .. } => None,
     }

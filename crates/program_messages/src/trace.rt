@@ -29,16 +29,12 @@ pub(crate) fn tell_trace_line(
         return teller.point(number, b"", 0, sentence.as_str());
     };
     match fault {
-        TraceLineFault::NoFirstLine => {
-            teller.point(number, line, 0, no_trace_text(input, line))
-        }
+        TraceLineFault::NoFirstLine => { teller.point(number, line, 0, no_trace_text(input, line)) }
         TraceLineFault::Unreadable => {
             let at = first_unreadable(line);
             teller.point(number, line, at, unreadable_text(line, at))
         }
-        TraceLineFault::Unknown => {
-            tell_unknown(teller, input, number, line, sentence.as_str())
-        }
+        TraceLineFault::Unknown => { tell_unknown(teller, input, number, line, sentence.as_str()) }
         TraceLineFault::NoKind | TraceLineFault::WrongCount => {
             teller.point(number, line, place_of_piece(line, 1), sentence.as_str())
         }

@@ -5,8 +5,7 @@ pub(crate) const CARRIAGE_RETURN: &str =
     "a line ends with a newline alone, and not with a carriage return: tr -d '\\r' < FILE";
 
 /// What is said of ef bb bf at the start of a file.
-pub(super) const BYTE_ORDER_MARK: &str =
-    "a byte order mark: the file begins with its first word";
+pub(super) const BYTE_ORDER_MARK: &str = "a byte order mark: the file begins with its first word";
 
 /// Whether a carriage return stands at this place of a line, which is its last byte.
 pub(crate) fn is_end_of_line(line: &[u8], at: usize) -> bool {

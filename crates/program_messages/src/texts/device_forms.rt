@@ -27,7 +27,10 @@ fn one_of(place: usize, words: &[Wanted]) -> Wanted {
 }
 
 fn flag_word(place: usize) -> Wanted {
-    one_of(place, &[hex("ADDR"), hex("VALUE"), decimal("TRIES", 1, 65_536)])
+    one_of(
+        place,
+        &[hex("ADDR"), hex("VALUE"), decimal("TRIES", 1, 65_536)],
+    )
 }
 
 /// Of the first line of a device or a handler, which waits.
@@ -42,7 +45,10 @@ fn waiting_word(place: usize, on: Wanted, by: &'static str) -> Wanted {
 }
 
 fn put_word(place: usize) -> Wanted {
-    one_of(place, &[hex("ADDR"), decimal("LENGTH", 1, 4096), hex("SEED")])
+    one_of(
+        place,
+        &[hex("ADDR"), decimal("LENGTH", 1, 4096), hex("SEED")],
+    )
 }
 
 fn send_word(place: usize) -> Wanted {

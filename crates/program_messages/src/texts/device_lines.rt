@@ -75,7 +75,8 @@ fn text_of_place(line: &[u8]) -> Option<&'static str> {
 /// The first word of a line that is not as it is wanted.
 fn first_misfit(line: &[u8]) -> Option<(Text, Spot)> {
     if device_word(line, 1).is_none() {
-        let text = "no line of devices begins with this word: pcitree help device has those that do";
+        let text =
+            "no line of devices begins with this word: pcitree help device has those that do";
         return Some((Text::Plain(text), Spot::Word(0)));
     }
     let words = count_words(line);
@@ -101,9 +102,10 @@ fn misfit_at(line: &[u8], place: usize) -> Option<(Text, Spot)> {
 fn misfit(line: &[u8], place: usize, wanted: Wanted, word: &[u8]) -> Option<Text> {
     match wanted {
         Wanted::Nothing => Some(Text::Plain("nothing stands behind the words of this line")),
-        Wanted::Decimal { word: "VECTORS", .. } if !is_vector_count(word) => {
-            Some(Text::Plain("VECTORS is 1, 2, 4, 8, 16 or 32"))
-        }
+        Wanted::Decimal {
+            word: "VECTORS",
+            ..
+        } if !is_vector_count(word) => { Some(Text::Plain("VECTORS is 1, 2, 4, 8, 16 or 32")) }
         Wanted::Decimal { word: "V", .. } if !is_below(line, place) => {
             Some(Text::Plain("V is below VECTORS"))
         }

@@ -4,6 +4,7 @@ use crate::texts::wanted::Wanted;
 
 /// The places of the first option of a `bridge` line and of a `header` line.
 pub(super) const BEHIND_BRIDGE: usize = 8;
+
 pub(super) const BEHIND_HEADER: usize = 3;
 
 /// The options of a bridge, in their order.
@@ -29,6 +30,7 @@ pub(super) fn wanted_at(line: &[u8], place: usize) -> Wanted {
 
 /// The words of a `target` line and of a `master` line.
 const BEHIND_TARGET: usize = 6;
+
 const BEHIND_MASTER: usize = 4;
 
 pub(super) fn decimal(word: &'static str, low: u32, high: u32) -> Wanted {

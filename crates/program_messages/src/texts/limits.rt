@@ -4,6 +4,7 @@ use board_statements::{Statement, statement_of};
 
 /// How many bridges may be on a bus, and how many operations a master may have.
 const MOST_BRIDGES: usize = 8;
+
 const MOST_OPERATIONS: usize = 1024;
 
 /// What is passed by a line behind these.
@@ -86,7 +87,11 @@ fn missing_bus(text: &[u8], line: &[u8]) -> Option<u8> {
         b"target" | b"master" => byte_at(line, 3)?,
         b"discard" | b"drop" => {
             let bus = byte_at(line, 1)?;
-            return if has_bridge(text, bus) { None } else { Some(bus) };
+            return if has_bridge(text, bus) {
+                None
+            } else {
+                Some(bus)
+            };
         }
         _ => return None,
     };

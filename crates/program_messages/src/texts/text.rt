@@ -34,7 +34,10 @@ impl fmt::Display for Text {
                 write!(f, "{word} is from {low} to {high}, in decimal")
             }
             Text::NoBus(bus) => {
-                write!(f, "bus {bus} is not there: no bridge line begins with bridge {bus}")
+                write!(
+                    f,
+                    "bus {bus} is not there: no bridge line begins with bridge {bus}"
+                )
             }
         }
     }
