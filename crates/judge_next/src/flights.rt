@@ -1,4 +1,4 @@
-ghost use Rattle.std.specs.Prelude.{◌≡◌, ◌<◌, Some, length, slice_get, IfOk};
+ghost use Rattle.std.specs.Prelude.{◌≡◌, ◌<◌, ℕ, true, Some, length, slice_get, IfOk};
 ghost use Rattle.std.proofs.Math.ListN.{set};
 ghost use Rattle.history_model.specs.Next.{first_in};
 ghost use Rattle.judge_state.specs.State.{bus_at, bus_by};

@@ -21,7 +21,7 @@ use std::marker::Model;
 /// What is kept of a poll that has a word: what it waits for, whether what the word opens as meets
 /// it, and whether it is firm. Which writes raise it is looked at anew each time, since the polls
 /// of a word, times its writes, may be too many to be kept.
-#[derive(Clone, Copy, Debug)]
+#[derive(Debug, Drop)]
 pub(crate) struct KeptPoll {
     awaited: Awaited,
     opens: bool,
