@@ -23,10 +23,10 @@ use Rattle.history_model.specs.declared.event.Event.TheVariants.{Act, Arrive}
 use Rattle.history_model.specs.declared.item.Carried.{Carried}
 use Rattle.history_model.specs.Lanes.{LaneState, Both, item_ends, arrives}
 use Rattle.history_model.specs.World.{World, same_lane, same_direction, moved, enters, at_place, leaves, at_initiator, lane_outcome, world_of}
-use Rattle.history_model.specs.Runs.{mark_of_first, next_mark}
+use Rattle.history_model.specs.Runs.{mark_of_first}
 use Rattle.history_model.specs.Next.{first_in, first_below, first_bus, arrival_of}
 use Rattle.law_local.proofs.Laws.{moved_other}
-use Rattle.judge_state.specs.State.{KeptState, lane_from, lanes_in, mark_in}
+use Rattle.judge_state.specs.State.{KeptState, lane_from, lanes_in}
 use Rattle.judge_state.specs.Stands.{StandsFor}
 use Rattle.judge_state.proofs.LookLemmas as look
 use Rattle.judge_next.specs.declared.flights.Flights.{Flights}

@@ -1,7 +1,7 @@
-use Rattle.std.proofs.Common.{◌≡◌, ◌+◌, ◌++◌, ℕ, suc, List, sym, ap, ◌∙◌, arith}
+use Rattle.std.proofs.Common.{◌≡◌, ◌+◌, ◌++◌, ℕ, suc, List, ap, ◌∙◌, arith}
 use Rattle.board_model.specs.declared.board.Board.{Board}
 use Rattle.board_model.specs.declared.bridge.Lane.{Lane as BridgeLane}
-use Rattle.judge_next.specs.Lines.{lanes_ending, lanes_below, all_lanes}
+use Rattle.judge_next.specs.Lines.{lanes_below, all_lanes}
 use Rattle.judge_next.proofs.flights.all_lanes.Goals as goal
 
 pub returns : goal.returns

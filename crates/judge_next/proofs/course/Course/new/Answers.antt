@@ -1,4 +1,4 @@
-use Rattle.std.proofs.Common.{◌≡◌, ℕ, Bool, true, false, List, replicate, Some, length, sym, ap, slice_get, subst}
+use Rattle.std.proofs.Common.{◌≡◌, Bool, true, false, List, replicate, Some, length, sym, ap, slice_get, subst}
 use Rattle.board_model.specs.Fits.{BusesFit}
 use Rattle.judge_next.specs.Lines.{AreLines}
 use Rattle.judge_next.specs.Flights.{KnowsFlights}

@@ -4,7 +4,7 @@ use Rattle.std.specs.Option.{option_or}
 use Rattle.board_model.specs.declared.board.Board.{Board}
 use Rattle.history_model.specs.declared.event.Event.{Event}
 use Rattle.history_model.specs.Runs.{Allowed, Complete}
-use Rattle.history_model.specs.Next.{first_bus, next_of}
+use Rattle.history_model.specs.Next.{first_bus}
 use Rattle.judge_state.specs.State.{KeptState}
 use Rattle.judge_next.specs.Lines.{BusLines, AreLines}
 use Rattle.judge_next.specs.Now.{arrival_on, act_on_now}
