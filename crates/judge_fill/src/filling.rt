@@ -10,7 +10,7 @@ use history_model::Event;
 use judge_next::Course;
 use judge_state::Kept;
 use law_bound::runs_end;
-use pci_command::List;
+use pci_command::{List, NoMemory};
 use std::alloc::Global;
 
 /// The acts of these events, and behind each all that it puts in flight arriving, the first arrival
@@ -21,9 +21,16 @@ pub fn fill(alloc: Global, tree: &Tree, events: &[Event]) -> Result<List<Event>,
     ensures ok { IfOk result (Fills tree.now events.now) }
     ensures err { IfErr result (IsUnfilled tree.now events.now) }
 {
-    let mut whole = Vec::new(alloc);
+    let mut whole = room_for(alloc, events.len())?;
     fill_into(alloc, tree, events, &mut whole)?;
     Ok(List::from_vec(whole))
+}
+
+/// No event, and room for so many: of a run there are mostly as many as were read.
+fn room_for(alloc: Global, count: usize) -> Result<Vec<Event>, NoMemory>
+    ensures { IfOk result (λ whole. whole.items ≡ []) }
+{
+    Ok(Vec::with_capacity(alloc, count)?)
 }
 
 fn fill_into(

@@ -1,6 +1,6 @@
 -- What the look at one initiator finds is allowed, and where it finds nothing no act of it is allowed.
 use Rattle.std.proofs.Common.{◌≡◌, ℕ, zero, suc, ◌<◌, Bool, true, false, cond, List, [], ◌∷◌, Option, Some, None, refl, sym, subst}
-use Rattle.std.specs.Prelude.{IfSome, IfNone}
+use Rattle.std.specs.Prelude.{IfSome}
 use Rattle.std.specs.List.{find}
 use Rattle.std.specs.Option.{option_or}
 use Rattle.pci_command.specs.declared.op_id.OpId.{OpId}
@@ -24,8 +24,8 @@ use Rattle.history_model.specs.Lanes.{LaneState, empty_lane, is_of}
 use Rattle.history_model.specs.World.{world_of}
 use Rattle.history_model.specs.Program.{turn_of}
 use Rattle.history_model.specs.Answers.{bridge_to, presents, wants, answer}
-use Rattle.history_model.specs.Runs.{Run, Allowed, next_mark, mark_of_first}
-use Rattle.history_model.specs.Next.{first_in, first_below, first_bus, first_lane, arrival_of, arrival_at, first_arrival, first_act, act_given, act_of, act_of_item, act_of_lane, act_of_turn, next_of}
+use Rattle.history_model.specs.Runs.{Run, Allowed, mark_of_first}
+use Rattle.history_model.specs.Next.{first_in, first_below, first_bus, first_lane, arrival_of, arrival_at, first_arrival, first_act, act_given, act_of, act_of_item, act_of_lane, act_of_turn}
 use Rattle.history_model.proofs.facts.RequestLemmas.{same_op_true}
 use Rattle.judge_state.specs.State.{KeptState, mark_in}
 use Rattle.judge_next.specs.Lines.{lanes_ending}

@@ -1,5 +1,5 @@
 -- A course goes on by an event, and knows the next one.
-use Rattle.std.proofs.Common.{◌≡◌, ◌≢◌, ℕ, Bool, true, false, eqb, List, ◌∷◌, length, Option, Some, None, Result, Ok, Err, refl, sym, ap, subst, ◌∙◌, slice_get}
+use Rattle.std.proofs.Common.{◌≡◌, ◌≢◌, ℕ, Bool, true, false, eqb, List, ◌∷◌, Some, None, Result, Ok, Err, refl, sym, subst, ◌∙◌, slice_get}
 use Rattle.std.proofs.lemmas.Bool.{eqb-true, eqb-false}
 use Rattle.std.proofs.Math.ListN.{set}
 use Rattle.board_model.specs.declared.board.Board.{Board}
@@ -9,10 +9,9 @@ use Rattle.std.specs.Prelude.{OnOk}
 use Rattle.machine_steps.specs.Verdicts.{Holds, cause_in}
 use Rattle.machine_steps.proofs.VerdictLemmas.{allowed_exactly}
 use Rattle.history_model.specs.declared.why.Why.{Why}
-use Rattle.history_model.specs.Runs.{Run, Allowed}
+use Rattle.history_model.specs.Runs.{Allowed}
 use Rattle.history_model.specs.Local.{bus_of}
 use Rattle.law_local.proofs.Laws.{other_stays}
-use Rattle.history_model.specs.Next.{act_on}
 use Rattle.judge_state.specs.State.{KeptState}
 use Rattle.judge_state.specs.Stands.{StandsFor}
 use Rattle.judge_next.specs.Now.{act_on_now}

@@ -1,10 +1,11 @@
 -- What is known of bridges over which nothing is in flight.
-use Rattle.std.proofs.Common.{◌≡◌, ◌≢◌, ◌<◌, ℕ, zero, suc, Bool, true, false, eqb, ◌&&◌, List, [], ◌∷◌, length, Option, Some, None, ◌⊎◌, inl, inr, refl, sym, ap, subst, ◌∙◌, slice_get, arith}
+use Rattle.std.proofs.Common.{◌≡◌, ◌≢◌, ◌<◌, ℕ, zero, suc, Bool, true, false, eqb, ◌&&◌, List, [], ◌∷◌, ◌+◌, length, drop, get_or, Option, Some, None, ◌⊎◌, inl, inr, refl, sym, ap, subst, ◌∙◌, slice_get, arith}
 use Rattle.std.specs.Option.{option_or}
 use Rattle.std.proofs.lemmas.Bool.{eqb-true, eqb-false, and_parts}
 use Rattle.std.proofs.lemmas.List.{length-set}
 use Rattle.std.proofs.lemmas.Option.{slice_get_within}
 use Rattle.std.proofs.Math.ListN.{set}
+use Rattle.std.proofs.Math.Seq.{drop-cons}
 use Rattle.circular_buffer.proofs.Places.{slice_get-set_same, slice_get-set_other}
 use Rattle.pci_command.specs.declared.op_id.OpId.{OpId}
 use Rattle.pci_command.specs.declared.op_id.Outcome.{Outcome}
@@ -22,10 +23,10 @@ use Rattle.history_model.specs.declared.event.Event.TheVariants.{Act, Arrive}
 use Rattle.history_model.specs.declared.item.Carried.{Carried}
 use Rattle.history_model.specs.Lanes.{LaneState, Both, item_ends, arrives}
 use Rattle.history_model.specs.World.{World, same_lane, same_direction, moved, enters, at_place, leaves, at_initiator, lane_outcome, world_of}
-use Rattle.history_model.specs.Runs.{mark_of_first, next_mark}
+use Rattle.history_model.specs.Runs.{mark_of_first}
 use Rattle.history_model.specs.Next.{first_in, first_below, first_bus, arrival_of}
 use Rattle.law_local.proofs.Laws.{moved_other}
-use Rattle.judge_state.specs.State.{KeptState, lane_from, lanes_in, mark_in}
+use Rattle.judge_state.specs.State.{KeptState, lane_from, lanes_in}
 use Rattle.judge_state.specs.Stands.{StandsFor}
 use Rattle.judge_state.proofs.LookLemmas as look
 use Rattle.judge_next.specs.declared.flights.Flights.{Flights}
@@ -43,7 +44,7 @@ first_under board k (suc n) =
     ∙ ap (λ a. option_or a (first_in (arrival_now board k) (lanes_ending 256 board n))) (first_under board k n)
 
 pub first_of_all : (board : Board) (k : KeptState) → first_in (arrival_now board k) (all_lanes board) ≡ first_bus (arrival_on board k)
-unfolding all_lanes, first_bus
+unfolding all_lanes first_bus
 first_of_all board k = first_under board k 256
 
 -- On the lanes of a still bridge nothing arrives.
@@ -79,7 +80,9 @@ flights_known board k flights lanes all each = record {
 -- An event leaves the lanes of all bridges as they were but those that it sends over.
 
 other_lane : (lane other : BridgeLane) → lane.bus ≢ other.bus → same_lane lane other ≡ false
-other_lane lane other apart = ap (λ (b : Bool). b && same_direction lane.up other.up) (eqb-false lane.bus other.bus apart)
+other_lane lane other apart =
+    let P : Bool → Type 0 = λ b. eqb lane.bus other.bus ≡ b → (b && same_direction lane.up other.up) ≡ false in
+    (elim (eqb lane.bus other.bus) as P [ true ↦ λ same. absurd (apart (eqb-true lane.bus other.bus same)) | false ↦ λ _. refl ]) refl
 
 moved_elsewhere : (move : Both → Both) (other : BridgeLane) (world : World) (lane : BridgeLane) → Some lane.bus ≢ Some other.bus → moved move other world lane ≡ world lane
 moved_elsewhere move other world lane apart =
@@ -167,3 +170,21 @@ flights_stay board h e k later flights after stands stands_later known lanes sti
       ∙ (looked_length board later (claiming e) flights.still.items ∙ known.all_bridges));
   still = subst (KnowsStill board later) (sym still) (still_stays board h e k later flights.still.items stands stands_later known.still);
 }
+
+-- The lanes, one by one.
+
+lane_next : (gives : BridgeLane → Option Event) (lanes : List BridgeLane) (i : ℕ) (d : BridgeLane) → i < length lanes
+    → first_in gives (drop i lanes) ≡ option_or (gives (get_or lanes i d)) (first_in gives (drop (i + 1) lanes))
+lane_next gives lanes i d within =
+    let more : suc i ≡ i + 1 = omega arith in
+    ap (first_in gives) (drop-cons lanes i d within) ∙ ap (λ n. option_or (gives (get_or lanes i d)) (first_in gives (drop n lanes))) more
+
+pub lane_found : (gives : BridgeLane → Option Event) (lanes : List BridgeLane) (i : ℕ) (d : BridgeLane) (e : Event) → i < length lanes → gives (get_or lanes i d) ≡ Some e
+    → first_in gives (drop i lanes) ≡ first_in gives lanes → Some e ≡ first_in gives lanes
+lane_found gives lanes i d e within here so_far =
+    sym (sym so_far ∙ (lane_next gives lanes i d within ∙ ap (λ a. option_or a (first_in gives (drop (i + 1) lanes))) here))
+
+pub lane_passed : (gives : BridgeLane → Option Event) (lanes : List BridgeLane) (i : ℕ) (d : BridgeLane) → i < length lanes → gives (get_or lanes i d) ≡ None
+    → first_in gives (drop i lanes) ≡ first_in gives lanes → first_in gives (drop (i + 1) lanes) ≡ first_in gives lanes
+lane_passed gives lanes i d within none so_far =
+    sym (lane_next gives lanes i d within ∙ ap (λ a. option_or a (first_in gives (drop (i + 1) lanes))) none) ∙ so_far

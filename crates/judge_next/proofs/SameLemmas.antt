@@ -1,22 +1,20 @@
 -- What may happen next by what is kept is what may by the history.
-use Rattle.std.proofs.Common.{◌≡◌, ℕ, zero, suc, Bool, true, false, List, [], ◌∷◌, length, Option, Some, None, refl, sym, ap, subst, ◌∙◌, if◌then◌else◌}
+use Rattle.std.proofs.Common.{◌≡◌, ℕ, Bool, true, false, List, length, Option, Some, None, refl, ap, ◌∙◌, if◌then◌else◌}
 use Rattle.std.specs.Option.{option_or}
 use Rattle.pci_command.specs.declared.op_id.OpId.{OpId}
 use Rattle.board_model.specs.declared.board.Board.{Board}
 use Rattle.board_model.specs.declared.bridge.Lane.{Lane as BridgeLane}
 use Rattle.history_model.specs.declared.event.By.{By}
 use Rattle.history_model.specs.declared.event.By.TheVariants.{Master, Lane as ByLane}
-use Rattle.history_model.specs.declared.event.Mark.{Mark}
 use Rattle.history_model.specs.declared.event.Event.{Event}
 use Rattle.history_model.specs.declared.item.Carried.{Carried}
 use Rattle.history_model.specs.declared.item.Carried.TheVariants.{Post, Ask, Done, Room, Gone}
-use Rattle.history_model.specs.declared.item.Answer.{Answer}
 use Rattle.history_model.specs.Lanes.{LaneState}
 use Rattle.history_model.specs.World.{world_of}
 use Rattle.history_model.specs.Program.{turn_of}
 use Rattle.history_model.specs.Answers.{wants, answer}
-use Rattle.history_model.specs.Next.{first_in, first_below, first_bus, first_lane, arrival_of, arrival_at, first_arrival, act_given, act_of, act_of_item, act_of_lane, act_of_turn, act_of_masters, act_on, first_act, next_of}
-use Rattle.judge_state.specs.State.{KeptState, turn_in, lane_in}
+use Rattle.history_model.specs.Next.{first_in, first_bus, first_lane, arrival_of, arrival_at, first_arrival, act_given, act_of, act_of_item, act_of_lane, act_of_turn, act_of_masters, act_on, next_of}
+use Rattle.judge_state.specs.State.{KeptState}
 use Rattle.judge_state.specs.Answer.{answer_now}
 use Rattle.judge_state.specs.Stands.{StandsFor}
 use Rattle.judge_state.proofs.LookLemmas as look

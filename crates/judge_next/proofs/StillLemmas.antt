@@ -1,5 +1,5 @@
 -- A bus that stays as it was has the same first act.
-use Rattle.std.proofs.Common.{◌≡◌, ℕ, zero, suc, Bool, true, false, cond, ◌&&◌, eqb, List, [], ◌∷◌, length, Option, Some, None, refl, sym, ap, subst, ◌∙◌, slice_get}
+use Rattle.std.proofs.Common.{◌≡◌, ℕ, Bool, true, false, cond, eqb, List, length, Option, Some, None, refl, sym, ap, ◌∙◌, slice_get}
 use Rattle.std.specs.Option.{option_or}
 use Rattle.std.proofs.lemmas.Bool.{eqb-true, and_parts}
 use Rattle.pci_command.specs.declared.op_id.OpId.{OpId}
@@ -16,7 +16,7 @@ use Rattle.history_model.specs.World.{world_of}
 use Rattle.history_model.specs.Program.{turn_of}
 use Rattle.history_model.specs.Answers.{is_on, wants, answer}
 use Rattle.law_local.specs.Stays.{Stays}
-use Rattle.history_model.specs.Next.{first_in, first_below, first_bus, down_to, up_from, ends_on, given_on, first_lane, act_given, act_of, act_of_item, act_of_lane, act_of_turn, act_of_masters, act_on}
+use Rattle.history_model.specs.Next.{first_in, first_bus, down_to, up_from, ends_on, given_on, first_lane, act_given, act_of, act_of_item, act_of_lane, act_of_turn, act_of_masters, act_on}
 use Rattle.judge_next.proofs.LineLemmas.{first_in_same, first_below_same, first_bus_same, not_here}
 
 module _ (board : Board) (bus : ℕ) (h later : List Event) (stays : Stays board bus h later) where

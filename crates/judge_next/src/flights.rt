@@ -1,4 +1,4 @@
-ghost use Rattle.std.specs.Prelude.{◌≡◌, ◌<◌, Some, length, slice_get, IfOk};
+ghost use Rattle.std.specs.Prelude.{◌≡◌, ◌<◌, ℕ, true, Some, length, slice_get, IfOk};
 ghost use Rattle.std.proofs.Math.ListN.{set};
 ghost use Rattle.history_model.specs.Next.{first_in};
 ghost use Rattle.judge_state.specs.State.{bus_at, bus_by};
@@ -189,7 +189,8 @@ fn presenting(event: &Event) -> Option<u8>
 {
     match *event {
         Event::Act {
-            by: By::Lane(lane), ..
+            by: By::Lane(lane),
+            ..
         } => Some(lane.bus),
         Event::Act { .. } | Event::Arrive { .. } => None,
     }

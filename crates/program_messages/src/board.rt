@@ -5,8 +5,8 @@ use crate::refused::{TOO_LONG, board_part, smallest, word_at_fault};
 use crate::unclear::tell_unclear;
 use pci_command::NoMemory;
 use program_pages::{
-    Case, Fault, Pointed, Spot, Teller, Text, bus_not_there, line_at, named_spot, place_of,
-    text_of_device, text_of_line,
+    Case, Fault, Spot, Teller, Text, bus_not_there, line_at, named_spot, place_of, text_of_device,
+    text_of_line,
 };
 use program_status::{BoardFault, Status};
 use std::alloc::Global;
@@ -59,10 +59,7 @@ fn tell_device(
     fault: DeviceFault,
     sentence: &str,
 ) -> Result<(), NoMemory> {
-    let line = match line_at(input, number) {
-        Some((_, line)) if line.len() < TOO_LONG => line,
-        _ => b"",
-    };
+    let line = short_line_at(input, number);
     let word = match fault {
         DeviceFault::Misshapen => return tell_misshapen(teller, input, number, line, sentence),
         DeviceFault::OverLimit => 0,
@@ -87,16 +84,25 @@ fn tell_misshapen(
 ) -> Result<(), NoMemory>
     requires { length line.now < 2 ^ 31 }
 {
-    let found = text_of_device(input, number);
-    let spot = match found {
-        Some((_, Pointed::BehindWords)) => Spot::BehindWords,
-        Some((_, Pointed::Word(place))) => Spot::Word(place),
-        None => Spot::Word(0),
-    };
-    let at = place_of(teller.alloc(), line, spot)?;
-    match found {
-        Some((text, _)) => tell_text(teller, number, line, at, text),
-        None => teller.point(number, line, at, sentence),
+    match text_of_device(input, number) {
+        Some((text, spot)) => {
+            let at = place_of(teller.alloc(), line, spot)?;
+            tell_text(teller, number, line, at, text)
+        }
+        None => {
+            let at = place_of(teller.alloc(), line, Spot::Word(0))?;
+            teller.point(number, line, at, sentence)
+        }
+    }
+}
+
+/// The line of this number, if it is there and not too long; else none of its bytes.
+fn short_line_at(text: &[u8], number: u32) -> &[u8]
+    ensures { length result.now < 2 ^ 31 }
+{
+    match line_at(text, number) {
+        Some((_, line)) if line.len() < TOO_LONG => line,
+        _ => b"",
     }
 }
 

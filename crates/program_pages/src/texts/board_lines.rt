@@ -42,10 +42,9 @@ impl<'a> Case<'a> {
 
     /// The option of a bridge that the word belongs to, that is pointed at.
     fn option(&self) -> Option<&'a [u8]> {
-        let from = if first_word(self.line) == b"bridge" {
-            BEHIND_BRIDGE
-        } else {
-            BEHIND_HEADER
+        let from = match first_word(self.line) {
+            b"bridge" => BEHIND_BRIDGE,
+            _ => BEHIND_HEADER,
         };
         let (option, _) = option_at(self.line, from, self.place())?;
         Some(option)

@@ -15,22 +15,17 @@ pub fn is_end_of_line(line: &[u8], at: usize) -> bool {
     }
 }
 
-/// Whether a text begins with a byte order mark.
-pub(super) fn begins_with_mark(text: &[u8]) -> bool {
-    text.starts_with(&[0xef, 0xbb, 0xbf])
-}
-
 /// What is said of a byte that no line of a board may have: that at this place of the line of this
 /// number.
 pub(super) fn text_of_byte(number: u32, line: &[u8], at: usize) -> Text {
     if is_end_of_line(line, at) {
         return Text::Plain(CARRIAGE_RETURN);
     }
-    if number == 1 && at == 0 && begins_with_mark(line) {
+    if number == 1 && at == 0 && line.starts_with(b"\xef\xbb\xbf") {
         return Text::Plain(BYTE_ORDER_MARK);
     }
     match line.get(at) {
-        Some(0x80..=0xff) => Text::Plain("a byte outside ASCII; comments are ASCII too"),
+        Some(byte) if *byte >= 0x80 => Text::Plain("a byte outside ASCII; comments are ASCII too"),
         _ => Text::Plain("a byte that is no printing character and no tab"),
     }
 }

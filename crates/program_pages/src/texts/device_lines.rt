@@ -1,30 +1,24 @@
-use crate::line_at;
 use crate::texts::device_forms::device_word;
 use crate::texts::places::{byte_at, count_words, first_word, word_at};
 use crate::texts::text::Text;
 use crate::texts::wanted::Wanted;
+use crate::{Spot, line_at};
 use board_statements::{Words, has_words};
-
-/// What of a line is pointed at: the word of a place, or what is behind the last.
-#[derive(Clone, Copy, Debug, PartialEq, Eq)]
-pub enum Pointed {
-    Word(usize),
-    BehindWords,
-}
+use board_text::check_line;
 
 /// What is said of the line of this number of a device text, which is none that may stand there, and
 /// what of it is pointed at; if something is said.
-pub fn text_of_device(input: &[u8], number: u32) -> Option<(Text, Pointed)> {
+pub fn text_of_device(input: &[u8], number: u32) -> Option<(Text, Spot)> {
     if let Some(text) = text_of_marks(input, number) {
-        return Some((Text::Plain(text), Pointed::Word(0)));
+        return Some((Text::Plain(text), Spot::Word(0)));
     }
     let (_, line) = line_at(input, number)?;
-    if !has_words(line) {
+    if check_line(line).is_err() || !has_words(line) {
         return None;
     }
     match first_misfit(line) {
         Some(found) => Some(found),
-        None => Some((Text::Plain(text_of_place(line)?), Pointed::Word(0))),
+        None => Some((Text::Plain(text_of_place(line)?), Spot::Word(0))),
     }
 }
 
@@ -46,7 +40,7 @@ fn text_of_marks(input: &[u8], number: u32) -> Option<&'static str> {
     }
     let is_past = match line_at(input, number) {
         None => true,
-        Some((at, line)) => at >= input.len() || first_word(line) == b"end",
+        Some((at, line)) => at >= input.len() || matches!(first_word(line), b"end"),
     };
     if is_past {
         Some("the last line with words is not end")
@@ -57,8 +51,12 @@ fn text_of_marks(input: &[u8], number: u32) -> Option<&'static str> {
 
 /// Whether a line of a text has this one word.
 fn has_line(text: &[u8], word: &[u8]) -> bool {
-    text.split(|byte| *byte == b'\n')
-        .any(|line| first_word(line) == word && count_words(line) == 1)
+    for line in text.split(|byte| *byte == b'\n') {
+        if first_word(line) == word && count_words(line) == 1 {
+            return true;
+        }
+    }
+    false
 }
 
 /// A line that has the form of its first word stands behind another than it may.
@@ -75,25 +73,30 @@ fn text_of_place(line: &[u8]) -> Option<&'static str> {
 }
 
 /// The first word of a line that is not as it is wanted.
-fn first_misfit(line: &[u8]) -> Option<(Text, Pointed)> {
+fn first_misfit(line: &[u8]) -> Option<(Text, Spot)> {
     if device_word(line, 1).is_none() {
         let text =
             "no line of devices begins with this word: pcitree help device has those that do";
-        return Some((Text::Plain(text), Pointed::Word(0)));
+        return Some((Text::Plain(text), Spot::Word(0)));
     }
     let words = count_words(line);
-    for place in 1..=words {
-        let wanted = device_word(line, place)?;
-        let found = match word_at(line, place) {
-            None => (wanted.missing()?, Pointed::BehindWords),
-            Some(word) => match misfit(line, place, wanted, word) {
-                Some(text) => (text, Pointed::Word(place)),
-                None => continue,
-            },
-        };
-        return Some(found);
+    for index in 0..words {
+        let place = index.saturating_add(1);
+        let found = misfit_at(line, place);
+        if found.is_some() {
+            return found;
+        }
     }
     None
+}
+
+/// What is said of the word of this place of a line, if it is not as it is wanted.
+fn misfit_at(line: &[u8], place: usize) -> Option<(Text, Spot)> {
+    let wanted = device_word(line, place)?;
+    match word_at(line, place) {
+        None => Some((wanted.missing()?, Spot::BehindWords)),
+        Some(word) => Some((misfit(line, place, wanted, word)?, Spot::Word(place))),
+    }
 }
 
 fn misfit(line: &[u8], place: usize, wanted: Wanted, word: &[u8]) -> Option<Text> {

@@ -104,9 +104,12 @@ fn missing_bus(text: &[u8], line: &[u8]) -> Option<u8> {
 
 /// Whether a bridge of a text is one to this bus.
 fn has_bridge(text: &[u8], bus: u8) -> bool {
-    text.split(|byte| *byte == b'\n')
-        .any(|line| match buses_of_bridge(line) {
-            Some((_, below)) => below == bus,
-            None => false,
-        })
+    for line in text.split(|byte| *byte == b'\n') {
+        if let Some((_, below)) = buses_of_bridge(line) {
+            if below == bus {
+                return true;
+            }
+        }
+    }
+    false
 }

@@ -1,4 +1,4 @@
-use crate::texts::bytes::{BYTE_ORDER_MARK, CARRIAGE_RETURN, begins_with_mark, is_end_of_line};
+use crate::texts::bytes::{BYTE_ORDER_MARK, CARRIAGE_RETURN, is_end_of_line};
 use crate::texts::places::first_word;
 
 /// The first line of a text is not that of a trace.
@@ -8,10 +8,12 @@ pub fn no_trace_text(input: &[u8], line: &[u8]) -> &'static str {
         b"pcidevices" => {
             "this is a device text, and a trace is wanted: pcitree devices FILE writes one"
         }
-        _ if line == b"pcitrace 1\r" => CARRIAGE_RETURN,
-        _ if begins_with_mark(line) && line.ends_with(b"pcitrace 1") => BYTE_ORDER_MARK,
-        _ if input.is_empty() => "the file is empty: a trace begins with pcitrace 1",
-        _ => "a trace begins with the line pcitrace 1",
+        _ => match line {
+            b"pcitrace 1\r" => CARRIAGE_RETURN,
+            b"\xef\xbb\xbfpcitrace 1" => BYTE_ORDER_MARK,
+            _ if input.is_empty() => "the file is empty: a trace begins with pcitrace 1",
+            _ => "a trace begins with the line pcitrace 1",
+        },
     }
 }
 

@@ -1,5 +1,5 @@
 use crate::texts::text::Text;
-use board_statements::Words;
+use board_statements::{Words, parts};
 use text_faults::LineFault;
 
 /// What a word is read as, by its place in its line.
@@ -54,11 +54,7 @@ impl Wanted {
             Wanted::Hex { .. } | Wanted::Long(_) | Wanted::Data if has_prefix(found) => {
                 Some(Text::Plain("hexadecimal numbers are written without 0x"))
             }
-            Wanted::Long(_) if found.contains(&b':') => Some(Text::Plain(if wide {
-                "an address of 64 bits is UPPER:LOWER, LOWER of exactly 8 hexadecimal digits"
-            } else {
-                "addresses of 64 bits are read in a text that begins with pciboard 2"
-            })),
+            Wanted::Long(_) if parts(found, b':').is_some() => Some(long_text(wide)),
             Wanted::Long(word) => Some(Text::Digits { word, most: 8 }),
             Wanted::Hex { word, most } => Some(Text::Digits { word, most }),
             Wanted::Data => Some(Text::Plain(
@@ -76,19 +72,36 @@ impl Wanted {
     /// What is said of a word of a device text that is not as it is wanted: of a name nothing, which
     /// has a fault of its own.
     pub(super) fn misfit(self, found: &[u8]) -> Option<Text> {
-        let read = match self {
-            Wanted::Fixed(word) if word.as_bytes() != found => return Some(Text::Here(word)),
-            Wanted::Decimal { low, high, .. } => Words::new(found).decimal(low, high).map(|_| ()),
-            Wanted::Hex { most: 4, .. } => Words::new(found).hex_half().map(|_| ()),
-            Wanted::Hex { .. } => Words::new(found).hex().map(|_| ()),
-            _ => return None,
-        };
-        match read {
-            Ok(()) => None,
-            Err(LineFault::TooWide) => Some(Text::Plain("a number with too many digits")),
-            Err(_) => self.ill_formed(found, false),
+        match self.fault_of(found)? {
+            LineFault::WrongWord => match self {
+                Wanted::Fixed(word) => Some(Text::Here(word)),
+                _ => None,
+            },
+            LineFault::TooWide => Some(Text::Plain("a number with too many digits")),
+            _ => self.ill_formed(found, false),
         }
     }
+
+    /// The fault of a word of a device text, if it has one.
+    fn fault_of(self, found: &[u8]) -> Option<LineFault> {
+        let mut words = Words::new(found);
+        match self {
+            Wanted::Fixed(word) => words.fixed(word.as_bytes()).err(),
+            Wanted::Decimal { low, high, .. } => words.decimal(low, high).err(),
+            Wanted::Hex { most: 4, .. } => words.hex_half().err(),
+            Wanted::Hex { .. } => words.hex().err(),
+            _ => None,
+        }
+    }
+}
+
+/// How an address of 64 bits is written, where a text may have one or not.
+fn long_text(wide: bool) -> Text {
+    Text::Plain(if wide {
+        "an address of 64 bits is UPPER:LOWER, LOWER of exactly 8 hexadecimal digits"
+    } else {
+        "addresses of 64 bits are read in a text that begins with pciboard 2"
+    })
 }
 
 /// Whether a number begins with 0x or 0X.

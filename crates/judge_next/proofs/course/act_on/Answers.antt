@@ -1,4 +1,4 @@
-use Rattle.std.proofs.Common.{◌≡◌, ◌<◌, ℕ, Some, ap, ◌∙◌, slice_get}
+use Rattle.std.proofs.Common.{◌≡◌, ℕ, Some, ap, ◌∙◌, slice_get}
 use Rattle.std.specs.Option.{option_or}
 use Rattle.board_model.specs.declared.board.Board.{Board}
 use Rattle.history_model.specs.Next.{first_in}

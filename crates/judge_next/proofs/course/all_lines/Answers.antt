@@ -1,4 +1,4 @@
-use Rattle.std.proofs.Common.{◌≡◌, ◌+◌, ◌<◌, ◌++◌, ◌∷◌, [], ℕ, List, length, Some, slice_get, rules, subst, sym}
+use Rattle.std.proofs.Common.{◌≡◌, ◌+◌, ◌<◌, ◌++◌, ◌∷◌, [], ℕ, List, length, Some, slice_get, subst, sym}
 use Rattle.board_model.specs.declared.board.Board.{Board}
 use Rattle.judge_next.specs.Lines.{BusLines, lines_of}
 use Rattle.judge_next.proofs.RowLemmas.{row_more}

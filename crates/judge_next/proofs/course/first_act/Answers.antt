@@ -1,4 +1,4 @@
-use Rattle.std.proofs.Common.{◌≡◌, ℕ, Option, Some, None, refl, sym, ◌∙◌, arith}
+use Rattle.std.proofs.Common.{◌≡◌, ℕ, Option, Some, None, sym, ◌∙◌, arith}
 use Rattle.history_model.specs.declared.event.Event.{Event}
 use Rattle.law_lanes.proofs.progress.NextFirstLemmas.{first_more, bus_found, bus_none}
 use Rattle.judge_next.specs.Now.{act_on_now}

@@ -1,4 +1,4 @@
-use Rattle.std.proofs.Common.{◌≡◌, ◌<◌, ℕ, Some, ap, ◌∙◌, slice_get}
+use Rattle.std.proofs.Common.{◌≡◌, ℕ, Some, ap, ◌∙◌, slice_get}
 use Rattle.board_model.specs.declared.board.Board.{Board}
 use Rattle.judge_next.specs.Lines.{BusLines, lines_of}
 use Rattle.judge_next.proofs.RowLemmas.{read_there, none_there}

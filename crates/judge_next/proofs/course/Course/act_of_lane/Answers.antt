@@ -1,5 +1,5 @@
 use Rattle.std.proofs.Common.{◌≡◌, Option, Some, None, ap, subst, sym, ◌∙◌}
-use Rattle.std.specs.Prelude.{IfSome, IfNone, List}
+use Rattle.std.specs.Prelude.{IfSome, IfNone}
 use Rattle.pci_command.specs.declared.op_id.OpId.{OpId}
 use Rattle.board_model.specs.declared.board.Board.{Board}
 use Rattle.board_model.specs.declared.bridge.Place.{Place}

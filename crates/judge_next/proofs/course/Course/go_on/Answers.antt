@@ -1,7 +1,3 @@
-use Rattle.std.proofs.Common.{◌≡◌, Result, Ok, Err}
-use Rattle.std.specs.Prelude.{OnOk}
-use Rattle.board_model.specs.declared.board.Board.{Board}
-use Rattle.judge_next.specs.Course.{IsCourse}
 use Rattle.judge_next.proofs.CourseLemmas.{allowed_is_ok}
 use Rattle.judge_next.proofs.course.Course.go_on.Goals as goal
 

@@ -1,4 +1,4 @@
-use Rattle.std.proofs.Common.{◌≡◌, ℕ, Bool, true, false, List, replicate, Some, length, ap, slice_get, subst}
+use Rattle.std.proofs.Common.{◌≡◌, Bool, true, false, List, replicate, Some, length, sym, ap, slice_get, subst}
 use Rattle.board_model.specs.Fits.{BusesFit}
 use Rattle.judge_next.specs.Lines.{AreLines}
 use Rattle.judge_next.specs.Flights.{KnowsFlights}
@@ -18,3 +18,6 @@ returns c = λ h stands.
       quiet = λ bus is. absurd (none_stands 256 bus (subst (λ (flags : List Bool). slice_get flags bus ≡ Some true) none is));
       flights = subst (λ board. KnowsFlights board c.args.kept c.in_ok-flights.flights) c.board-board.ensures.value c.in_ok-flights.ensures;
     }
+
+pub new-requires : goal.new-requires
+new-requires c = subst (λ lines. AreLines c.board-board.result.now lines) (sym c.as_slice.ensures.value) c.in_ok-lines.ensures

@@ -4,7 +4,7 @@ use Rattle.std.specs.Option.{option_or}
 use Rattle.board_model.specs.declared.board.Board.{Board}
 use Rattle.history_model.specs.declared.event.Event.{Event}
 use Rattle.history_model.specs.Runs.{Allowed, Complete}
-use Rattle.history_model.specs.Next.{first_bus, next_of}
+use Rattle.history_model.specs.Next.{first_bus}
 use Rattle.judge_state.specs.State.{KeptState}
 use Rattle.judge_next.specs.Lines.{BusLines, AreLines}
 use Rattle.judge_next.specs.Now.{arrival_on, act_on_now}
@@ -16,8 +16,8 @@ use Rattle.judge_next.proofs.course.Course.next.Goals as goal
 pub next_now-requires-clause-lines : goal.next_now-requires-clause-lines
 next_now-requires-clause-lines c =
     let course : IsCourse c.args.tree.now c.requires.0 c.args.self.now = c.requires.1 in
-    subst (λ (board : Board). AreLines board c.as_slice.result.now) (sym c.board-board.ensures.value)
-    (subst (λ (lines : List BusLines). AreLines c.args.tree.now lines) (sym c.as_slice.ensures.value) course.lines)
+    subst (λ (board : Board). AreLines board c.as_slice-lines.result.now) (sym c.board-board.ensures.value)
+    (subst (λ (lines : List BusLines). AreLines c.args.tree.now lines) (sym c.as_slice-lines.ensures.value) course.lines)
 
 pub next_now-requires-clause-flights : goal.next_now-requires-clause-flights
 next_now-requires-clause-flights c =

@@ -1,11 +1,10 @@
-use Rattle.std.proofs.Common.{◌≡◌, ◌≢◌, ℕ, Bool, true, false, List, ◌∷◌, length, Some, slice_get, subst, sym, ap, ◌∙◌}
+use Rattle.std.proofs.Common.{◌≡◌, ◌≢◌, ℕ, Bool, false, List, ◌∷◌, length, subst, sym, ap, ◌∙◌}
 use Rattle.std.proofs.lemmas.List.{length-set}
 use Rattle.std.proofs.Math.ListN.{set}
 use Rattle.board_model.specs.declared.board.Board.{Board}
 use Rattle.board_model.specs.Valid.{IsValid}
 use Rattle.history_model.specs.declared.event.Event.{Event}
 use Rattle.history_model.specs.Local.{bus_of}
-use Rattle.judge_state.specs.State.{KeptState}
 use Rattle.judge_state.specs.Stands.{StandsFor}
 use Rattle.judge_next.specs.Course.{KnowsQuiet}
 use Rattle.judge_next.proofs.RowLemmas.{stood_before}
@@ -20,16 +19,16 @@ returns-in-Ok-clause-goes_on c = λ h is.
     let board : Board = c.args.tree.now in
     let e : Event = c.args.event.now in
     let flags : List Bool = c.args.self.now.quiet.items in
-    let valid : IsValid board = c.board.ensures.valid in
+    let valid : IsValid board = c.board-board.ensures.valid in
     let stands : StandsFor board (e ∷ h) c.step.new.self = c.in-Ok.ensures.goes_on h is.stands in
-    let bus_is : c.bus_of.result ≡ bus_of board e = c.bus_of.ensures ∙ ap (λ (b : Board). bus_of b e) c.board.ensures.value in
+    let bus_is : c.bus_of.result ≡ bus_of board e = c.bus_of.ensures ∙ ap (λ (b : Board). bus_of b e) c.board-board.ensures.value in
     let marked : c.wake.new.quiet.items ≡ set flags c.bus_of.result false = c.wake.ensures in
     let known : KnowsQuiet board c.step.new.self (set flags c.bus_of.result false) =
     quiet_stays board h e c.args.self.now.kept c.step.new.self flags (set flags c.bus_of.result false) valid is.stands stands is.quiet
     (λ bus stood. let before = stood_before flags c.bus_of.result bus stood in (subst (λ (n : ℕ). n ≢ bus) bus_is before.0, before.1)) in
     let again : c.look_again.new.self.still.items ≡ looked board c.step.new.self (presenting e) (looked board c.step.new.self (claiming e) c.args.self.now.flights.still.items) =
     subst (λ (b : Board). c.look_again.new.self.still.items ≡ looked b c.step.new.self (presenting e) (looked b c.step.new.self (claiming e) c.args.self.now.flights.still.items))
-    c.board.ensures.value c.look_again.ensures.still in
+    c.board-board.ensures.value c.look_again.ensures.still in
     record {
       stands = stands;
       fits = is.fits;
