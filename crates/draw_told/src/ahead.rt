@@ -1,6 +1,8 @@
 ghost use Rattle.std.specs.Prelude.{◌≡◌};
 ghost use Rattle.std.specs.List.{find};
-ghost use Rattle.draw_told.specs.Ahead.{ends_on, unpresented, retried, waiting_in, carried_of, waits_for, is_post, is_held, is_ahead, first_ahead, ahead_of_event, ahead_in};
+ghost use Rattle.draw_told.specs.Ahead.{ends_on, unpresented, retried, waiting_in, carried_of};
+ghost use Rattle.draw_told.specs.Ahead.{waits_for, is_post, is_held, is_ahead, first_ahead};
+ghost use Rattle.draw_told.specs.Ahead.{ahead_of_event, ahead_in};
 
 use crate::close::Close;
 use board_model::{Board, end_of};

@@ -10,7 +10,8 @@ pub enum Close {
     Ended,
     /// They are a run that has not ended.
     NotEnded,
-    /// The last of them is not allowed after those before it, for this cause, of which a sentence tells.
+    /// The last of them is not allowed after those before it, for this cause, of which a sentence
+    /// tells.
     Refused { why: Why, sentence: &'static str },
 }
 

@@ -1,6 +1,7 @@
-//! What a picture of a run tells beside its drawing: the lines of the audit, where each write landed and was read by a master
-//! that was told, which operations and events belong to that, and the brackets beside the list; how the events end, and what
-//! one that is not allowed stands behind; and the top of the page.
+//! What a picture of a run tells beside its drawing: the lines of the audit, where each write
+//! landed and was read by a master that was told, which operations and events belong to that, and
+//! the brackets beside the list; how the events end, and what one that is not allowed stands
+//! behind; and the top of the page.
 #![tactic(auto)]
 
 mod ahead;

@@ -1,4 +1,5 @@
-ghost use Rattle.std.specs.Prelude.{◌≡◌, ◌<◌, ◌^◌, ◌+◌, [], ◌||◌, ◌==◌, ℕ, false, is_some, length, replicate, List, IfOk, OnOk};
+ghost use Rattle.std.specs.Prelude.{◌≡◌, ◌<◌, ◌^◌, ◌+◌, [], ◌||◌, ◌==◌, ℕ, false, is_some, length};
+ghost use Rattle.std.specs.Prelude.{replicate, List, IfOk, OnOk};
 ghost use Rattle.pci_command.specs.declared.op_id.OpId.{OpId};
 ghost use Rattle.audit_clocks.specs.Tables.{value_of};
 ghost use Rattle.std.specs.List.{list_any};
@@ -43,7 +44,8 @@ impl Model for Told {
 
     ghost Value = { ToldTables };
 
-    ghost view = { λ k. record { found = k.found; spans = k.spans.items; loud = k.loud; keys = k.keys.items } };
+    ghost view = { λ k.
+        record { found = k.found; spans = k.spans.items; loud = k.loud; keys = k.keys.items } };
 }
 
 /// What an audit of the run tells.
@@ -81,7 +83,8 @@ fn note_all(
     Ok(())
 }
 
-/// What these lines of a run tell, of which this was noted down; its events have numbers below `count`.
+/// What these lines of a run tell, of which this was noted down; its events have numbers below
+/// `count`.
 fn told_by(
     alloc: Global,
     ends: &Ends,
@@ -89,8 +92,10 @@ fn told_by(
     count: usize,
     found: List<Found>,
 ) -> Result<Told, NoMemory>
-    ensures { (board : BoardNow) (events : List Event) → TellsEnds (history_of events) ends.now → TellsTouches board (history_of events) landed.now
-        → found ≡ findings board (history_of events) → count ≡ length events + 1 → IfOk result (TellsTold board events) }
+    ensures { (board : BoardNow) (events : List Event) → TellsEnds (history_of events) ends.now →
+        TellsTouches board (history_of events) landed.now
+        → found ≡ findings board (history_of events) → count ≡ length events + 1 →
+        IfOk result (TellsTold board events) }
 {
     let spans = spans_of(alloc, ends, landed, found.as_slice())?;
     let loud = loud_of(alloc, found.as_slice())?;
@@ -110,7 +115,8 @@ fn spans_of(
     landed: &Landed,
     found: &[Found],
 ) -> Result<Vec<Span>, NoMemory>
-    ensures told { (board : BoardNow) (h : List Event) → TellsEnds h ends.now → TellsTouches board h landed.now → IfOk result (λ spans. spans.items ≡ spans_in board h found.now) }
+    ensures told { (board : BoardNow) (h : List Event) → TellsEnds h ends.now → TellsTouches board h
+        landed.now → IfOk result (λ spans. spans.items ≡ spans_in board h found.now) }
     ensures many { IfOk result (λ spans. length spans.items ≡ length found.now) }
 {
     let mut spans = Vec::new(alloc);
@@ -121,7 +127,8 @@ fn spans_of(
 }
 
 fn span_of(ends: &Ends, landed: &Landed, found: &Found) -> Span
-    ensures { (board : BoardNow) (h : List Event) → TellsEnds h ends.now → TellsTouches board h landed.now → result ≡ span_of board h found.now }
+    ensures { (board : BoardNow) (h : List Event) → TellsEnds h ends.now →
+        TellsTouches board h landed.now → result ≡ span_of board h found.now }
 {
     let read = ends.read(found.read);
     let word = Word {
@@ -135,7 +142,8 @@ fn span_of(ends: &Ends, landed: &Landed, found: &Found) -> Span
 
 /// The operations of the chains.
 fn loud_of(alloc: Global, found: &[Found]) -> Result<OpTable<bool>, NoMemory>
-    ensures { IfOk result (λ loud. (o : OpId) → is_some (value_of o loud) ≡ is_loud_in found.now o) }
+    ensures { IfOk result (λ loud. (o : OpId) →
+        is_some (value_of o loud) ≡ is_loud_in found.now o) }
 {
     let mut loud = OpTable::new(alloc);
     for one in found {
@@ -162,7 +170,9 @@ fn keys_of(
     spans: &[Span],
 ) -> Result<Vec<bool>, NoMemory>
     requires { length found.now ≡ length spans.now }
-    ensures { (board : BoardNow) (h : List Event) → TellsEnds h ends.now → spans.now ≡ spans_in board h found.now → IfOk result (λ keys. (n : ℕ) → 0 < n → n < count → key_at keys.items n ≡ is_key_in board h found.now n) }
+    ensures { (board : BoardNow) (h : List Event) → TellsEnds h ends.now →
+        spans.now ≡ spans_in board h found.now → IfOk result (λ keys. (n : ℕ) → 0 < n → n < count →
+        key_at keys.items n ≡ is_key_in board h found.now n) }
 {
     let mut keys = no_keys(alloc, count)?;
     for line in 0..found.len() {
@@ -185,7 +195,8 @@ fn no_keys(alloc: Global, count: usize) -> Result<Vec<bool>, NoMemory>
 #[tactic(auto, using(crate::proofs::KeyLemmas::marks_then))]
 fn mark_line(keys: &mut Vec<bool>, ends: &Ends, found: &Found, span: Span)
     ensures { (h : List Event) → TellsEnds h ends.now
-        → Marks keys.old.items keys.new.items (λ n. (span.landed == n || span.read == n) || list_any (is_event_of h n) found.now.chain) }
+        → Marks keys.old.items keys.new.items
+        (λ n. (span.landed == n || span.read == n) || list_any (is_event_of h n) found.now.chain) }
 {
     mark_span(keys, span);
     mark_chain(keys, ends, found.chain.as_slice());
@@ -200,7 +211,8 @@ fn mark_span(keys: &mut Vec<bool>, span: Span)
 
 /// The reads and landings of a chain.
 fn mark_chain(keys: &mut Vec<bool>, ends: &Ends, chain: &[OpId])
-    ensures { (h : List Event) → TellsEnds h ends.now → Marks keys.old.items keys.new.items (λ n. list_any (is_event_of h n) chain.now) }
+    ensures { (h : List Event) → TellsEnds h ends.now →
+        Marks keys.old.items keys.new.items (λ n. list_any (is_event_of h n) chain.now) }
 {
     for op in chain {
         mark_op(keys, ends, *op);
@@ -208,7 +220,8 @@ fn mark_chain(keys: &mut Vec<bool>, ends: &Ends, chain: &[OpId])
 }
 
 fn mark_op(keys: &mut Vec<bool>, ends: &Ends, op: OpId)
-    ensures { (h : List Event) → TellsEnds h ends.now → Marks keys.old.items keys.new.items (λ n. is_event_of h n op) }
+    ensures { (h : List Event) → TellsEnds h ends.now →
+        Marks keys.old.items keys.new.items (λ n. is_event_of h n op) }
 {
     mark(keys, ends.read(op));
     mark(keys, ends.land(op));

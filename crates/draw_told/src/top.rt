@@ -1,7 +1,10 @@
 ghost use Rattle.std.specs.Prelude.{◌≡◌, ◌++◌, length, string_bytes, OnOk};
 ghost use Rattle.std.specs.List.{flat_map, zip};
-ghost use Rattle.draw_told.specs.Tops.{drawn_words, close_words, title_text, cause_line, close_line};
-ghost use Rattle.draw_told.specs.Tops.{document, style_open, style_part, head_text, top_text, link_text, landed_word, landed_text, read_text, links_text, told_line, open_word, told_open, told_lines, told_text};
+ghost use Rattle.draw_told.specs.Tops.{drawn_words, close_words, title_text, cause_line};
+ghost use Rattle.draw_told.specs.Tops.{close_line};
+ghost use Rattle.draw_told.specs.Tops.{document, style_open, style_part, head_text, top_text};
+ghost use Rattle.draw_told.specs.Tops.{link_text, landed_word, landed_text, read_text, links_text};
+ghost use Rattle.draw_told.specs.Tops.{told_line, open_word, told_open, told_lines, told_text};
 
 use crate::close::Close;
 use crate::style::{print_key, print_style};
@@ -11,7 +14,8 @@ use board_model::Board;
 use history_model::Why;
 use std::alloc::AllocError;
 
-/// What the title tells: how many events and buses there are, which events are drawn, and how they end.
+/// What the title tells: how many events and buses there are, which events are drawn, and how they
+/// end.
 #[derive(Clone, Copy, Debug)]
 pub struct Title {
     pub count: u32,
@@ -24,7 +28,9 @@ pub struct Title {
 /// The head of the page, its title, why an event is not allowed, and the key of signs.
 #[tactic(auto, unfolding(crate::specs::Tops::top_text))]
 pub fn print_top(text: &mut String, title: Title) -> Result<(), AllocError>
-    ensures { OnOk result (string_bytes text.new ≡ string_bytes text.old ++ top_text (title_text title.count title.buses title.first title.last title.close) (close_line title.count title.close)) }
+    ensures { OnOk result (string_bytes text.new ≡ string_bytes text.old ++
+        top_text (title_text title.count title.buses title.first title.last title.close)
+        (close_line title.count title.close)) }
 {
     print_head(text, title)?;
     text.push_str("<h1>")?;
@@ -36,7 +42,8 @@ pub fn print_top(text: &mut String, title: Title) -> Result<(), AllocError>
 
 #[tactic(auto, unfolding(crate::specs::Tops::head_text))]
 fn print_head(text: &mut String, title: Title) -> Result<(), AllocError>
-    ensures { OnOk result (string_bytes text.new ≡ string_bytes text.old ++ head_text (title_text title.count title.buses title.first title.last title.close)) }
+    ensures { OnOk result (string_bytes text.new ≡ string_bytes text.old ++
+        head_text (title_text title.count title.buses title.first title.last title.close)) }
 {
     print_document(text)?;
     print_title(text, title)?;
@@ -70,7 +77,8 @@ fn print_document(text: &mut String) -> Result<(), AllocError>
 
 #[tactic(auto, unfolding(crate::specs::Tops::title_text))]
 fn print_title(text: &mut String, title: Title) -> Result<(), AllocError>
-    ensures { OnOk result (string_bytes text.new ≡ string_bytes text.old ++ title_text title.count title.buses title.first title.last title.close) }
+    ensures { OnOk result (string_bytes text.new ≡ string_bytes text.old ++
+        title_text title.count title.buses title.first title.last title.close) }
 {
     write!(text, "events {}, buses {}", title.count, title.buses)?;
     print_drawn(text, title.count, title.first, title.last)?;
@@ -80,7 +88,8 @@ fn print_title(text: &mut String, title: Title) -> Result<(), AllocError>
 /// How the run ends, where it does not end well.
 #[tactic(auto, unfolding(crate::specs::Tops::close_words))]
 fn print_close(text: &mut String, count: u32, close: Close) -> Result<(), AllocError>
-    ensures { OnOk result (string_bytes text.new ≡ string_bytes text.old ++ close_words count close) }
+    ensures { OnOk result
+        (string_bytes text.new ≡ string_bytes text.old ++ close_words count close) }
 {
     match close {
         Close::Ended => Ok(()),
@@ -90,7 +99,8 @@ fn print_close(text: &mut String, count: u32, close: Close) -> Result<(), AllocE
 }
 
 fn print_close_line(text: &mut String, count: u32, close: Close) -> Result<(), AllocError>
-    ensures { OnOk result (string_bytes text.new ≡ string_bytes text.old ++ close_line count close) }
+    ensures { OnOk result
+        (string_bytes text.new ≡ string_bytes text.old ++ close_line count close) }
 {
     match close {
         Close::Ended | Close::NotEnded => Ok(()),
@@ -113,7 +123,8 @@ fn print_cause(text: &mut String, count: u32, why: Why, sentence: &str) -> Resul
 /// Which events are drawn, where these are not all.
 #[tactic(auto, unfolding(crate::specs::Tops::drawn_words))]
 fn print_drawn(text: &mut String, count: u32, first: u32, last: u32) -> Result<(), AllocError>
-    ensures { OnOk result (string_bytes text.new ≡ string_bytes text.old ++ drawn_words count first last) }
+    ensures { OnOk result
+        (string_bytes text.new ≡ string_bytes text.old ++ drawn_words count first last) }
 {
     if first == 1 && last == count {
         Ok(())
@@ -130,7 +141,8 @@ pub fn print_told(
     found: &[Found],
     spans: &[Span],
 ) -> Result<(), AllocError>
-    ensures { OnOk result (string_bytes text.new ≡ string_bytes text.old ++ told_text board.now found.now spans.now) }
+    ensures { OnOk result
+        (string_bytes text.new ≡ string_bytes text.old ++ told_text board.now found.now spans.now) }
 {
     if found.len() == 0 {
         Ok(())
@@ -146,7 +158,8 @@ fn print_told_lines(
     found: &[Found],
     spans: &[Span],
 ) -> Result<(), AllocError>
-    ensures { OnOk result (string_bytes text.new ≡ string_bytes text.old ++ told_lines board.now found.now spans.now) }
+    ensures { OnOk result (string_bytes text.new ≡ string_bytes text.old ++
+        told_lines board.now found.now spans.now) }
 {
     print_told_open(text, found.len())?;
     print_each(text, board, found, spans)?;
@@ -176,7 +189,8 @@ fn print_each(
     found: &[Found],
     spans: &[Span],
 ) -> Result<(), AllocError>
-    ensures { OnOk result (string_bytes text.new ≡ string_bytes text.old ++ flat_map (told_line board.now) (zip found.now spans.now)) }
+    ensures { OnOk result (string_bytes text.new ≡ string_bytes text.old ++
+        flat_map (told_line board.now) (zip found.now spans.now)) }
 {
     for (one, span) in found.iter().zip(spans.iter()) {
         print_line(text, board, one, *span)?;
@@ -187,7 +201,8 @@ fn print_each(
 /// A line, with links to its rows.
 #[tactic(auto, unfolding(crate::specs::Tops::told_line))]
 fn print_line(text: &mut String, board: &Board, one: &Found, span: Span) -> Result<(), AllocError>
-    ensures { OnOk result (string_bytes text.new ≡ string_bytes text.old ++ told_line board.now (one.now, span)) }
+    ensures { OnOk result
+        (string_bytes text.new ≡ string_bytes text.old ++ told_line board.now (one.now, span)) }
 {
     text.push_str("<li><code>")?;
     print_found(text, board, one)?;

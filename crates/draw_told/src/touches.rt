@@ -1,7 +1,9 @@
-ghost use Rattle.std.specs.Prelude.{◌≡◌, ◌≤◌, ◌^◌, [], ◌++◌, ◌∷◌, if◌then◌else◌, ◌&&◌, nat_lt, length, IfOk, OnOk};
+ghost use Rattle.std.specs.Prelude.{◌≡◌, ◌≤◌, ◌^◌, [], ◌++◌, ◌∷◌, if◌then◌else◌, ◌&&◌, nat_lt};
+ghost use Rattle.std.specs.Prelude.{length, IfOk, OnOk};
 ghost use Rattle.pci_command.specs.Same.{same_op, same_space};
 ghost use Rattle.audit_clocks.specs.Tables.{same_word};
-ghost use Rattle.draw_told.specs.Kept.{touches_in, touches_from, request_touches, place_touches, event_touches, last_before, Adds, Touches};
+ghost use Rattle.draw_told.specs.Kept.{touches_in, touches_from, request_touches, place_touches};
+ghost use Rattle.draw_told.specs.Kept.{event_touches, last_before, Adds, Touches};
 
 use audit_clocks::OpTable;
 use audit_landings::{gone_of, lands, record_parted};
@@ -88,7 +90,8 @@ impl TouchTable {
     /// A data phase of the write landed.
     #[tactic(auto, using(crate::proofs::TouchLemmas::adds_put))]
     fn add(&mut self, alloc: Global, op: OpId, touch: Touch) -> Result<(), NoMemory>
-        ensures { OnOk result (Adds self.old self.new (λ o. if same_op op o then touch ∷ [] else [])) }
+        ensures { OnOk result
+            (Adds self.old self.new (λ o. if same_op op o then touch ∷ [] else [])) }
     {
         let list = longer(alloc, self.of(op), touch)?;
         self.lists.put(op, list)
@@ -153,7 +156,8 @@ impl Landed {
 
 /// The event of a touch, if it is of this dword and before number n, or else the other.
 fn later(touch: Touch, word: Word, n: u32, found: u32) -> u32
-    ensures { result ≡ (if same_word touch.word word && nat_lt touch.event n then touch.event else found) }
+    ensures { result ≡
+        (if same_word touch.word word && nat_lt touch.event n then touch.event else found) }
 {
     if is_same_word(touch.word, word) && touch.event < n {
         touch.event
@@ -185,7 +189,8 @@ fn record_landed(
     n: u32,
     event: &Event,
 ) -> Result<(), NoMemory>
-    ensures { OnOk result (Adds writes.old writes.new (event_touches board.now n gone.now event.now)) }
+    ensures { OnOk result
+        (Adds writes.old writes.new (event_touches board.now n gone.now event.now)) }
 {
     match *event {
         Event::Act {
@@ -221,7 +226,8 @@ fn record_place(
     place: Place,
 ) -> Result<(), NoMemory>
     requires { gone ≤ 2 ^ 100 }
-    ensures { OnOk result (Adds writes.old writes.new (λ o. if same_op op o then place_touches board.now n gone bus op step place else [])) }
+    ensures { OnOk result (Adds writes.old writes.new
+        (λ o. if same_op op o then place_touches board.now n gone bus op step place else [])) }
 {
     match place {
         Place::Target(target) => {
@@ -248,7 +254,8 @@ fn record_request(
     target: u16,
 ) -> Result<(), NoMemory>
     requires { gone ≤ 2 ^ 100 }
-    ensures { OnOk result (Adds writes.old writes.new (λ o. if same_op op o then request_touches n gone step target request.now else [])) }
+    ensures { OnOk result (Adds writes.old writes.new
+        (λ o. if same_op op o then request_touches n gone step target request.now else [])) }
 {
     let space = request.command.space();
     let first = Word {
@@ -270,7 +277,8 @@ fn record_phases(
     count: usize,
 ) -> Result<(), NoMemory>
     requires { first.address ≤ 2 ^ 120 }
-    ensures { OnOk result (Adds writes.old writes.new (λ o. if same_op op o then touches_from n first.target first.space first.address count else [])) }
+    ensures { OnOk result (Adds writes.old writes.new (λ o.
+        if same_op op o then touches_from n first.target first.space first.address count else [])) }
 {
     for phase in 0..count {
         let address = first.address + 4 * phase as u128;
