@@ -1,19 +1,20 @@
-ghost use Rattle.std.specs.Prelude.{◌≡◌, [], ◌++◌, ◌==◌, OnOk, string_bytes};
+ghost use Rattle.std.specs.Prelude.{◌≡◌, [], ◌∷◌, ◌++◌, ◌==◌, OnOk, string_bytes};
+ghost use Rattle.std.specs.Fmt.{decimal};
 ghost use Rattle.board_printer.specs.Lines.{spaced, line_text};
-ghost use Rattle.trace_text.specs.Words.{master_name, target_name, names_poll, op_word, place_words};
-ghost use Rattle.trace_text.specs.Events.{step_word, result_words, mark_words, act_line, arrival_line, event_line};
+ghost use Rattle.trace_text.specs.Words.{by_word, master_name, target_name, names_poll, op_word, place_words};
+ghost use Rattle.trace_text.specs.Events.{step_word, result_words, mark_words, arrival_line, event_line};
 
-use crate::words::{ByWord, LaneWord, OutcomeWord};
+use crate::digits::{push_decimal, push_word};
+use crate::words::{push_by, push_lane, push_outcome};
 use board_model::{Board, Lane, Op, Place, end_of};
-use board_printer::HexWord;
 use history_model::{By, Event, Mark, Step};
 use pci_command::OpId;
 use std::alloc::AllocError;
 
 /// The line of the event, behind a text.
-pub(crate) fn print_event(text: &mut String, board: &Board, event: &Event) -> Result<(), AllocError>
+pub(crate) fn push_event(text: &mut Vec<u8>, board: &Board, event: &Event) -> Result<(), AllocError>
     ensures { OnOk result
-        (string_bytes text.new ≡ string_bytes text.old ++ line_text (event_line board.now event.now)) }
+        (text.new.items ≡ text.old.items ++ line_text (event_line board.now event.now)) }
 {
     match event {
         Event::Act {
@@ -22,39 +23,59 @@ pub(crate) fn print_event(text: &mut String, board: &Board, event: &Event) -> Re
             op,
             step,
             place,
-        } => { print_act(text, board, *bus, *by, op, *step, *place) }
-        Event::Arrive { lane, mark } => print_arrival(text, board, *lane, *mark),
+        } => {
+            push_start(text, *bus, *step, *by)?;
+            push_operation(text, board, op)?;
+            push_end(text, board, *place, *step)
+        }
+        Event::Arrive { lane, mark } => push_arrival(text, board, *lane, *mark),
     }
 }
 
-fn print_act(
-    text: &mut String,
-    board: &Board,
-    bus: u8,
-    by: By,
-    op: &OpId,
-    step: Step,
-    place: Place,
-) -> Result<(), AllocError>
-    ensures { OnOk result
-        (string_bytes text.new
-        ≡ string_bytes text.old ++ line_text (act_line board.now bus by op.now step place)) }
+/// `BUS STEP BY ` and the space before the operation.
+fn push_start(text: &mut Vec<u8>, bus: u8, step: Step, by: By) -> Result<(), AllocError>
+    ensures { OnOk result (text.new.items
+        ≡ text.old.items ++ (decimal bus ++ 32 ∷ (step_word step ++ 32 ∷ (by_word by ++ 32 ∷ [])))) }
 {
-    write!(text, "{bus} {} {} ", step_word(step), ByWord(by))?;
-    print_operation(text, board, op)?;
-    print_place(text, board, place)?;
-    print_result(text, step)?;
-    writeln!(text)
+    push_decimal(text, u32::from(bus))?;
+    text.extend_from_slice(spaced_step(step))?;
+    push_by(text, by)
 }
 
-fn print_arrival(text: &mut String, board: &Board, lane: Lane, mark: Mark) -> Result<(), AllocError>
-    ensures { OnOk result
-        (string_bytes text.new
-        ≡ string_bytes text.old ++ line_text (arrival_line board.now lane mark)) }
+/// `NAME.INDEX`, for a poll `NAME.INDEX.TRY`.
+fn push_operation(text: &mut Vec<u8>, board: &Board, op: &OpId) -> Result<(), AllocError>
+    ensures { OnOk result (text.new.items ≡ text.old.items ++ op_word board.now op.now) }
 {
-    write!(text, "{} arrive {}", end_of(board, lane), LaneWord(lane))?;
-    print_mark(text, mark)?;
-    writeln!(text)
+    text.extend_from_slice(master_name(board, op.master).as_bytes())?;
+    text.push(b'.')?;
+    push_decimal(text, u32::from(op.index))?;
+    if names_poll(board, op) {
+        text.push(b'.')?;
+        push_decimal(text, op.attempt)
+    } else {
+        Ok(())
+    }
+}
+
+/// ` PLACE RESULT` and the newline.
+fn push_end(text: &mut Vec<u8>, board: &Board, place: Place, step: Step) -> Result<(), AllocError>
+    ensures { OnOk result (text.new.items
+        ≡ text.old.items ++ spaced (place_words board.now place ++ result_words step) (10 ∷ [])) }
+{
+    push_place(text, board, place)?;
+    push_result(text, step)?;
+    text.push(b'\n')?;
+    Ok(())
+}
+
+fn push_arrival(text: &mut Vec<u8>, board: &Board, lane: Lane, mark: Mark) -> Result<(), AllocError>
+    ensures { OnOk result
+        (text.new.items ≡ text.old.items ++ line_text (arrival_line board.now lane mark)) }
+{
+    push_decimal(text, u32::from(end_of(board, lane)))?;
+    text.extend_from_slice(b" arrive ")?;
+    push_lane(text, lane)?;
+    text.extend_from_slice(end_with(mark))
 }
 
 /// The operation as `NAME.INDEX`, for a poll `NAME.INDEX.TRY`, behind a text. The name of a master
@@ -121,26 +142,43 @@ pub fn step_word(step: Step) -> &'static str
     }
 }
 
-fn print_place(text: &mut String, board: &Board, place: Place) -> Result<(), AllocError>
+fn push_place(text: &mut Vec<u8>, board: &Board, place: Place) -> Result<(), AllocError>
     ensures { OnOk result
-        (string_bytes text.new ≡ string_bytes text.old ++ spaced (place_words board.now place) []) }
+        (text.new.items ≡ text.old.items ++ spaced (place_words board.now place) []) }
 {
     match place {
-        Place::Target(index) => write!(text, " {}", target_name(board, index)),
-        Place::Header(bus) => write!(text, " ={bus}"),
-        Place::Lane(lane) => write!(text, " {}", LaneWord(lane)),
+        Place::Target(index) => {
+            text.push(b' ')?;
+            text.extend_from_slice(target_name(board, index).as_bytes())
+        }
+        Place::Header(bus) => {
+            text.extend_from_slice(b" =")?;
+            push_decimal(text, u32::from(bus))
+        }
+        Place::Lane(lane) => {
+            text.push(b' ')?;
+            push_lane(text, lane)
+        }
         Place::Nobody => Ok(()),
     }
 }
 
-fn print_result(text: &mut String, step: Step) -> Result<(), AllocError>
-    ensures { OnOk result
-        (string_bytes text.new ≡ string_bytes text.old ++ spaced (result_words step) []) }
+fn push_result(text: &mut Vec<u8>, step: Step) -> Result<(), AllocError>
+    ensures { OnOk result (text.new.items ≡ text.old.items ++ spaced (result_words step) []) }
 {
     match step {
-        Step::Part(phases) => write!(text, " {phases}"),
-        Step::Read(value) => write!(text, " {}", HexWord(value)),
-        Step::Take(outcome) => write!(text, " {}", OutcomeWord(outcome)),
+        Step::Part(phases) => {
+            text.push(b' ')?;
+            push_decimal(text, u32::from(phases))
+        }
+        Step::Read(value) => {
+            text.push(b' ')?;
+            push_word(text, value)
+        }
+        Step::Take(outcome) => {
+            text.push(b' ')?;
+            push_outcome(text, outcome)
+        }
         Step::Land
         | Step::Accept
         | Step::Latch
@@ -150,13 +188,30 @@ fn print_result(text: &mut String, step: Step) -> Result<(), AllocError>
     }
 }
 
-fn print_mark(text: &mut String, mark: Mark) -> Result<(), AllocError>
-    ensures { OnOk result
-        (string_bytes text.new ≡ string_bytes text.old ++ spaced (mark_words mark) []) }
+/// The word of a step, between spaces.
+fn spaced_step(step: Step) -> &'static [u8]
+    ensures { result.now ≡ 32 ∷ (step_word step ++ 32 ∷ []) }
+{
+    match step {
+        Step::Land => b" land ",
+        Step::Part(_) => b" part ",
+        Step::Read(_) => b" read ",
+        Step::Accept => b" accept ",
+        Step::Latch => b" latch ",
+        Step::Take(_) => b" take ",
+        Step::Stall => b" stall ",
+        Step::MasterAbort => b" nobody ",
+        Step::TargetAbort => b" tabort ",
+    }
+}
+
+/// The mark behind an arrival, and the newline.
+fn end_with(mark: Mark) -> &'static [u8]
+    ensures { result.now ≡ spaced (mark_words mark) (10 ∷ []) }
 {
     match mark {
-        Mark::Plain => Ok(()),
-        Mark::Discard => text.push_str(" discard"),
-        Mark::Drop => text.push_str(" drop"),
+        Mark::Plain => b"\n",
+        Mark::Discard => b" discard\n",
+        Mark::Drop => b" drop\n",
     }
 }

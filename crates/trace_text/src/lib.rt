@@ -1,6 +1,7 @@
 //! The text of a trace: a board and the events of a history, line by line.
 #![tactic(auto)]
 
+mod digits;
 mod events;
 mod lines;
 mod trace;

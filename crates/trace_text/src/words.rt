@@ -1,7 +1,11 @@
+ghost use Rattle.std.specs.Prelude.{◌≡◌, ◌++◌, ◌∷◌, [], OnOk, codes, if◌then◌else◌};
+ghost use Rattle.trace_text.specs.Words.{lane_word, by_word, outcome_word};
+
+use crate::digits::{push_decimal, push_word};
 use board_model::Lane;
-use board_printer::HexWord;
 use history_model::By;
 use pci_command::Outcome;
+use std::alloc::AllocError;
 use std::fmt;
 
 /// A lane in a line: the secondary bus of its bridge, and `u` for up or `d` for down.
@@ -11,10 +15,6 @@ pub struct LaneWord(pub Lane);
 /// An initiator in a line: `m` for the operation's own master, otherwise the lane.
 #[derive(Clone, Copy, Debug, PartialEq, Eq)]
 pub struct ByWord(pub By);
-
-/// How an operation ended, in a line: its value in eight hexadecimal digits, `ok` or `abort`.
-#[derive(Clone, Copy, Debug, PartialEq, Eq)]
-pub(crate) struct OutcomeWord(pub(crate) Outcome);
 
 impl fmt::Display for LaneWord {
     ghost use Rattle.std.specs.Prelude.{Some};
@@ -46,18 +46,42 @@ impl fmt::Display for ByWord {
     }
 }
 
-impl fmt::Display for OutcomeWord {
-    ghost use Rattle.std.specs.Prelude.{Some};
-    ghost use Rattle.trace_text.specs.Words.{outcome_word};
-
-    ghost output = { λ word. Some (outcome_word word.0) };
-
-    fn fmt<W: fmt::Write>(&self, f: &mut fmt::Formatter<W>) -> fmt::Result {
-        match self.0 {
-            Outcome::Value(value) => write!(f, "{}", HexWord(value)),
-            Outcome::Written => write!(f, "ok"),
-            Outcome::Aborted => write!(f, "abort"),
-            Outcome::Nobody => write!(f, "nobody"),
+/// An initiator and a space, behind a text.
+pub(crate) fn push_by(text: &mut Vec<u8>, by: By) -> Result<(), AllocError>
+    ensures { OnOk result (text.new.items ≡ text.old.items ++ (by_word by ++ 32 ∷ [])) }
+{
+    match by {
+        By::Master => text.extend_from_slice(b"m "),
+        By::Lane(lane) => {
+            push_lane(text, lane)?;
+            text.push(b' ')?;
+            Ok(())
         }
+    }
+}
+
+/// A lane, behind a text.
+pub(crate) fn push_lane(text: &mut Vec<u8>, lane: Lane) -> Result<(), AllocError>
+    ensures { OnOk result (text.new.items ≡ text.old.items ++ lane_word lane) }
+{
+    push_decimal(text, u32::from(lane.bus))?;
+    text.extend_from_slice(direction(lane.up))
+}
+
+fn direction(up: bool) -> &'static [u8]
+    ensures { result.now ≡ (if up then codes "u" else codes "d") }
+{
+    if up { b"u" } else { b"d" }
+}
+
+/// How an operation ended, behind a text: its value in eight hexadecimal digits, `ok` or `abort`.
+pub(crate) fn push_outcome(text: &mut Vec<u8>, outcome: Outcome) -> Result<(), AllocError>
+    ensures { OnOk result (text.new.items ≡ text.old.items ++ outcome_word outcome) }
+{
+    match outcome {
+        Outcome::Value(value) => push_word(text, value),
+        Outcome::Written => text.extend_from_slice(b"ok"),
+        Outcome::Aborted => text.extend_from_slice(b"abort"),
+        Outcome::Nobody => text.extend_from_slice(b"nobody"),
     }
 }

@@ -3,7 +3,7 @@ use Rattle.std.proofs.lemmas.Result.{IfOk-equal}
 use Rattle.trace_text.specs.Words.{place_words}
 use Rattle.trace_text.specs.Events.{result_words}
 use Rattle.trace_text.proofs.SpacedLemmas.{spaced-parts}
-use Rattle.trace_text.proofs.events.print_act.Goals as goal
+use Rattle.trace_text.proofs.events.push_end.Goals as goal
 
 pub returns : goal.returns
 returns c =
