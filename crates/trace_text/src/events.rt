@@ -1,8 +1,10 @@
 ghost use Rattle.std.specs.Prelude.{◌≡◌, [], ◌∷◌, ◌++◌, ◌==◌, OnOk, string_bytes};
 ghost use Rattle.std.specs.Fmt.{decimal};
 ghost use Rattle.board_printer.specs.Lines.{spaced, line_text};
-ghost use Rattle.trace_text.specs.Words.{by_word, master_name, target_name, names_poll, op_word, place_words};
-ghost use Rattle.trace_text.specs.Events.{step_word, result_words, mark_words, arrival_line, event_line};
+ghost use Rattle.trace_text.specs.Words.{by_word, master_name, target_name};
+ghost use Rattle.trace_text.specs.Words.{names_poll, op_word, place_words};
+ghost use Rattle.trace_text.specs.Events.{step_word, result_words, mark_words};
+ghost use Rattle.trace_text.specs.Events.{arrival_line, event_line};
 
 use crate::digits::{push_decimal, push_word};
 use crate::words::{push_by, push_lane, push_outcome};
@@ -34,8 +36,8 @@ pub(crate) fn push_event(text: &mut Vec<u8>, board: &Board, event: &Event) -> Re
 
 /// `BUS STEP BY ` and the space before the operation.
 fn push_start(text: &mut Vec<u8>, bus: u8, step: Step, by: By) -> Result<(), AllocError>
-    ensures { OnOk result (text.new.items
-        ≡ text.old.items ++ (decimal bus ++ 32 ∷ (step_word step ++ 32 ∷ (by_word by ++ 32 ∷ [])))) }
+    ensures { OnOk result (text.new.items ≡ text.old.items
+        ++ (decimal bus ++ 32 ∷ (step_word step ++ 32 ∷ (by_word by ++ 32 ∷ [])))) }
 {
     push_decimal(text, u32::from(bus))?;
     text.extend_from_slice(spaced_step(step))?;
