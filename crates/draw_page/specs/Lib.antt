@@ -1,2 +1,3 @@
 pub mod Pages
 pub mod layers
+pub mod strips

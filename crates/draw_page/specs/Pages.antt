@@ -22,7 +22,7 @@ use Rattle.draw_sheets.specs.heads.Names.{names_text}
 use Rattle.draw_told.specs.declared.close.Close.{Close}
 use Rattle.draw_told.specs.Closes.{allowed_in}
 use Rattle.draw_told.specs.Tops.{title_text, close_line, top_text, told_text}
-use Rattle.draw_strips.specs.Strips.{strips_text}
+use Rattle.draw_page.specs.strips.Strips.{strips_text}
 
 -- the columns with their names, and the strips
 unfoldable pub table_open : List ℕ

@@ -4,5 +4,6 @@
 mod known;
 mod layers;
 mod page;
+pub mod strips;
 
 pub use page::page_of;

@@ -1,9 +1,9 @@
 use Rattle.std.proofs.Common.{◌≡◌, ◌++◌, ◌-◌, List, string_bytes}
 use Rattle.std.specs.List.{flat_map, range_with_len}
 use Rattle.draw_shapes.specs.Shapes.{Shape}
-use Rattle.draw_strips.specs.Strips.{strip_text, strips_count}
-use Rattle.draw_strips.specs.Kept.{IsDrawn}
-use Rattle.draw_strips.proofs.print.print_each.Given as goal
+use Rattle.draw_page.specs.strips.Strips.{strip_text, strips_count}
+use Rattle.draw_page.specs.strips.Kept.{IsDrawn}
+use Rattle.draw_page.proofs.strips.print.print_each.Given as goal
 
 -- the strips so far, and those to come
 abbrev pub invariant-loop-strip : goal.invariant-loop-strip

@@ -1,6 +1,6 @@
 use Rattle.std.proofs.Common.{◌≤◌, max}
-use Rattle.draw_strips.specs.Kept.{AddsTo}
-use Rattle.draw_strips.proofs.strip.add_to.Given as goal
+use Rattle.draw_page.specs.strips.Kept.{AddsTo}
+use Rattle.draw_page.proofs.strips.strip.add_to.Given as goal
 
 -- the strips so far
 abbrev pub invariant-loop-strip : goal.invariant-loop-strip

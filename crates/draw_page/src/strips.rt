@@ -1,7 +1,5 @@
 //! The strips of a picture of a run, of 32 rows each: what passes each of them, found in one pass over all elements.
-#![tactic(auto)]
-
 mod print;
 mod strip;
 
-pub use print::print_strips;
+pub(crate) use print::print_strips;

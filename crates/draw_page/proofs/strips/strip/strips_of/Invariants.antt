@@ -1,6 +1,6 @@
 use Rattle.std.proofs.Common.{take}
-use Rattle.draw_strips.specs.Kept.{IsDrawn}
-use Rattle.draw_strips.proofs.strip.strips_of.Given as goal
+use Rattle.draw_page.specs.strips.Kept.{IsDrawn}
+use Rattle.draw_page.proofs.strips.strip.strips_of.Given as goal
 
 -- what passes of the elements so far
 abbrev pub invariant-loop-element : goal.invariant-loop-element

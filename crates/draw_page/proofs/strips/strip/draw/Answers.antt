@@ -1,7 +1,7 @@
 use Rattle.std.proofs.Common.{inl, inr, ap, ◌∙◌, ◌-◌, ◌/◌, ◌+◌, ℕ, arith}
-use Rattle.draw_strips.proofs.DrawLemmas.{draws_seen, draws_none}
-use Rattle.draw_strips.proofs.strip.draw.Goals as goal
-use Rattle.draw_strips.proofs.strip.draw.Goals.{else-from-frame-via-then-from-frame+else-frame-to, else-from-frame-via-else-from-frame}
+use Rattle.draw_page.proofs.strips.DrawLemmas.{draws_seen, draws_none}
+use Rattle.draw_page.proofs.strips.strip.draw.Goals as goal
+use Rattle.draw_page.proofs.strips.strip.draw.Goals.{else-from-frame-via-then-from-frame+else-frame-to, else-from-frame-via-else-from-frame}
 
 pub returns-in_ok-add_to : goal.returns-in_ok-add_to
 returns-in_ok-add_to c =

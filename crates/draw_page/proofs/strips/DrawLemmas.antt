@@ -4,9 +4,9 @@ use Rattle.std.proofs.lemmas.List.{get_or-replicate, length-replicate, take_more
 use Rattle.std.specs.List.{flat_map}
 use Rattle.draw_sheets.specs.declared.frame.Frame.{Frame}
 use Rattle.draw_shapes.specs.Shapes.{Shape}
-use Rattle.draw_strips.specs.Strips.{low_row, high_row, strips_count, passing}
-use Rattle.draw_strips.specs.Kept.{text_at, IsDrawn, Draws, AddsTo, is_between}
-use Rattle.draw_strips.proofs.TestLemmas.{between_same, passed, not_passed}
+use Rattle.draw_page.specs.strips.Strips.{low_row, high_row, strips_count, passing}
+use Rattle.draw_page.specs.strips.Kept.{text_at, IsDrawn, Draws, AddsTo, is_between}
+use Rattle.draw_page.proofs.strips.TestLemmas.{between_same, passed, not_passed}
 
 -- all strips that there are
 pub adds_all : (begin end s count : ℕ) (text : List ℕ) (old new : List (List ℕ)) → count ≡ length old → min end count ≤ s → begin ≤ s → s ≤ max begin (min end count) → AddsTo begin s text old new → AddsTo begin end text old new

@@ -1,6 +1,6 @@
 use Rattle.std.proofs.Common.{ℕ, List, [], replicate, ap, ◌∙◌}
-use Rattle.draw_strips.proofs.DrawLemmas.{drawn_none, drawn_more, drawn_all}
-use Rattle.draw_strips.proofs.strip.strips_of.Goals as goal
+use Rattle.draw_page.proofs.strips.DrawLemmas.{drawn_none, drawn_more, drawn_all}
+use Rattle.draw_page.proofs.strips.strip.strips_of.Goals as goal
 
 pub loop-element-init : goal.loop-element-init
 loop-element-init c =

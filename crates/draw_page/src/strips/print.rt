@@ -1,10 +1,10 @@
 ghost use Rattle.std.specs.Prelude.{◌≡◌, ◌++◌, List, length, string_bytes, OnOk};
 ghost use Rattle.std.specs.List.{flat_map, range_with_len};
 ghost use Rattle.draw_shapes.specs.Shapes.{Shape};
-ghost use Rattle.draw_strips.specs.Strips.{high_row, strips_count, strip_top, strip_foot, strip_around, strip_text, strips_text};
-ghost use Rattle.draw_strips.specs.Kept.{IsDrawn};
+ghost use Rattle.draw_page.specs.strips.Strips.{high_row, strips_count, strip_top, strip_foot, strip_around, strip_text, strips_text};
+ghost use Rattle.draw_page.specs.strips.Kept.{IsDrawn};
 
-use crate::strip::{Strip, strips_count, strips_of};
+use crate::strips::strip::{Strip, strips_count, strips_of};
 use draw_elements::Columns;
 use draw_shapes::Element;
 use draw_sheets::{Frame, print_sheet};
@@ -12,8 +12,8 @@ use pci_command::NoMemory;
 use std::alloc::Global;
 
 /// The strips, each with the columns behind what is drawn.
-#[tactic(auto, unfolding(crate::specs::Strips::strips_text))]
-pub fn print_strips(
+#[tactic(auto, unfolding(crate::specs::strips::Strips::strips_text))]
+pub(crate) fn print_strips(
     alloc: Global,
     text: &mut String,
     columns: &Columns,
@@ -43,7 +43,7 @@ fn print_each(
     Ok(())
 }
 
-#[tactic(auto, unfolding(crate::specs::Strips::strip_around))]
+#[tactic(auto, unfolding(crate::specs::strips::Strips::strip_around))]
 fn print_strip(
     text: &mut String,
     columns: &Columns,
@@ -61,7 +61,7 @@ fn print_strip(
 }
 
 /// The height at which a strip begins.
-#[tactic(auto, unfolding(crate::specs::Strips::strip_top))]
+#[tactic(auto, unfolding(crate::specs::strips::Strips::strip_top))]
 fn top_of(frame: &Frame, strip: u32) -> u64
     ensures { result ≡ strip_top frame.now strip }
 {
@@ -70,7 +70,7 @@ fn top_of(frame: &Frame, strip: u32) -> u64
 }
 
 /// And that at which it ends.
-#[tactic(auto, unfolding(crate::specs::Strips::strip_foot))]
+#[tactic(auto, unfolding(crate::specs::strips::Strips::strip_foot))]
 fn foot_of(frame: &Frame, strip: u32) -> u64
     ensures { result ≡ strip_foot frame.now strip }
 {

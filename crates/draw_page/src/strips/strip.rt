@@ -1,8 +1,8 @@
 ghost use Rattle.std.specs.Prelude.{◌≡◌, ◌++◌, ◌<◌, ◌+◌, ℕ, List, [], length, replicate, IfOk, OnOk};
 ghost use Rattle.std.proofs.Math.ListN.{set};
 ghost use Rattle.draw_shapes.specs.Shapes.{is_seen};
-ghost use Rattle.draw_strips.specs.Strips.{strips_count};
-ghost use Rattle.draw_strips.specs.Kept.{text_at, IsDrawn, Draws, AddsTo};
+ghost use Rattle.draw_page.specs.strips.Strips.{strips_count};
+ghost use Rattle.draw_page.specs.strips.Kept.{text_at, IsDrawn, Draws, AddsTo};
 
 use draw_shapes::Element;
 use draw_sheets::Frame;
@@ -52,7 +52,7 @@ impl Strip {
 }
 
 /// How many strips there are.
-#[tactic(auto, unfolding(crate::specs::Strips::strips_count))]
+#[tactic(auto, unfolding(crate::specs::strips::Strips::strips_count))]
 pub(crate) fn strips_count(frame: &Frame) -> u32
     ensures { result ≡ strips_count frame.now }
 {

@@ -1,9 +1,9 @@
 use Rattle.std.proofs.Common.{◌≡◌, ℕ, ◌<◌, ◌++◌, List, [], length, string_bytes, ap, ◌∙◌, arith}
 use Rattle.std.specs.List.{flat_map}
 use Rattle.std.proofs.lemmas.List.{get_or_default}
-use Rattle.draw_strips.specs.Strips.{strip_text, strip_around, strips_count, passing}
-use Rattle.draw_strips.proofs.StripLemmas.{strips_more}
-use Rattle.draw_strips.proofs.print.print_each.Goals as goal
+use Rattle.draw_page.specs.strips.Strips.{strip_text, strip_around, strips_count, passing}
+use Rattle.draw_page.proofs.strips.StripLemmas.{strips_more}
+use Rattle.draw_page.proofs.strips.print.print_each.Goals as goal
 
 pub loop-strip-preserved : goal.loop-strip-preserved
 loop-strip-preserved c = λ shapes drawn.

@@ -1,6 +1,6 @@
 use Rattle.std.proofs.Common.{◌≡◌, length, arith, ◌∙◌}
-use Rattle.draw_strips.proofs.DrawLemmas.{adds_all}
-use Rattle.draw_strips.proofs.strip.add_to.Goals as goal
+use Rattle.draw_page.proofs.strips.DrawLemmas.{adds_all}
+use Rattle.draw_page.proofs.strips.strip.add_to.Goals as goal
 
 pub returns : goal.returns
 returns c =

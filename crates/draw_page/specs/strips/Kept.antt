@@ -3,7 +3,7 @@ use Rattle.std.specs.Prelude.{◌≡◌, ◌<◌, ℕ, Bool, ◌&&◌, nat_le, n
 use Rattle.std.specs.List.{flat_map}
 use Rattle.draw_sheets.specs.declared.frame.Frame.{Frame}
 use Rattle.draw_shapes.specs.Shapes.{Shape}
-use Rattle.draw_strips.specs.Strips.{strips_count, passing}
+use Rattle.draw_page.specs.strips.Strips.{strips_count, passing}
 
 -- the text of strip k; nothing where there is none
 abbrev pub text_at : List (List ℕ) → ℕ → List ℕ

@@ -1,5 +1,5 @@
 use Rattle.std.proofs.Common.{◌≡◌, [], replicate}
-use Rattle.draw_strips.proofs.strip.empty_strips.Given as goal
+use Rattle.draw_page.proofs.strips.strip.empty_strips.Given as goal
 
 -- so many, and nothing is drawn
 abbrev pub invariant-loop-strip : goal.invariant-loop-strip
