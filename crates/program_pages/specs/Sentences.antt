@@ -4,7 +4,7 @@ use Rattle.history_model.specs.declared.why.Why.{Why}
 use Rattle.history_model.specs.declared.why.Why.TheVariants.{NotPresented, AnsweredOtherwise, GetsRetry, NothingInFlight, MarkedOtherwise}
 
 -- one sentence for each cause
-abbrev pub sentence_of : Why → List ℕ
+unfoldable pub sentence_of : Why → List ℕ
 sentence_of NotPresented = codes "its initiator does not present that operation on that bus now"
 sentence_of AnsweredOtherwise = codes "the operation is answered by another event"
 sentence_of GetsRetry = codes "the operation is answered with Retry"

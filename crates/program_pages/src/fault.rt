@@ -76,6 +76,7 @@ impl fmt::Display for Code {
 }
 
 /// Why an event is not allowed, as one sentence.
+#[tactic(auto, unfolding(crate::specs::Sentences::sentence_of))]
 pub fn sentence_of(why: Why) -> &'static str
     ensures { result.now ≡ sentence_of why }
 {
