@@ -8,5 +8,3 @@ pub mod WriteLemmas
 pub mod PollLemmas
 pub mod KeptLemmas
 pub mod ReachLemmas
-pub mod RaiserLemmas
-pub mod RiseLemmas
