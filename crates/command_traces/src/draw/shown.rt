@@ -59,7 +59,6 @@ fn refused_at<'a>(tree: &Tree, events: &'a [Event], number: u32, why: Why) -> Sh
     ensures run { Run tree.now (history_of (allowed_in result.close result.events.now)) }
     ensures few { length result.events.now < 2 ^ 31 }
 {
-    // The board of a tree is valid, so that a run of it has at most 500,000 events.
     runs_end();
     let _valid = tree.board();
     let shown = up_to(events, number);
