@@ -114,21 +114,29 @@ fn ill_formed_text(case: &Case) -> Option<Text> {
 }
 
 fn unaligned_text(case: &Case) -> &'static str {
-    match (first_word(case.line), word_at(case.line, 1), case.option()) {
-        (b"bridge" | b"header", _, Some(b"io")) => {
+    match first_word(case.line) {
+        b"bridge" | b"header" => unaligned_window_text(case),
+        b"range" | b"abort" => unaligned_range_text(case.line),
+        b"word" => "the address of an opening word is a multiple of 4",
+        _ => "the address of an operation is a multiple of 4",
+    }
+}
+
+fn unaligned_window_text(case: &Case) -> &'static str {
+    match case.option() {
+        Some(b"io") => {
             "an I/O window is a base and a limit: the base ends in 000, the limit in fff"
         }
-        (b"bridge" | b"header", _, _) => {
-            "a memory window is a base and a limit: the base ends in 00000, the limit in fffff"
-        }
-        (b"range" | b"abort", Some(b"io"), _) => {
-            "an I/O range is a base and a size, both multiples of 4, the size not 0"
-        }
-        (b"range" | b"abort", _, _) => {
+        _ => "a memory window is a base and a limit: the base ends in 00000, the limit in fffff",
+    }
+}
+
+fn unaligned_range_text(line: &[u8]) -> &'static str {
+    match word_at(line, 1) {
+        Some(b"io") => "an I/O range is a base and a size, both multiples of 4, the size not 0",
+        _ => {
             "a memory range is a base and a size, both multiples of 40 (hexadecimal), the size not 0"
         }
-        (b"word", _, _) => "the address of an opening word is a multiple of 4",
-        _ => "the address of an operation is a multiple of 4",
     }
 }
 

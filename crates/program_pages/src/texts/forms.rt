@@ -81,12 +81,26 @@ fn header_word(line: &[u8], place: usize) -> Wanted {
 /// What stands at a place behind the head of a bridge, whose options begin at `from`.
 fn option_word(line: &[u8], from: usize, place: usize) -> Wanted {
     match option_at(line, from, place) {
-        Some((b"mem" | b"io", 1)) => hex("BASE"),
-        Some((b"mem" | b"io", 2)) => hex("LIMIT"),
-        Some((b"pref", 1)) => Wanted::Long("BASE"),
-        Some((b"pref", 2)) => Wanted::Long("LIMIT"),
-        Some((b"posted" | b"delayed", 1)) => count(),
-        Some((b"abort", 1)) => decimal("MODE", 0, 1),
+        Some((option, 1)) => first_of_option(option),
+        Some((option, 2)) => second_of_option(option),
+        _ => Wanted::Choice,
+    }
+}
+
+fn first_of_option(option: &[u8]) -> Wanted {
+    match option {
+        b"mem" | b"io" => hex("BASE"),
+        b"pref" => Wanted::Long("BASE"),
+        b"posted" | b"delayed" => count(),
+        b"abort" => decimal("MODE", 0, 1),
+        _ => Wanted::Choice,
+    }
+}
+
+fn second_of_option(option: &[u8]) -> Wanted {
+    match option {
+        b"mem" | b"io" => hex("LIMIT"),
+        b"pref" => Wanted::Long("LIMIT"),
         _ => Wanted::Choice,
     }
 }
@@ -107,9 +121,11 @@ pub(super) fn option_at(line: &[u8], from: usize, place: usize) -> Option<(&[u8]
 
 /// How many words an option takes, that begins at this place.
 fn words_of_option(line: &[u8], at: usize, option: &[u8]) -> usize {
-    match (option, word_at(line, at.saturating_add(1))) {
-        (b"mem" | b"pref" | b"io", Some(b"none")) => 2,
-        (b"mem" | b"pref" | b"io", _) => 3,
+    match option {
+        b"mem" | b"pref" | b"io" => match word_at(line, at.saturating_add(1)) {
+            Some(b"none") => 2,
+            _ => 3,
+        },
         _ => 2,
     }
 }
@@ -177,16 +193,53 @@ fn planned_word(place: usize) -> Wanted {
 
 /// Of an operation that begins with this word.
 fn op_word(word: &[u8], place: usize) -> Wanted {
-    match (word, place) {
-        (b"mr" | b"mrl" | b"mrm" | b"mw" | b"mwi" | b"poll", 1) => Wanted::Long("ADDR"),
-        (b"ior" | b"iow" | b"iopoll", 1) => hex("ADDR"),
-        (b"mw" | b"mwi", _) | (b"iow", 2) | (b"cfw", 4) => Wanted::Data,
-        (b"poll" | b"iopoll", 2) => hex("MASK"),
-        (b"poll" | b"iopoll", 3) => hex("VALUE"),
-        (b"poll" | b"iopoll", 4) => decimal("TRIES", 1, 65_536),
-        (b"cfr" | b"cfw", 1) => bus(),
-        (b"cfr" | b"cfw", 2) => device(),
-        (b"cfr" | b"cfw", 3) => decimal("REG", 0, 63),
+    match place {
+        1 => first_of_op(word),
+        2 => second_of_op(word),
+        3 => third_of_op(word),
+        4 => fourth_of_op(word),
+        _ => data_of_op(word),
+    }
+}
+
+fn first_of_op(word: &[u8]) -> Wanted {
+    match word {
+        b"mr" | b"mrl" | b"mrm" | b"mw" | b"mwi" | b"poll" => Wanted::Long("ADDR"),
+        b"ior" | b"iow" | b"iopoll" => hex("ADDR"),
+        b"cfr" | b"cfw" => bus(),
+        _ => Wanted::Nothing,
+    }
+}
+
+fn second_of_op(word: &[u8]) -> Wanted {
+    match word {
+        b"mw" | b"mwi" | b"iow" => Wanted::Data,
+        b"poll" | b"iopoll" => hex("MASK"),
+        b"cfr" | b"cfw" => device(),
+        _ => Wanted::Nothing,
+    }
+}
+
+fn third_of_op(word: &[u8]) -> Wanted {
+    match word {
+        b"mw" | b"mwi" => Wanted::Data,
+        b"poll" | b"iopoll" => hex("VALUE"),
+        b"cfr" | b"cfw" => decimal("REG", 0, 63),
+        _ => Wanted::Nothing,
+    }
+}
+
+fn fourth_of_op(word: &[u8]) -> Wanted {
+    match word {
+        b"mw" | b"mwi" | b"cfw" => Wanted::Data,
+        b"poll" | b"iopoll" => decimal("TRIES", 1, 65_536),
+        _ => Wanted::Nothing,
+    }
+}
+
+fn data_of_op(word: &[u8]) -> Wanted {
+    match word {
+        b"mw" | b"mwi" => Wanted::Data,
         _ => Wanted::Nothing,
     }
 }
