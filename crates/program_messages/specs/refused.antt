@@ -1,1 +1,2 @@
 pub mod AtFault
+pub mod Spots

@@ -1,5 +1,6 @@
+use crate::refused::line_at;
 use pci_command::NoMemory;
-use program_pages::{Fault, Teller, line_at};
+use program_pages::{Fault, Teller};
 use text_faults::LspciFault;
 
 /// A line of what `lspci` wrote is at fault.

@@ -1,4 +1,3 @@
 pub mod Pages
 pub mod shown
 pub mod Sentences
-pub mod Spots

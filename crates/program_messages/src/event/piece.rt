@@ -1,4 +1,4 @@
-use program_pages::behind;
+use crate::refused::behind;
 
 /// Where the piece of this index begins, of those between single spaces; the end of the line where
 /// there are fewer.
