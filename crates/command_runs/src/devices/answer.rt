@@ -3,7 +3,7 @@ ghost use Rattle.dma_agents.specs.Made.{IsMade, made_read};
 ghost use Rattle.program_input.specs.Devices.{RefusesDevices};
 ghost use Rattle.command_runs.specs.devices.Answers.{AnswersDevices, DeliversTo};
 
-use super::delivery::made_boards_deliver;
+use super::delivery::delivered;
 use board_tree::Tree;
 use engine_runs::steady_run;
 use pci_command::{List, NoMemory};
@@ -30,6 +30,6 @@ fn trace_of(alloc: Global, input: &[u8], tree: &Tree) -> Result<List<u8>, NoMemo
     ensures { IfOk result (DeliversTo input.now tree.now) }
 {
     let events = steady_run(alloc, tree)?;
-    made_boards_deliver();
+    let _always = delivered(input, tree, events.as_slice());
     run_text(alloc, tree.board(), events.as_slice())
 }
