@@ -21,8 +21,7 @@ use std::alloc::Global;
 /// No more events than these are drawn.
 const MOST: u32 = 4096;
 
-/// The page of a trace text: of a run, complete or not, or of the events up to the first that is not
-/// allowed; of all of them, or of those in these rows.
+/// The page of a trace text: of a run, or up to the first event not allowed; of all or these rows.
 pub fn answer_draw(alloc: Global, input: &[u8], rows: Option<Rows>) -> Result<Answered, Status>
     requires { length input.now < 2 ^ 31 }
     ensures ok { IfOk result (λ page. AnswersDraw input.now (rows_asked rows) page.text.items page.ending) }
@@ -60,9 +59,8 @@ fn answer_rows(
     let count = events.len() as u32;
     let drawn = drawn_count(close, rows, count);
     if drawn > MOST {
-        return Err(Status::TooManyEvents {
-            events: u64::from(drawn),
-        });
+        let events = u64::from(drawn);
+        return Err(Status::TooManyEvents { events });
     }
     match page_of_rows(alloc, tree, events, close, rows) {
         Ok(page) => Ok(Answered {
@@ -132,7 +130,6 @@ fn page_of_rows(
         (first_row close rows (length events.now)) (last_row rows (length events.now))) }
 {
     let count = events.len() as u32;
-    let first = first_row(close, rows, count);
-    let last = last_row(rows, count);
+    let (first, last) = (first_row(close, rows, count), last_row(rows, count));
     page_of(alloc, tree, events, close, first, last)
 }
