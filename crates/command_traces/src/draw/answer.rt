@@ -8,10 +8,11 @@ ghost use Rattle.command_traces.specs.draw.Answers.{AnswersDraw, RefusesDraw, Dr
 
 use crate::draw::operation::rows_of_operation;
 use crate::draw::rows::Rows;
-use crate::draw::shown::{Shown, shown_of};
+use crate::draw::shown::shown_of;
 use board_tree::Tree;
 use draw_page::page_of;
 use draw_told::Close;
+use history_model::Event;
 use pci_command::{List, NoMemory};
 use program_input::{TreeTrace, read_tree_trace};
 use program_status::{Answered, Status};
@@ -20,8 +21,7 @@ use std::alloc::Global;
 /// No more events than these are drawn.
 const MOST: u32 = 4096;
 
-/// The page of a trace text: of a run, complete or not, or of the events up to the first that is not
-/// allowed; of all of them, or of those in these rows.
+/// The page of a trace text: of a run, or up to the first event not allowed; of all or these rows.
 pub fn answer_draw(alloc: Global, input: &[u8], rows: Option<Rows>) -> Result<Answered, Status>
     requires { length input.now < 2 ^ 31 }
     ensures ok { IfOk result (λ page. AnswersDraw input.now (rows_asked rows) page.text.items page.ending) }
@@ -29,7 +29,7 @@ pub fn answer_draw(alloc: Global, input: &[u8], rows: Option<Rows>) -> Result<An
 {
     let TreeTrace { tree, events } = read_tree_trace(alloc, input)?;
     let shown = shown_of(alloc, &tree, events.as_slice())?;
-    answer_rows(alloc, &tree, shown, rows)
+    answer_rows(alloc, &tree, shown.events, shown.close, rows)
 }
 
 /// The same of the events of one operation.
@@ -41,31 +41,31 @@ pub fn answer_draw_operation(alloc: Global, input: &[u8], word: &[u8]) -> Result
     let TreeTrace { tree, events } = read_tree_trace(alloc, input)?;
     let shown = shown_of(alloc, &tree, events.as_slice())?;
     let rows = rows_of_operation(alloc, &tree, shown.events, word)?;
-    answer_rows(alloc, &tree, shown, Some(rows))
+    answer_rows(alloc, &tree, shown.events, shown.close, Some(rows))
 }
 
 fn answer_rows(
     alloc: Global,
     tree: &Tree,
-    shown: Shown,
+    events: &[Event],
+    close: Close,
     rows: Option<Rows>,
 ) -> Result<Answered, Status>
-    requires run { Run tree.now (history_of (allowed_in shown.close shown.events.now)) }
-    requires few { length shown.events.now < 2 ^ 31 }
-    ensures ok { IfOk result (λ page. DrawsRows tree.now shown.events.now shown.close rows page.text.items page.ending) }
-    ensures err { IfErr result (HidesRows shown.events.now shown.close rows) }
+    requires run { Run tree.now (history_of (allowed_in close events.now)) }
+    requires few { length events.now < 2 ^ 31 }
+    ensures ok { IfOk result (λ page. DrawsRows tree.now events.now close rows page.text.items page.ending) }
+    ensures err { IfErr result (HidesRows events.now close rows) }
 {
-    let count = shown.events.len() as u32;
-    let drawn = drawn_count(shown.close, rows, count);
+    let count = events.len() as u32;
+    let drawn = drawn_count(close, rows, count);
     if drawn > MOST {
-        return Err(Status::TooManyEvents {
-            events: u64::from(drawn),
-        });
+        let events = u64::from(drawn);
+        return Err(Status::TooManyEvents { events });
     }
-    match page_of_rows(alloc, tree, shown, rows) {
+    match page_of_rows(alloc, tree, events, close, rows) {
         Ok(page) => Ok(Answered {
             text: page.into_vec(),
-            ending: ending_of(count, shown.close),
+            ending: ending_of(count, close),
         }),
         Err(_) => Err(Status::NoMemory),
     }
@@ -120,16 +120,16 @@ fn drawn_count(close: Close, rows: Option<Rows>, count: u32) -> u32
 fn page_of_rows(
     alloc: Global,
     tree: &Tree,
-    shown: Shown,
+    events: &[Event],
+    close: Close,
     rows: Option<Rows>,
 ) -> Result<List<u8>, NoMemory>
-    requires run { Run tree.now (history_of (allowed_in shown.close shown.events.now)) }
-    requires few { length shown.events.now < 2 ^ 31 }
-    ensures { IfOk result (λ page. page ≡ page_of tree.now shown.events.now shown.close
-        (first_row shown.close rows (length shown.events.now)) (last_row rows (length shown.events.now))) }
+    requires run { Run tree.now (history_of (allowed_in close events.now)) }
+    requires few { length events.now < 2 ^ 31 }
+    ensures { IfOk result (λ page. page ≡ page_of tree.now events.now close
+        (first_row close rows (length events.now)) (last_row rows (length events.now))) }
 {
-    let count = shown.events.len() as u32;
-    let first = first_row(shown.close, rows, count);
-    let last = last_row(rows, count);
-    page_of(alloc, tree, shown.events, shown.close, first, last)
+    let count = events.len() as u32;
+    let (first, last) = (first_row(close, rows, count), last_row(rows, count));
+    page_of(alloc, tree, events, close, first, last)
 }

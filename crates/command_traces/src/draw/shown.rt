@@ -35,7 +35,6 @@ pub(crate) fn shown_of<'a>(
     ensures few { IfOk result (λ shown. length shown.events.now < 2 ^ 31) }
     ensures err { IfErr result (λ status. status ≡ Status.NoMemory) }
 {
-    // The board of a tree is valid, so that a run of it has at most 500,000 events.
     runs_end();
     let _valid = tree.board();
     match check(alloc, tree, events) {
