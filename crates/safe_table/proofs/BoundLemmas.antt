@@ -130,7 +130,10 @@ module _ (o : OpId) (most : List ℕ) (old new : List ProgramRows) (fell : Bool)
 
     -- before a poll no number rose, and behind it none fell below what is known before it
     lowers_rising : Rises board new
-    lowers_rising = rises_on board (table_of old) (table_of new) o lowers_less (λ master index other far. ap (λ row. number row other) (lowers.elsewhere master index far)) row_kept bounds.rises.polls
+    lowers_rising =
+        record {
+          polls = rises_on board (table_of old) (table_of new) o lowers_less (λ master index other far. ap (λ row. number row other) (lowers.elsewhere master index far)) row_kept bounds.rises.polls;
+        }
 
     pub lowers_bound : BoundsAll board new
     lowers_bound =

@@ -91,18 +91,18 @@ module _ (board : Board) (table : Table) (master other : ℕ) (rises : (index : 
       → known_by board table master index other ≤ cond b (table master index) (known_by board table master index) other in
       (elim (is_poll (op_of board (at_place master index))) as P [ true ↦ λ is. rises index is | false ↦ λ _. omega arith ]) refl
 
-  known_more : (index more : ℕ) → known_by board table master index other ≤ known_by board table master (more + index) other
-  known_more index zero = omega arith
-  known_more index (suc more) =
-      let so_far = known_more index more in
-      let once = known_once (more + index) in
-      omega (arith, so_far, once)
+  known_more : (early more late : ℕ) → late ≡ early + more → known_by board table master early other ≤ known_by board table master late other
+  known_more early zero late is =
+      let same : early ≡ late = omega (arith, is) in
+      subst (λ n. known_by board table master early other ≤ known_by board table master n other) same (omega arith)
+  known_more early (suc more) late is =
+      let last : suc (early + more) ≡ late = omega (arith, is) in
+      let so_far = known_more early more (early + more) refl in
+      let once = known_once (early + more) in
+      subst (λ n. known_by board table master early other ≤ known_by board table master n other) last (omega (arith, so_far, once))
 
   known_later : (early late : ℕ) → early ≤ late → known_by board table master early other ≤ known_by board table master late other
-  known_later early late within =
-      let more = known_more early (late - early) in
-      let all : (late - early) + early ≡ late = omega (arith, within) in
-      subst (λ n. known_by board table master early other ≤ known_by board table master n other) all more
+  known_later early late within = known_more early (late - early) late (omega (arith, within))
 
 pub rises_in : (board : Board) (programs : List ProgramRows) → KeepsPolls board programs → Rises board programs → RisesIn programs
 rises_in board programs keeps rises master early late other within =
