@@ -1,10 +1,8 @@
 -- Of the raisers of a poll one of each master is enough, and of the writes that leave out two.
-use Rattle.std.proofs.Common.{◌≡◌, ◌⊎◌, inl, inr, ℕ, suc, ◌+◌, ◌-◌, ◌<◌, ◌≤◌, Bool, true, false, not, ◌&&◌, ◌||◌, ◌==◌, nat_lt, cond, eqb, eqb-true, List, [], ◌∷◌, ◌++◌, append_assoc, append-nil, length, take, drop, get_or, slice_get, Some, refl, sym, ap, subst, ◌∙◌, arith}
+use Rattle.std.proofs.Common.{◌≡◌, ◌⊎◌, inl, inr, ℕ, suc, ◌+◌, ◌-◌, ◌<◌, ◌≤◌, Bool, true, false, not, ◌&&◌, ◌||◌, ◌==◌, nat_lt, cond, eqb, eqb-true, List, [], ◌∷◌, ◌++◌, append_assoc, append-nil, length, drop, get_or, refl, sym, ap, subst, ◌∙◌, arith}
 use Rattle.std.specs.List.{filter, list_any}
 use Rattle.std.proofs.Math.Seq.{drop-cons}
-use Rattle.std.proofs.lemmas.List.{take-append-drop, drop_all}
 use Rattle.std.proofs.lemmas.Bool.{and_parts, ltb-true}
-use Rattle.std.proofs.lemmas.Option.{slice_get_within, get_or_from_slice_get}
 use Rattle.std.proofs.lemmas.Bool.Decides.{nat_tests}
 use Rattle.pci_command.specs.declared.op_id.OpId.{OpId}
 use Rattle.pci_command.specs.Same.{same_op}
@@ -126,8 +124,8 @@ module _ (rows : List ProgramRows) (p : OpId) (awaited : Awaited) (lasts writes 
           ap (λ ws. known_to rows ws most other) both ∙ one_less most other;
     }
 
-  pub all_stay : (rest raisers : List WordWrite) → rest ≡ [] → Staying rest raisers → KnowAlike rows raisers (staying rows p awaited lasts writes)
-  all_stay rest raisers none so_far most other =
+  pub all_stay : (over raisers : List WordWrite) → over ≡ [] → Staying over raisers → KnowAlike rows raisers (staying rows p awaited lasts writes)
+  all_stay over raisers none so_far most other =
       ap (λ ws. known_to rows ws most other) (sym (append-nil raisers) ∙ sym (ap (λ ws. raisers ++ staying rows p awaited lasts ws) none)) ∙ so_far.alike most other
 
 -- What reaches alike leaves out alike.
@@ -142,51 +140,6 @@ stay_alike rows p awaited lasts writes these alike =
     filter_agree (λ f. not (left_out_in rows p lasts f)) (λ f. not (left_out_in rows p writes f))
     (λ f. ap not (left_below rows p f lasts ∙ ap (nat_lt f.op.index) (alike f.op.master f.posted f.op) ∙ sym (left_below rows p f writes)))
     (filter (raises_it awaited) these)
-
--- The last of some writes.
-
-split_last : (ws : List WordWrite) (n : ℕ) (last : WordWrite) → length ws ≡ n + 1 → get_or ws n last ≡ last → ws ≡ take n ws ++ last ∷ []
-split_last ws n last are is =
-    let within : n < length ws = omega (arith, are) in
-    let none : drop (suc n) ws ≡ [] = drop_all (suc n) ws (omega (arith, are)) in
-    sym (take-append-drop n ws) ∙ ap (λ vs. take n ws ++ vs) (drop-cons ws n last within ∙ ap (λ w. w ∷ drop (suc n) ws) is ∙ ap (λ vs. last ∷ vs) none)
-
-split_two : (ws : List WordWrite) (n : ℕ) (one last : WordWrite) → length ws ≡ n + 2 → get_or ws n one ≡ one → get_or ws (n + 1) last ≡ last → ws ≡ take n ws ++ one ∷ last ∷ []
-split_two ws n one last are first second =
-    let more : n + 1 ≡ suc n = omega arith in
-    let within : n < length ws = omega (arith, are) in
-    let next : suc n < length ws = omega (arith, are) in
-    let none : drop (suc (suc n)) ws ≡ [] = drop_all (suc (suc n)) ws (omega (arith, are)) in
-    let item : get_or ws (suc n) last ≡ last = sym (ap (λ i. get_or ws i last) more) ∙ second in
-    let behind : drop (suc n) ws ≡ last ∷ [] = drop-cons ws (suc n) last next ∙ ap (λ w. w ∷ drop (suc (suc n)) ws) item ∙ ap (λ vs. last ∷ vs) none in
-    sym (take-append-drop n ws) ∙ ap (λ vs. take n ws ++ vs) (drop-cons ws n one within ∙ ap (λ w. w ∷ drop (suc n) ws) first ∙ ap (λ vs. one ∷ vs) behind)
-
--- the last one, where it is an earlier write of the same master
-pub known_last : (raisers : List WordWrite) (last f : WordWrite) → slice_get raisers (length raisers - 1) ≡ Some last → is_behind last f ≡ true → IsKnown raisers f
-known_last raisers last f is behind =
-    let within = slice_get_within raisers (length raisers - 1) last is in
-    record {
-      front = take (length raisers - 1) raisers;
-      last = last;
-      split = split_last raisers (length raisers - 1) last (omega (arith, within)) (get_or_from_slice_get raisers (length raisers - 1) last last is);
-      behind = behind;
-    }
-
--- of the last two the first is left away
-pub one_leaves : (w one last : WordWrite) (old mid new : List WordWrite) → 2 ≤ length old → one ≡ get_or old (length old - 2) one → last ≡ get_or old (length old - 1) last
-    → is_behind one last ≡ true → is_behind last w ≡ true → mid ≡ take (length old - 2) old → new ≡ mid ++ last ∷ [] → MakesWay w old new
-one_leaves w one last old mid new some one_is last_is first second mid_is new_is =
-    let n : ℕ = length old - 2 in
-    let place : length old - 1 ≡ n + 1 = omega (arith, some) in
-    inr (record {
-      front = take n old;
-      one = one;
-      last = last;
-      before = split_two old n one last (omega (arith, some)) (sym one_is) (sym (last_is ∙ ap (λ i. get_or old i last) place));
-      after = new_is ∙ ap (λ ws. ws ++ last ∷ []) mid_is;
-      first = first;
-      second = second;
-    })
 
 -- How far writes reach.
 
@@ -307,8 +260,8 @@ module _ (rows : List ProgramRows) (p : OpId) (writes : List WordWrite) where
       ∙ sym (ap (λ ws. limit_without rows p master posted o (old ++ ws)) parts)
       ∙ so_far master posted o
 
-  pub all_lasts : (rest lasts : List WordWrite) → rest ≡ [] → Lasting rest lasts → ReachAlike rows p lasts writes
-  all_lasts rest lasts none so_far master posted o =
+  pub all_lasts : (over lasts : List WordWrite) → over ≡ [] → Lasting over lasts → ReachAlike rows p lasts writes
+  all_lasts over lasts none so_far master posted o =
       sym (ap (limit_without rows p master posted o) (ap (λ ws. lasts ++ ws) none ∙ append-nil lasts)) ∙ so_far master posted o
 
 -- Whether one of them is reached.
