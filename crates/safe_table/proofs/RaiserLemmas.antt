@@ -1,5 +1,5 @@
 -- Of the raisers of a poll one of each master is enough, and of the writes that leave out two.
-use Rattle.std.proofs.Common.{◌≡◌, ◌⊎◌, inl, inr, ℕ, suc, ◌+◌, ◌-◌, ◌<◌, ◌≤◌, Bool, true, false, not, ◌&&◌, ◌||◌, ◌==◌, nat_lt, cond, eqb, eqb-true, List, [], ◌∷◌, ◌++◌, append_assoc, append-nil, length, drop, get_or, refl, sym, ap, subst, ◌∙◌, arith}
+use Rattle.std.proofs.Common.{◌≡◌, inl, inr, ℕ, suc, ◌+◌, ◌-◌, ◌<◌, ◌≤◌, Bool, true, false, not, ◌&&◌, ◌||◌, ◌==◌, nat_lt, cond, eqb, eqb-true, List, [], ◌∷◌, ◌++◌, append_assoc, append-nil, length, drop, get_or, refl, sym, ap, subst, ◌∙◌, arith}
 use Rattle.std.specs.List.{filter, list_any}
 use Rattle.std.proofs.Math.Seq.{drop-cons}
 use Rattle.std.proofs.lemmas.Bool.{and_parts, ltb-true}
@@ -13,7 +13,7 @@ use Rattle.safe_table.specs.declared.polls.reach.Reach.{Reach}
 use Rattle.safe_table.specs.declared.writers.write.WordWrite.{WordWrite}
 use Rattle.safe_table.specs.Rows.{ProgramRows, known_in, RisesIn}
 use Rattle.safe_table.specs.Looks.{clock_in, clock_past, before_in, left_out_in, is_reached_in, known_to, KnowAlike, is_behind, IsKnown}
-use Rattle.safe_table.specs.Reaches.{limit_of, limit_without, leaves_out_by, IsReach, ReachAlike, LeavesOne, MakesWay, PutsLast}
+use Rattle.safe_table.specs.Reaches.{limit_of, limit_without, leaves_out_by, IsReach, ReachAlike, MakesWay, PutsLast}
 use Rattle.safe_table.specs.Polls.{raises_it, staying}
 use Rattle.safe_table.proofs.ReachLemmas.{greater_none, greater_assoc, left_below, left_by}
 

@@ -14,16 +14,16 @@ loop-write-preserved c =
     let S : List WordWrite → Type 0 = λ ws. Staying c.args.table.now c.args.poll c.args.awaited.now c.args.lasts.now c.args.writes.now (drop (i + 1) c.args.writes.now) ws in
     elim c.if-is_wanted.branch [
       | then-is_wanted+in_ok-put_staying w ↦ (
-          subst (IsReach c.args.table.now c.args.poll c.args.lasts.now) (sym w.reach-is) w.reach_for-reach.ensures.reach,
-          subst S (sym (ap (λ v. v.items) w.raisers-is))
-          (put c.args.table.now c.args.poll c.args.awaited.now c.args.lasts.now c.args.writes.now i d f c.loop-write.raisers.items c.loop-write-test.true refl c.loop-write.invariant.1
-          w.reach_for-reach.result w.put_staying.new.raisers.items (c.is_wanted.ensures.yes w.if-is_wanted.true)
-          w.reach_for-reach.ensures.reach w.reach_for-reach.ensures.master w.reach_for-reach.ensures.posted w.in_ok-put_staying.ensures),
-        )
+        subst (IsReach c.args.table.now c.args.poll c.args.lasts.now) (sym w.reach-is) w.reach_for-reach.ensures.reach,
+        subst S (sym (ap (λ v. v.items) w.raisers-is))
+            (put c.args.table.now c.args.poll c.args.awaited.now c.args.lasts.now c.args.writes.now i d f c.loop-write.raisers.items c.loop-write-test.true refl c.loop-write.invariant.1
+            w.reach_for-reach.result w.put_staying.new.raisers.items (c.is_wanted.ensures.yes w.if-is_wanted.true)
+            w.reach_for-reach.ensures.reach w.reach_for-reach.ensures.master w.reach_for-reach.ensures.posted w.in_ok-put_staying.ensures),
+      )
       | else-is_wanted w ↦ (
-          subst (IsReach c.args.table.now c.args.poll c.args.lasts.now) (sym w.reach-is) c.loop-write.invariant.0,
-          subst S (sym (ap (λ v. v.items) w.raisers-is))
-          (passed c.args.table.now c.args.poll c.args.awaited.now c.args.lasts.now c.args.writes.now i d f c.loop-write.raisers.items c.loop-write-test.true refl c.loop-write.invariant.1
-          c.requires.rises (λ raises. subst (λ ws. IsKnown ws f) c.as_slice.ensures.value (c.is_wanted.ensures.no w.if-is_wanted.false raises))),
-        )
+        subst (IsReach c.args.table.now c.args.poll c.args.lasts.now) (sym w.reach-is) c.loop-write.invariant.0,
+        subst S (sym (ap (λ v. v.items) w.raisers-is))
+            (passed c.args.table.now c.args.poll c.args.awaited.now c.args.lasts.now c.args.writes.now i d f c.loop-write.raisers.items c.loop-write-test.true refl c.loop-write.invariant.1
+            c.requires.rises (λ raises. subst (λ ws. IsKnown ws f) c.as_slice.ensures.value (c.is_wanted.ensures.no w.if-is_wanted.false raises))),
+      )
     ]

@@ -1,4 +1,4 @@
-use Rattle.std.proofs.Common.{subst, sym}
+use Rattle.std.proofs.Common.{subst}
 use Rattle.safe_table.specs.Looks.{KnowAlike}
 use Rattle.safe_table.specs.Polls.{staying}
 use Rattle.safe_table.proofs.RaiserLemmas.{stay_alike}
