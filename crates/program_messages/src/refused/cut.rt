@@ -1,7 +1,7 @@
 use crate::form::Form;
-use crate::refused::reading::find_line;
 use board_text::next_line;
 use pci_command::NoMemory;
+use program_pages::find_line;
 use std::alloc::Global;
 
 /// A text in which every byte from one place to another but its newlines is a space, so that its
