@@ -3,6 +3,7 @@ use crate::form::Form;
 use crate::refused::{TOO_LONG, board_part};
 use board_model::Board;
 use board_parser::{ParseFault, parse};
+use board_statements::is_word;
 use history_model::Rule;
 use pci_command::NoMemory;
 use program_pages::{
@@ -177,8 +178,10 @@ fn unknown_in_act(
 
 /// The place of an act of this kind.
 fn unknown_place(alloc: Global, kind: &[u8], place: &[u8]) -> Result<Unknown, NoMemory> {
+    if is_word(kind, b"read") && place.starts_with(b"=") {
+        return Ok(Unknown::plain(4));
+    }
     match kind {
-        b"read" if place.starts_with(b"=") => Ok(Unknown::plain(4)),
         b"accept" | b"latch" | b"take" => Unknown::of(alloc, 4, Piece::Lane),
         _ => Unknown::of(alloc, 4, Piece::Target),
     }
@@ -186,9 +189,10 @@ fn unknown_place(alloc: Global, kind: &[u8], place: &[u8]) -> Result<Unknown, No
 
 /// What an act of this kind comes to.
 fn unknown_result(alloc: Global, kind: &[u8]) -> Result<Unknown, NoMemory> {
-    match kind {
-        b"read" | b"take" => Unknown::of(alloc, 5, Piece::Value),
-        _ => Ok(Unknown::plain(5)),
+    if is_word(kind, b"read") || is_word(kind, b"take") {
+        Unknown::of(alloc, 5, Piece::Value)
+    } else {
+        Ok(Unknown::plain(5))
     }
 }
 

@@ -1,11 +1,13 @@
 use crate::Spot;
 use crate::texts::bytes::text_of_byte;
-use crate::texts::forms::{BEHIND_BRIDGE, BEHIND_HEADER, option_at, wanted_at};
+use crate::texts::forms::wanted_at;
 use crate::texts::limits::text_of_limit;
+use crate::texts::line_words::{LineWord, line_word};
+use crate::texts::options::{BEHIND_BRIDGE, BEHIND_HEADER, BridgeOption, option_at};
 use crate::texts::places::{count_words, first_word, word_at};
 use crate::texts::text::Text;
 use crate::texts::wanted::Wanted;
-use board_statements::{first_line, has_words};
+use board_statements::{first_line, has_words, is_word};
 use text_faults::LineFault;
 
 /// A line at fault.
@@ -34,16 +36,16 @@ impl<'a> Case<'a> {
     fn is_wide(&self) -> bool {
         for line in self.before.split(|byte| *byte == b'\n') {
             if has_words(line) {
-                return first_line(line) == Some(true);
+                return first_line(line).unwrap_or(false);
             }
         }
         false
     }
 
     /// The option of a bridge that the word belongs to, that is pointed at.
-    fn option(&self) -> Option<&'a [u8]> {
-        let from = match first_word(self.line) {
-            b"bridge" => BEHIND_BRIDGE,
+    fn option(&self) -> Option<BridgeOption> {
+        let from = match line_word(self.line)? {
+            LineWord::Bridge => BEHIND_BRIDGE,
             _ => BEHIND_HEADER,
         };
         let (option, _) = option_at(self.line, from, self.place())?;
@@ -71,38 +73,51 @@ pub fn text_of_line(case: &Case, fault: LineFault) -> Option<Text> {
 
 /// The first line that has words is not that of a board.
 fn no_board_text(case: &Case) -> &'static str {
-    match first_word(case.line) {
-        b"pcitrace" => "this is a trace, and a board is wanted: pcitree check FILE judges it",
-        b"pcidevices" => {
-            "this is a device text, and a board is wanted: pcitree devices FILE runs it"
-        }
-        b"" if case.number == 1 => "the file is empty: a board begins with pciboard 1",
-        _ => "a board begins with the line pciboard 1, or pciboard 2",
+    let word = first_word(case.line);
+    if is_word(word, b"pcitrace") {
+        "this is a trace, and a board is wanted: pcitree check FILE judges it"
+    } else if is_word(word, b"pcidevices") {
+        "this is a device text, and a board is wanted: pcitree devices FILE runs it"
+    } else if word.is_empty() && case.number == 1 {
+        "the file is empty: a board begins with pciboard 1"
+    } else {
+        "a board begins with the line pciboard 1, or pciboard 2"
     }
 }
 
 fn wrong_word_text(case: &Case) -> Option<Text> {
     let place = case.place();
-    if place > 0 {
-        return match wanted_at(case.line, place) {
-            Wanted::Fixed(word) => Some(Text::Here(word)),
-            _ => None,
-        };
+    if place == 0 {
+        return Some(Text::Plain(no_line_text(first_word(case.line))));
     }
-    Some(Text::Plain(match first_word(case.line) {
-        b"device" | b"handler" | b"devices" => {
-            "this line is of a device text, which begins with pcidevices 1"
-        }
-        b"pciboard" => "pciboard 1 stands once, at the start",
-        _ => "no line begins with this word: pcitree help board has those that do",
-    }))
+    match wanted_at(case.line, place) {
+        Wanted::Fixed(word) => Some(Text::Here(word)),
+        _ => None,
+    }
+}
+
+/// No line that may stand here begins with this word.
+fn no_line_text(word: &[u8]) -> &'static str {
+    if is_word(word, b"pciboard") {
+        "pciboard 1 stands once, at the start"
+    } else if is_of_devices(word) {
+        "this line is of a device text, which begins with pcidevices 1"
+    } else {
+        "no line begins with this word: pcitree help board has those that do"
+    }
+}
+
+fn is_of_devices(word: &[u8]) -> bool {
+    is_word(word, b"device") || is_word(word, b"handler") || is_word(word, b"devices")
 }
 
 /// A word too many.
 fn text_of_more(line: &[u8]) -> &'static str {
-    match first_word(line) {
-        b"bridge" => "options stand once each, in this order: mem pref io posted delayed abort",
-        b"header" => "options stand once each, in this order: posted delayed",
+    match line_word(line) {
+        Some(LineWord::Bridge) => {
+            "options stand once each, in this order: mem pref io posted delayed abort"
+        }
+        Some(LineWord::Header) => "options stand once each, in this order: posted delayed",
         _ => "nothing stands behind the words of this line",
     }
 }
@@ -114,17 +129,17 @@ fn ill_formed_text(case: &Case) -> Option<Text> {
 }
 
 fn unaligned_text(case: &Case) -> &'static str {
-    match first_word(case.line) {
-        b"bridge" | b"header" => unaligned_window_text(case),
-        b"range" | b"abort" => unaligned_range_text(case.line),
-        b"word" => "the address of an opening word is a multiple of 4",
+    match line_word(case.line) {
+        Some(LineWord::Bridge | LineWord::Header) => unaligned_window_text(case),
+        Some(LineWord::Range | LineWord::Abort) => unaligned_range_text(case.line),
+        Some(LineWord::Word) => "the address of an opening word is a multiple of 4",
         _ => "the address of an operation is a multiple of 4",
     }
 }
 
 fn unaligned_window_text(case: &Case) -> &'static str {
     match case.option() {
-        Some(b"io") => {
+        Some(BridgeOption::Ports) => {
             "an I/O window is a base and a limit: the base ends in 000, the limit in fff"
         }
         _ => "a memory window is a base and a limit: the base ends in 00000, the limit in fffff",
@@ -133,7 +148,9 @@ fn unaligned_window_text(case: &Case) -> &'static str {
 
 fn unaligned_range_text(line: &[u8]) -> &'static str {
     match word_at(line, 1) {
-        Some(b"io") => "an I/O range is a base and a size, both multiples of 4, the size not 0",
+        Some(space) if is_word(space, b"io") => {
+            "an I/O range is a base and a size, both multiples of 4, the size not 0"
+        }
         _ => {
             "a memory range is a base and a size, both multiples of 40 (hexadecimal), the size not 0"
         }
@@ -141,11 +158,9 @@ fn unaligned_range_text(line: &[u8]) -> &'static str {
 }
 
 fn no_owner_text(line: &[u8]) -> &'static str {
-    match first_word(line) {
-        b"id" | b"stall" | b"burst" | b"range" | b"abort" | b"word" => {
-            "this line says more of a target, and stands behind a target line"
-        }
-        _ => "an operation stands behind a master line",
+    match line_word(line) {
+        Some(LineWord::Operation(_)) => "an operation stands behind a master line",
+        _ => "this line says more of a target, and stands behind a target line",
     }
 }
 
@@ -161,8 +176,8 @@ fn past_block_text(case: &Case) -> &'static str {
 }
 
 fn past_space_text(line: &[u8]) -> &'static str {
-    match first_word(line) {
-        b"range" | b"abort" => "the range ends behind the last address",
+    match line_word(line) {
+        Some(LineWord::Range | LineWord::Abort) => "the range ends behind the last address",
         _ => "the base of a window is at most its limit",
     }
 }

@@ -1,9 +1,10 @@
-use crate::texts::device_forms::device_word;
+use crate::texts::device_forms::wanted_of_device;
+use crate::texts::line_words::{DeviceWord, device_word};
 use crate::texts::places::{byte_at, count_words, first_word, word_at};
 use crate::texts::text::Text;
 use crate::texts::wanted::Wanted;
 use crate::{Spot, line_at};
-use board_statements::{Words, has_words};
+use board_statements::{Words, has_words, is_word};
 use board_text::check_line;
 
 /// What is said of the line of this number of a device text, which is none that may stand there, and
@@ -25,34 +26,41 @@ pub fn text_of_device(input: &[u8], number: u32) -> Option<(Text, Spot)> {
 /// What is said of the lines that mark the parts of a device text.
 fn text_of_marks(input: &[u8], number: u32) -> Option<&'static str> {
     if number == 1 {
-        return match first_word(line_at(input, 1)?.1) {
-            b"pciboard" => {
-                Some("this is a board, and a device text is wanted: pcitree run FILE runs it")
-            }
-            b"pcitrace" => {
-                Some("this is a trace, and a device text is wanted: pcitree check FILE judges it")
-            }
-            _ => None,
-        };
-    }
-    if !has_line(input, b"devices") {
-        return Some("no line is devices");
-    }
-    let is_past = match line_at(input, number) {
-        None => true,
-        Some((at, line)) => at >= input.len() || matches!(first_word(line), b"end"),
-    };
-    if is_past {
+        let (_, line) = line_at(input, 1)?;
+        text_of_first(line)
+    } else if !has_line(input, b"devices") {
+        Some("no line is devices")
+    } else if is_past_end(input, number) {
         Some("the last line with words is not end")
     } else {
         None
     }
 }
 
+/// The first line is that of another text.
+fn text_of_first(line: &[u8]) -> Option<&'static str> {
+    let word = first_word(line);
+    if is_word(word, b"pciboard") {
+        Some("this is a board, and a device text is wanted: pcitree run FILE runs it")
+    } else if is_word(word, b"pcitrace") {
+        Some("this is a trace, and a device text is wanted: pcitree check FILE judges it")
+    } else {
+        None
+    }
+}
+
+/// Whether the line of this number begins with `end`, or has no byte and none behind it.
+fn is_past_end(input: &[u8], number: u32) -> bool {
+    match line_at(input, number) {
+        None => true,
+        Some((at, line)) => at >= input.len() || is_word(first_word(line), b"end"),
+    }
+}
+
 /// Whether a line of a text has this one word.
 fn has_line(text: &[u8], word: &[u8]) -> bool {
     for line in text.split(|byte| *byte == b'\n') {
-        if first_word(line) == word && count_words(line) == 1 {
+        if is_word(first_word(line), word) && count_words(line) == 1 {
             return true;
         }
     }
@@ -61,28 +69,27 @@ fn has_line(text: &[u8], word: &[u8]) -> bool {
 
 /// A line that has the form of its first word stands behind another than it may.
 fn text_of_place(line: &[u8]) -> Option<&'static str> {
-    match first_word(line) {
-        b"look" => Some("look stands behind a handler line"),
-        b"put" => Some("put stands behind a device line"),
-        b"get" => Some("get stands behind a device line"),
-        b"send" => Some("send stands behind a device line"),
-        b"wait" => Some("wait stands behind a device or handler line"),
-        b"word" => Some("word stands behind a device or handler line"),
-        _ => None,
+    match device_word(line)? {
+        DeviceWord::Look => Some("look stands behind a handler line"),
+        DeviceWord::Put => Some("put stands behind a device line"),
+        DeviceWord::Get => Some("get stands behind a device line"),
+        DeviceWord::Send => Some("send stands behind a device line"),
+        DeviceWord::Wait => Some("wait stands behind a device or handler line"),
+        DeviceWord::Word => Some("word stands behind a device or handler line"),
+        DeviceWord::Device | DeviceWord::Handler => None,
     }
 }
 
 /// The first word of a line that is not as it is wanted.
 fn first_misfit(line: &[u8]) -> Option<(Text, Spot)> {
-    if device_word(line, 1).is_none() {
+    if device_word(line).is_none() {
         let text =
             "no line of devices begins with this word: pcitree help device has those that do";
         return Some((Text::Plain(text), Spot::Word(0)));
     }
     let words = count_words(line);
     for index in 0..words {
-        let place = index.saturating_add(1);
-        let found = misfit_at(line, place);
+        let found = misfit_at(line, index.saturating_add(1));
         if found.is_some() {
             return found;
         }
@@ -92,7 +99,7 @@ fn first_misfit(line: &[u8]) -> Option<(Text, Spot)> {
 
 /// What is said of the word of this place of a line, if it is not as it is wanted.
 fn misfit_at(line: &[u8], place: usize) -> Option<(Text, Spot)> {
-    let wanted = device_word(line, place)?;
+    let wanted = wanted_of_device(line, place)?;
     match word_at(line, place) {
         None => Some((wanted.missing()?, Spot::BehindWords)),
         Some(word) => Some((misfit(line, place, wanted, word)?, Spot::Word(place))),
@@ -102,22 +109,22 @@ fn misfit_at(line: &[u8], place: usize) -> Option<(Text, Spot)> {
 fn misfit(line: &[u8], place: usize, wanted: Wanted, word: &[u8]) -> Option<Text> {
     match wanted {
         Wanted::Nothing => Some(Text::Plain("nothing stands behind the words of this line")),
-        Wanted::Decimal {
-            word: "VECTORS",
-            ..
-        } if !is_vector_count(word) => { Some(Text::Plain("VECTORS is 1, 2, 4, 8, 16 or 32")) }
-        Wanted::Decimal { word: "V", .. } if !is_below(line, place) => {
-            Some(Text::Plain("V is below VECTORS"))
-        }
-        Wanted::Hex { word: "SEED", .. } if is_above_byte(word) => {
-            Some(Text::Plain("SEED is at most ff"))
-        }
+        Wanted::Vectors => text_unless(is_vector_count(word), "VECTORS is 1, 2, 4, 8, 16 or 32"),
+        Wanted::Vector => text_unless(is_below(line, place), "V is below VECTORS"),
+        Wanted::Seed => misfit_of_seed(word),
         _ => wanted.misfit(word),
     }
 }
 
+fn text_unless(holds: bool, text: &'static str) -> Option<Text> {
+    if holds { None } else { Some(Text::Plain(text)) }
+}
+
 fn is_vector_count(word: &[u8]) -> bool {
-    matches!(byte_at(word, 0), Some(1 | 2 | 4 | 8 | 16 | 32))
+    match byte_at(word, 0) {
+        Some(count) => count <= 32 && count.is_power_of_two(),
+        None => false,
+    }
 }
 
 /// Whether the number at a place of a line is below the one before it.
@@ -128,9 +135,15 @@ fn is_below(line: &[u8], place: usize) -> bool {
     }
 }
 
-fn is_above_byte(word: &[u8]) -> bool {
+fn misfit_of_seed(word: &[u8]) -> Option<Text> {
     match Words::new(word).hex() {
-        Ok(number) => number > 0xff,
-        Err(_) => false,
+        Ok(number) => text_unless(number <= 0xff, "SEED is at most ff"),
+        Err(_) => {
+            let seed = Wanted::Hex {
+                word: "SEED",
+                most: 8,
+            };
+            seed.misfit(word)
+        }
     }
 }

@@ -1,6 +1,7 @@
-use crate::texts::places::{byte_at, first_word};
+use crate::texts::line_words::{LineWord, line_word};
+use crate::texts::places::{byte_at, first_word, word_at};
 use crate::texts::text::Text;
-use board_statements::{Statement, statement_of};
+use board_statements::{Words, is_word};
 
 /// How many bridges may be on a bus, and how many operations a master may have.
 const MOST_BRIDGES: usize = 8;
@@ -9,61 +10,93 @@ const MOST_OPERATIONS: usize = 1024;
 
 /// What is passed by a line behind these.
 pub(super) fn text_of_limit(before: &[u8], line: &[u8]) -> Text {
-    Text::Plain(match first_word(line) {
-        b"bridge" | b"header" if has_eight(before, line) => "a bus has at most 8 bridges",
-        b"bridge" | b"header" => "a board has at most 31 bridges",
-        b"target" | b"master" => "a bus has at most 8 agents",
-        b"range" => "a target has at most 6 base address registers",
-        b"abort" => "a target has at most 6 abort ranges",
-        b"word" => "a target has at most 256 opening words",
-        b"discard" => "a board has at most 1,024 discards",
-        b"drop" => "a board has at most 1,024 drops",
-        _ if operations_of_last(before) >= MOST_OPERATIONS => {
-            "a master has at most 1,024 operations"
-        }
-        _ => "a board has at most 65,536 operations, each try of a poll counted",
+    Text::Plain(match line_word(line) {
+        Some(LineWord::Bridge | LineWord::Header) => text_of_bridges(before, line),
+        Some(LineWord::Target | LineWord::Master) => "a bus has at most 8 agents",
+        Some(LineWord::Range) => "a target has at most 6 base address registers",
+        Some(LineWord::Abort) => "a target has at most 6 abort ranges",
+        Some(LineWord::Word) => "a target has at most 256 opening words",
+        Some(LineWord::Discard) => "a board has at most 1,024 discards",
+        Some(LineWord::Drop) => "a board has at most 1,024 drops",
+        _ => text_of_operations(before),
     })
+}
+
+fn text_of_bridges(before: &[u8], line: &[u8]) -> &'static str {
+    if has_eight(before, line) {
+        "a bus has at most 8 bridges"
+    } else {
+        "a board has at most 31 bridges"
+    }
+}
+
+fn text_of_operations(before: &[u8]) -> &'static str {
+    if operations_of_last(before) >= MOST_OPERATIONS {
+        "a master has at most 1,024 operations"
+    } else {
+        "a board has at most 65,536 operations, each try of a poll counted"
+    }
 }
 
 /// Whether the bus above the bridge of a line has eight bridges already.
 fn has_eight(before: &[u8], line: &[u8]) -> bool {
-    let Some((above, _)) = buses_of_bridge(line) else {
-        return false;
-    };
+    match buses_of_bridge(line) {
+        Some((above, _)) => bridges_below(before, above) >= MOST_BRIDGES,
+        None => false,
+    }
+}
+
+/// How many bridges of a text are below this bus.
+fn bridges_below(text: &[u8], bus: u8) -> usize {
     let mut found: usize = 0;
-    for line in before.split(|byte| *byte == b'\n') {
-        if let Some((other, _)) = buses_of_bridge(line) {
-            if other == above {
-                found = found.saturating_add(1);
-            }
+    for line in text.split(|byte| *byte == b'\n') {
+        if is_bridge_below(line, bus) {
+            found = found.saturating_add(1);
         }
     }
-    found >= MOST_BRIDGES
+    found
+}
+
+fn is_bridge_below(line: &[u8], bus: u8) -> bool {
+    match buses_of_bridge(line) {
+        Some((above, _)) => above == bus,
+        None => false,
+    }
 }
 
 /// The buses above and below the bridge of a line, if it is the line of one.
 fn buses_of_bridge(line: &[u8]) -> Option<(u8, u8)> {
-    if !matches!(first_word(line), b"bridge" | b"header") {
-        return None;
-    }
-    match statement_of(true, line) {
-        Ok(Statement::NewBridge(bridge)) => Some((bridge.parent, bridge.bus)),
-        Ok(Statement::NewHeader { bytes, .. }) => Some((bytes[0x18], bytes[0x19])),
+    match line_word(line)? {
+        LineWord::Bridge => Some((byte_at(line, 3)?, byte_at(line, 1)?)),
+        LineWord::Header => buses_of_header(line),
         _ => None,
     }
+}
+
+fn buses_of_header(line: &[u8]) -> Option<(u8, u8)> {
+    let mut words = Words::new(word_at(line, 2)?);
+    let bytes = words.header().ok()?;
+    Some((bytes[0x18], bytes[0x19]))
 }
 
 /// How many operations the last master of a text has.
 fn operations_of_last(text: &[u8]) -> usize {
     let mut count: usize = 0;
     for line in text.split(|byte| *byte == b'\n') {
-        match first_word(line) {
-            b"" => {}
-            b"master" => count = 0,
-            _ => count = count.saturating_add(1),
-        }
+        count = count_with(count, first_word(line));
     }
     count
+}
+
+/// The count behind a line that begins with this word.
+fn count_with(count: usize, word: &[u8]) -> usize {
+    if is_word(word, b"master") {
+        0
+    } else if word.is_empty() {
+        count
+    } else {
+        count.saturating_add(1)
+    }
 }
 
 /// The first bus of a board text that a line names and that is not there, and the number of that
@@ -82,20 +115,29 @@ pub fn bus_not_there(text: &[u8]) -> Option<(u32, u8)> {
 /// The bus that a bridge is below or an agent is on, or of a discard or drop that of its bridge, where
 /// it is not there.
 fn missing_bus(text: &[u8], line: &[u8]) -> Option<u8> {
-    let bus = match first_word(line) {
-        b"bridge" | b"header" => buses_of_bridge(line)?.0,
-        b"target" | b"master" => byte_at(line, 3)?,
-        b"discard" | b"drop" => {
-            let bus = byte_at(line, 1)?;
-            return if has_bridge(text, bus) {
-                None
-            } else {
-                Some(bus)
-            };
+    match line_word(line)? {
+        LineWord::Bridge | LineWord::Header => {
+            let (above, _) = buses_of_bridge(line)?;
+            unless_there(text, above)
         }
-        _ => return None,
-    };
-    if bus == 0 || has_bridge(text, bus) {
+        LineWord::Target | LineWord::Master => unless_there(text, byte_at(line, 3)?),
+        LineWord::Discard | LineWord::Drop => unless_bridge(text, byte_at(line, 1)?),
+        _ => None,
+    }
+}
+
+/// The bus, where it is not there: bus 0 always is.
+fn unless_there(text: &[u8], bus: u8) -> Option<u8> {
+    if bus == 0 {
+        None
+    } else {
+        unless_bridge(text, bus)
+    }
+}
+
+/// The bus, where no bridge of a text is one to it.
+fn unless_bridge(text: &[u8], bus: u8) -> Option<u8> {
+    if has_bridge(text, bus) {
         None
     } else {
         Some(bus)
@@ -105,11 +147,16 @@ fn missing_bus(text: &[u8], line: &[u8]) -> Option<u8> {
 /// Whether a bridge of a text is one to this bus.
 fn has_bridge(text: &[u8], bus: u8) -> bool {
     for line in text.split(|byte| *byte == b'\n') {
-        if let Some((_, below)) = buses_of_bridge(line) {
-            if below == bus {
-                return true;
-            }
+        if is_bridge_to(line, bus) {
+            return true;
         }
     }
     false
+}
+
+fn is_bridge_to(line: &[u8], bus: u8) -> bool {
+    match buses_of_bridge(line) {
+        Some((_, below)) => below == bus,
+        None => false,
+    }
 }

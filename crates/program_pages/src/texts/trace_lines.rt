@@ -1,19 +1,22 @@
 use crate::texts::bytes::{BYTE_ORDER_MARK, CARRIAGE_RETURN, is_end_of_line};
 use crate::texts::places::first_word;
+use board_statements::is_word;
 
 /// The first line of a text is not that of a trace.
 pub fn no_trace_text(input: &[u8], line: &[u8]) -> &'static str {
-    match first_word(line) {
-        b"pciboard" => "this is a board, and a trace is wanted: pcitree run FILE writes one",
-        b"pcidevices" => {
-            "this is a device text, and a trace is wanted: pcitree devices FILE writes one"
-        }
-        _ => match line {
-            b"pcitrace 1\r" => CARRIAGE_RETURN,
-            b"\xef\xbb\xbfpcitrace 1" => BYTE_ORDER_MARK,
-            _ if input.is_empty() => "the file is empty: a trace begins with pcitrace 1",
-            _ => "a trace begins with the line pcitrace 1",
-        },
+    let word = first_word(line);
+    if is_word(word, b"pciboard") {
+        "this is a board, and a trace is wanted: pcitree run FILE writes one"
+    } else if is_word(word, b"pcidevices") {
+        "this is a device text, and a trace is wanted: pcitree devices FILE writes one"
+    } else if line == b"pcitrace 1\r".as_slice() {
+        CARRIAGE_RETURN
+    } else if line == b"\xef\xbb\xbfpcitrace 1".as_slice() {
+        BYTE_ORDER_MARK
+    } else if input.is_empty() {
+        "the file is empty: a trace begins with pcitrace 1"
+    } else {
+        "a trace begins with the line pcitrace 1"
     }
 }
 
