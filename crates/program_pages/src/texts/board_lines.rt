@@ -32,16 +32,6 @@ impl<'a> Case<'a> {
         }
     }
 
-    /// Whether the text may have addresses of 64 bits.
-    fn is_wide(&self) -> bool {
-        for line in self.before.split(|byte| *byte == b'\n') {
-            if has_words(line) {
-                return first_line(line).unwrap_or(false);
-            }
-        }
-        false
-    }
-
     /// The option of a bridge that the word belongs to, that is pointed at.
     fn option(&self) -> Option<BridgeOption> {
         let from = match line_word(self.line)? {
@@ -125,7 +115,17 @@ fn text_of_more(line: &[u8]) -> &'static str {
 fn ill_formed_text(case: &Case) -> Option<Text> {
     let place = case.place();
     let word = word_at(case.line, place)?;
-    wanted_at(case.line, place).ill_formed(word, case.is_wide())
+    wanted_at(case.line, place).ill_formed(word, is_wide(case.before))
+}
+
+/// Whether a text that begins so may have addresses of 64 bits.
+fn is_wide(before: &[u8]) -> bool {
+    for line in before.split(|byte| *byte == b'\n') {
+        if has_words(line) {
+            return first_line(line).unwrap_or(false);
+        }
+    }
+    false
 }
 
 fn unaligned_text(case: &Case) -> &'static str {

@@ -75,8 +75,10 @@ fn buses_of_bridge(line: &[u8]) -> Option<(u8, u8)> {
 
 fn buses_of_header(line: &[u8]) -> Option<(u8, u8)> {
     let mut words = Words::new(word_at(line, 2)?);
-    let bytes = words.header().ok()?;
-    Some((bytes[0x18], bytes[0x19]))
+    match words.header() {
+        Ok(bytes) => Some((*bytes.get(0x18)?, *bytes.get(0x19)?)),
+        Err(_) => None,
+    }
 }
 
 /// How many operations the last master of a text has.
