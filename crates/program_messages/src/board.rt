@@ -1,15 +1,16 @@
 ghost use Rattle.std.specs.Prelude.{◌<◌, ◌≤◌, ◌^◌, length};
 
 use crate::form::Form;
-use crate::refused::{
-    Spot, TOO_LONG, board_part, line_at, named_spot, place_of, smallest, word_at_fault,
-};
+use crate::refused::{TOO_LONG, board_part, smallest, word_at_fault, word_lines};
 use crate::unclear::tell_unclear;
 use pci_command::NoMemory;
-use program_pages::{Fault, Teller};
+use program_pages::{
+    Case, Fault, Spot, Teller, Text, bus_not_there, line_at, named_spot, place_of, text_of_device,
+    text_of_line,
+};
 use program_status::{BoardFault, Status};
 use std::alloc::Global;
-use text_faults::{DeviceFault, LineFault};
+use text_faults::{DeviceFault, LineFault, TreeFault};
 
 /// How many lines are shown of one fault.
 const MOST_SHOWN: u32 = 8;
@@ -39,7 +40,9 @@ pub(crate) fn tell_board(
                 sentence.as_str(),
             )
         }
-        BoardFault::Tree(_) => tell_tree(teller, text.as_slice(), status, sentence.as_str()),
+        BoardFault::Tree(fault) => {
+            tell_tree(teller, text.as_slice(), status, fault, sentence.as_str())
+        }
         BoardFault::Bound(bound) => {
             let line = format!(in teller.alloc(); "{sentence}: this board may have {bound}")?;
             teller.error(line.as_str())
@@ -56,14 +59,10 @@ fn tell_device(
     fault: DeviceFault,
     sentence: &str,
 ) -> Result<(), NoMemory> {
-    let Some((_, line)) = line_at(input, number) else {
-        return teller.point(number, b"", 0, sentence);
-    };
-    if line.len() >= TOO_LONG {
-        return teller.point(number, b"", 0, sentence);
-    }
+    let line = short_line_at(input, number);
     let word = match fault {
-        DeviceFault::Misshapen | DeviceFault::OverLimit => 0,
+        DeviceFault::Misshapen => return tell_misshapen(teller, input, number, line, sentence),
+        DeviceFault::OverLimit => 0,
         DeviceFault::NameUsed => 1,
         DeviceFault::NotThere => 3,
         DeviceFault::Misplaced | DeviceFault::NotClear => word_of_address(line),
@@ -72,6 +71,38 @@ fn tell_device(
     match fault {
         DeviceFault::NotClear => tell_unclear(teller, input, number, at, sentence),
         _ => teller.point(number, line, at, sentence),
+    }
+}
+
+/// A line that may not stand where it does in a text of devices, or a mark that is not there.
+fn tell_misshapen(
+    teller: &mut Teller,
+    input: &[u8],
+    number: u32,
+    line: &[u8],
+    sentence: &str,
+) -> Result<(), NoMemory>
+    requires { length line.now < 2 ^ 31 }
+{
+    match text_of_device(input, number) {
+        Some((text, spot)) => {
+            let at = place_of(teller.alloc(), line, spot)?;
+            tell_text(teller, number, line, at, text)
+        }
+        None => {
+            let at = place_of(teller.alloc(), line, Spot::Word(0))?;
+            teller.point(number, line, at, sentence)
+        }
+    }
+}
+
+/// The line of this number, if it is there and not too long; else none of its bytes.
+fn short_line_at(text: &[u8], number: u32) -> &[u8]
+    ensures { length result.now < 2 ^ 31 }
+{
+    match line_at(text, number) {
+        Some((_, line)) if line.len() < TOO_LONG => line,
+        _ => b"",
     }
 }
 
@@ -105,11 +136,42 @@ fn tell_line(
     let line = &front[start.min(end)..];
     let spot = spot_at_fault(teller.alloc(), front, start.min(end), status, fault)?;
     let at = place_of(teller.alloc(), line, spot)?;
-    teller.point(number, line, at, sentence)?;
+    let case = Case {
+        before: &front[..start.min(end)],
+        line,
+        number,
+        spot,
+        at,
+    };
+    tell_case(teller, &case, fault, sentence)?;
     match fault {
         LineFault::NameUsed | LineFault::BusUsed => tell_first_use(teller, front, status, number),
         _ => Ok(()),
     }
+}
+
+/// The place of a line at fault, with the text of its case, or else the sentence of the fault.
+fn tell_case(
+    teller: &mut Teller,
+    case: &Case,
+    fault: LineFault,
+    sentence: &str,
+) -> Result<(), NoMemory> {
+    match text_of_line(case, fault) {
+        Some(text) => tell_text(teller, case.number, case.line, case.at, text),
+        None => teller.point(case.number, case.line, case.at, sentence),
+    }
+}
+
+fn tell_text(
+    teller: &mut Teller,
+    number: u32,
+    line: &[u8],
+    at: usize,
+    text: Text,
+) -> Result<(), NoMemory> {
+    let text = format!(in teller.alloc(); "{text}")?;
+    teller.point(number, line, at, text.as_str())
 }
 
 /// The spot that the fault names, or else the word at fault of the line that begins at `start` and
@@ -133,20 +195,52 @@ fn spot_at_fault(
     }
 }
 
-/// The lines that have the fault of the tree together: the first with the sentence, and the others.
+/// A fault of the tree: of a bus that is not there the first line that names it, and else the lines
+/// that have the fault together.
 fn tell_tree(
+    teller: &mut Teller,
+    text: &[u8],
+    status: &Status,
+    fault: TreeFault,
+    sentence: &str,
+) -> Result<(), NoMemory> {
+    if fault == TreeFault::LacksABus {
+        if let Some((number, bus)) = bus_not_there(text) {
+            let line = match line_at(text, number) {
+                Some((_, line)) => line,
+                None => b"",
+            };
+            return tell_text(teller, number, line, 0, Text::NoBus(bus));
+        }
+    }
+    tell_together(teller, text, status, sentence)
+}
+
+/// The lines that have the fault of the tree together: the first with the sentence, and the others.
+fn tell_together(
     teller: &mut Teller,
     text: &[u8],
     status: &Status,
     sentence: &str,
 ) -> Result<(), NoMemory> {
-    let Some(left) = smallest(teller.alloc(), text, status)? else {
-        return teller.error(sentence);
-    };
+    let lines = word_lines(teller.alloc(), text)?;
+    match smallest(teller.alloc(), lines.text.as_slice(), status)? {
+        Some(left) => show_left(teller, left.as_slice(), lines.numbers.as_slice(), sentence),
+        None => teller.error(sentence),
+    }
+}
+
+/// The lines that are left of a text whose lines have these numbers.
+fn show_left(
+    teller: &mut Teller,
+    left: &[u8],
+    numbers: &[u32],
+    sentence: &str,
+) -> Result<(), NoMemory> {
     let mut shown: u32 = 0;
-    let mut number: u32 = 1;
-    for line in left.as_slice().split(|byte| *byte == b'\n') {
+    for (place, line) in left.split(|byte| *byte == b'\n').enumerate() {
         if says_more(line) {
+            let number = numbers.get(place).copied().unwrap_or(0);
             match shown {
                 0 => teller.point(number, line, 0, sentence)?,
                 MOST_SHOWN => return teller.note(".."),
@@ -154,7 +248,6 @@ fn tell_tree(
             }
             shown = shown.saturating_add(1);
         }
-        number = number.saturating_add(1);
     }
     if shown == 0 {
         return teller.error(sentence);

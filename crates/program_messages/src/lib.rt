@@ -15,8 +15,7 @@ mod unshown;
 
 pub use form::{Form, MOST_DRAWN, form_of, limit_words};
 pub use ports::{unread, unwritten};
-pub(crate) use refused::behind;
-pub use refused::{Spot, named_spot, place_of, smallest, word_at_fault};
+pub use refused::{smallest, word_at_fault};
 pub(crate) use telling::about;
 pub use telling::{message, note};
 pub use unshown::not_shown;

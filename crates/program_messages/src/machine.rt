@@ -1,6 +1,5 @@
-use crate::refused::line_at;
 use pci_command::NoMemory;
-use program_pages::{Fault, Teller};
+use program_pages::{Fault, Teller, line_at};
 use text_faults::LspciFault;
 
 /// A line of what `lspci` wrote is at fault.

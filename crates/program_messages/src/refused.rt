@@ -4,11 +4,9 @@
 mod cut;
 mod leaving_out;
 mod reading;
-mod spot;
 mod word;
 
-pub use cut::{board_part, without_lines};
+pub use cut::{WordLines, board_part, without_lines, word_lines};
 pub use leaving_out::smallest;
-pub use reading::{TOO_LONG, behind, find_line, is_refused, line_at};
-pub use spot::{Spot, named_spot, place_of};
+pub use reading::{TOO_LONG, is_refused};
 pub use word::word_at_fault;

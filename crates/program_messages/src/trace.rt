@@ -1,12 +1,17 @@
 use crate::event::place_of_piece;
 use crate::form::Form;
-use crate::refused::{TOO_LONG, board_part, line_at};
+use crate::refused::{TOO_LONG, board_part};
 use board_model::Board;
 use board_parser::{ParseFault, parse};
+use board_statements::is_word;
 use history_model::Rule;
 use pci_command::NoMemory;
-use program_pages::{Fault, Teller};
+use program_pages::{
+    Fault, Piece, Teller, find_line, line_at, misread_text, no_events_text, no_trace_text,
+    operation_text, unreadable_text,
+};
 use std::alloc::Global;
+use std::str::from_utf8;
 use text_faults::TraceLineFault;
 use trace_reader::{Names, read_line};
 
@@ -17,19 +22,39 @@ pub(crate) fn tell_trace_line(
     number: u32,
     fault: TraceLineFault,
 ) -> Result<(), NoMemory> {
+    if fault == TraceLineFault::NoEventsLine {
+        return tell_no_events(teller, input, number);
+    }
     let sentence = Fault::Trace(fault).to_string(teller.alloc())?;
     let Some((_, line)) = line_at(input, number) else {
         return teller.point(number, b"", 0, sentence.as_str());
     };
-    let at = match fault {
-        TraceLineFault::Unreadable => first_unreadable(line),
-        TraceLineFault::NoKind => place_of_piece(line, 1),
-        TraceLineFault::Misshapen => first_gap(line),
-        TraceLineFault::Unknown => first_unknown(teller, input, line)?,
-        TraceLineFault::WrongCount => place_of_piece(line, 1),
-        TraceLineFault::NoFirstLine | TraceLineFault::NoEventsLine | TraceLineFault::BehindEnd => 0,
-    };
-    teller.point(number, line, at, sentence.as_str())
+    match fault {
+        TraceLineFault::NoFirstLine => { teller.point(number, line, 0, no_trace_text(input, line)) }
+        TraceLineFault::Unreadable => {
+            let at = first_unreadable(line);
+            teller.point(number, line, at, unreadable_text(line, at))
+        }
+        TraceLineFault::Unknown => { tell_unknown(teller, input, number, line, sentence.as_str()) }
+        TraceLineFault::NoKind | TraceLineFault::WrongCount => {
+            teller.point(number, line, place_of_piece(line, 1), sentence.as_str())
+        }
+        TraceLineFault::Misshapen => {
+            teller.point(number, line, first_gap(line), sentence.as_str())
+        }
+        TraceLineFault::NoEventsLine | TraceLineFault::BehindEnd => {
+            teller.point(number, line, 0, sentence.as_str())
+        }
+    }
+}
+
+/// No line is `events`: the first that is but for a carriage return is shown, or else the line behind
+/// the last is told of.
+fn tell_no_events(teller: &mut Teller, input: &[u8], number: u32) -> Result<(), NoMemory> {
+    match find_line(input, b"events\r") {
+        Some((number, _)) => teller.point(number, b"events\r", 6, no_events_text(true)),
+        None => teller.point(number, b"", 0, no_events_text(false)),
+    }
 }
 
 fn first_unreadable(line: &[u8]) -> usize {
@@ -51,21 +76,58 @@ fn first_gap(line: &[u8]) -> usize {
     line.len()
 }
 
+/// What of an event is at fault: a piece of its line, and what is said of it, if it is something.
+#[derive(Drop)]
+struct Unknown {
+    index: usize,
+    text: Option<String>,
+}
+
+impl Unknown {
+    /// A piece of which nothing is said but the sentence of the fault.
+    fn plain(index: usize) -> Unknown {
+        Unknown { index, text: None }
+    }
+
+    /// A piece that is at fault as this.
+    fn of(alloc: Global, index: usize, piece: Piece) -> Result<Unknown, NoMemory> {
+        let text = String::from_str(alloc, misread_text(piece))?;
+        Ok(Unknown {
+            index,
+            text: Some(text),
+        })
+    }
+}
+
+fn tell_unknown(
+    teller: &mut Teller,
+    input: &[u8],
+    number: u32,
+    line: &[u8],
+    sentence: &str,
+) -> Result<(), NoMemory> {
+    let Unknown { index, text } = first_unknown(teller, input, line)?;
+    let at = place_of_piece(line, index);
+    match text {
+        Some(text) => teller.point(number, line, at, text.as_str()),
+        None => teller.point(number, line, at, sentence),
+    }
+}
+
 /// The first of the operation, the bus, the initiator, the place and the result of an event line
 /// that is at fault: a line with this word alone, and words of every board in place of the others,
 /// is not read. Of an arrival, the lane or else the bus.
-fn first_unknown(teller: &Teller, input: &[u8], line: &[u8]) -> Result<usize, NoMemory> {
+fn first_unknown(teller: &Teller, input: &[u8], line: &[u8]) -> Result<Unknown, NoMemory> {
     let pieces: Vec<&[u8]> = line.split(|byte| *byte == b' ').collect(teller.alloc())?;
     let text = board_part(teller.alloc(), input, Form::Trace(Rule::Tagged))?;
     if text.len() >= TOO_LONG {
-        return Ok(0);
+        return Ok(Unknown::plain(0));
     }
-    let index = match parse(teller.alloc(), text.as_slice()) {
-        Ok(board) => unknown_piece(teller.alloc(), &board, pieces.as_slice())?,
-        Err(ParseFault::NoMemory) => return Err(NoMemory),
-        Err(_) => 0,
-    };
-    Ok(place_of_piece(line, index))
+    match parse(teller.alloc(), text.as_slice()) {
+        Ok(board) => unknown_piece(teller.alloc(), &board, pieces.as_slice()),
+        Err(ParseFault::NoMemory) => Err(NoMemory),
+        Err(_) => Ok(Unknown::plain(0)),
+    }
 }
 
 /// The words of an act that every kind of it has.
@@ -77,15 +139,15 @@ struct ActWords<'a> {
     op: &'a [u8],
 }
 
-fn unknown_piece(alloc: Global, board: &Board, pieces: &[&[u8]]) -> Result<usize, NoMemory> {
+fn unknown_piece(alloc: Global, board: &Board, pieces: &[&[u8]]) -> Result<Unknown, NoMemory> {
     match pieces {
-        [b"end", ..] => Ok(1),
+        [b"end", ..] => Ok(Unknown::plain(1)),
         [_, b"arrive", lane, ..] => unknown_in_arrival(alloc, board, lane),
         [bus, kind, by, op, rest @ ..] => {
             let words = ActWords { bus, kind, by, op };
             unknown_in_act(alloc, board, words, rest.first().copied())
         }
-        _ => Ok(0),
+        _ => Ok(Unknown::plain(0)),
     }
 }
 
@@ -94,31 +156,59 @@ fn unknown_in_act(
     board: &Board,
     words: ActWords<'_>,
     place: Option<&[u8]>,
-) -> Result<usize, NoMemory> {
+) -> Result<Unknown, NoMemory> {
     let ActWords { bus, kind, by, op } = words;
     if !is_read(alloc, board, &[b"0", b"nobody", b"m", op])? {
-        return Ok(3);
+        let text = operation_text(alloc, board, op)?;
+        return Ok(Unknown { index: 3, text });
     }
     if !is_read(alloc, board, &[bus, b"nobody", b"m", op])? {
-        return Ok(0);
+        return Unknown::of(alloc, 0, Piece::Bus);
     }
     if !is_read(alloc, board, &[b"0", b"nobody", by, op])? {
-        return Ok(2);
+        return Unknown::of(alloc, 2, Piece::Lane);
     }
     match place {
-        Some(place) if !is_place(alloc, board, kind, op, place)? => Ok(4),
-        _ => Ok(5),
+        Some(place) if !is_place(alloc, board, kind, op, place)? => {
+            unknown_place(alloc, kind, place)
+        }
+        _ => unknown_result(alloc, kind),
     }
 }
 
-fn unknown_in_arrival(alloc: Global, board: &Board, lane: &[u8]) -> Result<usize, NoMemory> {
+/// The place of an act of this kind.
+fn unknown_place(alloc: Global, kind: &[u8], place: &[u8]) -> Result<Unknown, NoMemory> {
+    if is_word(kind, b"read") && place.starts_with(b"=") {
+        return Ok(Unknown::plain(4));
+    }
+    match kind {
+        b"accept" | b"latch" | b"take" => Unknown::of(alloc, 4, Piece::Lane),
+        _ => Unknown::of(alloc, 4, Piece::Target),
+    }
+}
+
+/// What an act of this kind comes to.
+fn unknown_result(alloc: Global, kind: &[u8]) -> Result<Unknown, NoMemory> {
+    if is_word(kind, b"read") || is_word(kind, b"take") {
+        Unknown::of(alloc, 5, Piece::Value)
+    } else {
+        Ok(Unknown::plain(5))
+    }
+}
+
+fn unknown_in_arrival(alloc: Global, board: &Board, lane: &[u8]) -> Result<Unknown, NoMemory> {
     for bus in 0..256u16 {
         let bus = format!(in alloc; "{bus}")?;
         if is_read(alloc, board, &[bus.as_bytes(), b"arrive", lane])? {
-            return Ok(0);
+            let lane = from_utf8(lane).unwrap_or("it");
+            let text = format!(in alloc; "{lane} ends at bus {bus}")?;
+            return Ok(Unknown {
+                index: 0,
+                text: Some(text),
+            });
         }
     }
-    Ok(2)
+    Unknown::of(alloc, 2, Piece::Lane)
 }
 
 /// Whether an event of this kind has a place as this word names it.

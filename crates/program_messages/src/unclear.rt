@@ -1,11 +1,11 @@
 //! Why a flag of a device text is not clear: what the check that found it kept, with the lines that
 //! are in its way.
 
-use crate::refused::{Spot, TOO_LONG, line_at, place_of};
+use crate::refused::TOO_LONG;
 use board_statements::{Words, is_word};
 use dma_agents::{Flag, MakeFault, OpPlace, Unclear, make};
 use pci_command::NoMemory;
-use program_pages::Teller;
+use program_pages::{Spot, Teller, line_at, place_of};
 use std::alloc::Global;
 use std::str::from_utf8;
 

@@ -5,11 +5,10 @@ ghost use Rattle.std.specs.List.{list_all};
 ghost use Rattle.program_pages.specs.shown.Shown.{is_shown};
 
 use crate::refused::TOO_LONG;
-use board_model::{Board, Master, Op};
-use board_text::decimal;
+use board_model::{Board, Op};
 use pci_command::NoMemory;
 use program_input::read_protocol;
-use program_pages::{Message, Teller};
+use program_pages::{Message, Teller, master_of, op_at, operations_of};
 use program_status::Status;
 use std::alloc::Global;
 
@@ -59,10 +58,11 @@ fn tell_word(
     };
     match op_at(master, index) {
         None => {
-            tell_operations(teller, master)?;
+            let note = operations_of(teller.alloc(), master)?;
+            teller.note(note.as_str())?;
             Ok(true)
         }
-        Some(op) => {
+        Some((_, op)) => {
             let kind = kind_of(op);
             if kind == wanted {
                 return Ok(false);
@@ -72,34 +72,6 @@ fn tell_word(
             Ok(true)
         }
     }
-}
-
-fn master_of<'a>(board: &'a Board, name: &[u8]) -> Option<&'a Master> {
-    board
-        .masters
-        .as_slice()
-        .iter()
-        .find(|master| master.name.bytes() == name)
-}
-
-fn op_at<'a>(master: &'a Master, index: &[u8]) -> Option<&'a Op> {
-    match decimal(index) {
-        Ok(index) => master.ops.as_slice().get(index as usize),
-        Err(_) => None,
-    }
-}
-
-/// Which operations a master has.
-fn tell_operations(teller: &mut Teller, master: &Master) -> Result<(), NoMemory> {
-    let name = master.name.as_str();
-    let note = match master.ops.as_slice().len() {
-        0 => format!(in teller.alloc(); "{name} has no operations")?,
-        count => {
-            let last = count - 1;
-            format!(in teller.alloc(); "{name} has operations 0 to {last}")?
-        }
-    };
-    teller.note(note.as_str())
 }
 
 fn kind_of(op: &Op) -> &'static str {

@@ -1,3 +1,4 @@
 pub mod Pages
 pub mod shown
 pub mod Sentences
+pub mod Spots

@@ -1,5 +1,6 @@
 use pcitree::{BoardFault, Status};
-use program_messages::{Spot, named_spot, place_of, smallest, word_at_fault};
+use program_messages::{smallest, word_at_fault};
+use program_pages::{Spot, named_spot, place_of};
 use std::test::Fail;
 use text_faults::LineFault;
 

@@ -18,8 +18,8 @@ fn said(alloc: Global, name: &str, text: &[u8], line: u32) -> Result<String, Fai
 fn a_name_and_a_line_with_bytes_that_do_not_print(rt: HostRuntime) -> Result<(), Fail> {
     let text = b"pciboard 1\nmr\t2\x07";
     let said = said(rt.alloc(), "a\u{e9}\t.board", text, 2)?;
-    let wanted = "a???.board:2:5: error: L1: a byte that no line may have\n  mr 2?\n      ^\n\
-        more: pcitree explain L1\n";
+    let wanted = "a???.board:2:5: error: L1: a byte that is no printing character and no tab\n  \
+        mr 2?\n      ^\nmore: pcitree explain L1\n";
     assert_eq!(rt; said.as_str(), wanted);
     Ok(())
 }
@@ -32,7 +32,7 @@ fn the_part_of_a_long_line_around_the_place(rt: HostRuntime) -> Result<(), Fail>
     let said = said(rt.alloc(), "x.board", text.as_slice(), 1)?;
     let lines = said.as_bytes().split(|byte| *byte == b'\n');
     let widths: Vec<usize> = lines.map(|line| line.len()).collect(rt.alloc())?;
-    assert_eq!(rt; widths.as_slice(), [54, 120, 62, 24, 0].as_slice());
+    assert_eq!(rt; widths.as_slice(), [73, 120, 62, 24, 0].as_slice());
     Ok(())
 }
 

@@ -1,10 +1,10 @@
 use crate::event::place_of_piece;
 use crate::form::Form;
-use crate::refused::{TOO_LONG, find_line, line_at};
+use crate::refused::TOO_LONG;
 use history_model::{Rule, Why};
 use pci_command::NoMemory;
 use program_input::{TreeTrace, read_tree_trace};
-use program_pages::Teller;
+use program_pages::{Teller, find_line, line_at};
 use program_status::Status;
 use run_reasons::{Findings, reasons, reasons_filled};
 

@@ -1,4 +1,4 @@
-use crate::refused::behind;
+use program_pages::behind;
 
 /// Where the piece of this index begins, of those between single spaces; the end of the line where
 /// there are fewer.

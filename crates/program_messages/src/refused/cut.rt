@@ -1,7 +1,8 @@
 use crate::form::Form;
-use crate::refused::reading::find_line;
+use board_statements::has_words;
 use board_text::next_line;
 use pci_command::NoMemory;
+use program_pages::find_line;
 use std::alloc::Global;
 
 /// A text in which every byte from one place to another but its newlines is a space, so that its
@@ -47,6 +48,35 @@ fn board_between(
         None => input.len(),
     };
     without_lines(alloc, &input[..end.min(input.len())], 0, from)
+}
+
+/// The lines of a board text that have words, one behind the other, and the number of each.
+pub struct WordLines {
+    pub text: Vec<u8>,
+    pub numbers: Vec<u32>,
+}
+
+/// The lines of a text that have words. A board has the faults of its tree by these alone.
+pub fn word_lines(alloc: Global, text: &[u8]) -> Result<WordLines, NoMemory> {
+    let mut lines = WordLines {
+        text: Vec::new(alloc),
+        numbers: Vec::new(alloc),
+    };
+    let mut number: u32 = 1;
+    for line in text.split(|byte| *byte == b'\n') {
+        if has_words(line) {
+            push_line(&mut lines, line, number)?;
+        }
+        number = number.saturating_add(1);
+    }
+    Ok(lines)
+}
+
+fn push_line(lines: &mut WordLines, line: &[u8], number: u32) -> Result<(), NoMemory> {
+    lines.text.extend_from_slice(line)?;
+    lines.text.push(b'\n')?;
+    lines.numbers.push(number)?;
+    Ok(())
 }
 
 /// What of a text stands from one place to another, as far as it has these.

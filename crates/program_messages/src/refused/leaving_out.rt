@@ -2,8 +2,9 @@ ghost use Rattle.std.specs.Prelude.{◌≡◌, ◌<◌, Some, IfOk, IfSome, OnOk
 ghost use Rattle.program_input.specs.Refusals.{board_refusal};
 
 use crate::refused::cut::{between, is_blank, without_lines};
-use crate::refused::reading::{behind, is_refused};
+use crate::refused::reading::is_refused;
 use pci_command::NoMemory;
+use program_pages::behind;
 use program_status::Status;
 use std::alloc::Global;
 

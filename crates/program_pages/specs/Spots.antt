@@ -5,8 +5,8 @@ use Rattle.board_text.specs.Tokens.{tokens_of}
 use Rattle.board_text.specs.declared.tokens.Token.{Token}
 use Rattle.text_faults.specs.declared.board_line.LineFault.{LineFault}
 use Rattle.text_faults.specs.declared.board_line.LineFault.TheVariants as faults
-use Rattle.program_messages.specs.declared.refused.spot.Spot.{Spot}
-use Rattle.program_messages.specs.declared.refused.spot.Spot.TheVariants.{BehindLimit, BadByte, BehindWords, Word}
+use Rattle.program_pages.specs.declared.spot.Spot.{Spot}
+use Rattle.program_pages.specs.declared.spot.Spot.TheVariants.{BehindLimit, BadByte, BehindWords, Word}
 
 -- the spot that a fault names by itself: of a line too long the byte behind the most, of a bad byte the byte, of a
 -- missing word what is behind the last; of a line with no owner, or of a thing too many, its first word, and of a name

@@ -1,5 +1,5 @@
 ghost use Rattle.std.specs.Prelude.{◌≡◌, ◌<◌, ◌^◌, length, position, IfOk};
-ghost use Rattle.program_messages.specs.refused.Spots.{named_spot, place_of, is_barred, behind, start_of};
+ghost use Rattle.program_pages.specs.Spots.{named_spot, place_of, is_barred, behind, start_of};
 
 use board_text::{Token, tokens_of};
 use pci_command::NoMemory;
