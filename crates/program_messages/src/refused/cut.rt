@@ -51,6 +51,7 @@ fn board_between(
 }
 
 /// The lines of a board text that have words, one behind the other, and the number of each.
+#[derive(Debug, Drop)]
 pub struct WordLines {
     pub text: Vec<u8>,
     pub numbers: Vec<u32>,
