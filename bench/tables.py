@@ -116,15 +116,15 @@ def events_of(trace):
         return int(file.read().split()[-1])
 
 
-def boards():
-    """The boards of the tables, by name."""
+def boards(part=1):
+    """The boards of the tables, by name, with a 1/N of their work."""
     return {
-        "one bus": MAKE.one_bus(499_999)[0],
-        "31 bridges": MAKE.many_agents(20, 32, 128),
-        "four buses": MAKE.four_buses(98_900, 1024),
-        "one dword": MAKE.many_flags(512),
-        "chain of 31": chain(31, 1000),
-        "1 MiB of reads": reads(65_472),
+        "one bus": MAKE.one_bus(500_000 // part - 1)[0],
+        "31 bridges": MAKE.many_agents(20 // part, 32, 128),
+        "four buses": MAKE.four_buses(98_900 // part, 1024 // part),
+        "one dword": MAKE.many_flags(512 // part),
+        "chain of 31": chain(31, 1000 // part),
+        "reads": reads(65_472 // part),
     }
 
 
@@ -157,13 +157,13 @@ def instructions_of(words, out):
 
 
 def instructions(measured):
-    """Instructions an event, of each word on each board."""
+    """Instructions an event, of each word on a tenth of each board."""
     if not shutil.which("valgrind"):
         print("instructions: valgrind is not installed")
         return
     words = ["run --steady", "check", "finish", "audit", "untagged"]
     print(f"{'instructions':<16} {'events':>8} " + " ".join(f"{word:>13}" for word in words) + "   an event")
-    for name, text in boards().items():
+    for name, text in boards(10).items():
         board = measured.path("board", text)
         trace, events = measured.trace_of(board, "trace")
         if not trace:
