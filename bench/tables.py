@@ -7,6 +7,7 @@ import os
 import shutil
 import subprocess
 import sys
+import time
 
 sys.dont_write_bytecode = True
 
@@ -93,9 +94,14 @@ class Measured:
         return None if None in each else min(it.ru_utime + it.ru_stime for it in each)
 
     def mib(self, words):
-        """The most memory of one run."""
-        usage = self.used(words, self.limit, self.out, FINDS.get(words[1], (0,)))
-        return usage.ru_maxrss / 1024 if usage else None
+        """The most memory of one run, as it is told while it runs: what is told at its end counts what this script had, too."""
+        with open(self.out, "wb") as file:
+            process = subprocess.Popen(words, stdin=subprocess.DEVNULL, stdout=file, stderr=subprocess.DEVNULL)
+        most = 0
+        while process.poll() is None:
+            most = max(most, memory_of(process.pid))
+            time.sleep(0.0005)
+        return most / 1024 if process.returncode in FINDS.get(words[1], (0,)) else float("nan")
 
     def words(self, word, path):
         return [self.program, *word.split(), path]
@@ -109,6 +115,15 @@ class Measured:
         return trace, events_of(trace)
 
 
+def memory_of(number):
+    """The most memory that a process had so far, in KiB; 0 where it has none any more."""
+    try:
+        with open(f"/proc/{number}/status", encoding="ascii") as file:
+            return next((int(line.split()[1]) for line in file if line.startswith("VmHWM:")), 0)
+    except OSError:
+        return 0
+
+
 def events_of(trace):
     """The number on the last line of a trace."""
     with open(trace, "rb") as file:
@@ -120,7 +135,7 @@ def boards(part=1):
     """The boards of the tables, by name, with a 1/N of their work."""
     return {
         "one bus": MAKE.one_bus(500_000 // part - 1)[0],
-        "31 bridges": MAKE.many_agents(20 // part, 32, 128),
+        "31 bridges": MAKE.many_agents(max(20 // part, 4), 32, 128),
         "four buses": MAKE.four_buses(98_900 // part, 1024 // part),
         "one dword": MAKE.many_flags(512 // part),
         "chain of 31": chain(31, 1000 // part),
@@ -157,13 +172,13 @@ def instructions_of(words, out):
 
 
 def instructions(measured):
-    """Instructions an event, of each word on a tenth of each board."""
+    """Instructions an event, of each word on a twentieth of each board."""
     if not shutil.which("valgrind"):
         print("instructions: valgrind is not installed")
         return
     words = ["run --steady", "check", "finish", "audit", "untagged"]
     print(f"{'instructions':<16} {'events':>8} " + " ".join(f"{word:>13}" for word in words) + "   an event")
-    for name, text in boards(10).items():
+    for name, text in boards(20).items():
         board = measured.path("board", text)
         trace, events = measured.trace_of(board, "trace")
         if not trace:
@@ -199,11 +214,11 @@ def memory(measured):
 def growing():
     """What grows, the three boards or texts, how large each is, and the words that are timed over them."""
     traced = ["run --steady", "run", *OF_A_TRACE]
-    yield "events", [(n, MAKE.one_bus(n - 1)[0]) for n in (125_000, 250_000, 500_000)], traced
-    yield "operations", [(n, reads(n)) for n in (16_384, 32_768, 65_472)], [*traced, "headers", "combine", "safe", "tree"]
-    yield "masters", [(n, MAKE.many_agents(300, 32, n)) for n in (32, 64, 128)], traced
+    yield "events", [(n, MAKE.one_bus(n - 1)[0]) for n in (62_500, 125_000, 250_000)], traced
+    yield "operations", [(n, reads(n)) for n in (8_192, 16_384, 32_768)], [*traced, "headers", "combine", "safe", "tree"]
+    yield "masters", [(n, MAKE.many_agents(120, 32, n)) for n in (32, 64, 128)], traced
     yield "targets", [(n, targets_read(n)) for n in (48, 96, 192)], traced
-    yield "depth", [(n, chain(n, 1000)) for n in (8, 16, 31)], traced
+    yield "depth", [(n, chain(n, 400)) for n in (8, 16, 31)], traced
     yield "devices", [(4 // part, WORST.flags_of_devices(part)) for part in (4, 2, 1)], ["devices", "safe"]
     yield "functions", [(4 // part, WORST.functions(part)) for part in (4, 2, 1)], ["import"]
 
