@@ -39,8 +39,8 @@ _pcitree() {
       mapfile -t -O "${#COMPREPLY[@]}" COMPREPLY < <(compgen -f -X "!*.$ending" -- "$word")
     done
     [ -z "$endings" ] || mapfile -t -O "${#COMPREPLY[@]}" COMPREPLY < <(compgen -d -- "$word")
-    [ "$COMP_CWORD" = 3 ] || mapfile -t -O "${#COMPREPLY[@]}" COMPREPLY < <(compgen -W "$options" -- "$word")
     [ "${#COMPREPLY[@]}" != 0 ] || mapfile -t COMPREPLY < <(compgen -f -- "$word")
+    [ "$COMP_CWORD" = 3 ] || mapfile -t -O "${#COMPREPLY[@]}" COMPREPLY < <(compgen -W "$options" -- "$word")
   elif [ "$first" = adverse ] && [ "$COMP_CWORD" -le 4 ]; then
     # The reads of the unsafe lines of FILE, and then the writes. All of it is compared, and nothing expanded or run.
     local file=${COMP_WORDS[2]//[\\\"\']/} read kind target space address beside write

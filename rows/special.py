@@ -141,7 +141,8 @@ def import_of_slot_lines(place):
     yield "import_of_slot_lines", seen, Wanted(6, b"", "pcitree: import line 1 fault I3")
 
 
-# Standard output that takes nothing, that is closed, and whose reader left; a FIFO, and standard input by its name.
+# Standard output that takes nothing, that is closed, and whose reader left; a FIFO, standard input by its name, and a file
+# that may not be read.
 
 
 @row("full_output")
@@ -179,6 +180,26 @@ def inputs_by_other_ways(place):
         yield "standard_input", place.call("run", "--steady", "/dev/stdin", stdin=file), whole
     seen = place.call("run", "--steady", "/dev/stdin", stdin=None, input=board)
     yield "standard_input_of_a_pipe", seen, whole
+
+
+@row("file_that_may_not_be_read")
+def file_that_may_not_be_read(place):
+    """Left out for root, who may read each file."""
+    if os.geteuid() != 0:
+        os.chmod(place.file("closed.board", b""), 0)
+        seen = called([os.path.abspath(PROGRAM), "safe", "closed.board"], cwd=place.folder)
+        yield "file_that_may_not_be_read", seen, Wanted(3, b"", "pcitree: read failed")
+
+
+# The man page, where there is what shows it: without a warning of its formatter.
+
+
+@row("man_page")
+def man_page(place):
+    if shutil.which("man") and shutil.which("groff"):
+        words = ["man", "--warnings=w", "-l", "../docs/pcitree.1"]
+        seen = called(words, env={**os.environ, "LC_ALL": "C", "MANWIDTH": "80"})
+        yield "man_page", seen.cut(10), Wanted(0, b"PCITREE(1)", "-")
 
 
 # The version is the one that the file says, and the logic by which all was proved is that of the kit that is here; another kit
@@ -263,8 +284,8 @@ def drawn(place):
 
 
 def scripts():
-    # the commands of README.md and of the guide, but for the one that compiles the program anew (../tools/try-newcomer has it)
-    yield "readme_commands", ["../tools/readme-commands", "--without", "tools/try", "README.md", "docs/GUIDE.md"]
+    # the commands of README.md and of the guide
+    yield "readme_commands", ["../tools/readme-commands", "README.md", "docs/GUIDE.md"]
     # `safe` beside a second program, over all boards here and some that are drawn, and what `adverse` writes of them
     yield "safe_by_definitions", ["../tools/safe-by-definitions", "--compare", PROGRAM, "250"]
     # arrivals taken out of each run here, and put in again

@@ -82,7 +82,7 @@ impl HeldSource {
 
 impl Source for HeldSource {
     ghost use Rattle.std.specs.Prelude.{Some, true, [], ◌≡◌, ◌≤◌, ◌↔◌, min, length, take, IfOk};
-    ghost use Rattle.std.specs.Prelude.{IsErr, OnErr};
+    ghost use Rattle.std.specs.Prelude.{IsErr, OnErr, IfSome, is_some, not};
     ghost use Rattle.std.specs.Io.{ReadsAtMost};
     ghost use Rattle.std.specs.Io.KnownBytes.{ReadConsumes};
     ghost use Rattle.io_ports.specs.Faults.{Rose};
@@ -91,6 +91,8 @@ impl Source for HeldSource {
     ghost held = { λ source. Some source.rest };
 
     ghost faults = { λ source. source.faults };
+
+    ghost lends = { λ source. not source.fails };
 
     fn read(&mut self, buf: &mut [u8]) -> Result<usize, Failed>
         ensures bound { ReadsAtMost result buf.new }
@@ -113,6 +115,25 @@ impl Source for HeldSource {
         let count = give(rest, buf, rest.len().max(1));
         self.given += count;
         Ok(count)
+    }
+
+    fn lent(&self) -> Option<&[u8]>
+        ensures lent { IfSome result (λ bytes. Some self.now.rest ≡ Some bytes.now) }
+        // Where the reading failed it lends nothing, so that the fault is told at the end.
+        ensures lends { is_some result ≡ not self.now.fails }
+    {
+        if self.fails {
+            return None;
+        }
+        let (_, rest) = self.bytes.as_slice().split_at(self.given);
+        Some(rest)
+    }
+
+    fn end(&mut self)
+        ensures ends { not self.old.fails ≡ true → Some self.new.rest ≡ Some [] }
+        ensures counted { self.old.faults ≤ self.new.faults }
+    {
+        self.given = self.bytes.as_slice().len();
     }
 }
 

@@ -55,6 +55,7 @@ impl MemorySource {
 
 impl Source for MemorySource {
     ghost use Rattle.std.specs.Prelude.{Some, ◌≡◌, ◌≤◌, ◌↔◌, take, IfOk, IsErr, OnErr};
+    ghost use Rattle.std.specs.Prelude.{true, false, [], IfSome, is_some};
     ghost use Rattle.std.specs.Io.{ReadsAtMost};
     ghost use Rattle.std.specs.Io.KnownBytes.{ReadConsumes};
     ghost use Rattle.io_ports.specs.Faults.{Rose};
@@ -63,6 +64,8 @@ impl Source for MemorySource {
     ghost held = { λ source. Some source.rest };
 
     ghost faults = { λ source. source.faults };
+
+    ghost lends = { λ _. false };
 
     fn read(&mut self, buf: &mut [u8]) -> Result<usize, Failed>
         ensures bound { ReadsAtMost result buf.new }
@@ -86,6 +89,19 @@ impl Source for MemorySource {
         self.given += count;
         Ok(count)
     }
+
+    // It lends nothing, since its calls may fail.
+    fn lent(&self) -> Option<&[u8]>
+        ensures lent { IfSome result (λ bytes. Some self.now.rest ≡ Some bytes.now) }
+        ensures lends { is_some result ≡ false }
+    {
+        None
+    }
+
+    fn end(&mut self)
+        ensures ends { false ≡ true → Some self.new.rest ≡ Some [] }
+        ensures counted { self.old.faults ≤ self.new.faults }
+    {}
 }
 
 /// Copies bytes from the front to the front, as many as all three allow.

@@ -1,4 +1,5 @@
-ghost use Rattle.std.specs.Prelude.{ℕ, ◌≤◌, List, Option, OnErr};
+ghost use Rattle.std.specs.Prelude.{ℕ, Bool, true, ◌≡◌, ◌≤◌, List, [], Option, Some, IfSome, is_some};
+ghost use Rattle.std.specs.Prelude.{OnErr};
 ghost use Rattle.std.specs.Io.{ReadsAtMost, WritesAtMost};
 ghost use Rattle.std.specs.Io.KnownBytes.{ReadConsumes, WriteAppends};
 ghost use Rattle.io_ports.specs.Faults.{Rose};
@@ -18,6 +19,9 @@ pub trait Source {
     /// How often it failed: a count of 64 bits that never falls.
     ghost faults: { Self → ℕ };
 
+    /// Whether it has all that it still gives in memory, and no read of it will fail.
+    ghost lends: { Self → Bool };
+
     /// Gives the next bytes at the front of the buffer, and their number. 0 for a buffer that is
     /// not empty is the end. At `Err` no byte is given.
     fn read(&mut self, buf: &mut [u8]) -> Result<usize, Failed>
@@ -25,6 +29,16 @@ pub trait Source {
         ensures bytes { ReadConsumes (held self.old) (held self.new) result buf.new }
         ensures counted { faults self.old ≤ faults self.new }
         ensures failed { OnErr result (Rose (faults self.old) (faults self.new)) };
+
+    /// All that it still gives, without a copy, where it lends. Only `end` gives it.
+    fn lent(&self) -> Option<&[u8]>
+        ensures lent { IfSome result (λ bytes. held self.now ≡ Some bytes.now) }
+        ensures lends { is_some result ≡ lends self.now };
+
+    /// Gives at once all that is lent.
+    fn end(&mut self)
+        ensures ends { lends self.old ≡ true → held self.new ≡ Some [] }
+        ensures counted { faults self.old ≤ faults self.new };
 }
 
 /// Where bytes go.

@@ -45,7 +45,8 @@ impl<R> ReadPort<R> {
 }
 
 impl<R: Read> Source for ReadPort<R> {
-    ghost use Rattle.std.specs.Prelude.{false, is_some, ◌≡◌, ◌≤◌, IsErr, OnErr};
+    ghost use Rattle.std.specs.Prelude.{true, false, Some, [], is_some, IfSome, ◌≡◌, ◌≤◌, IsErr};
+    ghost use Rattle.std.specs.Prelude.{OnErr};
     ghost use Rattle.std.specs.Option.{option_and_then};
     ghost use Rattle.std.specs.Io.{ReadsAtMost};
     ghost use Rattle.std.specs.Io.KnownBytes.{ReadConsumes};
@@ -55,6 +56,8 @@ impl<R: Read> Source for ReadPort<R> {
     ghost held = { λ port. option_and_then R.remaining port.reader };
 
     ghost faults = { λ port. port.faults };
+
+    ghost lends = { λ _. false };
 
     fn read(&mut self, buf: &mut [u8]) -> Result<usize, Failed>
         ensures bound { ReadsAtMost result buf.new }
@@ -74,6 +77,20 @@ impl<R: Read> Source for ReadPort<R> {
         }
         answer
     }
+
+    // It lends nothing: a reader gives what it is asked for.
+    fn lent(&self) -> Option<&[u8]>
+        ensures lent { IfSome result (λ bytes.
+            option_and_then R.remaining self.now.reader ≡ Some bytes.now) }
+        ensures lends { is_some result ≡ false }
+    {
+        None
+    }
+
+    fn end(&mut self)
+        ensures ends { false ≡ true → option_and_then R.remaining self.new.reader ≡ Some [] }
+        ensures counted { self.old.faults ≤ self.new.faults }
+    {}
 }
 
 /// A reader, if there is one, is asked so often at most for one read that signals interrupt.

@@ -32,6 +32,7 @@ impl SureSource {
 
 impl Source for SureSource {
     ghost use Rattle.std.specs.Prelude.{Ok, Some, ◌≡◌, ◌≤◌, min, length, take, drop, IfOk, OnErr};
+    ghost use Rattle.std.specs.Prelude.{true, [], IfSome, is_some};
     ghost use Rattle.std.specs.Io.{ReadsAtMost};
     ghost use Rattle.std.specs.Io.KnownBytes.{ReadConsumes};
     ghost use Rattle.io_ports.specs.Faults.{Rose};
@@ -39,6 +40,8 @@ impl Source for SureSource {
     ghost held = { λ source. Some source };
 
     ghost faults = { λ _. 0 };
+
+    ghost lends = { λ _. true };
 
     fn read(&mut self, buf: &mut [u8]) -> Result<usize, Failed>
         ensures bound { ReadsAtMost result buf.new }
@@ -55,5 +58,20 @@ impl Source for SureSource {
         let count = give(rest, buf, rest.len().max(1));
         self.given += count;
         Ok(count)
+    }
+
+    fn lent(&self) -> Option<&[u8]>
+        ensures lent { IfSome result (λ bytes. Some self.now ≡ Some bytes.now) }
+        ensures lends { is_some result ≡ true }
+    {
+        let (_, rest) = self.bytes.as_slice().split_at(self.given);
+        Some(rest)
+    }
+
+    fn end(&mut self)
+        ensures ends { true ≡ true → Some self.new ≡ Some [] }
+        ensures counted { 0 ≤ 0 }
+    {
+        self.given = self.bytes.as_slice().len();
     }
 }

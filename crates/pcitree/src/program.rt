@@ -152,7 +152,7 @@ fn answer_of<R: Threads + Sync, S: Source, G: Gate + Sync>(
     }
 }
 
-/// Reads an input, and makes the text that answers it.
+/// Reads an input, or takes it as the source lends it, and makes the text that answers it.
 fn read_and_answer<R: Threads + Sync, S: Source, G: Gate + Sync>(
     rt: &R,
     alloc: Global,
@@ -166,8 +166,37 @@ fn read_and_answer<R: Threads + Sync, S: Source, G: Gate + Sync>(
     ensures stopped { IfErr result (StopsAnswering form (map string_bytes words.now)
         (S.held source.old) (S.held source.new) (S.faults source.old) (S.faults source.new)) }
 {
-    let input = read_input(alloc, form, source)?;
-    answer(rt, alloc, form, words, &input, gate)
+    match source.lent() {
+        Some(input) => {
+            let answered = answer_lent(rt, alloc, form, words, input, gate);
+            source.end();
+            answered
+        }
+        None => {
+            let input = read_input(alloc, form, source)?;
+            answer(rt, alloc, form, words, &input, gate)
+        }
+    }
+}
+
+/// Makes the text that answers an input that a source lends whole.
+fn answer_lent<R: Threads + Sync, G: Gate + Sync>(
+    rt: &R,
+    alloc: Global,
+    form: Form,
+    words: &[String],
+    input: &[u8],
+    gate: &G,
+) -> Result<Answered, Status>
+    requires { reads_file form ≡ true }
+    ensures ok { IfOk result (λ answer. AnswersInput form (map string_bytes words.now) (Some input.now) (Some []) answer.text.items answer.ending) }
+    ensures stopped { (before now : ℕ) → IfErr result
+        (StopsAnswering form (map string_bytes words.now) (Some input.now) (Some []) before now) }
+{
+    if input.len() > form.row().limit {
+        return Err(Status::TooLong);
+    }
+    answer(rt, alloc, form, words, input, gate)
 }
 
 /// Reads an input to its end.

@@ -11,15 +11,16 @@ use Rattle.board_model.specs.declared.board.Board.{Board}
 use Rattle.board_model.specs.Requests.{op_of, tries_of}
 use Rattle.board_model.proofs.Laws.{op_there}
 use Rattle.history_model.specs.Knowledge.{words_on}
-use Rattle.safe_model.specs.Clocks.{Table, is_poll, at_place, greater, clock_of, IsConsistent}
+use Rattle.safe_model.specs.Clocks.{Table, is_poll, at_place, greater, known_by, clock_of, IsConsistent}
 use Rattle.law_safe.specs.largest.Tests.{program_of, Wish, wish_in, wish_of, told_to, most_known}
 use Rattle.law_safe.specs.largest.Largest.{IsWithin}
 use Rattle.law_safe.proofs.largest.Laws.{stays_above, passes_largest}
-use Rattle.safe_table.specs.Rows.{number, ProgramRows, rows_of, table_of, lesser, everything, KnowsAll}
+use Rattle.safe_table.specs.Rows.{number, ProgramRows, rows_of, table_of, lesser, everything, KnowsAll, Rises}
 use Rattle.safe_table.specs.Falls.{row_in, sum_all, LowersTo}
 use Rattle.safe_table.specs.Most.{IsMost}
 use Rattle.safe_table.specs.Bounds.{ListsPolls, BoundsAll, Fell, Passes, LowersPoll, LowersPolls, Largest}
 use Rattle.safe_table.proofs.FallLemmas.{lesser_most, below_lesser}
+use Rattle.safe_table.proofs.RiseLemmas.{starts_rising, known_most, rises_on}
 
 -- To begin with.
 
@@ -33,6 +34,7 @@ pub starts_bound : (board : Board) (programs : List ProgramRows) → KnowsAll bo
 starts_bound board programs knows =
     record {
       polls = knows.polls;
+      rises = starts_rising board programs knows;
       within = λ master index other.
           let P : Bool → Type 0 = λ b. cond b (number (everything board) other) 0 ≤ program_of board other in
           let is = program_is board.masters other in
@@ -89,6 +91,25 @@ module _ (o : OpId) (most : List ℕ) (old new : List ProgramRows) (fell : Bool)
   lowers_fell = record { some = lowers.some; none = lowers.none }
 
   module _ (board : Board) (bounds : BoundsAll board old) (is_p : is_poll (op_of board (at_place o.master o.index)) ≡ true) (is_o : is_poll (op_of board o) ≡ true) (is_most : IsMost board (table_of old) o most) where
+    -- what was known before it is known behind it
+    row_kept : (other : ℕ) → known_by board (table_of old) o.master o.index other ≤ table_of new o.master o.index other
+    row_kept other =
+        let before = bounds.rises.polls o.master o.index other is_p in
+        let P : Bool → Type 0 = λ b. nat_lt other (length most) ≡ b → known_by board (table_of old) o.master o.index other ≤ table_of new o.master o.index other in
+        (elim (nat_lt other (length most)) as P [
+          | true ↦ λ lt.
+              let inside : other < length most = grind (arith, nat_tests) in
+              let many = is_most.all in
+              let is = lowers.here.each other inside in
+              let number_is = is_most.each other (omega (arith, inside, many)) in
+              let most_of = known_most board (table_of old) o other in
+              let low = below_lesser (known_by board (table_of old) o.master o.index other) (table_of old o.master o.index other) (number most other) before (omega (arith, number_is, most_of)) in
+              omega (arith, is, low)
+          | false ↦ λ ge.
+              let same = lowers.here.rest other (grind (arith, nat_tests)) in
+              omega (arith, same, before)
+        ]) refl
+
     row_above : (t : Table) → IsConsistent board t → IsWithin board t → (other : ℕ) → t o.master o.index other ≤ table_of new o.master o.index other
     row_above t consistent within other =
         let before = bounds.above t consistent within o.master o.index is_p other in
@@ -107,10 +128,18 @@ module _ (o : OpId) (most : List ℕ) (old new : List ProgramRows) (fell : Bool)
               omega (arith, same, before)
         ]) refl
 
+    -- before a poll no number rose, and behind it none fell below what is known before it
+    lowers_rising : Rises board new
+    lowers_rising =
+        record {
+          polls = rises_on board (table_of old) (table_of new) o lowers_less (λ master index other far. ap (λ row. number row other) (lowers.elsewhere master index far)) row_kept bounds.rises.polls;
+        }
+
     pub lowers_bound : BoundsAll board new
     lowers_bound =
         record {
           polls = record { last_is = λ master index. lowers.lasts master index ∙ bounds.polls.last_is master index };
+          rises = lowers_rising;
           within = λ master index other. let less = lowers_less master index other in let most_of = bounds.within master index other in omega (arith, less, most_of);
           above = λ t consistent within master index is other.
               let G : ℕ → ℕ → Type 0 = λ m i. t m i other ≤ table_of new m i other in

@@ -8,7 +8,8 @@ use Rattle.safe_table.specs.Rows.{ProgramRows, rows_of, table_of, known_at, know
 use Rattle.safe_table.specs.Looks.{clock_in, clock_past}
 
 module _ (board : Board) (programs : List ProgramRows) (master other : ℕ) where
-  known_behind : (index : ℕ) → known_by board (table_of programs) master index other ≡ known_at (rows_of programs master) (last_of board master index) other
+  -- by the last poll that is kept
+  pub known_behind : (index : ℕ) → known_by board (table_of programs) master index other ≡ known_at (rows_of programs master) (last_of board master index) other
   known_behind zero = refl
   known_behind (suc index) =
       let P : Bool → Type 0 = λ b. cond b (table_of programs master index) (known_by board (table_of programs) master index) other ≡ known_at (rows_of programs master) (cond b (suc index) (last_of board master index)) other in

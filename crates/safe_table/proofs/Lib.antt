@@ -8,3 +8,5 @@ pub mod WriteLemmas
 pub mod PollLemmas
 pub mod KeptLemmas
 pub mod ReachLemmas
+pub mod RaiserLemmas
+pub mod RiseLemmas

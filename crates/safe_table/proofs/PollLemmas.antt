@@ -19,8 +19,8 @@ use Rattle.safe_table.specs.declared.writers.write.WordWrite.{WordWrite}
 use Rattle.safe_table.specs.Rows.{ProgramRows, table_of, KeepsPolls}
 use Rattle.safe_table.specs.Writes.{op_in, IsWordWrite, AreWrites, writes_at, ListsWrites}
 use Rattle.safe_table.specs.Most.{IsMost}
-use Rattle.safe_table.specs.Looks.{clock_in, clock_past, before_in, no_more_in, leaves_out, left_out_in, any_before, is_reached_in, known_to, most_in}
-use Rattle.safe_table.specs.Polls.{PollFacts, wish_for, IsPoll, IsPollOrNone, is_raised, told_in, raisers_in, told_at, raisers_at, raised_at, AreMost, raises_it, is_clean_write}
+use Rattle.safe_table.specs.Looks.{clock_in, clock_past, before_in, no_more_in, leaves_out, left_out_in, any_before, is_reached_in, known_to, most_in, KnowAlike}
+use Rattle.safe_table.specs.Polls.{PollFacts, wish_for, IsPoll, IsPollOrNone, is_raised, told_in, raisers_in, told_at, raisers_at, raised_in, raised_at, AreMost, raises_it, is_clean_write}
 use Rattle.safe_table.proofs.KnownLemmas.{clock_looks, past_looks}
 
 -- Of lists and tests.
@@ -110,16 +110,14 @@ module _ (board : Board) (awaited : Awaited) where
   raising_so writes are = filter_writes board word (raises_it awaited) (raises board wish) raises_so (writes_of board word) writes are
 
 -- all that is kept of one
-pub poll_is : (board : Board) (p : OpId) (awaited : Awaited) (opens firm : Bool) (raising writes : List WordWrite) → wish_of board p ≡ Some (wish_for awaited) → AreWrites board (dword awaited.word) (writes_of board (dword awaited.word)) writes
-    → opens ≡ is_met_by awaited.mask awaited.wanted (opens_as board (dword awaited.word)) → firm ≡ (is_plain awaited.word.space && list_all (is_clean_write awaited) writes) → raising ≡ filter (raises_it awaited) writes
-    → IsPoll board p (record { awaited = awaited; opens = opens; firm = firm; raising = raising })
-poll_is board p awaited opens firm raising writes waits are opens_is firm_is raising_is =
-    let word : Dword = dword awaited.word in
+pub poll_is : (board : Board) (p : OpId) (awaited : Awaited) (opens firm : Bool) (writes : List WordWrite) → wish_of board p ≡ Some (wish_for awaited) → AreWrites board (dword awaited.word) (writes_of board (dword awaited.word)) writes
+    → opens ≡ is_met_by awaited.mask awaited.wanted (opens_as board (dword awaited.word)) → firm ≡ (is_plain awaited.word.space && list_all (is_clean_write awaited) writes)
+    → IsPoll board p (record { awaited = awaited; opens = opens; firm = firm })
+poll_is board p awaited opens firm writes waits are opens_is firm_is =
     record {
       waits = waits;
       opens = opens_is;
       firm = firm_is ∙ firm_so board awaited writes are;
-      raising = subst (AreWrites board word (filter (raises board (wish_for awaited)) (writes_of board word))) (sym raising_is) (raising_so board awaited writes are);
     }
 
 -- By the rows of a table.
@@ -183,19 +181,23 @@ module _ (board : Board) (rows : List ProgramRows) (keeps : KeepsPolls board row
     raisers_so =
         let stays : OpId → Bool = λ f. not (is_left_out board table p of_it f) in
         subst (λ os. AreWrites board of_it os (raisers_in rows p writes poll)) (filter_twice (raises board waits_for) stays (writes_of board of_it))
-        (filter_writes board of_it (λ f. not (left_out_in rows p writes f)) stays (λ f so. ap not (left_so of_it writes are p f so)) (filter (raises board waits_for) (writes_of board of_it)) poll.raising is.raising)
+        (filter_writes board of_it (λ f. not (left_out_in rows p writes f)) stays (λ f so. ap not (left_so of_it writes are p f so)) (filter (raises board waits_for) (writes_of board of_it))
+        (filter (raises_it poll.awaited) writes) (raising_so board poll.awaited writes are))
 
-    pub raised_so : list_any (is_reached_in rows p writes) poll.raising ≡ is_raised board table p (wish_of board p)
+    pub raised_so : raised_in rows p writes poll ≡ is_raised board table p (wish_of board p)
     raised_so =
+        let raising : OpId → Bool = raises board waits_for in
         let stays : OpId → Bool = λ f. not (is_left_out board table p of_it f) in
         let test : OpId → Bool = λ f. stays f && is_reached board table f in
-        let agree : (f : WordWrite) → IsWordWrite board of_it f → is_reached_in rows p writes f ≡ test f.op = λ f so.
-        ap (λ t. not t && not (before_in rows f.op f.op)) (left_so of_it writes are p f so)
-        ∙ ap (λ t. stays f.op && not t) (before_so f.op f.op) in
-        any_kept (IsWordWrite board of_it) (is_reached_in rows p writes) test agree poll.raising is.raising.each
-        ∙ ap (list_any test) is.raising.ops_are
-        ∙ sym (any_both stays (is_reached board table) (filter (raises board waits_for) (writes_of board of_it)))
-        ∙ ap (list_any (is_reached board table)) (filter_twice (raises board waits_for) stays (writes_of board of_it))
+        let agree : (f : WordWrite) → IsWordWrite board of_it f → (raises_it poll.awaited f && is_reached_in rows p writes f) ≡ (raising f.op && test f.op) = λ f so.
+        ap (λ t. t && is_reached_in rows p writes f) (raises_so board poll.awaited f so)
+        ∙ ap (λ t. raising f.op && (not t && not (before_in rows f.op f.op))) (left_so of_it writes are p f so)
+        ∙ ap (λ t. raising f.op && (stays f.op && not t)) (before_so f.op f.op) in
+        any_kept (IsWordWrite board of_it) (λ f. raises_it poll.awaited f && is_reached_in rows p writes f) (λ f. raising f && test f) agree writes are.each
+        ∙ ap (list_any (λ f. raising f && test f)) are.ops_are
+        ∙ sym (any_both raising test (writes_of board of_it))
+        ∙ sym (any_both stays (is_reached board table) (filter raising (writes_of board of_it)))
+        ∙ ap (list_any (is_reached board table)) (filter_twice raising stays (writes_of board of_it))
         ∙ sym (ap (is_raised board table p) is.waits)
 
   -- what raisers know
@@ -244,7 +246,7 @@ module _ (board : Board) (rows : List ProgramRows) (keeps : KeepsPolls board row
         let n : ℕ = known_to rows (raisers_at rows p entries (Some poll)) (cond (told_at rows p entries (Some poll)) (program_of board other) 0) other in
         ap (λ m. greater m n) (clock_so p other) ∙ ap (greater (clock_of board table p other)) (told_to_so poll is other)
 
-    pub is_most : (found : Option PollFacts) (told : Bool) (raising : List WordWrite) (numbers : List ℕ) → IsPollOrNone board p found → told ≡ told_at rows p entries found → raising ≡ raisers_at rows p entries found
+    pub is_most : (found : Option PollFacts) (told : Bool) (raising : List WordWrite) (numbers : List ℕ) → IsPollOrNone board p found → told ≡ told_at rows p entries found → KnowAlike rows raising (raisers_at rows p entries found)
         → AreMost board rows p told raising numbers → IsMost board table p numbers
     is_most found told raising numbers is told_is raising_is are =
         record {
@@ -252,6 +254,6 @@ module _ (board : Board) (rows : List ProgramRows) (keeps : KeepsPolls board row
           each = λ other within.
               are.each other within
               ∙ ap (λ b. most_in rows p raising (cond b (program_of board other) 0) other) told_is
-              ∙ ap (λ ws. most_in rows p ws (cond (told_at rows p entries found) (program_of board other) 0) other) raising_is
+              ∙ ap (greater (clock_in rows p other)) (raising_is (cond (told_at rows p entries found) (program_of board other) 0) other)
               ∙ most_so found is other;
         }

@@ -1,6 +1,5 @@
 -- What is kept of how far the writes of a word reach says which writes are left out.
-use Rattle.std.proofs.Common.{◌≡◌, ℕ, suc, ◌+◌, ◌-◌, ◌<◌, ◌≤◌, Bool, true, false, not, ◌&&◌, ◌||◌, ◌==◌, nat_lt, cond, List, [], ◌∷◌, ◌++◌, append_assoc, append-nil, length, drop, get_or, refl, sym, ap, subst, ◌∙◌, arith}
-use Rattle.std.specs.List.{filter, list_any}
+use Rattle.std.proofs.Common.{◌≡◌, ℕ, suc, ◌+◌, ◌-◌, ◌<◌, ◌≤◌, Bool, true, false, not, ◌&&◌, ◌||◌, ◌==◌, nat_lt, cond, List, [], ◌∷◌, length, drop, get_or, refl, sym, ap, subst, ◌∙◌, arith}
 use Rattle.std.proofs.Math.Seq.{drop-cons}
 use Rattle.std.proofs.lemmas.Bool.Decides.{nat_tests}
 use Rattle.pci_command.specs.declared.op_id.OpId.{OpId}
@@ -10,7 +9,7 @@ use Rattle.safe_model.specs.Clocks.{greater}
 use Rattle.safe_table.specs.declared.polls.reach.Reach.{Reach}
 use Rattle.safe_table.specs.declared.writers.write.WordWrite.{WordWrite}
 use Rattle.safe_table.specs.Rows.{ProgramRows, known_in}
-use Rattle.safe_table.specs.Looks.{clock_in, before_in, leaves_out, left_out_in, is_reached_in}
+use Rattle.safe_table.specs.Looks.{clock_in, before_in, leaves_out, left_out_in}
 use Rattle.safe_table.specs.Reaches.{limit_of, limit_without, limit_in, leaves_out_by, IsReach, taken_in}
 
 -- Numbers.
@@ -18,13 +17,13 @@ use Rattle.safe_table.specs.Reaches.{limit_of, limit_without, limit_in, leaves_o
 none_below : (i : ℕ) → nat_lt i 0 ≡ false
 none_below i = grind (arith, nat_tests)
 
-greater_none : (n : ℕ) → greater 0 n ≡ n
+pub greater_none : (n : ℕ) → greater 0 n ≡ n
 greater_none n = grind (arith, nat_tests)
 
 none_greater : (n : ℕ) → greater n 0 ≡ n
 none_greater n = grind (arith, nat_tests)
 
-greater_assoc : (a b c : ℕ) → greater a (greater b c) ≡ greater (greater a b) c
+pub greater_assoc : (a b c : ℕ) → greater a (greater b c) ≡ greater (greater a b) c
 greater_assoc a b c = grind (arith, nat_tests)
 
 below_either : (i a b : ℕ) → (nat_lt i a || nat_lt i b) ≡ nat_lt i (greater a b)
@@ -248,46 +247,3 @@ module _ (rows : List ProgramRows) (p : OpId) (master : ℕ) (posted : Bool) (wr
             ∙ ap (λ ws. greater (limit_in reach o) (limit_without rows p master posted o ws)) none
             ∙ none_greater (limit_in reach o);
       }
-
--- The raisers, one by one.
-
-pub record Staying (rows : List ProgramRows) (p : OpId) (writes raising rest raisers : List WordWrite) : Type 0 where
-  pub each : raisers ++ filter (λ f. not (left_out_in rows p writes f)) rest ≡ filter (λ f. not (left_out_in rows p writes f)) raising
-
-pub none_stays : (rows : List ProgramRows) (p : OpId) (writes raising : List WordWrite) → Staying rows p writes raising raising []
-none_stays rows p writes raising = record { each = refl }
-
-pub stays_on : (rows : List ProgramRows) (p : OpId) (writes raising raisers next : List WordWrite) (i : ℕ) (d f : WordWrite) (reach : Reach) → i < length raising → f ≡ get_or raising i d → Staying rows p writes raising (drop i raising) raisers
-    → IsReach rows p writes reach → reach.master ≡ f.op.master → reach.posted ≡ f.posted → next ≡ raisers ++ cond (leaves_out_by reach f) [] (f ∷ []) → Staying rows p writes raising (drop (i + 1) raising) next
-stays_on rows p writes raising raisers next i d f reach within is so_far reaches masters posted next_is =
-    let test : WordWrite → Bool = λ w. not (left_out_in rows p writes w) in
-    let more : i + 1 ≡ suc i = omega arith in
-    let rest : List WordWrite = drop (i + 1) raising in
-    let parts : drop i raising ≡ f ∷ rest = drop-cons raising i d within ∙ ap (λ w. w ∷ drop (suc i) raising) (sym is) ∙ sym (ap (λ n. f ∷ drop n raising) more) in
-    let P : Bool → Type 0 = λ b. cond b [] (f ∷ []) ++ filter test rest ≡ cond (not b) (f ∷ filter test rest) (filter test rest) in
-    let here : cond (left_out_in rows p writes f) [] (f ∷ []) ++ filter test rest ≡ cond (not (left_out_in rows p writes f)) (f ∷ filter test rest) (filter test rest) = elim (left_out_in rows p writes f) as P [ true ↦ refl | false ↦ refl ] in
-    record {
-      each =
-          ap (λ ws. ws ++ filter test rest) next_is
-          ∙ ap (λ b. (raisers ++ cond b [] (f ∷ [])) ++ filter test rest) (left_by rows p writes reach f reaches masters posted)
-          ∙ append_assoc raisers (cond (left_out_in rows p writes f) [] (f ∷ [])) (filter test rest)
-          ∙ ap (λ ws. raisers ++ ws) here
-          ∙ sym (ap (λ ws. raisers ++ filter test ws) parts)
-          ∙ so_far.each;
-    }
-
-pub all_stay : (rows : List ProgramRows) (p : OpId) (writes raising rest raisers : List WordWrite) → rest ≡ [] → Staying rows p writes raising rest raisers → raisers ≡ filter (λ f. not (left_out_in rows p writes f)) raising
-all_stay rows p writes raising rest raisers none so_far =
-    sym (append-nil raisers) ∙ sym (ap (λ ws. raisers ++ filter (λ f. not (left_out_in rows p writes f)) ws) none) ∙ so_far.each
-
--- Whether one of them is reached.
-
-pub reached_on : (rows : List ProgramRows) (p : OpId) (writes raising : List WordWrite) (i : ℕ) (d f : WordWrite) (reach : Reach) (result : Bool) → i < length raising → f ≡ get_or raising i d
-    → IsReach rows p writes reach → reach.master ≡ f.op.master → reach.posted ≡ f.posted → result ≡ (not (leaves_out_by reach f) && not (before_in rows f.op f.op))
-    → list_any (is_reached_in rows p writes) (drop i raising) ≡ (result || list_any (is_reached_in rows p writes) (drop (i + 1) raising))
-reached_on rows p writes raising i d f reach result within is reaches masters posted result_is =
-    let more : i + 1 ≡ suc i = omega arith in
-    let rest : List WordWrite = drop (i + 1) raising in
-    let parts : drop i raising ≡ f ∷ rest = drop-cons raising i d within ∙ ap (λ w. w ∷ drop (suc i) raising) (sym is) ∙ sym (ap (λ n. f ∷ drop n raising) more) in
-    let here : result ≡ is_reached_in rows p writes f = result_is ∙ ap (λ b. not b && not (before_in rows f.op f.op)) (left_by rows p writes reach f reaches masters posted) in
-    ap (list_any (is_reached_in rows p writes)) parts ∙ sym (ap (λ b. b || list_any (is_reached_in rows p writes) rest) here)

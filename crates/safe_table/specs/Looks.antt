@@ -1,5 +1,5 @@
 -- What the rows of a table of clocks say of operations, and of writes that are kept.
-use Rattle.std.specs.Prelude.{ℕ, Bool, List, map, not, ◌+◌, ◌==◌, ◌&&◌, ◌||◌, nat_lt, if◌then◌else◌}
+use Rattle.std.specs.Prelude.{◌≡◌, ℕ, Bool, true, List, [], ◌∷◌, ◌++◌, map, not, ◌+◌, ◌==◌, ◌&&◌, ◌||◌, nat_lt, if◌then◌else◌}
 use Rattle.std.specs.List.{list_any}
 use Rattle.pci_command.specs.declared.op_id.OpId.{OpId}
 use Rattle.pci_command.specs.Same.{same_op}
@@ -50,3 +50,18 @@ known_to rows raisers most other = least most (map (λ f. clock_past rows f.op o
 -- what may be known of it behind the poll at most
 abbrev pub most_in : List ProgramRows → OpId → List WordWrite → ℕ → ℕ → ℕ
 most_in rows p raisers most other = greater (clock_in rows p other) (known_to rows raisers most other)
+
+-- these writes know together what those do
+abbrev pub KnowAlike : List ProgramRows → List WordWrite → List WordWrite → Type 0
+KnowAlike rows these those = (most other : ℕ) → known_to rows these most other ≡ known_to rows those most other
+
+-- a write is an earlier one of the same master than another
+abbrev pub is_behind : WordWrite → WordWrite → Bool
+is_behind g f = g.op.master == f.op.master && nat_lt g.op.index f.op.index
+
+-- the last of these is an earlier write of its master
+pub record IsKnown (these : List WordWrite) (f : WordWrite) : Type 0 where
+  pub front : List WordWrite
+  pub last : WordWrite
+  pub split : these ≡ front ++ last ∷ []
+  pub behind : is_behind last f ≡ true

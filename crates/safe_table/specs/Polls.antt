@@ -7,11 +7,11 @@ use Rattle.board_model.specs.declared.word.Word.{Word}
 use Rattle.history_model.specs.Words.{opens_as}
 use Rattle.safe_model.specs.Raisers.{is_met_by, is_whole, brings_met}
 use Rattle.safe_model.specs.Clocks.{Table, at_place}
-use Rattle.law_safe.specs.largest.Tests.{Wish, wish_of, raises, is_firm, writes_of, raisers, is_reached, program_of}
+use Rattle.law_safe.specs.largest.Tests.{Wish, wish_of, is_firm, raisers, is_reached, program_of}
 use Rattle.audit_landings.specs.Hits.{dword}
 use Rattle.safe_table.specs.declared.polls.awaited.Awaited.{Awaited}
 use Rattle.safe_table.specs.declared.writers.write.WordWrite.{WordWrite}
-use Rattle.safe_table.specs.Writes.{AreWrites, writes_at}
+use Rattle.safe_table.specs.Writes.{writes_at}
 use Rattle.safe_table.specs.Rows.{ProgramRows, number}
 use Rattle.safe_table.specs.Looks.{left_out_in, any_before, is_reached_in, most_in}
 
@@ -25,16 +25,12 @@ pub record PollFacts : Type 0 where
   -- what the word opens as meets it
   pub opens : Bool
   pub firm : Bool
-  -- the writes that bring the word a value that meets it
-  pub raising : List WordWrite
 
 -- what is kept of a poll is so
 pub record IsPoll (board : Board) (p : OpId) (poll : PollFacts) : Type 0 where
   pub waits : wish_of board p ≡ Some (wish_for poll.awaited)
   pub opens : poll.opens ≡ is_met_by poll.awaited.mask poll.awaited.wanted (opens_as board (dword poll.awaited.word))
   pub firm : poll.firm ≡ is_firm board (wish_for poll.awaited)
-  pub raising : AreWrites board (dword poll.awaited.word)
-      (filter (raises board (wish_for poll.awaited)) (writes_of board (dword poll.awaited.word))) poll.raising
 
 -- something is kept of an operation where it is a poll that has a word
 abbrev pub IsPollOrNone : Board → OpId → Option PollFacts → Type 0
@@ -54,15 +50,29 @@ abbrev pub is_raised : Board → Table → OpId → Option Wish → Bool
 is_raised board table p None = false
 is_raised board table p (Some wish) = list_any (is_reached board table) (raisers board table p wish)
 
+-- The writes of its word.
+
+-- the write brings a value that is waited for
+abbrev pub raises_it : Awaited → WordWrite → Bool
+raises_it awaited write = brings_met awaited.mask awaited.wanted write.phase
+
+-- the write writes all that the mask looks at, and where it brings what is waited for, it does so last
+abbrev pub is_clean_write : Awaited → WordWrite → Bool
+is_clean_write awaited write = is_whole awaited.mask write.phase && (not (raises_it awaited write) || write.last)
+
 -- By the rows of a table.
 
 -- by these writes of its word a poll is told something by what it sees
 abbrev pub told_in : List ProgramRows → OpId → List WordWrite → PollFacts → Bool
 told_in rows p writes poll = poll.firm && (not poll.opens || any_before rows p writes)
 
+-- those of these writes that raise it and are not left out by the writes of its word
+abbrev pub staying : List ProgramRows → OpId → Awaited → List WordWrite → List WordWrite → List WordWrite
+staying rows p awaited writes these = filter (λ f. not (left_out_in rows p writes f)) (filter (raises_it awaited) these)
+
 -- its raisers
 abbrev pub raisers_in : List ProgramRows → OpId → List WordWrite → PollFacts → List WordWrite
-raisers_in rows p writes poll = filter (λ f. not (left_out_in rows p writes f)) poll.raising
+raisers_in rows p writes poll = staying rows p poll.awaited writes writes
 
 -- the same of what is kept of an operation
 abbrev pub told_at : List ProgramRows → OpId → List (Word × List WordWrite) → Option PollFacts → Bool
@@ -76,9 +86,13 @@ raisers_at rows p entries (Some poll) =
     let writes = writes_at poll.awaited.word entries in if told_in rows p writes poll then raisers_in rows p writes poll else []
 
 -- some run may come to one of its raisers
+abbrev pub raised_in : List ProgramRows → OpId → List WordWrite → PollFacts → Bool
+raised_in rows p writes poll = list_any (λ f. raises_it poll.awaited f && is_reached_in rows p writes f) writes
+
+-- the same of what is kept of an operation
 abbrev pub raised_at : List ProgramRows → OpId → List (Word × List WordWrite) → Option PollFacts → Bool
 raised_at rows p entries None = false
-raised_at rows p entries (Some poll) = list_any (is_reached_in rows p (writes_at poll.awaited.word entries)) poll.raising
+raised_at rows p entries (Some poll) = raised_in rows p (writes_at poll.awaited.word entries) poll
 
 -- these numbers may be known behind a poll at most that these raisers tell of, if it is told something
 pub record AreMost (board : Board) (rows : List ProgramRows) (p : OpId) (told : Bool) (raisers : List WordWrite) (numbers : List ℕ) : Type 0 where
@@ -92,11 +106,3 @@ pub record AreMost (board : Board) (rows : List ProgramRows) (p : OpId) (told : 
 pub record KnowsProgram (board : Board) (master count : ℕ) (polls : List (Option PollFacts)) : Type 0 where
   pub are : length polls ≡ count
   pub each : (index : ℕ) → index < count → IsPollOrNone board (at_place master index) (get_or polls index None)
-
--- the write brings a value that is waited for
-abbrev pub raises_it : Awaited → WordWrite → Bool
-raises_it awaited write = brings_met awaited.mask awaited.wanted write.phase
-
--- the write writes all that the mask looks at, and where it brings what is waited for, it does so last
-abbrev pub is_clean_write : Awaited → WordWrite → Bool
-is_clean_write awaited write = is_whole awaited.mask write.phase && (not (raises_it awaited write) || write.last)

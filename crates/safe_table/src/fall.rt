@@ -1,5 +1,4 @@
 ghost use Rattle.std.specs.Prelude.{◌≡◌, IfOk, OnOk, length};
-ghost use Rattle.safe_table.specs.Rows.{KeepsPolls};
 ghost use Rattle.safe_table.specs.Bounds.{AreKept, AreOf, BoundsAll, Fell};
 ghost use Rattle.safe_table.specs.Bounds.{LowersPoll, LowersPolls, Largest};
 
@@ -62,7 +61,7 @@ pub(crate) fn lower_poll(
 ) -> Result<bool, NoMemory>
     requires kept { AreKept tree.now gathered.now.writers gathered.now.polls }
     requires first { op.attempt ≡ 0 }
-    requires table { KeepsPolls tree.now table.old }
+    requires bounds { BoundsAll tree.now table.old }
     ensures fell { IfOk result (Fell table.old table.new) }
     ensures lowers { IfOk result (LowersPoll tree.now op table.old table.new) }
 {

@@ -1,13 +1,15 @@
 //! What reads of the relay return: one that was told of a write what that write left. And why the
 //! law that says so has its premises.
 
-ghost use Rattle.std.specs.Prelude.{◌≡◌, Some, Contains, reverse};
+ghost use Rattle.std.specs.Prelude.{◌≡◌, ◌∷◌, ◌++◌, [], Some, Contains, reverse};
 ghost use Rattle.board_model.specs.Valid.{IsValid};
 ghost use Rattle.history_model.specs.Knowledge.{got, given_value, words_named, Told};
 ghost use Rattle.history_model.specs.Runs.{Run, history_of};
+ghost use Rattle.law_audit.specs.Sound.{AreSound, AreAll, AreOnce};
 ghost use Rattle.law_delivered.specs.left.Left.{ReturnsWhatWasLeft, ReturnsAsLeft, ReturnsAsHeld};
 ghost use Rattle.worked_runs.specs.OneBus.{one_word_board, one_word_events};
 ghost use Rattle.worked_runs.specs.Premises.{relay_history};
+ghost use Rattle.worked_runs.specs.Wrong.{wrong_value};
 ghost use Rattle.worked_runs.specs.Relay.{relay_board, first_write, first_flag, last_read};
 ghost use Rattle.worked_runs.specs.left.Readings.{data_reading, early_look, early_reading};
 
@@ -45,4 +47,15 @@ pub fn only_runs_return_what_was_left()
     ensures valid { IsValid one_word_board }
     ensures not_left { ¬ ReturnsAsLeft one_word_board (history_of (reverse one_word_events)) }
     ensures not_held { ¬ ReturnsAsHeld one_word_board (history_of (reverse one_word_events)) }
+{}
+
+/// Of a history that is no run an audit may leave out a read whose master knew of a write: here the
+/// read comes before the write of its own master. And where a read ends twice, it is named twice,
+/// once with a value that it did not return last.
+pub fn only_runs_are_audited()
+    ensures not_all { ¬ AreAll one_word_board (history_of (reverse one_word_events)) }
+    ensures not_once { ¬ AreOnce one_word_board
+        (history_of (one_word_events ++ wrong_value ∷ [])) }
+    ensures not_sound { ¬ AreSound one_word_board
+        (history_of (one_word_events ++ wrong_value ∷ [])) }
 {}

@@ -46,7 +46,10 @@ mod left;
 mod premises;
 mod safe;
 
-pub use left::{only_runs_return_what_was_left, other_reads_need_not_return_it, relay_left};
+pub use left::{
+    only_runs_are_audited, only_runs_return_what_was_left, other_reads_need_not_return_it,
+    relay_left,
+};
 pub use premises::{
     answers_need_what_was_sent, bridges_carry, flags_that_open_set_do_not_deliver,
     later_writes_need_not_be_known, masters_that_meet_have_other_runs, only_runs_are_fresh,

@@ -1,10 +1,11 @@
-ghost use Rattle.std.specs.Prelude.{◌≡◌, ◌&&◌, IfOk, filter};
-ghost use Rattle.std.specs.List.{list_all, list_any};
+ghost use Rattle.std.specs.Prelude.{◌≡◌, ◌&&◌, IfOk};
+ghost use Rattle.std.specs.List.{list_all};
 ghost use Rattle.board_tree.specs.Decodable.{IsDecodable};
 ghost use Rattle.safe_model.specs.Raisers.{is_plain};
-ghost use Rattle.safe_table.specs.Looks.{is_reached_in};
-ghost use Rattle.safe_table.specs.Polls.{IsPollOrNone, told_in, raisers_in};
-ghost use Rattle.safe_table.specs.Polls.{is_clean_write, raises_it};
+ghost use Rattle.safe_table.specs.Looks.{KnowAlike};
+ghost use Rattle.safe_table.specs.Polls.{IsPollOrNone, told_in, raisers_in, raised_in};
+ghost use Rattle.safe_table.specs.Polls.{is_clean_write};
+ghost use Rattle.safe_table.specs.Rows.{RisesIn};
 ghost use Rattle.safe_table.specs.Writes.{ListsWrites};
 
 use crate::known::ClockTable;
@@ -18,13 +19,13 @@ use std::alloc::Global;
 use std::marker::Model;
 
 /// What is kept of a poll that has a word: what it waits for, whether what the word opens as meets
-/// it, whether it is firm, and the writes that bring the word a value that meets it.
+/// it, and whether it is firm. Which writes raise it is looked at anew each time, since the polls
+/// of a word, times its writes, may be too many to be kept.
 #[derive(Debug, Drop)]
 pub(crate) struct KeptPoll {
     awaited: Awaited,
     opens: bool,
     firm: bool,
-    raising: Vec<WordWrite>,
 }
 
 impl Model for KeptPoll {
@@ -36,32 +37,22 @@ impl Model for KeptPoll {
       awaited = k.awaited;
       opens = k.opens;
       firm = k.firm;
-      raising = k.raising.items;
     } };
 }
 
 /// What is kept of an operation: nothing where it is no poll that has a word.
-pub(crate) fn kept_of(
-    alloc: Global,
-    board: &Board,
-    writers: &Writers,
-    op: OpId,
-) -> Result<Option<KeptPoll>, NoMemory>
+pub(crate) fn kept_of(board: &Board, writers: &Writers, op: OpId) -> Option<KeptPoll>
     requires decodable { IsDecodable board.now }
     requires lists { ListsWrites board.now writers.now }
-    ensures { IfOk result (IsPollOrNone board.now op) }
+    ensures { IsPollOrNone board.now op result }
 {
     match awaited_by(board, op) {
-        Some(awaited) => {
-            let writes = writers.of_word(awaited.word);
-            Ok(Some(KeptPoll {
-                awaited,
-                opens: awaited.opens(board),
-                firm: is_firm(&awaited, writes),
-                raising: raising_of(alloc, &awaited, writes)?,
-            }))
-        }
-        None => Ok(None),
+        Some(awaited) => Some(KeptPoll {
+            awaited,
+            opens: awaited.opens(board),
+            firm: is_firm(&awaited, writers.of_word(awaited.word)),
+        }),
+        None => None,
     }
 }
 
@@ -79,22 +70,6 @@ fn are_clean(awaited: &Awaited, writes: &[WordWrite]) -> bool
     writes.iter().all(|write| awaited.is_clean(write))
 }
 
-/// Those of the writes that bring a value that is waited for.
-fn raising_of(
-    alloc: Global,
-    awaited: &Awaited,
-    writes: &[WordWrite],
-) -> Result<Vec<WordWrite>, NoMemory>
-    ensures { IfOk result (λ raising. raising.items ≡ filter (raises_it awaited.now) writes.now) }
-{
-    let raising = writes
-        .iter()
-        .filter(|write| awaited.is_raised_by(write))
-        .copied()
-        .collect(alloc)?;
-    Ok(raising)
-}
-
 impl KeptPoll {
     ghost use Rattle.safe_table.specs.Writes.{writes_at};
 
@@ -107,7 +82,7 @@ impl KeptPoll {
         self.firm && (!self.opens || is_any_before(table, poll, writes))
     }
 
-    /// Its raisers.
+    /// Of its raisers the first of each master that is not left out: they know what all do.
     pub(crate) fn raisers(
         &self,
         alloc: Global,
@@ -115,20 +90,20 @@ impl KeptPoll {
         writers: &Writers,
         poll: OpId,
     ) -> Result<Vec<WordWrite>, NoMemory>
-        ensures { IfOk result (λ found. found.items ≡
-            raisers_in table.now poll (writes_at self.now.awaited.word writers.now) self.now) }
+        requires { RisesIn table.now }
+        ensures { IfOk result (λ found. KnowAlike table.now found.items
+            (raisers_in table.now poll (writes_at self.now.awaited.word writers.now) self.now)) }
     {
         let writes = writers.of_word(self.awaited.word);
-        let raisers = raisers_of(alloc, table, poll, writes, self.raising.as_slice())?;
-        Ok(raisers)
+        raisers_of(alloc, table, poll, &self.awaited, writes)
     }
 
     /// Whether some run may come to one of them.
     pub(crate) fn is_raised(&self, table: &ClockTable, writers: &Writers, poll: OpId) -> bool
-        ensures { result ≡ list_any (is_reached_in table.now poll
-            (writes_at self.now.awaited.word writers.now)) self.now.raising }
+        ensures { result ≡
+            raised_in table.now poll (writes_at self.now.awaited.word writers.now) self.now }
     {
         let writes = writers.of_word(self.awaited.word);
-        is_any_reached(table, poll, writes, self.raising.as_slice())
+        is_any_reached(table, poll, &self.awaited, writes)
     }
 }

@@ -3,7 +3,8 @@ ghost use Rattle.std.specs.Option.{option_copied};
 ghost use Rattle.board_tree.specs.Decodable.{IsDecodable};
 ghost use Rattle.safe_table.specs.Polls.{KnowsPolls, KnowsProgram, AreMost};
 ghost use Rattle.safe_table.specs.Polls.{told_at, raisers_at, raised_at};
-ghost use Rattle.safe_table.specs.Rows.{KeepsPolls, table_of};
+ghost use Rattle.safe_table.specs.Rows.{KeepsPolls, RisesIn, table_of};
+ghost use Rattle.safe_table.specs.Looks.{KnowAlike};
 ghost use Rattle.safe_table.specs.Writes.{ListsWrites};
 
 use crate::known::ClockTable;
@@ -31,8 +32,7 @@ impl Model for ProgramPolls {
     ghost view = { λ k. k.polls.items };
 }
 
-/// What is kept of the polls of a board, once: what each waits for, whether it is firm, and the
-/// writes that raise it.
+/// What is kept of the polls of a board, once: what each waits for, and whether it is firm.
 #[derive(Debug, Drop)]
 pub struct Polls {
     programs: Vec<ProgramPolls>,
@@ -74,6 +74,7 @@ impl Polls {
         requires first { op.attempt ≡ 0 }
         requires polls { KnowsPolls tree.now self.now }
         requires table { KeepsPolls tree.now table.now }
+        requires rises { RisesIn table.now }
         requires writers { ListsWrites tree.now writers.now }
         ensures { IfOk result (λ numbers. IsMost tree.now (table_of table.now) op numbers.items) }
     {
@@ -163,7 +164,7 @@ fn polls_of(
             index: place as u16,
             attempt: 0,
         };
-        polls.push(kept_of(alloc, board, writers, op)?)?;
+        polls.push(kept_of(board, writers, op))?;
     }
     Ok(ProgramPolls { polls })
 }
@@ -186,7 +187,7 @@ fn is_raised(poll: Option<&KeptPoll>, table: &ClockTable, writers: &Writers, op:
     }
 }
 
-/// The raisers of a poll that is told something.
+/// Of the raisers of a poll that is told something those that know what all do.
 fn raisers(
     alloc: Global,
     poll: Option<&KeptPoll>,
@@ -194,8 +195,9 @@ fn raisers(
     writers: &Writers,
     op: OpId,
 ) -> Result<Vec<WordWrite>, NoMemory>
-    ensures { IfOk result (λ found. found.items ≡
-        raisers_at table.now op writers.now (option_copied poll.entry)) }
+    requires { RisesIn table.now }
+    ensures { IfOk result (λ found. KnowAlike table.now found.items
+        (raisers_at table.now op writers.now (option_copied poll.entry))) }
 {
     match poll {
         Some(poll) if poll.is_told(table, writers, op) => poll.raisers(alloc, table, writers, op),

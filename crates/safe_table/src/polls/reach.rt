@@ -1,10 +1,14 @@
-ghost use Rattle.std.specs.Prelude.{◌≡◌, ◌++◌, ◌∷◌, [], IfOk, OnOk, not, filter};
+ghost use Rattle.std.specs.Prelude.{◌≡◌, ◌++◌, ◌∷◌, [], IfOk, OnOk, not, true, false};
 ghost use Rattle.std.specs.Prelude.{◌&&◌, if◌then◌else◌};
 ghost use Rattle.std.specs.List.{list_any};
-ghost use Rattle.safe_table.specs.Looks.{before_in, left_out_in, is_reached_in};
-ghost use Rattle.safe_table.specs.Reaches.{IsReach, limit_of, leaves_out_by, taken_in};
+ghost use Rattle.safe_table.specs.Looks.{before_in, is_reached_in, KnowAlike, is_behind, IsKnown};
+ghost use Rattle.safe_table.specs.Polls.{raises_it, staying};
+ghost use Rattle.safe_table.specs.Reaches.{IsReach, ReachAlike, MakesWay, PutsLast};
+ghost use Rattle.safe_table.specs.Reaches.{limit_of, leaves_out_by, taken_in};
+ghost use Rattle.safe_table.specs.Rows.{RisesIn};
 
 use crate::known::{ClockTable, greater};
+use crate::polls::awaited::Awaited;
 use crate::polls::looks::is_before;
 use crate::writers::WordWrite;
 use pci_command::{NoMemory, OpId, same_op};
@@ -22,44 +26,182 @@ pub(crate) struct Reach {
     pub next: usize,
 }
 
-/// Those of the writes that are not left out. It goes over the writes of the dword once for each
-/// master that some of these are of.
+/// Of the writes that raise the poll and are not left out the first of each master: the later ones
+/// know no less. Of the writes that leave out the last two of each master are looked at, once for
+/// each master of which some write may be left out.
 pub(crate) fn raisers_of(
     alloc: Global,
     table: &ClockTable,
     poll: OpId,
+    awaited: &Awaited,
     writes: &[WordWrite],
-    raising: &[WordWrite],
 ) -> Result<Vec<WordWrite>, NoMemory>
-    ensures { IfOk result (λ raisers. raisers.items ≡
-        filter (λ f. not (left_out_in table.now poll writes.now f)) raising.now) }
+    requires { RisesIn table.now }
+    ensures { IfOk result (λ raisers. KnowAlike table.now raisers.items
+        (staying table.now poll awaited.now writes.now writes.now)) }
 {
+    let lasts = lasts_of(alloc, table, poll, writes)?;
     let mut raisers = Vec::new(alloc);
-    let mut reach = reach_of(table, poll, writes, 0, false);
-    for raiser in raising {
-        reach = reach_for(reach, table, poll, writes, raiser);
-        put_staying(&mut raisers, reach, raiser)?;
-    }
+    put_raisers(&mut raisers, table, poll, awaited, lasts.as_slice(), writes)?;
     Ok(raisers)
 }
 
-/// Whether some run may come to one of the writes that is not left out.
-pub(crate) fn is_any_reached(
+/// The raisers among these writes, where the others leave out.
+fn put_raisers(
+    raisers: &mut Vec<WordWrite>,
+    table: &ClockTable,
+    poll: OpId,
+    awaited: &Awaited,
+    lasts: &[WordWrite],
+    writes: &[WordWrite],
+) -> Result<(), NoMemory>
+    requires rises { RisesIn table.now }
+    requires none { raisers.old.items ≡ [] }
+    ensures { OnOk result (KnowAlike table.now raisers.new.items
+        (staying table.now poll awaited.now lasts.now writes.now)) }
+{
+    let mut reach = reach_of(table, poll, lasts, 0, false);
+    for write in writes {
+        if is_wanted(raisers.as_slice(), awaited, write) {
+            reach = reach_for(reach, table, poll, lasts, write);
+            put_staying(raisers, reach, write)?;
+        }
+    }
+    Ok(())
+}
+
+/// Whether the write raises the poll, and knows less than the last of these raisers may.
+fn is_wanted(raisers: &[WordWrite], awaited: &Awaited, write: &WordWrite) -> bool
+    ensures yes { result ≡ true → raises_it awaited.now write.now ≡ true }
+    ensures no { result ≡ false → raises_it awaited.now write.now ≡ true →
+        IsKnown raisers.now write.now }
+{
+    awaited.is_raised_by(write) && !is_known(raisers, write)
+}
+
+/// Whether the last of these raisers is an earlier one of the same master.
+fn is_known(raisers: &[WordWrite], write: &WordWrite) -> bool
+    ensures { result ≡ true → IsKnown raisers.now write.now }
+{
+    match raisers.last() {
+        Some(last) => is_behind(last, write),
+        None => false,
+    }
+}
+
+/// Whether a write is an earlier one of the same master.
+fn is_behind(first: &WordWrite, second: &WordWrite) -> bool
+    ensures { result ≡ is_behind first.now second.now }
+{
+    first.op.master == second.op.master && first.op.index < second.op.index
+}
+
+/// Of the writes that come before the poll the last two of each master, where those of a master
+/// stand together. The others reach no further.
+fn lasts_of(
+    alloc: Global,
     table: &ClockTable,
     poll: OpId,
     writes: &[WordWrite],
-    raising: &[WordWrite],
+) -> Result<Vec<WordWrite>, NoMemory>
+    requires { RisesIn table.now }
+    ensures { IfOk result (λ lasts. ReachAlike table.now poll lasts.items writes.now) }
+{
+    let mut lasts = Vec::new(alloc);
+    put_lasts(&mut lasts, table, poll, writes)?;
+    Ok(lasts)
+}
+
+fn put_lasts(
+    lasts: &mut Vec<WordWrite>,
+    table: &ClockTable,
+    poll: OpId,
+    writes: &[WordWrite],
+) -> Result<(), NoMemory>
+    requires rises { RisesIn table.now }
+    requires none { lasts.old.items ≡ [] }
+    ensures { OnOk result (ReachAlike table.now poll lasts.new.items writes.now) }
+{
+    for write in writes {
+        put_last(lasts, table, poll, write)?;
+    }
+    Ok(())
+}
+
+/// The write is put behind these, if it comes before the poll, and of three of one master the first
+/// is left away.
+fn put_last(
+    lasts: &mut Vec<WordWrite>,
+    table: &ClockTable,
+    poll: OpId,
+    write: &WordWrite,
+) -> Result<(), NoMemory>
+    requires { RisesIn table.now }
+    ensures { OnOk result (PutsLast table.now poll write.now lasts.old.items lasts.new.items) }
+{
+    if !is_before(table, write.op, poll) {
+        return Ok(());
+    }
+    make_way(lasts, write)?;
+    lasts.push(*write)?;
+    Ok(())
+}
+
+/// Where the last two are earlier ones of the same master, the first of them is left away.
+fn make_way(lasts: &mut Vec<WordWrite>, write: &WordWrite) -> Result<(), NoMemory>
+    ensures { OnOk result (MakesWay write.now lasts.old.items lasts.new.items) }
+{
+    let count = lasts.len();
+    if count < 2
+        || !is_behind(&lasts[count - 2], &lasts[count - 1])
+        || !is_behind(&lasts[count - 1], write)
+    {
+        return Ok(());
+    }
+    let last = lasts[count - 1];
+    lasts.truncate(count - 2);
+    lasts.push(last)?;
+    Ok(())
+}
+
+/// Whether some run may come to one of the writes that raise the poll and are not left out.
+pub(crate) fn is_any_reached(
+    table: &ClockTable,
+    poll: OpId,
+    awaited: &Awaited,
+    writes: &[WordWrite],
 ) -> bool
-    ensures { result ≡ list_any (is_reached_in table.now poll writes.now) raising.now }
+    ensures { result ≡ list_any (λ f. raises_it awaited.now f
+        && is_reached_in table.now poll writes.now f) writes.now }
 {
     let mut reach = reach_of(table, poll, writes, 0, false);
-    for raiser in raising {
-        reach = reach_for(reach, table, poll, writes, raiser);
-        if is_reached(reach, table, raiser) {
+    for write in writes {
+        if is_next_reached(&mut reach, table, poll, awaited, writes, write) {
             return true;
         }
     }
     false
+}
+
+/// Whether the write raises the poll and is not left out, and some run may come to it.
+fn is_next_reached(
+    reach: &mut Reach,
+    table: &ClockTable,
+    poll: OpId,
+    awaited: &Awaited,
+    writes: &[WordWrite],
+    write: &WordWrite,
+) -> bool
+    requires { IsReach table.now poll writes.now reach.old }
+    ensures reach { IsReach table.now poll writes.now reach.new }
+    ensures is { result ≡ (raises_it awaited.now write.now
+        && is_reached_in table.now poll writes.now write.now) }
+{
+    if !awaited.is_raised_by(write) {
+        return false;
+    }
+    *reach = reach_for(*reach, table, poll, writes, write);
+    is_reached(*reach, table, write)
 }
 
 /// Whether the raiser is not left out, and some run may come to it.

@@ -2,7 +2,7 @@ use Rattle.std.proofs.Common.{sym}
 use Rattle.safe_table.proofs.PollLemmas.{poll_is}
 use Rattle.safe_table.proofs.polls.kept.kept_of.Goals as goal
 
-pub returns-in_ok-raising_of-in-Some : goal.returns-in_ok-raising_of-in-Some
-returns-in_ok-raising_of-in-Some c =
-    poll_is c.args.board.now c.args.op c.in-Some.awaited c.opens.result c.is_firm.result c.in_ok-raising_of-in-Some.field-0.items c.of_word-writes.result.now
-    (sym c.in-Some.ensures) (c.of_word-writes.ensures.are c.args.board.now c.requires.lists) c.opens.ensures c.is_firm.ensures c.in_ok-raising_of-in-Some.ensures
+pub returns-in-Some : goal.returns-in-Some
+returns-in-Some c =
+    poll_is c.args.board.now c.args.op c.in-Some.awaited c.opens.result c.is_firm.result c.of_word.result.now
+    (sym c.in-Some.ensures) (c.of_word.ensures.are c.args.board.now c.requires.lists) c.opens.ensures c.is_firm.ensures
