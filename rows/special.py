@@ -89,7 +89,7 @@ def refused_at_the_end(place):
 def refused_among_empty_lines(place):
     """A board of 1 MiB, most of it empty lines, of which two devices meet: the lines that matter are found at once."""
     text = b"pciboard 1\ntarget a on 0 dev 9\ntarget b on 0 dev 9\n" + b"\n" * 1048500
-    seen = place.call("headers", place.file("large", text), timeout=10)
+    seen = place.call("headers", place.file("large", text), timeout=2)
     yield "refused_among_empty_lines", seen, Wanted(6, b"", "pcitree: board line 0 fault V7")
 
 
@@ -137,7 +137,7 @@ def import_on_a_small_stack(place):
 @row("import_of_slot_lines")
 def import_of_slot_lines(place):
     lines = "".join(f"{n // 2048:02x}:{n // 8 % 256:02x}.{n % 8:x} x\n" for n in range(104857))
-    seen = place.call("import", place.file("large", lines.encode()), timeout=10)
+    seen = place.call("import", place.file("large", lines.encode()), timeout=2)
     yield "import_of_slot_lines", seen, Wanted(6, b"", "pcitree: import line 1 fault I3")
 
 
@@ -287,17 +287,19 @@ def scripts():
     # the commands of README.md and of the guide
     yield "readme_commands", ["../tools/readme-commands", "README.md", "docs/GUIDE.md"]
     # `safe` beside a second program, over all boards here and some that are drawn, and what `adverse` writes of them
-    yield "safe_by_definitions", ["../tools/safe-by-definitions", "--compare", PROGRAM, "100"]
+    yield "safe_by_definitions", ["../tools/safe-by-definitions", "--compare", PROGRAM, "250"]
     # arrivals taken out of each run here, and put in again
     yield "fill_again", ["../tools/fill-again"]
     # faults of the system in turn, disturbed schedules, inputs changed at random and the worst ones, each in a short form
     if shutil.which("cc"):
-        yield "fail_each_call", ["../tools/fail-each-call", "--most", "3"]
-        yield "try_schedules", ["../tools/try-schedules", "--times", "6"]
-    yield "fuzz", ["../tools/fuzz", "--seconds", "15"]
+        yield "fail_each_call", ["../tools/fail-each-call", "--most", "5"]
+        yield "try_schedules", ["../tools/try-schedules", "--times", "20"]
+    else:
+        print("rows: no C compiler, so that fail_each_call and try_schedules are left out")
+    yield "fuzz", ["../tools/fuzz", "--seconds", "20"]
     yield "worst", ["../tools/worst", "--part", "16"]
-    # the Debian package, where there is what makes one
+    # the Debian package, where there is what makes one, made by somebody whose files nobody else may read
     if shutil.which("dpkg-deb"):
         folder = tempfile.mkdtemp()
-        yield "package", ["bash", "-c", '../tools/try-deb "$(../tools/make-deb "$0")"', folder]
+        yield "package", ["bash", "-c", 'umask 077; ../tools/try-deb "$(../tools/make-deb "$0")"', folder]
         shutil.rmtree(folder)

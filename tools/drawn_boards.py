@@ -276,4 +276,14 @@ def one_word(rng):
     return board_text(head, masters)
 
 
-LIMITS = (most_agents, most_operations, most_tries, one_word)
+def most_marks(rng):
+    """One bridge, whose completions and requests are lost 1,024 times each, and a flag behind it."""
+    head = ["bridge 1 on 0 dev 1 last 1 mem 80000000 800fffff io 00001000 00001fff", "target ram on 0 dev 2"]
+    head += ["range mem 00100000 00001000", "range io 00002000 00000040"]
+    writer = [f"iow 00002000 {turn:08x}" for turn in range(rng.randint(100, 1000))] + ["mw 00100000 0000002a", "mw 00100040 00000001"]
+    reader = ["poll 00100040 ffffffff 00000001 9", "mr 00100000", "ior 00002000"]
+    marks = [f"{kind}\n" for number in range(1, 1025) for kind in (f"discard 1 down {number}", f"drop 1 up {number}")]
+    return board_text(head, [("nic", 1, writer), ("cpu", 0, reader)]) + "".join(marks)
+
+
+LIMITS = (most_agents, most_operations, most_tries, one_word, most_marks)

@@ -166,37 +166,16 @@ fn read_and_answer<R: Threads + Sync, S: Source, G: Gate + Sync>(
     ensures stopped { IfErr result (StopsAnswering form (map string_bytes words.now)
         (S.held source.old) (S.held source.new) (S.faults source.old) (S.faults source.new)) }
 {
-    match source.lent() {
-        Some(input) => {
-            let answered = answer_lent(rt, alloc, form, words, input, gate);
-            source.end();
-            answered
+    if let Some(input) = source.lent() {
+        if input.len() > form.row().limit {
+            return Err(Status::TooLong);
         }
-        None => {
-            let input = read_input(alloc, form, source)?;
-            answer(rt, alloc, form, words, &input, gate)
-        }
+        let answered = answer(rt, alloc, form, words, input, gate);
+        source.end();
+        return answered;
     }
-}
-
-/// Makes the text that answers an input that a source lends whole.
-fn answer_lent<R: Threads + Sync, G: Gate + Sync>(
-    rt: &R,
-    alloc: Global,
-    form: Form,
-    words: &[String],
-    input: &[u8],
-    gate: &G,
-) -> Result<Answered, Status>
-    requires { reads_file form ≡ true }
-    ensures ok { IfOk result (λ answer. AnswersInput form (map string_bytes words.now) (Some input.now) (Some []) answer.text.items answer.ending) }
-    ensures stopped { (before now : ℕ) → IfErr result
-        (StopsAnswering form (map string_bytes words.now) (Some input.now) (Some []) before now) }
-{
-    if input.len() > form.row().limit {
-        return Err(Status::TooLong);
-    }
-    answer(rt, alloc, form, words, input, gate)
+    let input = read_input(alloc, form, source)?;
+    answer(rt, alloc, form, words, &input, gate)
 }
 
 /// Reads an input to its end.
