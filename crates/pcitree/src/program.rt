@@ -39,17 +39,14 @@ pub fn pcitree<R: Threads + Sync, S: Source, K: Sink, G: Gate + Sync>(
     ensures misfit { (word : ℕ) → result ≡ Status.Usage word
         → word ≡ misfit (map string_bytes words.now) }
     ensures unread { IsUsage result → source.new ≡ source.old }
-
     // Where a number among the words is the input, the source is not read.
     ensures unasked { (form : WordForm) → form_of (map string_bytes words.now) ≡ Some form
         → IsSome (number_of form (map string_bytes words.now)) → source.new ≡ source.old }
-
     // The faults of the ports.
     ensures read_fault { result ≡ Status.ReadFault
         → Rose (S.faults source.old) (S.faults source.new) }
     ensures write_fault { result ≡ Status.WriteFault
         → Rose (K.faults sink.old) (K.faults sink.new) }
-
     // What the sink has: the whole text with `Done`, with `NotSafe` of `safe` and `DrawnTo` of `draw`.
     ensures unwritten { IsBeforeWriting result → sink.new ≡ sink.old }
     ensures front { result ≡ Status.WriteFault → IfSome (form_of (map string_bytes words.now)) (λ form.
@@ -58,15 +55,11 @@ pub fn pcitree<R: Threads + Sync, S: Source, K: Sink, G: Gate + Sync>(
     ensures done { IsSuccess result → IfSome (form_of (map string_bytes words.now)) (λ form.
         Finishes form (map string_bytes words.now) (given form (map string_bytes words.now) (S.held source.old)) (left form (map string_bytes words.now) (S.held source.new))
         (K.taken sink.old) (K.taken sink.new) result) }
-
     // What `run`, `finish`, `devices` or `adverse` wrote is the text of a complete run, as `check` wants it.
     ensures checked { (form : WordForm) → result ≡ Status.Done → form_of (map string_bytes words.now) ≡ Some form
         → writes_run form ≡ true → WritesRun (K.taken sink.old) (K.taken sink.new) }
-
-    // What was read.
     ensures refused { IsRefusal result → IfSome (form_of (map string_bytes words.now)) (λ form.
         RefusesInput form (map string_bytes words.now) (given form (map string_bytes words.now) (S.held source.old)) (left form (map string_bytes words.now) (S.held source.new)) result) }
-
     // Where the source tells what it holds, each answer has its cause in that, and an input that is
     // served is answered, unless a port fails or there is no memory.
     ensures cause { (form : WordForm) (input : List ℕ) → form_of (map string_bytes words.now) ≡ Some form
