@@ -34,7 +34,10 @@ def of_kit(name):
 
 
 def change(rtlib):
-    """The two changes."""
+    """The two changes, to a Crate that has what they replace and call (tools/try-kit tries them)."""
+    lacking = [it for it in ("stamp", "below", "is_built", "build_rlib", "words", "call") if not hasattr(rtlib.Crate, it)]
+    if lacking:
+        raise AttributeError(f"this kit's Crate has no {', '.join(lacking)}")
     rtlib.Crate.stamp, rtlib.Crate.below = once_for_each_crate(rtlib)
     if "--statements" in rtlib.help_of("build"):
         keep_statements(rtlib)
