@@ -19,6 +19,8 @@ SHORTEST = 0.01
 # Words that read a trace, and those that read a board.
 OF_A_TRACE = ["check", "finish", "audit", "report", "untagged", "fill", "waves"]
 OF_A_BOARD = ["run --steady", "run", "headers"]
+# A word and what it reads: the board with no events yet.
+FROM_NOTHING = "finish of none"
 # Statuses that are right: of `safe` that it found something, of `untagged` that masters are not apart.
 FINDS = {"safe": (0, 10), "untagged": (0, 8)}
 
@@ -55,6 +57,20 @@ def reads(operations):
         lines.append(f"master m{number} on {number // 8 + 1}")
         lines += [f"mr {0x10000000 + 4 * (turn * 64 + number):08x}" for turn in range(operations // 64)]
     return "\n".join(lines) + "\n"
+
+
+def lines_of_reads(size):
+    """64 masters below 8 bridges with reads at nobody, up to so many bytes, or to 65,536 reads."""
+    lines = ["pciboard 1", *(f"bridge {bus} on 0 dev {bus} last {bus}" for bus in range(1, 9))]
+    each = (size - 1_300) // 64 // 16
+    for number in range(64):
+        lines += [f"master m{number} on {number // 8 + 1}", *["mr 00000000 # ."] * min(each, 1024)]
+    return "\n".join(lines) + "\n"
+
+
+def comments(size):
+    """A board of nothing but comments, of so many bytes."""
+    return "pciboard 1\n" + "# a comment that says nothing\n" * ((size - 11) // 30)
 
 
 def targets_read(targets):
@@ -113,6 +129,10 @@ class Measured:
         trace = self.path(name)
         os.replace(self.out, trace)
         return trace, events_of(trace)
+
+    def start_of(self, text, name="start"):
+        """The trace of a board in which nothing happened yet."""
+        return self.path(name, "pcitrace 1\n" + text + "events\nend 0\n")
 
 
 def memory_of(number):
@@ -183,7 +203,7 @@ def instructions(measured):
         trace, events = measured.trace_of(board, "trace")
         if not trace:
             continue
-        start = measured.path("start", "pcitrace 1\n" + text + "events\nend 0\n")
+        start = measured.start_of(text)
         shown = []
         for word in words:
             read = {"run --steady": board, "finish": start}.get(word, trace)
@@ -202,7 +222,7 @@ def memory(measured):
         trace, events = measured.trace_of(board, "trace")
         if not trace:
             continue
-        start = measured.path("start", "pcitrace 1\n" + text + "events\nend 0\n")
+        start = measured.start_of(text)
         each = [measured.mib(measured.words(word, {"run --steady": board, "finish": start}.get(word, trace))) for word in words]
         taken[name] = events, each
         print(f"{name:<16} {events:>8} " + " ".join(f"{it:13.1f}" for it in each), flush=True)
@@ -213,7 +233,10 @@ def memory(measured):
 
 def growing():
     """What grows, the three boards or texts, how large each is, and the words that are timed over them."""
-    traced = ["run --steady", "run", *OF_A_TRACE]
+    traced = ["run --steady", "run", *OF_A_TRACE, FROM_NOTHING]
+    texts = [1 << 18, 1 << 19, 1 << 20]
+    yield "reads", [(size, lines_of_reads(size)) for size in texts], ["headers"]
+    yield "comments", [(size, comments(size)) for size in texts], ["headers"]
     yield "events", [(n, MAKE.one_bus(n - 1)[0]) for n in (62_500, 125_000, 250_000)], traced
     yield "operations", [(n, reads(n)) for n in (8_192, 16_384, 32_768)], [*traced, "headers", "combine", "safe", "tree"]
     yield "masters", [(n, MAKE.many_agents(120, 32, n)) for n in (32, 64, 128)], traced
@@ -225,19 +248,23 @@ def growing():
 
 def growth(measured):
     """Seconds of each word where what it reads is one, two and four times as large, and by which power they grow."""
-    print(f"{'what grows':<12} {'word':<13} " + " ".join(f"{of:>9}" for of in ("a quarter", "a half", "all")) + "   power")
+    print(f"{'what grows':<12} {'word':<14} " + " ".join(f"{of:>9}" for of in ("a quarter", "a half", "all")) + "   power")
     steep = 0
     for what, sizes, words in growing():
         read = {}
         for place, (_, text) in enumerate(sizes):
             board = measured.path(f"board{place}", text)
             traced = any(word in OF_A_TRACE for word in words)
-            read[place] = board, measured.trace_of(board, f"trace{place}")[0] if traced else None
+            trace = measured.trace_of(board, f"trace{place}")[0] if traced else None
+            start = measured.start_of(text, f"start{place}") if traced else None
+            read[place] = {"board": board, "trace": trace, FROM_NOTHING: start}
         for word in words:
-            paths = [read[place][word in OF_A_TRACE] for place in range(len(sizes))]
+            kind = word if word == FROM_NOTHING else "trace" if word in OF_A_TRACE else "board"
+            paths = [read[place][kind] for place in range(len(sizes))]
             if None in paths:
                 continue
-            took = [measured.seconds(measured.words(word, path)) for path in paths]
+            called = "finish" if word == FROM_NOTHING else word
+            took = [measured.seconds(measured.words(called, path)) for path in paths]
             steep += print_power(what, word, [size for size, _ in sizes], took)
     print(f"steeper than {STEEPEST}: {steep}", flush=True)
 
@@ -245,11 +272,11 @@ def growth(measured):
 def print_power(what, word, sizes, took):
     """A line; whether it is too steep."""
     if None in took:
-        print(f"{what:<12} {word:<13} took too long", flush=True)
+        print(f"{what:<12} {word:<14} took too long", flush=True)
         return True
     power = math.log(max(took[-1], 0.001) / max(took[0], 0.001)) / math.log(sizes[-1] / sizes[0])
     told = took[-1] >= SHORTEST
     steep = told and power > STEEPEST
     shown = f"{power:7.2f}{'  STEEP' if steep else ''}" if told else "      -"
-    print(f"{what:<12} {word:<13} " + " ".join(f"{it:9.3f}" for it in took) + f" {shown}", flush=True)
+    print(f"{what:<12} {word:<14} " + " ".join(f"{it:9.3f}" for it in took) + f" {shown}", flush=True)
     return steep
