@@ -221,12 +221,14 @@ def version(place):
     print(f"the kit that is here: {kit.strip()}; the program: {seen.out.decode().strip()}")
 
 
-# Each code: `explain` shows an input that has it; of I5 none of a few lines is known (import_longer_than_a_board).
+# Each code: `explain` shows an input that has it; of I5 none of a few lines is known (import_longer_than_a_board), nor
+# of O4 and O5 (rows of observe have one of O5).
 
 CODES = {
     "headers": "L1 L2 L3 P1 P2 P3 P4 P5 P6 P7 P8 P9 P10 P11 P12 H1 H2 H3 H4 V1 V2 V3 V4 V5 V6 V7 V8 V9",
     "check": "X1 X2 X3 X4 X5 X6 X7 X8 N1 N2 N3 N4 N5",
     "import": "I1 I2 I3 I4",
+    "observe": "G1 G2 G3 G4 G5 O1 O2 O3",
 }
 
 
@@ -290,6 +292,9 @@ def scripts():
     yield "safe_by_definitions", ["../tools/safe-by-definitions", "--compare", PROGRAM, "250"]
     # arrivals taken out of each run here, and put in again
     yield "fill_again", ["../tools/fill-again"]
+    # the monitor of PCI buses in its test bench, where there is a simulator
+    if shutil.which("iverilog"):
+        yield "try_monitor", ["../tools/try-monitor"]
     # faults of the system in turn, disturbed schedules, inputs changed at random and the worst ones, each in a short form
     if shutil.which("cc"):
         yield "fail_each_call", ["../tools/fail-each-call", "--most", "5"]

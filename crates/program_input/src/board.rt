@@ -28,7 +28,7 @@ pub fn read_tree(alloc: Global, input: &[u8]) -> Result<Tree, Status>
 }
 
 /// The tree of a valid board, or its first fault with line 0.
-pub(crate) fn tree_of(board: Board) -> Result<Tree, Status>
+pub fn tree_of(board: Board) -> Result<Tree, Status>
     requires { IsTrue (is_well_formed board) }
     ensures ok { IfOk result (IsTreeOf board) }
     ensures err { IfErr result (RefusesTree board) }

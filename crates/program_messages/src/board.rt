@@ -3,6 +3,7 @@ ghost use Rattle.std.specs.Prelude.{◌<◌, ◌≤◌, ◌^◌, length};
 use crate::form::Form;
 use crate::refused::{TOO_LONG, board_part, smallest, word_at_fault, word_lines};
 use crate::unclear::tell_unclear;
+use board_parser::{ParseFault, parse};
 use pci_command::NoMemory;
 use program_pages::{
     Case, Fault, Spot, Teller, Text, bus_not_there, line_at, named_spot, place_of, text_of_device,
@@ -11,6 +12,9 @@ use program_pages::{
 use program_status::{BoardFault, Status};
 use std::alloc::Global;
 use text_faults::{DeviceFault, LineFault, TreeFault};
+
+/// What is said of a line that a board may have, and the board of a log may not.
+const NO_LINE_OF_A_LOG: &str = "no log has this line: what was done stands behind the line log";
 
 /// How many lines are shown of one fault.
 const MOST_SHOWN: u32 = 8;
@@ -30,6 +34,11 @@ pub(crate) fn tell_board(
         None => String::new(teller.alloc()),
     };
     match fault {
+        BoardFault::Line(LineFault::WrongWord)
+            if form == Form::Log && is_board(teller.alloc(), text.as_slice())? => {
+            let line = line_at(text.as_slice(), number).map_or(b"".as_slice(), |(_, line)| line);
+            teller.point(number, line, 0, NO_LINE_OF_A_LOG)
+        }
         BoardFault::Line(fault) => {
             tell_line(
                 teller,
@@ -48,6 +57,18 @@ pub(crate) fn tell_board(
             teller.error(line.as_str())
         }
         BoardFault::Device(fault) => tell_device(teller, input, number, fault, sentence.as_str()),
+    }
+}
+
+/// Whether the text is read as a board, whatever its tree is.
+fn is_board(alloc: Global, text: &[u8]) -> Result<bool, NoMemory> {
+    if text.len() >= TOO_LONG {
+        return Ok(false);
+    }
+    match parse(alloc, text) {
+        Ok(_) => Ok(true),
+        Err(ParseFault::NoMemory) => Err(NoMemory),
+        Err(_) => Ok(false),
     }
 }
 

@@ -11,6 +11,8 @@ pub enum Form {
     Trace(Rule),
     /// As a trace, whose arrivals are put anew.
     Filled,
+    /// As a log.
+    Log,
 }
 
 /// As what this word reads it.
@@ -20,13 +22,16 @@ pub fn form_of(word: &str) -> Form {
         "check" | "finish" | "audit" | "report" | "waves" | "draw" => Form::Trace(Rule::Tagged),
         "untagged" => Form::Trace(Rule::Untagged),
         "fill" => Form::Filled,
+        "observe" => Form::Log,
         _ => Form::Protocol,
     }
 }
 
-/// What is said of an input that is longer than this limit.
-pub fn limit_words(limit: usize) -> &'static str {
-    if limit > 0x10_0000 {
+/// What is said of an input of this form that is longer than this limit.
+pub fn limit_words(form: Form, limit: usize) -> &'static str {
+    if form == Form::Log {
+        "a log has at most 64 MiB"
+    } else if limit > 0x10_0000 {
         "a trace has at most 64 MiB"
     } else {
         "a board has at most 1 MiB"

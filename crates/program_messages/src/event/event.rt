@@ -34,7 +34,7 @@ fn tell_read(
     let told = match form {
         Form::Filled => reasons_filled(teller.alloc(), &read.tree, events)?,
         Form::Trace(rule) => reasons(teller.alloc(), &read.tree, events, rule)?,
-        Form::Board | Form::Protocol => {
+        Form::Board | Form::Protocol | Form::Log => {
             reasons(teller.alloc(), &read.tree, events, Rule::Tagged)?
         }
     };

@@ -42,6 +42,14 @@ impl<'a> Teller<'a> {
         self.alloc
     }
 
+    /// The fault as one sentence.
+    pub fn sentence(&self) -> Result<String, NoMemory> {
+        match self.fault {
+            Some(fault) => Ok(fault.to_string(self.alloc)?),
+            None => Ok(String::new(self.alloc)),
+        }
+    }
+
     /// A sentence without a place.
     pub fn note(&mut self, text: &str) -> Result<(), NoMemory> {
         let line = format!(in self.alloc; "note: {text}")?;

@@ -1,14 +1,14 @@
 ghost use Rattle.std.specs.Prelude.{◌<◌, ◌^◌, length, IfOk, IfErr};
-ghost use Rattle.program_input.specs.Traces.{ReadsRun, RefusesRun};
+ghost use Rattle.command_traces.specs.Runs.{ReadsRun, RefusesRun};
 
-use crate::trace::{TreeTrace, read_tree_trace};
 use judge_state::first_refused;
+use program_input::{TreeTrace, read_tree_trace};
 use program_status::Status;
 use std::alloc::Global;
 
 /// The valid board and the run of it, complete or not, whose text these bytes are, which are fewer
 /// than 2^31.
-pub fn read_run(alloc: Global, input: &[u8]) -> Result<TreeTrace, Status>
+pub(crate) fn read_run(alloc: Global, input: &[u8]) -> Result<TreeTrace, Status>
     requires { length input.now < 2 ^ 31 }
     ensures ok { IfOk result (ReadsRun input.now) }
     ensures err { IfErr result (RefusesRun input.now) }

@@ -4,7 +4,8 @@ use Rattle.board_model.specs.declared.board.Board.{Board}
 use Rattle.history_model.specs.declared.event.Event.{Event}
 use Rattle.history_model.specs.Runs.{Run, history_of}
 use Rattle.judge_state.proofs.RefusedLemmas.{no_refused}
-use Rattle.program_input.specs.Traces.{IsRunTrace, RefusesRun}
+use Rattle.program_input.specs.Traces.{IsRunTrace}
+use Rattle.command_traces.specs.Runs.{RefusesRun}
 use Rattle.program_status.specs.Subjects.{subject_of}
 use Rattle.program_status.specs.Subjects.Subject.{Memory, Input}
 use Rattle.program_input.specs.Refusals.{trace_refusal, IsRefusing}
