@@ -3,3 +3,4 @@ pub mod FewLemmas
 pub mod DecodableLemmas
 pub mod BoundLemmas
 pub mod ValidLemmas
+pub mod SpanLemmas

@@ -1,2 +1,3 @@
 pub mod Decodable
 pub mod Refusals
+pub mod Spans

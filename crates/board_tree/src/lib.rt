@@ -3,7 +3,9 @@
 #![tactic(auto)]
 
 mod bound;
+mod claiming;
 mod refusal;
+mod spans;
 mod tree;
 mod ways;
 

@@ -1,11 +1,13 @@
-ghost use Rattle.std.specs.Prelude.{◌≡◌, ◌++◌, ◌+◌, ◌*◌, ◌<◌, ◌^◌, length, string_bytes, IfOk, OnOk};
+ghost use Rattle.std.specs.Prelude.{◌≡◌, ◌++◌, ◌+◌, ◌*◌, ◌<◌, ◌^◌};
+ghost use Rattle.std.specs.Prelude.{length, string_bytes, IfOk, OnOk};
 ghost use Rattle.history_model.specs.Runs.{Run, history_of};
 ghost use Rattle.draw_items.specs.Items.{traffic_of};
 ghost use Rattle.draw_items.specs.Kept.{TellsTries};
 ghost use Rattle.draw_told.specs.Kept.{TellsTold};
 ghost use Rattle.draw_elements.specs.columns.Places.{layout_of};
 ghost use Rattle.draw_told.specs.Closes.{allowed_in};
-ghost use Rattle.draw_page.specs.Pages.{table_open, names_part, table_text, page_with, page_in, page_from, page_of};
+ghost use Rattle.draw_page.specs.Pages.{table_open, names_part, table_text};
+ghost use Rattle.draw_page.specs.Pages.{page_with, page_in, page_from, page_of};
 
 use crate::known::Known;
 use crate::layers::{layers_of, rows_of};
@@ -129,7 +131,8 @@ fn columns_in(
     brackets: &Brackets,
     frame: &Frame,
 ) -> Result<Columns, NoMemory>
-    ensures { IfOk result (λ columns. columns ≡ layout_of board.now traffic.now.items (frame.now.told_x + (10 * length brackets.now.ends + 10))) }
+    ensures { IfOk result (λ columns. columns ≡ layout_of board.now traffic.now.items
+        (frame.now.told_x + (10 * length brackets.now.ends + 10))) }
 {
     let wide = sum(product(10, brackets.count() as u64)?, 10)?;
     let start = sum(frame.told_x, wide)?;
@@ -148,7 +151,8 @@ fn print_page(
     told: &Told,
     elements: &[Element],
 ) -> Result<(), NoMemory>
-    ensures { OnOk result (string_bytes text.new ≡ string_bytes text.old ++ page_with board.now close columns.now frame.now told.now.found told.now.spans elements.now) }
+    ensures { OnOk result (string_bytes text.new ≡ string_bytes text.old ++ page_with board.now
+        close columns.now frame.now told.now.found told.now.spans elements.now) }
 {
     let title = Title {
         count: frame.end.saturating_sub(1),
@@ -172,7 +176,8 @@ fn print_table(
     frame: &Frame,
     elements: &[Element],
 ) -> Result<(), NoMemory>
-    ensures { OnOk result (string_bytes text.new ≡ string_bytes text.old ++ table_text board.now columns.now frame.now elements.now) }
+    ensures { OnOk result (string_bytes text.new ≡
+        string_bytes text.old ++ table_text board.now columns.now frame.now elements.now) }
 {
     print_names_part(text, board, columns)?;
     print_strips(alloc, text, columns, frame, elements)?;
@@ -182,7 +187,8 @@ fn print_table(
 
 #[tactic(auto, unfolding(crate::specs::Pages::names_part))]
 fn print_names_part(text: &mut String, board: &Board, columns: &Columns) -> Result<(), NoMemory>
-    ensures { OnOk result (string_bytes text.new ≡ string_bytes text.old ++ names_part board.now columns.now) }
+    ensures { OnOk result (string_bytes text.new ≡
+        string_bytes text.old ++ names_part board.now columns.now) }
 {
     print_table_open(text)?;
     print_names(text, board, columns)?;

@@ -1,5 +1,5 @@
-//! Tests of what judges runs, of logs and what they tell, of what reads runs plainly and of the boards
-//! that are made from a number, by values worked out by hand.
+//! Tests of what judges runs, of logs and what they tell, of what reads runs plainly and of the
+//! boards that are made from a number, by values worked out by hand.
 #![tactic(auto)]
 
 #[cfg(test)]

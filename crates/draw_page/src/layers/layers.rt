@@ -6,7 +6,8 @@ ghost use Rattle.draw_items.specs.Tries.{is_pale};
 ghost use Rattle.draw_items.specs.Kept.{TellsTries};
 ghost use Rattle.draw_told.specs.Told.{is_loud};
 ghost use Rattle.draw_told.specs.Kept.{TellsTold};
-ghost use Rattle.draw_shapes.specs.Elements.{key_shapes, item_rims, act_rims, wait_shapes, item_shapes, act_shapes, list_shapes};
+ghost use Rattle.draw_shapes.specs.Elements.{key_shapes, item_rims, act_rims, wait_shapes};
+ghost use Rattle.draw_shapes.specs.Elements.{item_shapes, act_shapes, list_shapes};
 ghost use Rattle.draw_page.specs.layers.Layers.{span_shapes, behind, in_front, layers};
 
 use board_model::Board;
@@ -21,8 +22,9 @@ use draw_told::{Brackets, Span, Told};
 use pci_command::NoMemory;
 use std::alloc::Global;
 
-/// All that is drawn in these rows of a run on the board, layer by layer: its items, the waiting of its masters, and what the
-/// lines of its audit tell; and the rim of what an event that is not allowed stands behind.
+/// All that is drawn in these rows of a run on the board, layer by layer: its items, the waiting of
+/// its masters, and what the lines of its audit tell; and the rim of what an event that is not
+/// allowed stands behind.
 #[tactic(auto, unfolding(crate::specs::layers::Layers::layers))]
 pub fn layers_of(
     alloc: Global,
@@ -37,8 +39,10 @@ pub fn layers_of(
     told: &Told,
     brackets: &Brackets,
 ) -> Result<Vec<Element>, NoMemory>
-    ensures { (events : List Event) → TellsTries events tries.now → TellsTold board.now events told.now →
-        IfOk result (λ elements. elements.items ≡ layers board.now events columns.now frame.now rows.now items.now ahead waits.now told.now.spans brackets.now.tracks) }
+    ensures { (events : List Event) → TellsTries events tries.now →
+        TellsTold board.now events told.now →
+        IfOk result (λ elements. elements.items ≡ layers board.now events columns.now frame.now
+        rows.now items.now ahead waits.now told.now.spans brackets.now.tracks) }
 {
     let mut elements = Vec::new(alloc);
     let all = &mut elements;
@@ -74,8 +78,10 @@ fn add_behind(
     tries: &Tries,
     told: &Told,
 ) -> Result<(), NoMemory>
-    ensures { (board : Board) (events : List Event) → TellsTries events tries.now → TellsTold board events told.now →
-        OnOk result (elements.new.items ≡ elements.old.items ++ behind board events columns.now frame.now rows.now items.now ahead waits.now) }
+    ensures { (board : Board) (events : List Event) → TellsTries events tries.now →
+        TellsTold board events told.now →
+        OnOk result (elements.new.items ≡ elements.old.items ++
+        behind board events columns.now frame.now rows.now items.now ahead waits.now) }
 {
     add_keys(alloc, elements, columns, frame, rows)?;
     add_item_rims(alloc, elements, columns, frame, told, items)?;
@@ -99,7 +105,8 @@ fn add_in_front(
     tracks: &[Option<usize>],
 ) -> Result<(), NoMemory>
     ensures { (events : List Event) → TellsTries events tries.now →
-        OnOk result (elements.new.items ≡ elements.old.items ++ in_front board.now events columns.now frame.now rows.now items.now spans.now tracks.now) }
+        OnOk result (elements.new.items ≡ elements.old.items ++
+        in_front board.now events columns.now frame.now rows.now items.now spans.now tracks.now) }
 {
     add_items(alloc, elements, board, columns, frame, tries, items)?;
     add_acts(alloc, elements, board, columns, frame, rows)?;
@@ -114,7 +121,8 @@ fn add_keys(
     frame: &Frame,
     rows: &[Row],
 ) -> Result<(), NoMemory>
-    ensures { OnOk result (elements.new.items ≡ elements.old.items ++ flat_map (key_shapes columns.now frame.now) rows.now) }
+    ensures { OnOk result (elements.new.items ≡
+        elements.old.items ++ flat_map (key_shapes columns.now frame.now) rows.now) }
 {
     for row in rows {
         add_key(alloc, elements, columns, frame, row)?;
@@ -131,7 +139,8 @@ fn add_item_rims(
     items: &[Item],
 ) -> Result<(), NoMemory>
     ensures { (board : Board) (events : List Event) → TellsTold board events told.now →
-        OnOk result (elements.new.items ≡ elements.old.items ++ flat_map (λ item. item_rims columns.now frame.now (is_loud board events item.op) item) items.now) }
+        OnOk result (elements.new.items ≡ elements.old.items ++ flat_map (λ item.
+        item_rims columns.now frame.now (is_loud board events item.op) item) items.now) }
 {
     for item in items {
         let loud = told.is_loud(item.op);
@@ -147,7 +156,8 @@ fn add_act_rims(
     frame: &Frame,
     rows: &[Row],
 ) -> Result<(), NoMemory>
-    ensures { OnOk result (elements.new.items ≡ elements.old.items ++ flat_map (act_rims columns.now frame.now) rows.now) }
+    ensures { OnOk result (elements.new.items ≡
+        elements.old.items ++ flat_map (act_rims columns.now frame.now) rows.now) }
 {
     for row in rows {
         add_act_rim(alloc, elements, columns, frame, row)?;
@@ -164,7 +174,8 @@ fn add_waits(
     waits: &[Wait],
 ) -> Result<(), NoMemory>
     ensures { (events : List Event) → TellsTries events tries.now →
-        OnOk result (elements.new.items ≡ elements.old.items ++ flat_map (λ wait. wait_shapes columns.now frame.now (is_pale events wait.op) wait) waits.now) }
+        OnOk result (elements.new.items ≡ elements.old.items ++ flat_map (λ wait.
+        wait_shapes columns.now frame.now (is_pale events wait.op) wait) waits.now) }
 {
     for wait in waits {
         let pale = tries.is_pale(wait.op);
@@ -183,7 +194,8 @@ fn add_items(
     items: &[Item],
 ) -> Result<(), NoMemory>
     ensures { (events : List Event) → TellsTries events tries.now →
-        OnOk result (elements.new.items ≡ elements.old.items ++ flat_map (λ item. item_shapes board.now columns.now frame.now (is_pale events item.op) item) items.now) }
+        OnOk result (elements.new.items ≡ elements.old.items ++ flat_map (λ item.
+        item_shapes board.now columns.now frame.now (is_pale events item.op) item) items.now) }
 {
     for item in items {
         let pale = tries.is_pale(item.op);
@@ -200,7 +212,8 @@ fn add_acts(
     frame: &Frame,
     rows: &[Row],
 ) -> Result<(), NoMemory>
-    ensures { OnOk result (elements.new.items ≡ elements.old.items ++ flat_map (act_shapes board.now columns.now frame.now) rows.now) }
+    ensures { OnOk result (elements.new.items ≡
+        elements.old.items ++ flat_map (act_shapes board.now columns.now frame.now) rows.now) }
 {
     for row in rows {
         add_act(alloc, elements, board, columns, frame, row)?;
@@ -215,7 +228,8 @@ fn add_brackets(
     spans: &[Span],
     tracks: &[Option<usize>],
 ) -> Result<(), NoMemory>
-    ensures { OnOk result (elements.new.items ≡ elements.old.items ++ flat_map (span_shapes frame.now) (zip spans.now tracks.now)) }
+    ensures { OnOk result (elements.new.items ≡
+        elements.old.items ++ flat_map (span_shapes frame.now) (zip spans.now tracks.now)) }
 {
     for (span, track) in spans.iter().zip(tracks.iter()) {
         add_bracket(alloc, elements, frame, span.landed, span.read, *track)?;
@@ -230,7 +244,8 @@ fn add_rows(
     frame: &Frame,
     rows: &[Row],
 ) -> Result<(), NoMemory>
-    ensures { OnOk result (elements.new.items ≡ elements.old.items ++ flat_map (list_shapes board.now frame.now) rows.now) }
+    ensures { OnOk result (elements.new.items ≡
+        elements.old.items ++ flat_map (list_shapes board.now frame.now) rows.now) }
 {
     for row in rows {
         add_row(alloc, elements, board, frame, row)?;

@@ -1,0 +1,30 @@
+-- The first line of a text, found and cut in one pass.
+use Rattle.std.specs.Prelude.{◌≡◌, ℕ, ◌<◌, Bool, true, false, List, length, not, nat_le, ◌&&◌}
+use Rattle.std.specs.List.{position_or_len, before_first, after_first}
+use Rattle.board_text.specs.Lines.{is_newline}
+use Rattle.trace_reader.specs.lines.Lines.{is_unreadable, is_regular, pieces_of}
+
+-- the first line, without its newline
+abbrev pub first_line : List ℕ → List ℕ
+first_line text = before_first is_newline text
+
+-- what stands behind its newline
+abbrev pub behind_line : List ℕ → List ℕ
+behind_line text = after_first is_newline text
+
+-- a printing byte that is no space
+abbrev pub in_word : ℕ → Bool
+in_word byte = nat_le 33 byte && nat_le byte 126
+
+-- a byte that ends a word: a space, a newline, or one that no line may have
+abbrev pub ends_word : ℕ → Bool
+ends_word byte = not (in_word byte)
+
+-- the first line has a newline and is readable, single spaces alone stand between these words of it,
+-- and this stands behind it
+pub record IsScanned (text : List ℕ) (words : List (List ℕ)) (behind : List ℕ) : Type 0 where
+  pub inside : position_or_len is_newline text < length text
+  pub readable : is_unreadable (first_line text) ≡ false
+  pub pieces : words ≡ pieces_of (first_line text)
+  pub regular : is_regular words ≡ true
+  pub left : behind ≡ behind_line text
