@@ -8,7 +8,8 @@ use arrayvec::ArrayVec;
 /// where the line is readable, single spaces alone stand between its words, and there are no more
 /// than the longest line of an event has.
 pub(crate) fn scan_line(text: &[u8]) -> Option<(ArrayVec<&[u8], 6>, &[u8])>
-    ensures { IfSome result (λ line. IsScanned text.now (map (λ word. word.now) line.0.items) line.1.now) }
+    ensures { IfSome result
+        (λ line. IsScanned text.now (map (λ word. word.now) line.0.items) line.1.now) }
 {
     let mut words = ArrayVec::new();
     let mut rest = text;
