@@ -6,6 +6,7 @@ use Rattle.std.proofs.lemmas.Bool.{false≢true}
 use Rattle.std.proofs.lemmas.Bool.Decides.{nat_tests}
 use Rattle.std.proofs.lemmas.List.{length-append, length-take-le, take-append-drop}
 use Rattle.std.proofs.lemmas.List.Folds.{list_all-append}
+use Rattle.std.proofs.lemmas.List.Splits.{slice_split-cons_no}
 use Rattle.board_text.specs.Lines.{is_newline}
 use Rattle.trace_reader.specs.lines.Lines.{is_space, pieces_of, has_bytes, is_printing, is_unreadable, is_regular}
 use Rattle.trace_reader.specs.lines.Scanned.{first_line, behind_line, in_word, ends_word, BeginsWith, IsScanned}
@@ -76,14 +77,14 @@ pieces_word : (w xs : List ℕ) → list_all in_word w ≡ true → pieces_of (w
 pieces_word [] xs all = refl
 pieces_word (x ∷ w) xs all =
     let parts = both_true (in_word x) (list_all in_word w) all in
-    rw (word_apart x parts.0) (ap (onto_first x) (pieces_word w xs parts.1))
+    slice_split-cons_no is_space x (w ++ 32 ∷ xs) (word_apart x parts.0) ∙ ap (onto_first x) (pieces_word w xs parts.1)
 
 -- and a word alone the only one
 pieces_end : (w : List ℕ) → list_all in_word w ≡ true → pieces_of w ≡ w ∷ []
 pieces_end [] all = refl
 pieces_end (x ∷ w) all =
     let parts = both_true (in_word x) (list_all in_word w) all in
-    rw (word_apart x parts.0) (ap (onto_first x) (pieces_end w parts.1))
+    slice_split-cons_no is_space x w (word_apart x parts.0) ∙ ap (onto_first x) (pieces_end w parts.1)
 
 -- what stands before the first byte that ends a word is one
 word_more : (x : ℕ) (xs : List ℕ) (b : Bool) → in_word x ≡ b → list_all in_word (take (position_or_len ends_word xs) xs) ≡ true → list_all in_word (take (position_or_len ends_word (x ∷ xs)) (x ∷ xs)) ≡ true
