@@ -11,14 +11,14 @@ use Rattle.draw_told.specs.declared.told.Span.{Span}
 use Rattle.draw_told.specs.Told.{spans_of}
 use Rattle.draw_told.specs.Brackets.{brackets_of}
 use Rattle.draw_elements.specs.columns.Places.{Layout, layout_of}
-use Rattle.draw_sheets.specs.declared.row.Row.{Row}
-use Rattle.draw_sheets.specs.declared.frame.Frame.{Frame}
-use Rattle.draw_sheets.specs.Frames.{frame_of}
+use Rattle.draw_shapes.specs.declared.row.Row.{Row}
+use Rattle.draw_shapes.specs.declared.frame.Frame.{Frame}
+use Rattle.draw_shapes.specs.Frames.{frame_of}
 use Rattle.draw_shapes.specs.Shapes.{Shape}
 use Rattle.draw_page.specs.layers.Rows.{rows_of}
 use Rattle.draw_told.specs.Ahead.{ahead_in}
 use Rattle.draw_page.specs.layers.Layers.{layers}
-use Rattle.draw_sheets.specs.heads.Names.{names_text}
+use Rattle.draw_shapes.specs.heads.Names.{names_text}
 use Rattle.draw_told.specs.declared.close.Close.{Close}
 use Rattle.draw_told.specs.Closes.{allowed_in}
 use Rattle.draw_told.specs.Tops.{title_text, close_line, top_text, told_text}

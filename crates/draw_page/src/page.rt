@@ -16,8 +16,7 @@ use board_model::Board;
 use board_tree::Tree;
 use draw_elements::{Columns, columns_of, most_of, product, sum};
 use draw_items::{Item, Traffic, traffic_of, tries_of, waits_of};
-use draw_shapes::Element;
-use draw_sheets::{Frame, Row, frame_of, print_names};
+use draw_shapes::{Element, Frame, Row, frame_of, print_names};
 use draw_told::{
     Brackets, Close, Title, Told, ahead_in, allowed_in, brackets_of, print_told, print_top, told_of,
 };

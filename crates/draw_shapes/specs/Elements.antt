@@ -15,8 +15,8 @@ use Rattle.draw_elements.specs.declared.acts.Act.{Act as Ends}
 use Rattle.draw_elements.specs.declared.items.Route.{Route}
 use Rattle.draw_elements.specs.Items.{route_of, item_text, item_rim}
 use Rattle.draw_elements.specs.Acts.{act_of, act_text, act_rim, refused_place, refused_text}
-use Rattle.draw_sheets.specs.declared.row.Row.{Row}
-use Rattle.draw_sheets.specs.declared.frame.Frame.{Frame}
+use Rattle.draw_shapes.specs.declared.row.Row.{Row}
+use Rattle.draw_shapes.specs.declared.frame.Frame.{Frame}
 use Rattle.draw_shapes.specs.Shapes.{Shape, in_row, seen}
 use Rattle.draw_shapes.specs.Keys.{mark_text, dotted_text, wait_text, bracket_text}
 use Rattle.draw_shapes.specs.Lists.{row_text}

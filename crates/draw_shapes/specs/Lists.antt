@@ -9,8 +9,8 @@ use Rattle.history_model.specs.declared.event.Event.{Event}
 use Rattle.history_model.specs.declared.event.Event.TheVariants.{Act, Arrive}
 use Rattle.draw_elements.specs.Heights.{height_text}
 use Rattle.draw_elements.specs.Labels.{event_text, note_of}
-use Rattle.draw_sheets.specs.declared.row.Row.{Row}
-use Rattle.draw_sheets.specs.declared.frame.Frame.{Frame}
+use Rattle.draw_shapes.specs.declared.row.Row.{Row}
+use Rattle.draw_shapes.specs.declared.frame.Frame.{Frame}
 
 -- a credit
 abbrev pub is_credit : Kind → Bool

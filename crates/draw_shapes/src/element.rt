@@ -1,7 +1,7 @@
 ghost use Rattle.std.specs.Prelude.{◌≡◌, ◌∷◌, [], ◌++◌, OnOk, string_bytes};
 ghost use Rattle.draw_shapes.specs.Shapes.{in_row, is_seen};
 
-use draw_sheets::Frame;
+use crate::frame::Frame;
 use pci_command::NoMemory;
 use std::marker::Model;
 

@@ -2,10 +2,11 @@ ghost use Rattle.std.specs.Prelude.{◌≡◌, ◌++◌, string_bytes, OnOk};
 ghost use Rattle.draw_elements.specs.Labels.{note_of};
 ghost use Rattle.draw_shapes.specs.Lists.{is_credit, brings_credit, is_credit_event, row_class, number_text, line_open, noted, row_text};
 
+use crate::frame::Frame;
+use crate::row::Row;
 use board_model::Board;
 use draw_elements::{Height, print_event, print_note};
 use draw_items::{Item, Kind};
-use draw_sheets::{Frame, Row};
 use history_model::Event;
 use std::alloc::{AllocError, Global};
 

@@ -2,15 +2,16 @@ ghost use Rattle.std.specs.Prelude.{◌≡◌, ◌++◌, min, OnOk, IfOk};
 ghost use Rattle.draw_shapes.specs.Elements.{is_claimed, dotted_to, dotted_shapes, mark_shapes, refused_marks, key_shapes, can_have_rim, route_rim, item_rims, rim_in, act_rims_of, act_rims, ahead_class, ahead_rims, wait_shapes, routed, item_shapes, act_shapes_of, cross_at, refused_shapes, act_shapes, bracket_on, bracket_shapes, list_shapes};
 
 use crate::element::{Element, add_between, add_in_row, is_seen};
+use crate::frame::Frame;
 use crate::keys::{print_bracket, print_dotted, print_mark, print_wait};
 use crate::lists::print_row;
+use crate::row::Row;
 use board_model::Board;
 use draw_elements::{
     Act, Columns, Route, print_act, print_act_rim, print_item, print_item_rim, print_refused,
     product, refused_place, sum,
 };
 use draw_items::{Item, Kind, Wait};
-use draw_sheets::{Frame, Row};
 use history_model::{Event, Step};
 use pci_command::NoMemory;
 use std::alloc::Global;

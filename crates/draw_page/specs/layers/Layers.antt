@@ -9,8 +9,8 @@ use Rattle.draw_items.specs.Tries.{is_pale}
 use Rattle.draw_told.specs.declared.told.Span.{Span}
 use Rattle.draw_told.specs.Told.{is_loud}
 use Rattle.draw_elements.specs.columns.Places.{Layout}
-use Rattle.draw_sheets.specs.declared.row.Row.{Row}
-use Rattle.draw_sheets.specs.declared.frame.Frame.{Frame}
+use Rattle.draw_shapes.specs.declared.row.Row.{Row}
+use Rattle.draw_shapes.specs.declared.frame.Frame.{Frame}
 use Rattle.draw_shapes.specs.Shapes.{Shape}
 use Rattle.draw_shapes.specs.Elements.{key_shapes, item_rims, act_rims, ahead_rims, wait_shapes, item_shapes, act_shapes, bracket_shapes, list_shapes}
 

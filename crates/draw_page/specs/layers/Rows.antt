@@ -7,8 +7,8 @@ use Rattle.draw_items.specs.declared.item.Item.{Item}
 use Rattle.draw_items.specs.Items.{Lanes, item_of, taken_by, named_by}
 use Rattle.draw_items.specs.Tries.{is_pale}
 use Rattle.draw_told.specs.Told.{is_loud, is_key}
-use Rattle.draw_sheets.specs.declared.row.Row.{Row}
-use Rattle.draw_sheets.specs.Widths.{width_of}
+use Rattle.draw_shapes.specs.declared.row.Row.{Row}
+use Rattle.draw_shapes.specs.Widths.{width_of}
 
 -- the operation of an act, and of what arrives: whether it is a fruitless try, and whether a line of the audit tells of it
 abbrev pub is_item_pale : List Event → Option Item → Bool

@@ -14,10 +14,9 @@ use board_model::Board;
 use draw_elements::Columns;
 use draw_items::{Item, Tries, Wait};
 use draw_shapes::{
-    Element, add_act, add_act_rim, add_ahead_rim, add_bracket, add_item, add_item_rim, add_key,
-    add_row, add_wait,
+    Element, Frame, Row, add_act, add_act_rim, add_ahead_rim, add_bracket, add_item, add_item_rim,
+    add_key, add_row, add_wait,
 };
-use draw_sheets::{Frame, Row};
 use draw_told::{Brackets, Span, Told};
 use pci_command::NoMemory;
 use std::alloc::Global;

@@ -10,7 +10,7 @@ ghost use Rattle.draw_page.specs.layers.Rows.{rows_after, drawn, rows_of};
 
 use crate::known::Known;
 use draw_items::{Item, Tries};
-use draw_sheets::{Row, width_of};
+use draw_shapes::{Row, width_of};
 use draw_told::Told;
 use history_model::Event;
 use pci_command::NoMemory;

@@ -1,7 +1,7 @@
 use Rattle.std.proofs.Common.{◌≡◌, ◌++◌, drop, string_bytes}
 use Rattle.std.specs.List.{flat_map}
-use Rattle.draw_sheets.specs.heads.Names.{line_name}
-use Rattle.draw_sheets.proofs.heads.names.print_line_names.Given as goal
+use Rattle.draw_shapes.specs.heads.Names.{line_name}
+use Rattle.draw_shapes.proofs.heads.names.print_line_names.Given as goal
 
 -- the text so far, and what is to come
 abbrev pub invariant-loop-line : goal.invariant-loop-line

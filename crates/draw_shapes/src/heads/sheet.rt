@@ -1,6 +1,6 @@
 ghost use Rattle.std.specs.Prelude.{◌≡◌, ◌++◌, string_bytes, IfOk, OnOk};
 ghost use Rattle.std.specs.List.{flat_map};
-ghost use Rattle.draw_sheets.specs.heads.Sheets.{drawn_size, box_text, size_text, svg_open, band_path, line_path, bands_text, lines_text, sheet_text};
+ghost use Rattle.draw_shapes.specs.heads.Sheets.{drawn_size, box_text, size_text, svg_open, band_path, line_path, bands_text, lines_text, sheet_text};
 
 use draw_elements::{Band, Column, Columns, product};
 use pci_command::NoMemory;

@@ -1,6 +1,6 @@
 ghost use Rattle.std.specs.Prelude.{◌≡◌, ◌++◌, string_bytes, IfOk, OnOk};
 ghost use Rattle.std.specs.List.{flat_map};
-ghost use Rattle.draw_sheets.specs.heads.Names.{bus_text, bus_band, name_line, name_lines, name_class, name_open, line_name, names_height, names_with, names_text};
+ghost use Rattle.draw_shapes.specs.heads.Names.{bus_text, bus_band, name_line, name_lines, name_class, name_open, line_name, names_height, names_with, names_text};
 
 use crate::heads::sheet::{print_band, print_line, print_open};
 use board_model::Board;

@@ -8,7 +8,7 @@ use Rattle.draw_elements.specs.declared.columns.line.Line.TheVariants.{Left, Mas
 use Rattle.draw_elements.specs.declared.columns.columns.Band.{Band}
 use Rattle.draw_elements.specs.declared.columns.columns.Column.{Column}
 use Rattle.draw_elements.specs.columns.Places.{Layout, width_of, name_of}
-use Rattle.draw_sheets.specs.heads.Sheets.{svg_open, band_path, line_path}
+use Rattle.draw_shapes.specs.heads.Sheets.{svg_open, band_path, line_path}
 
 -- a bus
 unfoldable pub bus_text : ℕ → ℕ → List ℕ

@@ -1,7 +1,7 @@
 use Rattle.std.proofs.Common.{◌≡◌, max, drop}
 use Rattle.list_facts.specs.Lists.{greatest}
-use Rattle.draw_sheets.specs.Frames.{row_width}
-use Rattle.draw_sheets.proofs.frame.widest.Given as goal
+use Rattle.draw_shapes.specs.Frames.{row_width}
+use Rattle.draw_shapes.proofs.frame.widest.Given as goal
 
 -- the greatest so far, and those to come
 abbrev pub invariant-loop-row : goal.invariant-loop-row

@@ -1,7 +1,7 @@
 use Rattle.std.proofs.Common.{◌≡◌, ◌++◌, drop, string_bytes}
 use Rattle.std.specs.List.{flat_map}
-use Rattle.draw_sheets.specs.heads.Names.{name_line}
-use Rattle.draw_sheets.proofs.heads.names.print_name_lines.Given as goal
+use Rattle.draw_shapes.specs.heads.Names.{name_line}
+use Rattle.draw_shapes.proofs.heads.names.print_name_lines.Given as goal
 
 -- the text so far, and what is to come
 abbrev pub invariant-loop-line : goal.invariant-loop-line

@@ -2,8 +2,8 @@
 use Rattle.std.specs.Prelude.{ℕ, ◌+◌, ◌*◌, List, length}
 use Rattle.std.specs.Fmt.{decimal}
 use Rattle.list_facts.specs.Lists.{greatest}
-use Rattle.draw_sheets.specs.declared.row.Row.{Row}
-use Rattle.draw_sheets.specs.declared.frame.Frame.{Frame}
+use Rattle.draw_shapes.specs.declared.row.Row.{Row}
+use Rattle.draw_shapes.specs.declared.frame.Frame.{Frame}
 
 -- how wide the line of a row is
 abbrev pub row_width : Row → ℕ

@@ -1,7 +1,7 @@
 use Rattle.std.proofs.Common.{◌≡◌, ◌++◌, drop, string_bytes}
 use Rattle.std.specs.List.{flat_map}
-use Rattle.draw_sheets.specs.heads.Names.{bus_band}
-use Rattle.draw_sheets.proofs.heads.names.print_buses.Given as goal
+use Rattle.draw_shapes.specs.heads.Names.{bus_band}
+use Rattle.draw_shapes.proofs.heads.names.print_buses.Given as goal
 
 -- the text so far, and what is to come
 abbrev pub invariant-loop-band : goal.invariant-loop-band

@@ -1,7 +1,7 @@
 ghost use Rattle.std.specs.Prelude.{◌≡◌, ◌+◌, ◌<◌, ◌^◌, length, IfOk};
 ghost use Rattle.std.specs.Fmt.{decimal};
 ghost use Rattle.list_facts.specs.Lists.{greatest};
-ghost use Rattle.draw_sheets.specs.Frames.{row_width, number_x, frame_of};
+ghost use Rattle.draw_shapes.specs.Frames.{row_width, number_x, frame_of};
 
 use crate::row::Row;
 use draw_elements::{product, sum};

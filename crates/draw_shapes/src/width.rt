@@ -1,6 +1,6 @@
 ghost use Rattle.std.specs.Prelude.{◌≡◌, length, IfOk};
 ghost use Rattle.draw_elements.specs.Labels.{event_text, note_of};
-ghost use Rattle.draw_sheets.specs.Widths.{noted_length, width_of};
+ghost use Rattle.draw_shapes.specs.Widths.{noted_length, width_of};
 
 use board_model::Board;
 use draw_elements::{print_event, print_note, product, sum};

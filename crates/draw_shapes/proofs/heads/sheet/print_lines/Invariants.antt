@@ -1,7 +1,7 @@
 use Rattle.std.proofs.Common.{◌≡◌, ◌++◌, drop, string_bytes}
 use Rattle.std.specs.List.{flat_map}
-use Rattle.draw_sheets.specs.heads.Sheets.{line_path}
-use Rattle.draw_sheets.proofs.heads.sheet.print_lines.Given as goal
+use Rattle.draw_shapes.specs.heads.Sheets.{line_path}
+use Rattle.draw_shapes.proofs.heads.sheet.print_lines.Given as goal
 
 -- the text so far, and what is to come
 abbrev pub invariant-loop-line : goal.invariant-loop-line
