@@ -6,7 +6,7 @@ use crate::columns::Columns;
 use crate::height::{Height, print_circle};
 use crate::words::faint;
 use board_model::{Board, Lane, Place, request_of};
-use draw_items::{Item, lane_back};
+use draw_items::{Journey, lane_back};
 use history_model::{By, Step};
 use pci_command::{Command, NoMemory, OpId};
 use std::alloc::AllocError;
@@ -26,8 +26,8 @@ impl Act {
         op: OpId,
         step: Step,
         place: Place,
-        item: Option<Item>,
-        taken: Option<Item>,
+        item: Option<Journey>,
+        taken: Option<Journey>,
     ) -> Result<Act, NoMemory>
         ensures { IfOk result (λ act. act ≡ act_of columns.now by op step place item taken) }
     {
@@ -44,7 +44,7 @@ impl Act {
     }
 }
 
-fn bar_of(columns: &Columns, item: Option<Item>) -> Result<u64, NoMemory>
+fn bar_of(columns: &Columns, item: Option<Journey>) -> Result<u64, NoMemory>
     ensures { IfOk result (λ place. place ≡ bar_of columns.now item) }
 {
     match item {
@@ -53,7 +53,7 @@ fn bar_of(columns: &Columns, item: Option<Item>) -> Result<u64, NoMemory>
     }
 }
 
-fn begin_of(columns: &Columns, by: By, op: OpId, item: Option<Item>) -> Result<u64, NoMemory>
+fn begin_of(columns: &Columns, by: By, op: OpId, item: Option<Journey>) -> Result<u64, NoMemory>
     ensures { IfOk result (λ place. place ≡ begin_of columns.now by op item) }
 {
     match by {
@@ -62,7 +62,7 @@ fn begin_of(columns: &Columns, by: By, op: OpId, item: Option<Item>) -> Result<u
     }
 }
 
-fn end_of(columns: &Columns, step: Step, place: Place, taken: Option<Item>) -> Result<u64, NoMemory>
+fn end_of(columns: &Columns, step: Step, place: Place, taken: Option<Journey>) -> Result<u64, NoMemory>
     ensures { IfOk result (λ end. end ≡ end_of columns.now step place taken) }
 {
     match place {
@@ -73,7 +73,7 @@ fn end_of(columns: &Columns, step: Step, place: Place, taken: Option<Item>) -> R
     }
 }
 
-fn end_at(columns: &Columns, lane: Lane, taken: Option<Item>, step: Step) -> Result<u64, NoMemory>
+fn end_at(columns: &Columns, lane: Lane, taken: Option<Journey>, step: Step) -> Result<u64, NoMemory>
     ensures { IfOk result (λ end. end ≡ end_at columns.now lane taken step) }
 {
     match step {

@@ -7,6 +7,6 @@ mod order;
 mod sums;
 
 pub use columns::{Band, Column, Columns, columns_of};
-pub use line::{Line, name_length, print_name};
+pub use line::{ColumnLine, name_length, print_name};
 pub use most::{Most, most_of};
 pub use sums::{product, sum};

@@ -5,14 +5,14 @@ use crate::columns::Columns;
 use crate::height::{Height, print_circle};
 use crate::words::{faint, kind_class, kind_word};
 use board_model::Board;
-use draw_items::{Item, Kind, lane_back};
+use draw_items::{Journey, JourneyKind, lane_back};
 use pci_command::NoMemory;
 use std::alloc::AllocError;
 use trace_text::{LaneWord, print_operation};
 
 /// Where an item is drawn: from where it was sent to where it arrived, and down to where it left.
 #[derive(Clone, Copy, Debug)]
-pub struct Route {
+pub struct DrawnRoute {
     /// The places.
     pub from: u64,
     pub to: u64,
@@ -22,15 +22,15 @@ pub struct Route {
     pub left: u32,
 }
 
-impl Route {
+impl DrawnRoute {
     /// That of an item, if `end` is the row behind the last event.
-    pub fn of(columns: &Columns, end: u32, item: &Item) -> Result<Route, NoMemory>
+    pub fn of(columns: &Columns, end: u32, item: &Journey) -> Result<DrawnRoute, NoMemory>
         ensures { IfOk result (λ route. route ≡ route_of columns.now end item.now) }
     {
         let from = columns.face(lane_back(item.lane));
         let came = or_end(item.came, end);
         if item.has_stood() {
-            Ok(Route {
+            Ok(DrawnRoute {
                 from,
                 to: columns.bar(item.lane, item.track)?,
                 sent: item.sent,
@@ -38,7 +38,7 @@ impl Route {
                 left: or_end(item.left, end),
             })
         } else {
-            Ok(Route {
+            Ok(DrawnRoute {
                 from,
                 to: columns.face(item.lane),
                 sent: item.sent,
@@ -66,7 +66,7 @@ fn y(first: u32, row: u32) -> Height
 }
 
 #[tactic(auto, unfolding(crate::specs::Items::route_text))]
-fn print_route(text: &mut String, first: u32, route: &Route) -> Result<(), AllocError>
+fn print_route(text: &mut String, first: u32, route: &DrawnRoute) -> Result<(), AllocError>
     ensures { OnOk result (string_bytes text.new ≡ string_bytes text.old ++ route_text first route.now) }
 {
     write!(
@@ -84,7 +84,7 @@ pub fn print_item_rim(
     text: &mut String,
     class: &str,
     first: u32,
-    route: &Route,
+    route: &DrawnRoute,
 ) -> Result<(), AllocError>
     ensures { OnOk result (string_bytes text.new
         ≡ string_bytes text.old ++ item_rim class.now first route.now) }
@@ -102,7 +102,7 @@ fn print_path_open(text: &mut String, class: &str) -> Result<(), AllocError>
     write!(text, "<path class=\"{class}\" d=\"")
 }
 
-fn print_down(text: &mut String, first: u32, route: &Route) -> Result<(), AllocError>
+fn print_down(text: &mut String, first: u32, route: &DrawnRoute) -> Result<(), AllocError>
     ensures { OnOk result (string_bytes text.new ≡ string_bytes text.old ++ rim_down first route.now) }
 {
     if route.came < route.left {
@@ -118,8 +118,8 @@ pub fn print_item(
     board: &Board,
     first: u32,
     pale: bool,
-    item: &Item,
-    route: &Route,
+    item: &Journey,
+    route: &DrawnRoute,
 ) -> Result<(), AllocError>
     ensures { OnOk result (string_bytes text.new ≡ string_bytes text.old ++ item_text board.now first pale item.now route.now) }
 {
@@ -132,19 +132,19 @@ pub fn print_item(
 }
 
 #[tactic(auto, unfolding(crate::specs::Items::title_of))]
-fn print_title_of(text: &mut String, board: &Board, item: &Item) -> Result<(), AllocError>
+fn print_title_of(text: &mut String, board: &Board, item: &Journey) -> Result<(), AllocError>
     ensures { OnOk result (string_bytes text.new ≡ string_bytes text.old ++ title_of board.now item.now.kind item.now) }
 {
     match item.kind {
-        Kind::Post | Kind::Request | Kind::Completion | Kind::Gone => {
+        JourneyKind::Post | JourneyKind::Request | JourneyKind::Completion | JourneyKind::Gone => {
             print_title(text, board, item)
         }
-        Kind::Credit => Ok(()),
+        JourneyKind::Credit => Ok(()),
     }
 }
 
 #[tactic(auto, unfolding(crate::specs::Items::title_text))]
-fn print_title(text: &mut String, board: &Board, item: &Item) -> Result<(), AllocError>
+fn print_title(text: &mut String, board: &Board, item: &Journey) -> Result<(), AllocError>
     ensures { OnOk result (string_bytes text.new ≡ string_bytes text.old ++ title_text board.now item.now) }
 {
     write!(text, "<title>{} ", kind_word(item.kind))?;
@@ -155,7 +155,7 @@ fn print_title(text: &mut String, board: &Board, item: &Item) -> Result<(), Allo
     text.push_str("</title>")
 }
 
-fn print_came(text: &mut String, item: &Item) -> Result<(), AllocError>
+fn print_came(text: &mut String, item: &Journey) -> Result<(), AllocError>
     ensures { OnOk result (string_bytes text.new ≡ string_bytes text.old ++ came_text item.now) }
 {
     if item.came > 0 {
@@ -165,7 +165,7 @@ fn print_came(text: &mut String, item: &Item) -> Result<(), AllocError>
     }
 }
 
-fn print_left(text: &mut String, item: &Item) -> Result<(), AllocError>
+fn print_left(text: &mut String, item: &Journey) -> Result<(), AllocError>
     ensures { OnOk result (string_bytes text.new ≡ string_bytes text.old ++ left_text item.now) }
 {
     if item.left > 0 {
@@ -176,7 +176,7 @@ fn print_left(text: &mut String, item: &Item) -> Result<(), AllocError>
 }
 
 #[tactic(auto, unfolding(crate::specs::Items::bar_text))]
-fn print_bar(text: &mut String, first: u32, route: &Route) -> Result<(), AllocError>
+fn print_bar(text: &mut String, first: u32, route: &DrawnRoute) -> Result<(), AllocError>
     ensures { OnOk result (string_bytes text.new ≡ string_bytes text.old ++ bar_text first route.now) }
 {
     if route.came < route.left {
@@ -193,14 +193,14 @@ fn print_bar(text: &mut String, first: u32, route: &Route) -> Result<(), AllocEr
 }
 
 #[tactic(auto, unfolding(crate::specs::Items::group_text))]
-fn print_group(text: &mut String, kind: Kind, pale: bool) -> Result<(), AllocError>
+fn print_group(text: &mut String, kind: JourneyKind, pale: bool) -> Result<(), AllocError>
     ensures { OnOk result (string_bytes text.new ≡ string_bytes text.old ++ group_text kind pale) }
 {
     write!(text, "<g class=\"{}{}\">", kind_class(kind), faint(pale))
 }
 
 #[tactic(auto, unfolding(crate::specs::Items::slant_text))]
-fn print_slant(text: &mut String, first: u32, route: &Route) -> Result<(), AllocError>
+fn print_slant(text: &mut String, first: u32, route: &DrawnRoute) -> Result<(), AllocError>
     ensures { OnOk result (string_bytes text.new ≡ string_bytes text.old ++ slant_text first route.now) }
 {
     text.push_str("<path d=\"")?;
@@ -210,7 +210,7 @@ fn print_slant(text: &mut String, first: u32, route: &Route) -> Result<(), Alloc
 
 /// What stands where the item arrived.
 #[tactic(auto, unfolding(crate::specs::Items::sign_text))]
-fn print_sign(text: &mut String, first: u32, item: &Item, route: &Route) -> Result<(), AllocError>
+fn print_sign(text: &mut String, first: u32, item: &Journey, route: &DrawnRoute) -> Result<(), AllocError>
     ensures { OnOk result (string_bytes text.new ≡ string_bytes text.old ++ sign_text first item.now route.now) }
 {
     if item.marked {
@@ -223,7 +223,7 @@ fn print_sign(text: &mut String, first: u32, item: &Item, route: &Route) -> Resu
 }
 
 #[tactic(auto, unfolding(crate::specs::Items::cross_sign))]
-fn print_cross_sign(text: &mut String, first: u32, route: &Route) -> Result<(), AllocError>
+fn print_cross_sign(text: &mut String, first: u32, route: &DrawnRoute) -> Result<(), AllocError>
     ensures { OnOk result (string_bytes text.new ≡ string_bytes text.old ++ cross_sign first route.now) }
 {
     let y = Height {

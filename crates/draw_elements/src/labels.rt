@@ -10,7 +10,7 @@ ghost use Rattle.draw_elements.specs.Labels.{reaches, enters, is_new, tells_requ
 use crate::words::kind_word;
 use board_model::{Board, Lane, Place, end_of, request_of};
 use board_printer::{Address, DataWord, HexWord};
-use draw_items::{Item, Kind};
+use draw_items::{Journey, JourneyKind};
 use history_model::{By, Event, Mark, Step};
 use pci_command::{OpId, Outcome, Phase, Request, Space};
 use std::alloc::AllocError;
@@ -102,7 +102,7 @@ fn print_mark(text: &mut String, mark: Mark) -> Result<(), AllocError>
 pub fn print_note(
     text: &mut String,
     board: &Board,
-    item: Option<Item>,
+    item: Option<Journey>,
     event: &Event,
 ) -> Result<(), AllocError>
     ensures { OnOk result (string_bytes text.new ≡ string_bytes text.old ++ note_of board.now item event.now) }
@@ -125,7 +125,7 @@ pub fn print_note(
     }
 }
 
-fn print_arriving(text: &mut String, board: &Board, item: Option<Item>) -> Result<(), AllocError>
+fn print_arriving(text: &mut String, board: &Board, item: Option<Journey>) -> Result<(), AllocError>
     ensures { OnOk result (string_bytes text.new ≡ string_bytes text.old ++ arrival_note board.now item) }
 {
     match item {
@@ -134,15 +134,15 @@ fn print_arriving(text: &mut String, board: &Board, item: Option<Item>) -> Resul
     }
 }
 
-fn print_item_note(text: &mut String, board: &Board, kind: Kind, op: OpId) -> Result<(), AllocError>
+fn print_item_note(text: &mut String, board: &Board, kind: JourneyKind, op: OpId) -> Result<(), AllocError>
     ensures { OnOk result (string_bytes text.new ≡ string_bytes text.old ++ item_note board.now kind op) }
 {
     match kind {
-        Kind::Post | Kind::Request | Kind::Completion | Kind::Gone => {
+        JourneyKind::Post | JourneyKind::Request | JourneyKind::Completion | JourneyKind::Gone => {
             write!(text, "{} ", kind_word(kind))?;
             print_operation(text, board, &op)
         }
-        Kind::Credit => text.push_str("credit"),
+        JourneyKind::Credit => text.push_str("credit"),
     }
 }
 

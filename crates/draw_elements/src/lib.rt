@@ -11,10 +11,10 @@ mod words;
 
 pub use acts::{Act, print_act, print_act_rim, print_head};
 pub use columns::{
-    Band, Column, Columns, Line, Most, columns_of, most_of, print_name, product, sum,
+    Band, Column, Columns, ColumnLine, Most, columns_of, most_of, print_name, product, sum,
 };
 pub use height::{Height, print_circle};
-pub use items::{Route, print_item, print_item_rim};
+pub use items::{DrawnRoute, print_item, print_item_rim};
 pub use labels::{print_event, print_note};
 pub use refused::{print_refused, refused_place};
 pub use words::faint;

@@ -4,14 +4,14 @@ ghost use Rattle.draw_elements.specs.Acts.{bar_or_face, initiator_place, refused
 use crate::columns::Columns;
 use crate::height::Height;
 use board_model::Lane;
-use draw_items::Item;
+use draw_items::Journey;
 use history_model::{By, Event};
 use pci_command::{NoMemory, OpId};
 use std::alloc::AllocError;
 
 /// Where an event that is not allowed has its cross: at the line of the master, at the bar of the item that it names, or at
 /// the face of the lane where nothing of it stands.
-pub fn refused_place(columns: &Columns, item: Option<Item>, event: &Event) -> Result<u64, NoMemory>
+pub fn refused_place(columns: &Columns, item: Option<Journey>, event: &Event) -> Result<u64, NoMemory>
     ensures { IfOk result (λ place. place ≡ refused_place columns.now item event.now) }
 {
     match *event {
@@ -20,7 +20,7 @@ pub fn refused_place(columns: &Columns, item: Option<Item>, event: &Event) -> Re
     }
 }
 
-fn initiator_place(columns: &Columns, by: By, op: OpId, item: Option<Item>) -> Result<u64, NoMemory>
+fn initiator_place(columns: &Columns, by: By, op: OpId, item: Option<Journey>) -> Result<u64, NoMemory>
     ensures { IfOk result (λ place. place ≡ initiator_place columns.now by op item) }
 {
     match by {
@@ -29,7 +29,7 @@ fn initiator_place(columns: &Columns, by: By, op: OpId, item: Option<Item>) -> R
     }
 }
 
-fn bar_or_face(columns: &Columns, lane: Lane, item: Option<Item>) -> Result<u64, NoMemory>
+fn bar_or_face(columns: &Columns, lane: Lane, item: Option<Journey>) -> Result<u64, NoMemory>
     ensures { IfOk result (λ place. place ≡ bar_or_face columns.now lane item) }
 {
     match item {

@@ -3,7 +3,7 @@ ghost use Rattle.std.specs.List.{filter};
 ghost use Rattle.std.proofs.Math.ListN.{set};
 ghost use Rattle.draw_items.specs.Items.{traffic_of, track_on, is_in, least_free, passes, is_in_flight, is_presented, is_taken, ends, is_marked};
 
-use crate::item::{Item, Kind, lane_back};
+use crate::journey::{Journey, JourneyKind, lane_back};
 use board_model::{Lane, Place};
 use history_model::{By, Event, Mark, Step};
 use pci_command::{NoMemory, OpId};
@@ -23,7 +23,7 @@ pub struct Touched {
 #[derive(Debug, Drop)]
 pub struct Traffic {
     /// What was sent, in the order of sending.
-    items: Vec<Item>,
+    items: Vec<Journey>,
     /// The numbers of those in flight and of those that stand, in that order.
     under_way: Vec<usize>,
     /// What each event has to do with.
@@ -68,14 +68,14 @@ impl Traffic {
     }
 
     /// What was sent, in the order of sending.
-    pub fn items(&self) -> &[Item]
+    pub fn items(&self) -> &[Journey]
         ensures { result.now ≡ self.now.items }
     {
         self.items.as_slice()
     }
 
     /// What arrives by event number n, or what a lane presents in it.
-    pub fn item_of(&self, n: u32) -> Option<&Item>
+    pub fn item_of(&self, n: u32) -> Option<&Journey>
         ensures { option_copied result ≡ item_of n self.now }
     {
         let touched = self.touched.as_slice().get((n as usize).saturating_sub(1))?;
@@ -83,7 +83,7 @@ impl Traffic {
     }
 
     /// The completion that is taken in event number n.
-    pub fn taken_by(&self, n: u32) -> Option<&Item>
+    pub fn taken_by(&self, n: u32) -> Option<&Journey>
         ensures { option_copied result ≡ taken_by n self.now }
     {
         let touched = self.touched.as_slice().get((n as usize).saturating_sub(1))?;
@@ -91,7 +91,7 @@ impl Traffic {
     }
 
     /// What an event names that did not happen: what would arrive next, or what its lane presents.
-    pub fn named_by(&self, event: &Event) -> Option<&Item>
+    pub fn named_by(&self, event: &Event) -> Option<&Journey>
         ensures { option_copied result ≡ named_by event.now self.now }
     {
         let number = self.named_number(event)?;
@@ -108,7 +108,7 @@ impl Traffic {
     }
 
     /// The completion of the operation that stands where it would be taken at this place.
-    pub fn completion_at(&self, op: OpId, place: Place) -> Option<&Item>
+    pub fn completion_at(&self, op: OpId, place: Place) -> Option<&Journey>
         ensures { option_copied result ≡ completion_at op place self.now }
     {
         let number = self.taken_at(op, place)?;
@@ -179,7 +179,7 @@ impl Traffic {
             Some(item) => {
                 let track = self.free_track(alloc, lane)?;
                 let marked = is_marked(mark);
-                let came = Item {
+                let came = Journey {
                     came: n,
                     marked,
                     track,
@@ -197,13 +197,13 @@ impl Traffic {
         ensures { OnOk result (self.new ≡ dropped n lane op mark self.old) }
     {
         match mark {
-            Mark::Drop => self.send(n, Kind::Gone, op, lane_back(lane)),
+            Mark::Drop => self.send(n, JourneyKind::Gone, op, lane_back(lane)),
             Mark::Plain | Mark::Discard => Ok(()),
         }
     }
 
     /// The item is so now; one that does not stand any more is not under way.
-    fn change(&mut self, number: usize, item: Item)
+    fn change(&mut self, number: usize, item: Journey)
         ensures { self.new ≡ changed number item self.old }
     {
         put_item(&mut self.items, number, item);
@@ -235,8 +235,8 @@ impl Traffic {
         ensures { OnOk result (self.new ≡ sent_on n op step place self.old) }
     {
         match (step, place) {
-            (Step::Accept, Place::Lane(lane)) => self.send(n, Kind::Post, op, lane),
-            (Step::Latch, Place::Lane(lane)) => self.send(n, Kind::Request, op, lane),
+            (Step::Accept, Place::Lane(lane)) => self.send(n, JourneyKind::Post, op, lane),
+            (Step::Latch, Place::Lane(lane)) => self.send(n, JourneyKind::Request, op, lane),
             _ => Ok(()),
         }
     }
@@ -267,29 +267,29 @@ impl Traffic {
     {
         match self.items.as_slice().get(number).copied() {
             Some(item) => {
-                self.change(number, Item { left: n, ..item });
+                self.change(number, Journey { left: n, ..item });
                 self.answer(n, item.kind, item.op, item.lane)
             }
             None => Ok(()),
         }
     }
 
-    fn answer(&mut self, n: u32, kind: Kind, op: OpId, lane: Lane) -> Result<(), NoMemory>
+    fn answer(&mut self, n: u32, kind: JourneyKind, op: OpId, lane: Lane) -> Result<(), NoMemory>
         ensures { OnOk result (self.new ≡ answered n kind op lane self.old) }
     {
         match kind {
-            Kind::Post => self.send(n, Kind::Credit, op, lane_back(lane)),
-            Kind::Request => self.send(n, Kind::Completion, op, lane_back(lane)),
-            Kind::Completion | Kind::Credit | Kind::Gone => Ok(()),
+            JourneyKind::Post => self.send(n, JourneyKind::Credit, op, lane_back(lane)),
+            JourneyKind::Request => self.send(n, JourneyKind::Completion, op, lane_back(lane)),
+            JourneyKind::Completion | JourneyKind::Credit | JourneyKind::Gone => Ok(()),
         }
     }
 
-    fn send(&mut self, n: u32, kind: Kind, op: OpId, lane: Lane) -> Result<(), NoMemory>
+    fn send(&mut self, n: u32, kind: JourneyKind, op: OpId, lane: Lane) -> Result<(), NoMemory>
         ensures { OnOk result (self.new ≡ sent n kind op lane self.old) }
     {
         let number = self.items.len();
         self.under_way.push(number)?;
-        self.items.push(Item {
+        self.items.push(Journey {
             kind,
             op,
             lane,
@@ -373,7 +373,7 @@ impl Traffic {
 /// The track of an item that stands on the lane, behind others.
 fn add_track(
     tracks: &mut Vec<usize>,
-    items: &[Item],
+    items: &[Journey],
     number: usize,
     lane: Lane,
 ) -> Result<(), AllocError>
@@ -407,7 +407,7 @@ fn is_in(tracks: &[usize], track: usize) -> bool
     tracks.iter().any(|other| *other == track)
 }
 
-fn put_item(items: &mut Vec<Item>, number: usize, item: Item)
+fn put_item(items: &mut Vec<Journey>, number: usize, item: Journey)
     ensures { items.new.items ≡ set items.old.items number item }
 {
     if number < items.len() {
@@ -421,7 +421,7 @@ fn drop_number(numbers: &mut Vec<usize>, number: usize)
     numbers.retain(|other| *other != number);
 }
 
-fn flies_at(items: &[Item], number: usize, lane: Lane) -> bool
+fn flies_at(items: &[Journey], number: usize, lane: Lane) -> bool
     ensures { result ≡ passes (is_in_flight lane) (slice_get items.now number) }
 {
     match items.get(number) {
@@ -430,7 +430,7 @@ fn flies_at(items: &[Item], number: usize, lane: Lane) -> bool
     }
 }
 
-fn is_presented_at(items: &[Item], number: usize, lane: Lane, op: OpId) -> bool
+fn is_presented_at(items: &[Journey], number: usize, lane: Lane, op: OpId) -> bool
     ensures { result ≡ passes (is_presented lane op) (slice_get items.now number) }
 {
     match items.get(number) {
@@ -439,7 +439,7 @@ fn is_presented_at(items: &[Item], number: usize, lane: Lane, op: OpId) -> bool
     }
 }
 
-fn is_taken_at(items: &[Item], number: usize, lane: Lane, op: OpId) -> bool
+fn is_taken_at(items: &[Journey], number: usize, lane: Lane, op: OpId) -> bool
     ensures { result ≡ passes (is_taken lane op) (slice_get items.now number) }
 {
     match items.get(number) {

@@ -15,7 +15,7 @@ use crate::strips::print_strips;
 use board_model::Board;
 use board_tree::Tree;
 use draw_elements::{Columns, columns_of, most_of, product, sum};
-use draw_items::{Item, Traffic, traffic_of, tries_of, waits_of};
+use draw_items::{Journey, Traffic, traffic_of, tries_of, waits_of};
 use draw_shapes::{Element, Frame, Row, frame_of, print_names};
 use draw_told::{
     Brackets, Close, Title, Told, ahead_in, allowed_in, brackets_of, print_told, print_top, told_of,
@@ -83,7 +83,7 @@ fn page_in(
     close: Close,
     frame: &Frame,
     rows: &[Row],
-    ahead: Option<Item>,
+    ahead: Option<Journey>,
 ) -> Result<List<u8>, NoMemory>
     requires few { length known.now.events.now < 2 ^ 31 }
     requires told { TellsTold known.now.board.now known.now.events.now known.now.told.now }

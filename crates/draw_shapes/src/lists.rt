@@ -6,7 +6,7 @@ use crate::frame::Frame;
 use crate::row::Row;
 use board_model::Board;
 use draw_elements::{Height, print_event, print_note};
-use draw_items::{Item, Kind};
+use draw_items::{Journey, JourneyKind};
 use history_model::Event;
 use std::alloc::{AllocError, Global};
 
@@ -89,7 +89,7 @@ fn row_class(row: &Row) -> &'static str
     }
 }
 
-fn is_credit_event(item: Option<Item>, event: &Event) -> bool
+fn is_credit_event(item: Option<Journey>, event: &Event) -> bool
     ensures { result ≡ is_credit_event item event.now }
 {
     match event {
@@ -98,7 +98,7 @@ fn is_credit_event(item: Option<Item>, event: &Event) -> bool
     }
 }
 
-fn brings_credit(item: Option<Item>) -> bool
+fn brings_credit(item: Option<Journey>) -> bool
     ensures { result ≡ brings_credit item }
 {
     match item {
@@ -107,11 +107,11 @@ fn brings_credit(item: Option<Item>) -> bool
     }
 }
 
-fn is_credit(kind: Kind) -> bool
+fn is_credit(kind: JourneyKind) -> bool
     ensures { result ≡ is_credit kind }
 {
     match kind {
-        Kind::Credit => true,
-        Kind::Post | Kind::Request | Kind::Completion | Kind::Gone => false,
+        JourneyKind::Credit => true,
+        JourneyKind::Post | JourneyKind::Request | JourneyKind::Completion | JourneyKind::Gone => false,
     }
 }

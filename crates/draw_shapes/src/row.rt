@@ -1,4 +1,4 @@
-use draw_items::Item;
+use draw_items::Journey;
 use history_model::Event;
 
 /// An event, and what is to be known of it.
@@ -8,9 +8,9 @@ pub struct Row {
     pub n: u32,
     pub event: Event,
     /// What arrives, or what a lane presents; of one that is not allowed what it names.
-    pub item: Option<Item>,
+    pub item: Option<Journey>,
     /// The completion that is taken.
-    pub taken: Option<Item>,
+    pub taken: Option<Journey>,
     /// Whether it is a landing or a read of which a line of the audit tells.
     pub key: bool,
     /// Whether its operation is in the chain of a line; that of an act.

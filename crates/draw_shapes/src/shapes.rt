@@ -8,10 +8,10 @@ use crate::lists::print_row;
 use crate::row::Row;
 use board_model::Board;
 use draw_elements::{
-    Act, Columns, Route, print_act, print_act_rim, print_item, print_item_rim, print_refused,
+    Act, Columns, DrawnRoute, print_act, print_act_rim, print_item, print_item_rim, print_refused,
     product, refused_place, sum,
 };
-use draw_items::{Item, Kind, Wait};
+use draw_items::{Journey, JourneyKind, Wait};
 use history_model::{Event, Step};
 use pci_command::NoMemory;
 use std::alloc::Global;
@@ -135,12 +135,12 @@ pub fn add_item_rim(
     columns: &Columns,
     frame: &Frame,
     loud: bool,
-    item: &Item,
+    item: &Journey,
 ) -> Result<(), NoMemory>
     ensures { OnOk result (elements.new.items ≡ elements.old.items ++ item_rims columns.now frame.now loud item.now) }
 {
     if can_have_rim(item.kind) && loud {
-        let route = Route::of(columns, frame.end, item)?;
+        let route = DrawnRoute::of(columns, frame.end, item)?;
         add_route_rim(alloc, elements, "g", frame, &route)
     } else {
         Ok(())
@@ -152,7 +152,7 @@ fn add_route_rim(
     elements: &mut Vec<Element>,
     class: &str,
     frame: &Frame,
-    route: &Route,
+    route: &DrawnRoute,
 ) -> Result<(), NoMemory>
     ensures { OnOk result (elements.new.items
         ≡ elements.old.items ++ route_rim class.now frame.now route.now) }
@@ -166,12 +166,12 @@ fn add_route_rim(
     }
 }
 
-fn can_have_rim(kind: Kind) -> bool
+fn can_have_rim(kind: JourneyKind) -> bool
     ensures { result ≡ can_have_rim kind }
 {
     match kind {
-        Kind::Post | Kind::Request | Kind::Completion => true,
-        Kind::Credit | Kind::Gone => false,
+        JourneyKind::Post | JourneyKind::Request | JourneyKind::Completion => true,
+        JourneyKind::Credit | JourneyKind::Gone => false,
     }
 }
 
@@ -235,13 +235,13 @@ pub fn add_ahead_rim(
     elements: &mut Vec<Element>,
     columns: &Columns,
     frame: &Frame,
-    item: Option<Item>,
+    item: Option<Journey>,
 ) -> Result<(), NoMemory>
     ensures { OnOk result (elements.new.items ≡ elements.old.items ++ ahead_rims columns.now frame.now item) }
 {
     match item {
         Some(item) => {
-            let route = Route::of(columns, frame.end, &item)?;
+            let route = DrawnRoute::of(columns, frame.end, &item)?;
             add_route_rim(alloc, elements, AHEAD, frame, &route)
         }
         None => Ok(()),
@@ -279,11 +279,11 @@ pub fn add_item(
     columns: &Columns,
     frame: &Frame,
     pale: bool,
-    item: &Item,
+    item: &Journey,
 ) -> Result<(), NoMemory>
     ensures { OnOk result (elements.new.items ≡ elements.old.items ++ item_shapes board.now columns.now frame.now pale item.now) }
 {
-    let route = Route::of(columns, frame.end, item)?;
+    let route = DrawnRoute::of(columns, frame.end, item)?;
     add_routed(alloc, elements, board, frame, pale, item, &route)
 }
 
@@ -293,8 +293,8 @@ fn add_routed(
     board: &Board,
     frame: &Frame,
     pale: bool,
-    item: &Item,
-    route: &Route,
+    item: &Journey,
+    route: &DrawnRoute,
 ) -> Result<(), NoMemory>
     ensures { OnOk result (elements.new.items ≡ elements.old.items ++ routed board.now frame.now pale item.now route.now) }
 {

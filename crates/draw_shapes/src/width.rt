@@ -4,7 +4,7 @@ ghost use Rattle.draw_shapes.specs.Widths.{noted_length, width_of};
 
 use board_model::Board;
 use draw_elements::{print_event, print_note, product, sum};
-use draw_items::Item;
+use draw_items::Journey;
 use history_model::Event;
 use pci_command::NoMemory;
 use std::alloc::{AllocError, Global};
@@ -14,7 +14,7 @@ use std::alloc::{AllocError, Global};
 pub fn width_of(
     alloc: Global,
     board: &Board,
-    item: Option<Item>,
+    item: Option<Journey>,
     event: &Event,
 ) -> Result<u64, NoMemory>
     ensures { IfOk result (λ width. width ≡ width_of board.now item event.now) }
@@ -45,7 +45,7 @@ fn line_length(alloc: Global, board: &Board, event: &Event) -> Result<usize, All
 fn note_length(
     alloc: Global,
     board: &Board,
-    item: Option<Item>,
+    item: Option<Journey>,
     event: &Event,
 ) -> Result<usize, AllocError>
     ensures { IfOk result (λ letters. letters ≡ length (note_of board.now item event.now)) }

@@ -3,7 +3,7 @@ ghost use Rattle.std.specs.List.{filter};
 ghost use Rattle.board_model.specs.Valid.{has_bridge_to};
 ghost use Rattle.draw_elements.specs.columns.Order.{lower_buses, children_of, is_child, first_of_right, middle_of, in_order, lines_on, masters_on, targets_on, left_faces, right_faces, own_left, own_right};
 
-use crate::columns::line::Line;
+use crate::columns::line::ColumnLine;
 use board_model::{Board, Lane, has_bridge_to, primary_of};
 use std::alloc::{AllocError, Global};
 
@@ -100,7 +100,7 @@ pub(crate) fn lines_on(
     board: &Board,
     middle: u16,
     bus: u8,
-) -> Result<Vec<Line>, AllocError>
+) -> Result<Vec<ColumnLine>, AllocError>
     ensures { IfOk result (λ lines. lines.items ≡ lines_on board.now middle bus) }
 {
     let children = children_of(alloc, board, bus)?;
@@ -114,27 +114,27 @@ pub(crate) fn lines_on(
     Ok(lines)
 }
 
-fn add_own_left(lines: &mut Vec<Line>, middle: u16, bus: u8) -> Result<(), AllocError>
+fn add_own_left(lines: &mut Vec<ColumnLine>, middle: u16, bus: u8) -> Result<(), AllocError>
     ensures { OnOk result (lines.new.items ≡ lines.old.items ++ own_left middle bus) }
 {
     if bus != 0 && middle <= u16::from(bus) {
-        lines.push(Line::Left(Lane { bus, up: false }))?;
+        lines.push(ColumnLine::Left(Lane { bus, up: false }))?;
     }
     Ok(())
 }
 
-fn add_own_right(lines: &mut Vec<Line>, middle: u16, bus: u8) -> Result<(), AllocError>
+fn add_own_right(lines: &mut Vec<ColumnLine>, middle: u16, bus: u8) -> Result<(), AllocError>
     ensures { OnOk result (lines.new.items ≡ lines.old.items ++ own_right middle bus) }
 {
     if bus != 0 && u16::from(bus) < middle {
-        lines.push(Line::Right(Lane { bus, up: false }))?;
+        lines.push(ColumnLine::Right(Lane { bus, up: false }))?;
     }
     Ok(())
 }
 
 fn add_left_faces(
     alloc: Global,
-    lines: &mut Vec<Line>,
+    lines: &mut Vec<ColumnLine>,
     middle: u16,
     children: &[u8],
 ) -> Result<(), AllocError>
@@ -148,7 +148,7 @@ fn add_left_faces(
     found.reverse();
     let left = found.as_slice();
     for child in left {
-        lines.push(Line::Left(Lane {
+        lines.push(ColumnLine::Left(Lane {
             bus: *child,
             up: true,
         }))?;
@@ -158,7 +158,7 @@ fn add_left_faces(
 
 fn add_right_faces(
     alloc: Global,
-    lines: &mut Vec<Line>,
+    lines: &mut Vec<ColumnLine>,
     middle: u16,
     children: &[u8],
 ) -> Result<(), AllocError>
@@ -171,7 +171,7 @@ fn add_right_faces(
         .collect(alloc)?;
     let right = found.as_slice();
     for child in right {
-        lines.push(Line::Right(Lane {
+        lines.push(ColumnLine::Right(Lane {
             bus: *child,
             up: true,
         }))?;
@@ -179,23 +179,23 @@ fn add_right_faces(
     Ok(())
 }
 
-fn add_masters(lines: &mut Vec<Line>, board: &Board, bus: u8) -> Result<(), AllocError>
+fn add_masters(lines: &mut Vec<ColumnLine>, board: &Board, bus: u8) -> Result<(), AllocError>
     ensures { OnOk result (lines.new.items ≡ lines.old.items ++ masters_on bus 0 board.now.masters) }
 {
     for (master, agent) in board.masters.as_slice().iter().enumerate() {
         if agent.bus == bus {
-            lines.push(Line::Master(master))?;
+            lines.push(ColumnLine::Master(master))?;
         }
     }
     Ok(())
 }
 
-fn add_targets(lines: &mut Vec<Line>, board: &Board, bus: u8) -> Result<(), AllocError>
+fn add_targets(lines: &mut Vec<ColumnLine>, board: &Board, bus: u8) -> Result<(), AllocError>
     ensures { OnOk result (lines.new.items ≡ lines.old.items ++ targets_on bus 0 board.now.targets) }
 {
     for (target, agent) in board.targets.as_slice().iter().enumerate() {
         if agent.bus == bus {
-            lines.push(Line::Target(target))?;
+            lines.push(ColumnLine::Target(target))?;
         }
     }
     Ok(())

@@ -12,7 +12,7 @@ ghost use Rattle.draw_page.specs.layers.Layers.{span_shapes, behind, in_front, l
 
 use board_model::Board;
 use draw_elements::Columns;
-use draw_items::{Item, Tries, Wait};
+use draw_items::{Journey, Tries, Wait};
 use draw_shapes::{
     Element, Frame, Row, add_act, add_act_rim, add_ahead_rim, add_bracket, add_item, add_item_rim,
     add_key, add_row, add_wait,
@@ -31,8 +31,8 @@ pub fn layers_of(
     columns: &Columns,
     frame: &Frame,
     rows: &[Row],
-    items: &[Item],
-    ahead: Option<Item>,
+    items: &[Journey],
+    ahead: Option<Journey>,
     waits: &[Wait],
     tries: &Tries,
     told: &Told,
@@ -71,8 +71,8 @@ fn add_behind(
     columns: &Columns,
     frame: &Frame,
     rows: &[Row],
-    items: &[Item],
-    ahead: Option<Item>,
+    items: &[Journey],
+    ahead: Option<Journey>,
     waits: &[Wait],
     tries: &Tries,
     told: &Told,
@@ -98,7 +98,7 @@ fn add_in_front(
     columns: &Columns,
     frame: &Frame,
     rows: &[Row],
-    items: &[Item],
+    items: &[Journey],
     tries: &Tries,
     spans: &[Span],
     tracks: &[Option<usize>],
@@ -135,7 +135,7 @@ fn add_item_rims(
     columns: &Columns,
     frame: &Frame,
     told: &Told,
-    items: &[Item],
+    items: &[Journey],
 ) -> Result<(), NoMemory>
     ensures { (board : Board) (events : List Event) → TellsTold board events told.now →
         OnOk result (elements.new.items ≡ elements.old.items ++ flat_map (λ item.
@@ -190,7 +190,7 @@ fn add_items(
     columns: &Columns,
     frame: &Frame,
     tries: &Tries,
-    items: &[Item],
+    items: &[Journey],
 ) -> Result<(), NoMemory>
     ensures { (events : List Event) → TellsTries events tries.now →
         OnOk result (elements.new.items ≡ elements.old.items ++ flat_map (λ item.

@@ -3,8 +3,8 @@ use Rattle.std.specs.Prelude.{ℕ, ◌+◌, ◌-◌, ◌*◌, List, [], ◌++◌
 use Rattle.std.specs.Fmt.{decimal}
 use Rattle.std.specs.List.{flat_map}
 use Rattle.board_model.specs.declared.board.Board.{Board}
-use Rattle.draw_elements.specs.declared.columns.line.Line.{Line}
-use Rattle.draw_elements.specs.declared.columns.line.Line.TheVariants.{Left, Master, Target, Right}
+use Rattle.draw_elements.specs.declared.columns.line.ColumnLine.{ColumnLine}
+use Rattle.draw_elements.specs.declared.columns.line.ColumnLine.TheVariants.{Left, Master, Target, Right}
 use Rattle.draw_elements.specs.declared.columns.columns.Band.{Band}
 use Rattle.draw_elements.specs.declared.columns.columns.Column.{Column}
 use Rattle.draw_elements.specs.columns.Places.{Layout, width_of, name_of}
@@ -27,7 +27,7 @@ unfoldable pub name_lines : ℕ → List Column → List ℕ
 name_lines height lines = codes "<path class=\"l\" d=\"" ++ (flat_map (name_line height) lines ++ codes "\"/>\n")
 
 -- the name of a line; that of a master is bold
-abbrev pub name_class : Line → List ℕ
+abbrev pub name_class : ColumnLine → List ℕ
 name_class (Left lane) = []
 name_class (Master master) = codes " class=\"h\""
 name_class (Target target) = []

@@ -4,7 +4,7 @@ ghost use Rattle.draw_shapes.specs.heads.Names.{bus_text, bus_band, name_line, n
 
 use crate::heads::sheet::{print_band, print_line, print_open};
 use board_model::Board;
-use draw_elements::{Band, Column, Columns, Line, print_name, product, sum};
+use draw_elements::{Band, Column, Columns, ColumnLine, print_name, product, sum};
 use pci_command::NoMemory;
 use std::alloc::AllocError;
 
@@ -129,11 +129,11 @@ fn print_name_open(text: &mut String, class: &str, x: u64, y: u64) -> Result<(),
 }
 
 /// The name of a master is bold.
-fn name_class(line: Line) -> &'static str
+fn name_class(line: ColumnLine) -> &'static str
     ensures { result.now ≡ name_class line }
 {
     match line {
-        Line::Master(_) => " class=\"h\"",
-        Line::Left(_) | Line::Target(_) | Line::Right(_) => "",
+        ColumnLine::Master(_) => " class=\"h\"",
+        ColumnLine::Left(_) | ColumnLine::Target(_) | ColumnLine::Right(_) => "",
     }
 }

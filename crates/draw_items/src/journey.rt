@@ -7,7 +7,7 @@ use pci_command::OpId;
 
 /// What travels on a lane.
 #[derive(Clone, Copy, Debug, PartialEq, Eq)]
-pub enum Kind {
+pub enum JourneyKind {
     /// A posted memory write.
     Post,
     /// A delayed request.
@@ -22,8 +22,8 @@ pub enum Kind {
 
 /// What was sent on a lane. Events are numbered from 1 on.
 #[derive(Clone, Copy, Debug, PartialEq, Eq)]
-pub struct Item {
-    pub kind: Kind,
+pub struct Journey {
+    pub kind: JourneyKind,
     /// The operation; of a credit and of a `Gone` that of the item that they answer.
     pub op: OpId,
     pub lane: Lane,
@@ -49,7 +49,7 @@ pub fn lane_back(lane: Lane) -> Lane
     }
 }
 
-impl Item {
+impl Journey {
     /// Whether it stood where its lane ends.
     pub fn has_stood(&self) -> bool
         ensures { result ≡ has_stood self.now }
@@ -93,14 +93,14 @@ impl Item {
     }
 }
 
-impl Kind {
+impl JourneyKind {
     /// Whether such an item stands after a plain arrival.
     fn can_stand(self) -> bool
         ensures { result ≡ can_stand self }
     {
         match self {
-            Kind::Post | Kind::Request | Kind::Completion => true,
-            Kind::Credit | Kind::Gone => false,
+            JourneyKind::Post | JourneyKind::Request | JourneyKind::Completion => true,
+            JourneyKind::Credit | JourneyKind::Gone => false,
         }
     }
 
@@ -108,8 +108,8 @@ impl Kind {
         ensures { result ≡ is_completion self }
     {
         match self {
-            Kind::Completion => true,
-            Kind::Post | Kind::Request | Kind::Credit | Kind::Gone => false,
+            JourneyKind::Completion => true,
+            JourneyKind::Post | JourneyKind::Request | JourneyKind::Credit | JourneyKind::Gone => false,
         }
     }
 }
