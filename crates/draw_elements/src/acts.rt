@@ -11,6 +11,24 @@ use history_model::{By, Step};
 use pci_command::{Command, NoMemory, OpId};
 use std::alloc::AllocError;
 
+/// What an event says of its act.
+#[derive(Clone, Copy, Debug)]
+pub struct ActLine {
+    pub bus: u8,
+    pub by: By,
+    pub op: OpId,
+    pub step: Step,
+    pub place: Place,
+}
+
+/// The row of an act: the first that is drawn, its own number, and whether it is a fruitless try.
+#[derive(Clone, Copy, Debug)]
+pub struct ActRow {
+    pub first: u32,
+    pub n: u32,
+    pub pale: bool,
+}
+
 /// Where an act begins and ends.
 #[derive(Clone, Copy, Debug)]
 pub struct Act {
@@ -19,20 +37,18 @@ pub struct Act {
 }
 
 impl Act {
-    /// That of this initiator, step and place; `item` is what a lane presents, and `taken` the completion that is taken.
+    /// That of this line; `item` is what a lane presents, and `taken` the completion that is taken.
     pub fn of(
         columns: &Columns,
-        by: By,
-        op: OpId,
-        step: Step,
-        place: Place,
+        line: ActLine,
         item: Option<Journey>,
         taken: Option<Journey>,
     ) -> Result<Act, NoMemory>
-        ensures { IfOk result (λ act. act ≡ act_of columns.now by op step place item taken) }
+        ensures { IfOk result (λ act. act
+            ≡ act_of columns.now line.by line.op line.step line.place item taken) }
     {
-        let begin = begin_of(columns, by, op, item)?;
-        let end = end_of(columns, step, place, taken)?;
+        let begin = begin_of(columns, line.by, line.op, item)?;
+        let end = end_of(columns, line.step, line.place, taken)?;
         Ok(Act { begin, end })
     }
 
@@ -221,14 +237,16 @@ fn print_landing(text: &mut String, board: &Board, bus: u8, op: OpId) -> Result<
 fn print_body(
     text: &mut String,
     columns: &Columns,
-    first: u32,
-    n: u32,
+    row: ActRow,
     by: By,
     act: &Act,
     step: Step,
 ) -> Result<(), AllocError>
-    ensures { OnOk result (string_bytes text.new ≡ string_bytes text.old ++ act_body columns.now first n by act.now step) }
+    ensures { OnOk result (string_bytes text.new ≡ string_bytes text.old ++
+        act_body columns.now row.first row.n by act.now step) }
 {
+    let first = row.first;
+    let n = row.n;
     match step {
         Step::Land => print_round(text, first, n, act, 5),
         Step::Part(_) => print_round(text, first, n, act, 3),
@@ -249,26 +267,23 @@ fn print_body(
     }
 }
 
-/// An act in row n, pale if it is a fruitless try.
+/// An act in its row, pale if it is a fruitless try.
 pub fn print_act(
     text: &mut String,
     board: &Board,
     columns: &Columns,
-    first: u32,
-    n: u32,
-    pale: bool,
-    bus: u8,
-    by: By,
-    op: OpId,
-    step: Step,
+    row: ActRow,
+    line: ActLine,
     act: &Act,
 ) -> Result<(), AllocError>
-    ensures { OnOk result (string_bytes text.new ≡ string_bytes text.old ++ act_text board.now columns.now first n pale bus by op step act.now) }
+    ensures { OnOk result (string_bytes text.new ≡ string_bytes text.old ++
+        act_text board.now columns.now row.first row.n row.pale
+        line.bus line.by line.op line.step act.now) }
 {
     text.push_str("<g class=\"")?;
-    print_class(text, board, bus, op, step)?;
-    write!(text, "{}\">", faint(pale))?;
-    print_body(text, columns, first, n, by, act, step)?;
+    print_class(text, board, line.bus, line.op, line.step)?;
+    write!(text, "{}\">", faint(row.pale))?;
+    print_body(text, columns, row, line.by, act, line.step)?;
     text.push_str("</g>\n")
 }
 

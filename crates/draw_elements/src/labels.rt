@@ -7,6 +7,7 @@ ghost use Rattle.draw_elements.specs.Labels.{words_text, event_text, item_note, 
 ghost use Rattle.draw_elements.specs.Labels.{space_note, phases_note, data_note, request_note};
 ghost use Rattle.draw_elements.specs.Labels.{reaches, enters, is_new, tells_request, act_note};
 
+use crate::acts::ActLine;
 use crate::words::kind_word;
 use board_model::{Board, Lane, Place, end_of, request_of};
 use board_printer::{Address, DataWord, HexWord};
@@ -27,26 +28,28 @@ pub fn print_event(text: &mut String, board: &Board, event: &Event) -> Result<()
             op,
             step,
             place,
-        } => print_act_line(text, board, bus, by, op, step, place),
+        } => {
+            let line = ActLine {
+                bus,
+                by,
+                op,
+                step,
+                place,
+            };
+            print_act_line(text, board, line)
+        }
         Event::Arrive { lane, mark } => print_arrival(text, board, lane, mark),
     }
 }
 
-fn print_act_line(
-    text: &mut String,
-    board: &Board,
-    bus: u8,
-    by: By,
-    op: OpId,
-    step: Step,
-    place: Place,
-) -> Result<(), AllocError>
-    ensures { OnOk result (string_bytes text.new ≡ string_bytes text.old ++ words_text (act_line board.now bus by op step place)) }
+fn print_act_line(text: &mut String, board: &Board, line: ActLine) -> Result<(), AllocError>
+    ensures { OnOk result (string_bytes text.new ≡ string_bytes text.old ++
+        words_text (act_line board.now line.bus line.by line.op line.step line.place)) }
 {
-    write!(text, "{bus} {} {} ", step_word(step), ByWord(by))?;
-    print_operation(text, board, &op)?;
-    print_place(text, board, place)?;
-    print_result(text, step)
+    write!(text, "{} {} {} ", line.bus, step_word(line.step), ByWord(line.by))?;
+    print_operation(text, board, &line.op)?;
+    print_place(text, board, line.place)?;
+    print_result(text, line.step)
 }
 
 fn print_arrival(text: &mut String, board: &Board, lane: Lane, mark: Mark) -> Result<(), AllocError>

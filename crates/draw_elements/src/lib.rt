@@ -9,7 +9,7 @@ mod labels;
 mod refused;
 mod words;
 
-pub use acts::{Act, print_act, print_act_rim, print_head};
+pub use acts::{Act, ActLine, ActRow, print_act, print_act_rim, print_head};
 pub use columns::{
     Band, Column, Columns, ColumnLine, Most, columns_of, most_of, print_name, product, sum,
 };

@@ -98,23 +98,30 @@ fn print_wait_bar(text: &mut String, first: u32, x: u64, wait: &Wait) -> Result<
     )
 }
 
-/// The bracket of a line of the audit, from a place out to another and back, with an arrow whose tip is there.
+/// Where a bracket goes: from `x` out to the right in the row of the landing, and back to its tip in that of the read.
+#[derive(Clone, Copy)]
+pub(crate) struct BracketWay {
+    pub(crate) x: u64,
+    pub(crate) right: u64,
+    pub(crate) tip: u64,
+    pub(crate) landed: u32,
+    pub(crate) read: u32,
+}
+
+/// The bracket of a line of the audit.
 #[tactic(auto, unfolding(crate::specs::Keys::bracket_text))]
 pub(crate) fn print_bracket(
     text: &mut String,
     first: u32,
-    x: u64,
-    right: u64,
-    landed: u32,
-    read: u32,
-    tip: u64,
+    way: BracketWay,
 ) -> Result<(), AllocError>
-    ensures { OnOk result (string_bytes text.new ≡ string_bytes text.old ++ bracket_text first x right landed read tip) }
+    ensures { OnOk result (string_bytes text.new ≡ string_bytes text.old ++
+        bracket_text first way.x way.right way.landed way.read way.tip) }
 {
-    print_bracket_title(text, landed, read)?;
-    print_bracket_path(text, first, x, right, landed, read, tip)?;
-    print_circle(text, first, landed, x, 4)?;
-    print_head(text, first, read, x, false)?;
+    print_bracket_title(text, way.landed, way.read)?;
+    print_bracket_path(text, first, way)?;
+    print_circle(text, first, way.landed, way.x, 4)?;
+    print_head(text, first, way.read, way.x, false)?;
     text.push_str("</g>\n")
 }
 
@@ -129,19 +136,12 @@ fn print_bracket_title(text: &mut String, landed: u32, read: u32) -> Result<(), 
 }
 
 #[tactic(auto, unfolding(crate::specs::Keys::bracket_path))]
-fn print_bracket_path(
-    text: &mut String,
-    first: u32,
-    x: u64,
-    right: u64,
-    landed: u32,
-    read: u32,
-    tip: u64,
-) -> Result<(), AllocError>
-    ensures { OnOk result (string_bytes text.new ≡ string_bytes text.old ++ bracket_path first x right landed read tip) }
+fn print_bracket_path(text: &mut String, first: u32, way: BracketWay) -> Result<(), AllocError>
+    ensures { OnOk result (string_bytes text.new ≡ string_bytes text.old ++
+        bracket_path first way.x way.right way.landed way.read way.tip) }
 {
-    write!(text, "<path d=\"M{x} {}", y(first, landed))?;
-    print_bracket_down(text, first, right, read, tip)
+    write!(text, "<path d=\"M{} {}", way.x, y(first, way.landed))?;
+    print_bracket_down(text, first, way.right, way.read, way.tip)
 }
 
 #[tactic(auto, unfolding(crate::specs::Keys::bracket_down))]

@@ -3,6 +3,7 @@
 //! each line of the audit.
 #![tactic(auto)]
 
+mod canvas;
 mod element;
 mod frame;
 mod heads;
@@ -12,6 +13,7 @@ mod row;
 mod shapes;
 mod width;
 
+pub use canvas::Canvas;
 pub use element::Element;
 pub use frame::{Frame, frame_of};
 pub use heads::{print_names, print_sheet};

@@ -11,5 +11,5 @@ use Rattle.draw_page.proofs.layers.layers.add_item_rims.Given as goal
 -- the elements so far, and those to come
 abbrev pub invariant-loop-item : goal.invariant-loop-item
 invariant-loop-item l = (board : Board) (events : List Event) → TellsTold board events l.told →
-    l.elements.items ++ flat_map (λ (item : Journey). item_rims l.columns l.frame (is_loud board events item.op) item) (drop l.item-index l.items)
-    ≡ l.initial.elements.items ++ flat_map (λ (item : Journey). item_rims l.columns l.frame (is_loud board events item.op) item) l.items
+    l.elements.items ++ flat_map (λ (item : Journey). item_rims l.canvas.columns.now l.canvas.frame.now (is_loud board events item.op) item) (drop l.item-index l.items)
+    ≡ l.initial.elements.items ++ flat_map (λ (item : Journey). item_rims l.canvas.columns.now l.canvas.frame.now (is_loud board events item.op) item) l.items
