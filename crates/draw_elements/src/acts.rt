@@ -1,9 +1,12 @@
 ghost use Rattle.std.specs.Prelude.{◌≡◌, ◌++◌, codes, if◌then◌else◌, string_bytes, IfOk, OnOk};
 ghost use Rattle.board_model.specs.Requests.{request_of};
-ghost use Rattle.draw_elements.specs.Acts.{bar_of, begin_of, end_at, end_of, act_of, head_text, line_path, line_element, round_element, goes_right, cross_element, aside, nobody_element, writes_memory, act_class, act_body, act_text, act_rim};
+ghost use Rattle.draw_elements.specs.Acts.{bar_of, begin_of, end_at, end_of, act_of, head_text};
+ghost use Rattle.draw_elements.specs.Acts.{line_path, line_element, round_element, goes_right};
+ghost use Rattle.draw_elements.specs.Acts.{cross_element, aside, nobody_element, writes_memory};
+ghost use Rattle.draw_elements.specs.Acts.{act_class, act_body, act_text, act_rim};
 
 use crate::columns::Columns;
-use crate::height::{Height, print_circle};
+use crate::height::{print_circle, row_middle};
 use crate::words::faint;
 use board_model::{Board, Lane, Place, request_of};
 use draw_items::{Journey, lane_back};
@@ -48,7 +51,7 @@ impl Act {
             ≡ act_of columns.now line.by line.op line.step line.place item taken) }
     {
         let begin = begin_of(columns, line.by, line.op, item)?;
-        let end = end_of(columns, line.step, line.place, taken)?;
+        let end = end_of(columns, line, taken)?;
         Ok(Act { begin, end })
     }
 
@@ -78,18 +81,23 @@ fn begin_of(columns: &Columns, by: By, op: OpId, item: Option<Journey>) -> Resul
     }
 }
 
-fn end_of(columns: &Columns, step: Step, place: Place, taken: Option<Journey>) -> Result<u64, NoMemory>
-    ensures { IfOk result (λ end. end ≡ end_of columns.now step place taken) }
+fn end_of(columns: &Columns, line: ActLine, taken: Option<Journey>) -> Result<u64, NoMemory>
+    ensures { IfOk result (λ end. end ≡ end_of columns.now line.step line.place taken) }
 {
-    match place {
+    match line.place {
         Place::Target(target) => Ok(columns.target(target)),
         Place::Header(bus) => Ok(columns.face(Lane { bus, up: true })),
-        Place::Lane(lane) => end_at(columns, lane, taken, step),
+        Place::Lane(lane) => end_at(columns, lane, taken, line.step),
         Place::Nobody => Ok(0),
     }
 }
 
-fn end_at(columns: &Columns, lane: Lane, taken: Option<Journey>, step: Step) -> Result<u64, NoMemory>
+fn end_at(
+    columns: &Columns,
+    lane: Lane,
+    taken: Option<Journey>,
+    step: Step,
+) -> Result<u64, NoMemory>
     ensures { IfOk result (λ end. end ≡ end_at columns.now lane taken step) }
 {
     match step {
@@ -105,16 +113,6 @@ fn end_at(columns: &Columns, lane: Lane, taken: Option<Journey>, step: Step) -> 
     }
 }
 
-fn y(first: u32, row: u32) -> Height
-    ensures { result ≡ record { first = first; row = row; down = 8 } }
-{
-    Height {
-        first,
-        row,
-        down: 8,
-    }
-}
-
 /// An arrow head with its point at a place of row n, to the right or to the left.
 #[tactic(auto, unfolding(crate::specs::Acts::head_text))]
 pub fn print_head(
@@ -124,25 +122,28 @@ pub fn print_head(
     x: u64,
     right: bool,
 ) -> Result<(), AllocError>
-    ensures { OnOk result (string_bytes text.new ≡ string_bytes text.old ++ head_text first n x right) }
+    ensures { OnOk result (string_bytes text.new ≡ string_bytes text.old ++
+        head_text first n x right) }
 {
     let back = if right { "l-7" } else { "l7" };
     write!(
         text,
         "<path class=\"q\" d=\"M{x} {}{back} -4v8z\"/>",
-        y(first, n)
+        row_middle(first, n)
     )
 }
 
 fn print_path(text: &mut String, first: u32, n: u32, act: &Act) -> Result<(), AllocError>
-    ensures { OnOk result (string_bytes text.new ≡ string_bytes text.old ++ line_path first n act.now) }
+    ensures { OnOk result (string_bytes text.new ≡ string_bytes text.old ++
+        line_path first n act.now) }
 {
-    write!(text, "M{} {}H{}", act.begin, y(first, n), act.end)
+    write!(text, "M{} {}H{}", act.begin, row_middle(first, n), act.end)
 }
 
 #[tactic(auto, unfolding(crate::specs::Acts::line_element))]
 fn print_line(text: &mut String, first: u32, n: u32, act: &Act) -> Result<(), AllocError>
-    ensures { OnOk result (string_bytes text.new ≡ string_bytes text.old ++ line_element first n act.now) }
+    ensures { OnOk result (string_bytes text.new ≡ string_bytes text.old ++
+        line_element first n act.now) }
 {
     text.push_str("<path d=\"")?;
     print_path(text, first, n, act)?;
@@ -158,14 +159,16 @@ fn print_round(
     act: &Act,
     radius: u8,
 ) -> Result<(), AllocError>
-    ensures { OnOk result (string_bytes text.new ≡ string_bytes text.old ++ round_element first n act.now radius) }
+    ensures { OnOk result (string_bytes text.new ≡ string_bytes text.old ++
+        round_element first n act.now radius) }
 {
     print_line(text, first, n, act)?;
     print_circle(text, first, n, act.end, radius)
 }
 
 fn print_cross(text: &mut String, first: u32, n: u32, act: &Act) -> Result<(), AllocError>
-    ensures { OnOk result (string_bytes text.new ≡ string_bytes text.old ++ cross_element first n act.now) }
+    ensures { OnOk result (string_bytes text.new ≡ string_bytes text.old ++
+        cross_element first n act.now) }
 {
     text.push_str("<path d=\"")?;
     print_path(text, first, n, act)?;
@@ -190,13 +193,14 @@ fn print_nobody(
     by: By,
     act: &Act,
 ) -> Result<(), AllocError>
-    ensures { OnOk result (string_bytes text.new ≡ string_bytes text.old ++ nobody_element columns.now first n by act.now) }
+    ensures { OnOk result (string_bytes text.new ≡ string_bytes text.old ++
+        nobody_element columns.now first n by act.now) }
 {
     write!(
         text,
         "<path d=\"M{} {}h{}m-4 -4l8 8m0 -8l-8 8\"/>",
         act.begin,
-        y(first, n),
+        row_middle(first, n),
         aside(columns, by)
     )
 }
@@ -208,7 +212,8 @@ fn print_class(
     op: OpId,
     step: Step,
 ) -> Result<(), AllocError>
-    ensures { OnOk result (string_bytes text.new ≡ string_bytes text.old ++ act_class (request_of board.now op bus) step) }
+    ensures { OnOk result (string_bytes text.new ≡ string_bytes text.old ++
+        act_class (request_of board.now op bus) step) }
 {
     match step {
         Step::Land => print_landing(text, board, bus, op),
@@ -220,7 +225,8 @@ fn print_class(
 }
 
 fn print_landing(text: &mut String, board: &Board, bus: u8, op: OpId) -> Result<(), AllocError>
-    ensures { OnOk result (string_bytes text.new ≡ string_bytes text.old ++ (if writes_memory (request_of board.now op bus) then codes "p" else codes "a")) }
+    ensures { OnOk result (string_bytes text.new ≡ string_bytes text.old ++
+        (if writes_memory (request_of board.now op bus) then codes "p" else codes "a")) }
 {
     match request_of(board, op, bus) {
         Some(request) => {
@@ -289,7 +295,8 @@ pub fn print_act(
 
 /// The rim of an act that somebody claims.
 pub fn print_act_rim(text: &mut String, first: u32, n: u32, act: &Act) -> Result<(), AllocError>
-    ensures { OnOk result (string_bytes text.new ≡ string_bytes text.old ++ act_rim first n act.now) }
+    ensures { OnOk result (string_bytes text.new ≡ string_bytes text.old ++
+        act_rim first n act.now) }
 {
     text.push_str("<path class=\"g\" d=\"")?;
     print_path(text, first, n, act)?;

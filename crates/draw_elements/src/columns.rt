@@ -1,5 +1,5 @@
-//! Where what a board has stands in a picture of its run: the buses side by side, and on each bus a line for each
-//! master, each target and each face of a bridge.
+//! Where what a board has stands in a picture of its run: the buses side by side, and on each bus a
+//! line for each master, each target and each face of a bridge.
 mod columns;
 mod line;
 mod most;

@@ -1,8 +1,11 @@
 ghost use Rattle.std.specs.Prelude.{◌≡◌, ◌++◌, string_bytes, IfOk, OnOk};
-ghost use Rattle.draw_elements.specs.Items.{route_of, or_end, route_text, rim_down, path_open, item_rim, title_of, title_text, came_text, left_text, bar_text, cross_sign, sign_text, slant_text, group_text, item_text};
+ghost use Rattle.draw_elements.specs.Items.{route_of, or_end, route_text, rim_down, path_open};
+ghost use Rattle.draw_elements.specs.Items.{item_rim, title_of, title_text, came_text, left_text};
+ghost use Rattle.draw_elements.specs.Items.{bar_text, cross_sign, sign_text, slant_text};
+ghost use Rattle.draw_elements.specs.Items.{group_text, item_text};
 
 use crate::columns::Columns;
-use crate::height::{Height, print_circle};
+use crate::height::{Height, print_circle, row_middle};
 use crate::words::{faint, kind_class, kind_word};
 use board_model::Board;
 use draw_items::{Journey, JourneyKind, lane_back};
@@ -55,27 +58,18 @@ fn or_end(row: u32, end: u32) -> u32
     if row > 0 { row } else { end }
 }
 
-fn y(first: u32, row: u32) -> Height
-    ensures { result ≡ record { first = first; row = row; down = 8 } }
-{
-    Height {
-        first,
-        row,
-        down: 8,
-    }
-}
-
 #[tactic(auto, unfolding(crate::specs::Items::route_text))]
 fn print_route(text: &mut String, first: u32, route: &DrawnRoute) -> Result<(), AllocError>
-    ensures { OnOk result (string_bytes text.new ≡ string_bytes text.old ++ route_text first route.now) }
+    ensures { OnOk result (string_bytes text.new ≡ string_bytes text.old ++
+        route_text first route.now) }
 {
     write!(
         text,
         "M{} {}L{} {}",
         route.from,
-        y(first, route.sent),
+        row_middle(first, route.sent),
         route.to,
-        y(first, route.came)
+        row_middle(first, route.came)
     )
 }
 
@@ -103,10 +97,11 @@ fn print_path_open(text: &mut String, class: &str) -> Result<(), AllocError>
 }
 
 fn print_down(text: &mut String, first: u32, route: &DrawnRoute) -> Result<(), AllocError>
-    ensures { OnOk result (string_bytes text.new ≡ string_bytes text.old ++ rim_down first route.now) }
+    ensures { OnOk result (string_bytes text.new ≡ string_bytes text.old ++
+        rim_down first route.now) }
 {
     if route.came < route.left {
-        write!(text, "V{}", y(first, route.left))
+        write!(text, "V{}", row_middle(first, route.left))
     } else {
         Ok(())
     }
@@ -121,7 +116,8 @@ pub fn print_item(
     item: &Journey,
     route: &DrawnRoute,
 ) -> Result<(), AllocError>
-    ensures { OnOk result (string_bytes text.new ≡ string_bytes text.old ++ item_text board.now first pale item.now route.now) }
+    ensures { OnOk result (string_bytes text.new ≡ string_bytes text.old ++
+        item_text board.now first pale item.now route.now) }
 {
     print_group(text, item.kind, pale)?;
     print_title_of(text, board, item)?;
@@ -133,7 +129,8 @@ pub fn print_item(
 
 #[tactic(auto, unfolding(crate::specs::Items::title_of))]
 fn print_title_of(text: &mut String, board: &Board, item: &Journey) -> Result<(), AllocError>
-    ensures { OnOk result (string_bytes text.new ≡ string_bytes text.old ++ title_of board.now item.now.kind item.now) }
+    ensures { OnOk result (string_bytes text.new ≡ string_bytes text.old ++
+        title_of board.now item.now.kind item.now) }
 {
     match item.kind {
         JourneyKind::Post | JourneyKind::Request | JourneyKind::Completion | JourneyKind::Gone => {
@@ -145,7 +142,8 @@ fn print_title_of(text: &mut String, board: &Board, item: &Journey) -> Result<()
 
 #[tactic(auto, unfolding(crate::specs::Items::title_text))]
 fn print_title(text: &mut String, board: &Board, item: &Journey) -> Result<(), AllocError>
-    ensures { OnOk result (string_bytes text.new ≡ string_bytes text.old ++ title_text board.now item.now) }
+    ensures { OnOk result (string_bytes text.new ≡ string_bytes text.old ++
+        title_text board.now item.now) }
 {
     write!(text, "<title>{} ", kind_word(item.kind))?;
     print_operation(text, board, &item.op)?;
@@ -177,15 +175,16 @@ fn print_left(text: &mut String, item: &Journey) -> Result<(), AllocError>
 
 #[tactic(auto, unfolding(crate::specs::Items::bar_text))]
 fn print_bar(text: &mut String, first: u32, route: &DrawnRoute) -> Result<(), AllocError>
-    ensures { OnOk result (string_bytes text.new ≡ string_bytes text.old ++ bar_text first route.now) }
+    ensures { OnOk result (string_bytes text.new ≡ string_bytes text.old ++
+        bar_text first route.now) }
 {
     if route.came < route.left {
         write!(
             text,
             "<path class=\"s\" d=\"M{} {}V{}\"/>",
             route.to,
-            y(first, route.came),
-            y(first, route.left)
+            row_middle(first, route.came),
+            row_middle(first, route.left)
         )
     } else {
         Ok(())
@@ -201,7 +200,8 @@ fn print_group(text: &mut String, kind: JourneyKind, pale: bool) -> Result<(), A
 
 #[tactic(auto, unfolding(crate::specs::Items::slant_text))]
 fn print_slant(text: &mut String, first: u32, route: &DrawnRoute) -> Result<(), AllocError>
-    ensures { OnOk result (string_bytes text.new ≡ string_bytes text.old ++ slant_text first route.now) }
+    ensures { OnOk result (string_bytes text.new ≡ string_bytes text.old ++
+        slant_text first route.now) }
 {
     text.push_str("<path d=\"")?;
     print_route(text, first, route)?;
@@ -210,8 +210,14 @@ fn print_slant(text: &mut String, first: u32, route: &DrawnRoute) -> Result<(), 
 
 /// What stands where the item arrived.
 #[tactic(auto, unfolding(crate::specs::Items::sign_text))]
-fn print_sign(text: &mut String, first: u32, item: &Journey, route: &DrawnRoute) -> Result<(), AllocError>
-    ensures { OnOk result (string_bytes text.new ≡ string_bytes text.old ++ sign_text first item.now route.now) }
+fn print_sign(
+    text: &mut String,
+    first: u32,
+    item: &Journey,
+    route: &DrawnRoute,
+) -> Result<(), AllocError>
+    ensures { OnOk result (string_bytes text.new ≡ string_bytes text.old ++
+        sign_text first item.now route.now) }
 {
     if item.marked {
         print_cross_sign(text, first, route)
@@ -224,7 +230,8 @@ fn print_sign(text: &mut String, first: u32, item: &Journey, route: &DrawnRoute)
 
 #[tactic(auto, unfolding(crate::specs::Items::cross_sign))]
 fn print_cross_sign(text: &mut String, first: u32, route: &DrawnRoute) -> Result<(), AllocError>
-    ensures { OnOk result (string_bytes text.new ≡ string_bytes text.old ++ cross_sign first route.now) }
+    ensures { OnOk result (string_bytes text.new ≡ string_bytes text.old ++
+        cross_sign first route.now) }
 {
     let y = Height {
         first,

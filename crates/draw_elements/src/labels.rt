@@ -3,7 +3,8 @@ ghost use Rattle.board_printer.specs.Lines.{spaced};
 ghost use Rattle.trace_text.specs.Words.{place_words};
 ghost use Rattle.trace_text.specs.Events.{result_words, mark_words, act_line, arrival_line};
 ghost use Rattle.board_model.specs.Requests.{request_of};
-ghost use Rattle.draw_elements.specs.Labels.{words_text, event_text, item_note, arrival_note, note_of};
+ghost use Rattle.draw_elements.specs.Labels.{words_text, event_text, item_note, arrival_note};
+ghost use Rattle.draw_elements.specs.Labels.{note_of};
 ghost use Rattle.draw_elements.specs.Labels.{space_note, phases_note, data_note, request_note};
 ghost use Rattle.draw_elements.specs.Labels.{reaches, enters, is_new, tells_request, act_note};
 
@@ -19,7 +20,8 @@ use trace_text::{ByWord, LaneWord, print_operation, step_word, target_name};
 
 /// The line of the event, without its newline.
 pub fn print_event(text: &mut String, board: &Board, event: &Event) -> Result<(), AllocError>
-    ensures { OnOk result (string_bytes text.new ≡ string_bytes text.old ++ event_text board.now event.now) }
+    ensures { OnOk result (string_bytes text.new ≡ string_bytes text.old ++
+        event_text board.now event.now) }
 {
     match *event {
         Event::Act {
@@ -53,14 +55,16 @@ fn print_act_line(text: &mut String, board: &Board, line: ActLine) -> Result<(),
 }
 
 fn print_arrival(text: &mut String, board: &Board, lane: Lane, mark: Mark) -> Result<(), AllocError>
-    ensures { OnOk result (string_bytes text.new ≡ string_bytes text.old ++ words_text (arrival_line board.now lane mark)) }
+    ensures { OnOk result (string_bytes text.new ≡ string_bytes text.old ++
+        words_text (arrival_line board.now lane mark)) }
 {
     write!(text, "{} arrive {}", end_of(board, lane), LaneWord(lane))?;
     print_mark(text, mark)
 }
 
 fn print_place(text: &mut String, board: &Board, place: Place) -> Result<(), AllocError>
-    ensures { OnOk result (string_bytes text.new ≡ string_bytes text.old ++ spaced (place_words board.now place) []) }
+    ensures { OnOk result (string_bytes text.new ≡ string_bytes text.old ++
+        spaced (place_words board.now place) []) }
 {
     match place {
         Place::Target(index) => write!(text, " {}", target_name(board, index)),
@@ -71,7 +75,8 @@ fn print_place(text: &mut String, board: &Board, place: Place) -> Result<(), All
 }
 
 fn print_result(text: &mut String, step: Step) -> Result<(), AllocError>
-    ensures { OnOk result (string_bytes text.new ≡ string_bytes text.old ++ spaced (result_words step) []) }
+    ensures { OnOk result (string_bytes text.new ≡ string_bytes text.old ++
+        spaced (result_words step) []) }
 {
     match step {
         Step::Part(phases) => write!(text, " {phases}"),
@@ -92,7 +97,8 @@ fn print_result(text: &mut String, step: Step) -> Result<(), AllocError>
 }
 
 fn print_mark(text: &mut String, mark: Mark) -> Result<(), AllocError>
-    ensures { OnOk result (string_bytes text.new ≡ string_bytes text.old ++ spaced (mark_words mark) []) }
+    ensures { OnOk result (string_bytes text.new ≡ string_bytes text.old ++
+        spaced (mark_words mark) []) }
 {
     match mark {
         Mark::Plain => Ok(()),
@@ -108,7 +114,8 @@ pub fn print_note(
     item: Option<Journey>,
     event: &Event,
 ) -> Result<(), AllocError>
-    ensures { OnOk result (string_bytes text.new ≡ string_bytes text.old ++ note_of board.now item event.now) }
+    ensures { OnOk result (string_bytes text.new ≡ string_bytes text.old ++
+        note_of board.now item event.now) }
 {
     match *event {
         Event::Act {
@@ -129,7 +136,8 @@ pub fn print_note(
 }
 
 fn print_arriving(text: &mut String, board: &Board, item: Option<Journey>) -> Result<(), AllocError>
-    ensures { OnOk result (string_bytes text.new ≡ string_bytes text.old ++ arrival_note board.now item) }
+    ensures { OnOk result (string_bytes text.new ≡ string_bytes text.old ++
+        arrival_note board.now item) }
 {
     match item {
         Some(item) => print_item_note(text, board, item.kind, item.op),
@@ -137,8 +145,14 @@ fn print_arriving(text: &mut String, board: &Board, item: Option<Journey>) -> Re
     }
 }
 
-fn print_item_note(text: &mut String, board: &Board, kind: JourneyKind, op: OpId) -> Result<(), AllocError>
-    ensures { OnOk result (string_bytes text.new ≡ string_bytes text.old ++ item_note board.now kind op) }
+fn print_item_note(
+    text: &mut String,
+    board: &Board,
+    kind: JourneyKind,
+    op: OpId,
+) -> Result<(), AllocError>
+    ensures { OnOk result (string_bytes text.new ≡ string_bytes text.old ++
+        item_note board.now kind op) }
 {
     match kind {
         JourneyKind::Post | JourneyKind::Request | JourneyKind::Completion | JourneyKind::Gone => {
@@ -149,8 +163,8 @@ fn print_item_note(text: &mut String, board: &Board, kind: JourneyKind, op: OpId
     }
 }
 
-/// Whether the act has a note of its request: a landing or a read at a target, and what a bridge accepts or latches of a
-/// master.
+/// Whether the act has a note of its request: a landing or a read at a target, and what a bridge
+/// accepts or latches of a master.
 fn tells_request(by: By, step: Step, place: Place) -> bool
     ensures { result ≡ tells_request by step place }
 {
@@ -183,7 +197,8 @@ fn enters(step: Step) -> bool
 }
 
 fn print_request_of(text: &mut String, board: &Board, bus: u8, op: OpId) -> Result<(), AllocError>
-    ensures { OnOk result (string_bytes text.new ≡ string_bytes text.old ++ request_note (request_of board.now op bus)) }
+    ensures { OnOk result (string_bytes text.new ≡ string_bytes text.old ++
+        request_note (request_of board.now op bus)) }
 {
     match request_of(board, op, bus) {
         Some(request) => {
@@ -207,7 +222,8 @@ fn print_data(text: &mut String, request: &Request) -> Result<(), AllocError>
 }
 
 fn print_address(text: &mut String, space: Space, address: u64) -> Result<(), AllocError>
-    ensures { OnOk result (string_bytes text.new ≡ string_bytes text.old ++ space_note space address) }
+    ensures { OnOk result (string_bytes text.new ≡ string_bytes text.old ++
+        space_note space address) }
 {
     match space {
         Space::Mem => write!(text, "{}", Address(address)),
@@ -217,7 +233,8 @@ fn print_address(text: &mut String, space: Space, address: u64) -> Result<(), Al
 }
 
 fn print_phases(text: &mut String, phases: &[Phase]) -> Result<(), AllocError>
-    ensures { OnOk result (string_bytes text.new ≡ string_bytes text.old ++ phases_note phases.now) }
+    ensures { OnOk result (string_bytes text.new ≡ string_bytes text.old ++
+        phases_note phases.now) }
 {
     match phases {
         [] => Ok(()),

@@ -1,6 +1,7 @@
 ghost use Rattle.std.specs.Prelude.{◌≡◌};
 ghost use Rattle.board_model.specs.Ways.{lane_back};
-ghost use Rattle.draw_items.specs.Items.{can_stand, has_stood, is_in_flight, is_standing, is_done, is_presented, is_taken, is_completion};
+ghost use Rattle.draw_items.specs.Items.{can_stand, has_stood, is_in_flight, is_standing, is_done};
+ghost use Rattle.draw_items.specs.Items.{is_presented, is_taken, is_completion};
 
 use board_model::Lane;
 use pci_command::OpId;
@@ -98,18 +99,12 @@ impl JourneyKind {
     fn can_stand(self) -> bool
         ensures { result ≡ can_stand self }
     {
-        match self {
-            JourneyKind::Post | JourneyKind::Request | JourneyKind::Completion => true,
-            JourneyKind::Credit | JourneyKind::Gone => false,
-        }
+        !matches!(self, JourneyKind::Credit | JourneyKind::Gone)
     }
 
     fn is_completion(self) -> bool
         ensures { result ≡ is_completion self }
     {
-        match self {
-            JourneyKind::Completion => true,
-            JourneyKind::Post | JourneyKind::Request | JourneyKind::Credit | JourneyKind::Gone => false,
-        }
+        matches!(self, JourneyKind::Completion)
     }
 }

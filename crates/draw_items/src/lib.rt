@@ -1,4 +1,5 @@
-//! What a trace tells of what travels: the items on the lanes, the tries of polls, and the waiting of masters.
+//! What a trace tells of what travels: the items on the lanes, the tries of polls, and the waiting
+//! of masters.
 #![tactic(auto)]
 
 mod journey;

@@ -1,7 +1,8 @@
 ghost use Rattle.std.specs.Prelude.{◌≡◌, ◌<◌, ◌^◌, ◌++◌, ◌==◌, not, length, slice_get, IfOk, OnOk};
 ghost use Rattle.std.specs.List.{filter};
 ghost use Rattle.std.proofs.Math.ListN.{set};
-ghost use Rattle.draw_items.specs.Items.{traffic_of, track_on, is_in, least_free, passes, is_in_flight, is_presented, is_taken, ends, is_marked};
+ghost use Rattle.draw_items.specs.Items.{traffic_of, track_on, is_in, least_free, passes};
+ghost use Rattle.draw_items.specs.Items.{is_in_flight, is_presented, is_taken, ends, is_marked};
 
 use crate::journey::{Journey, JourneyKind, lane_back};
 use board_model::{Lane, Place};
@@ -35,7 +36,8 @@ impl Model for Traffic {
 
     ghost Value = { Lanes };
 
-    ghost view = { λ k. record { items = k.items.items; under_way = k.under_way.items; touched = k.touched.items } };
+    ghost view = { λ k.
+        record { items = k.items.items; under_way = k.under_way.items; touched = k.touched.items } };
 }
 
 /// What travels on the lanes by these events, the oldest first.
@@ -55,7 +57,12 @@ impl Traffic {
     ghost use Rattle.std.specs.Prelude.{None};
     ghost use Rattle.std.specs.Option.{option_copied};
     ghost use Rattle.history_model.specs.declared.event.Event.{Event};
-    ghost use Rattle.draw_items.specs.Items.{nothing, item_of, taken_by, named_number, named_by, completion_at, taken_at, happen, arrive, brought, arrived, dropped, act, acted, ended, sent_on, left, left_by, answered, sent, changed, touching, oldest, is_in_flight, is_presented, is_taken, presented, taken, tracks_on};
+    ghost use Rattle.draw_items.specs.Items.{nothing, item_of, taken_by, named_number, named_by};
+    ghost use Rattle.draw_items.specs.Items.{completion_at, taken_at, happen, arrive, brought};
+    ghost use Rattle.draw_items.specs.Items.{arrived, dropped, act, acted, ended, sent_on, left};
+    ghost use Rattle.draw_items.specs.Items.{left_by, answered, sent, changed, touching, oldest};
+    ghost use Rattle.draw_items.specs.Items.{is_in_flight, is_presented, is_taken, presented};
+    ghost use Rattle.draw_items.specs.Items.{taken, tracks_on};
 
     fn new(alloc: Global) -> Traffic
         ensures { result ≡ nothing }
@@ -173,7 +180,8 @@ impl Traffic {
         mark: Mark,
         number: usize,
     ) -> Result<(), NoMemory>
-        ensures { OnOk result (self.new ≡ arrived n lane mark number (slice_get self.old.items number) self.old) }
+        ensures { OnOk result (self.new ≡
+            arrived n lane mark number (slice_get self.old.items number) self.old) }
     {
         match self.items.as_slice().get(number).copied() {
             Some(item) => {
@@ -263,7 +271,8 @@ impl Traffic {
     }
 
     fn leave_from(&mut self, n: u32, number: usize) -> Result<(), NoMemory>
-        ensures { OnOk result (self.new ≡ left_by n number (slice_get self.old.items number) self.old) }
+        ensures { OnOk result (self.new ≡
+            left_by n number (slice_get self.old.items number) self.old) }
     {
         match self.items.as_slice().get(number).copied() {
             Some(item) => {
@@ -377,7 +386,8 @@ fn add_track(
     number: usize,
     lane: Lane,
 ) -> Result<(), AllocError>
-    ensures { OnOk result (tracks.new.items ≡ tracks.old.items ++ track_on lane (slice_get items.now number)) }
+    ensures { OnOk result (tracks.new.items ≡ tracks.old.items ++
+        track_on lane (slice_get items.now number)) }
 {
     match items.get(number) {
         Some(item) => {

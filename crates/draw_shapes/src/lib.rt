@@ -1,6 +1,6 @@
-//! The rows of a picture of a run, one for each event, and where the list of events beside them stands; what stands behind them;
-//! and the elements of the picture, layer by layer: of each row, of each item, of each operation that a master presents, and of
-//! each line of the audit.
+//! The rows of a picture of a run, one for each event, and where the list of events beside them
+//! stands; what stands behind them; and the elements of the picture, layer by layer: of each row,
+//! of each item, of each operation that a master presents, and of each line of the audit.
 #![tactic(auto)]
 
 mod canvas;

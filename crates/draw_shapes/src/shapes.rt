@@ -1,5 +1,10 @@
 ghost use Rattle.std.specs.Prelude.{◌≡◌, ◌++◌, min, OnOk, IfOk};
-ghost use Rattle.draw_shapes.specs.Elements.{is_claimed, dotted_to, dotted_shapes, mark_shapes, refused_marks, key_shapes, can_have_rim, route_rim, item_rims, rim_in, act_rims_of, act_rims, ahead_class, ahead_rims, wait_shapes, routed, item_shapes, act_shapes_of, cross_at, refused_shapes, act_shapes, bracket_on, bracket_shapes, list_shapes};
+ghost use Rattle.draw_shapes.specs.Elements.{is_claimed, dotted_to, dotted_shapes, mark_shapes};
+ghost use Rattle.draw_shapes.specs.Elements.{refused_marks, key_shapes, can_have_rim, route_rim};
+ghost use Rattle.draw_shapes.specs.Elements.{item_rims, rim_in, act_rims_of, act_rims, ahead_class};
+ghost use Rattle.draw_shapes.specs.Elements.{ahead_rims, wait_shapes, routed, item_shapes};
+ghost use Rattle.draw_shapes.specs.Elements.{act_shapes_of, cross_at, refused_shapes, act_shapes};
+ghost use Rattle.draw_shapes.specs.Elements.{bracket_on, bracket_shapes, list_shapes};
 
 use crate::canvas::Canvas;
 use crate::element::{Element, add_between, add_in_row, is_seen};
@@ -44,7 +49,8 @@ fn add_refused_mark(
     frame: &Frame,
     row: &Row,
 ) -> Result<(), NoMemory>
-    ensures { OnOk result (elements.new.items ≡ elements.old.items ++ refused_marks frame.now row.now) }
+    ensures { OnOk result (elements.new.items ≡ elements.old.items ++
+        refused_marks frame.now row.now) }
 {
     if row.refused {
         add_mark(alloc, elements, "z", frame, row)
@@ -60,7 +66,8 @@ fn add_mark(
     frame: &Frame,
     row: &Row,
 ) -> Result<(), NoMemory>
-    ensures { OnOk result (elements.new.items ≡ elements.old.items ++ mark_shapes class.now frame.now row.now) }
+    ensures { OnOk result (elements.new.items ≡ elements.old.items ++
+        mark_shapes class.now frame.now row.now) }
 {
     let mut text = String::new(alloc);
     let x = frame.text_x.saturating_sub(4);
@@ -109,7 +116,8 @@ fn add_dotted(
     n: u32,
     act: &Act,
 ) -> Result<(), NoMemory>
-    ensures { OnOk result (elements.new.items ≡ elements.old.items ++ dotted_to frame.now n act.now) }
+    ensures { OnOk result (elements.new.items ≡ elements.old.items ++
+        dotted_to frame.now n act.now) }
 {
     let mut text = String::new(alloc);
     let nearer = act.begin.min(act.end);
@@ -121,17 +129,7 @@ fn add_dotted(
 fn is_claimed(step: Step) -> bool
     ensures { result ≡ is_claimed step }
 {
-    match step {
-        Step::Land
-        | Step::Part(_)
-        | Step::Read(_)
-        | Step::Accept
-        | Step::Latch
-        | Step::Take(_)
-        | Step::Stall
-        | Step::TargetAbort => true,
-        Step::MasterAbort => false,
-    }
+    !matches!(step, Step::MasterAbort)
 }
 
 /// The rim of an item whose operation is in the chain of a line.
@@ -176,10 +174,7 @@ fn add_route_rim(
 fn can_have_rim(kind: JourneyKind) -> bool
     ensures { result ≡ can_have_rim kind }
 {
-    match kind {
-        JourneyKind::Post | JourneyKind::Request | JourneyKind::Completion => true,
-        JourneyKind::Credit | JourneyKind::Gone => false,
-    }
+    !matches!(kind, JourneyKind::Credit | JourneyKind::Gone)
 }
 
 /// The rim of an act whose operation is in the chain of a line.
@@ -294,7 +289,8 @@ pub fn add_item(
     item: &Journey,
 ) -> Result<(), NoMemory>
     ensures { OnOk result (elements.new.items ≡ elements.old.items ++
-        item_shapes canvas.now.board.now canvas.now.columns.now canvas.now.frame.now pale item.now) }
+        item_shapes canvas.now.board.now canvas.now.columns.now canvas.now.frame.now
+        pale item.now) }
 {
     let route = DrawnRoute::of(canvas.columns, canvas.frame.end, item)?;
     add_routed(alloc, elements, canvas, pale, item, &route)
@@ -373,7 +369,8 @@ fn add_act_of(
     event: &Event,
 ) -> Result<(), NoMemory>
     ensures { OnOk result (elements.new.items ≡ elements.old.items ++
-        act_shapes_of canvas.now.board.now canvas.now.columns.now canvas.now.frame.now row.now event.now) }
+        act_shapes_of canvas.now.board.now canvas.now.columns.now canvas.now.frame.now row.now
+        event.now) }
 {
     match *event {
         Event::Act {
@@ -414,7 +411,8 @@ pub fn add_bracket(
     read: u32,
     track: Option<usize>,
 ) -> Result<(), NoMemory>
-    ensures { OnOk result (elements.new.items ≡ elements.old.items ++ bracket_shapes frame.now landed read track) }
+    ensures { OnOk result (elements.new.items ≡ elements.old.items ++
+        bracket_shapes frame.now landed read track) }
 {
     match track {
         Some(track) => add_bracket_on(alloc, elements, frame, landed, read, track as u64),
@@ -430,7 +428,8 @@ fn add_bracket_on(
     read: u32,
     track: u64,
 ) -> Result<(), NoMemory>
-    ensures { OnOk result (elements.new.items ≡ elements.old.items ++ bracket_on frame.now landed read track) }
+    ensures { OnOk result (elements.new.items ≡ elements.old.items ++
+        bracket_on frame.now landed read track) }
 {
     let low = landed.min(read);
     let high = landed.max(read);

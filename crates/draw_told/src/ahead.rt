@@ -25,7 +25,12 @@ pub fn ahead_in(board: &Board, traffic: &Traffic, close: Close, events: &[Event]
     }
 }
 
-fn ahead_of_event(board: &Board, traffic: &Traffic, why: Why, event: Option<Event>) -> Option<Journey>
+fn ahead_of_event(
+    board: &Board,
+    traffic: &Traffic,
+    why: Why,
+    event: Option<Event>,
+) -> Option<Journey>
     ensures { result ≡ ahead_of_event board.now traffic.now why event }
 {
     match event {
@@ -106,17 +111,16 @@ fn is_held(board: &Board, item: Journey, older: Journey) -> bool
 {
     match item.kind {
         JourneyKind::Completion => is_post(older.kind),
-        JourneyKind::Post | JourneyKind::Request | JourneyKind::Credit | JourneyKind::Gone => waits_for(board, item, older),
+        JourneyKind::Post | JourneyKind::Request | JourneyKind::Credit | JourneyKind::Gone => {
+            waits_for(board, item, older)
+        }
     }
 }
 
 fn is_post(kind: JourneyKind) -> bool
     ensures { result ≡ is_post kind }
 {
-    match kind {
-        JourneyKind::Post => true,
-        JourneyKind::Request | JourneyKind::Completion | JourneyKind::Credit | JourneyKind::Gone => false,
-    }
+    matches!(kind, JourneyKind::Post)
 }
 
 /// Whether the lane does not present the item with this older one alone before it.

@@ -1,7 +1,8 @@
 ghost use Rattle.std.specs.Prelude.{◌≡◌, ◌++◌, List, length, IfOk, OnOk};
 ghost use Rattle.draw_items.specs.declared.journey.Journey.{Journey};
 ghost use Rattle.draw_elements.specs.columns.Kept.{IsMost};
-ghost use Rattle.draw_elements.specs.columns.Places.{layout_of, room_before, room_behind, next_x, past_lines, past_names, columns_from};
+ghost use Rattle.draw_elements.specs.columns.Places.{layout_of, room_before, room_behind, next_x};
+ghost use Rattle.draw_elements.specs.columns.Places.{past_lines, past_names, columns_from};
 
 use crate::columns::line::{ColumnLine, name_length};
 use crate::columns::most::Most;
@@ -44,17 +45,19 @@ impl Model for Columns {
 
     ghost Value = { Layout };
 
-    ghost view = { λ k. record { bands = k.bands.items; lines = k.lines.items; rows = k.rows; past = k.past } };
+    ghost view = { λ k.
+        record { bands = k.bands.items; lines = k.lines.items; rows = k.rows; past = k.past } };
 }
 
-/// The columns of a board, from a place on, with room beside the faces for the tracks that are used.
+/// The columns of a board, from a place on, with room beside the faces for the tracks in use.
 pub fn columns_of(
     alloc: Global,
     board: &Board,
     most: &Most,
     start: u64,
 ) -> Result<Columns, NoMemory>
-    ensures { (items : List Journey) → IsMost items most.now → IfOk result (λ columns. columns ≡ layout_of board.now items start) }
+    ensures { (items : List Journey) → IsMost items most.now →
+        IfOk result (λ columns. columns ≡ layout_of board.now items start) }
 {
     let mut columns = Columns::new(alloc, start);
     let middle = middle_of(alloc, board)?;
@@ -69,7 +72,8 @@ pub fn columns_of(
 
 impl Columns {
     ghost use Rattle.std.specs.Prelude.{ℕ, ◌∷◌, [], Option};
-    ghost use Rattle.draw_elements.specs.columns.Places.{with_bus, found_place, place_of, is_left, face_place, bar_place, width_of};
+    ghost use Rattle.draw_elements.specs.columns.Places.{with_bus, found_place, place_of, is_left};
+    ghost use Rattle.draw_elements.specs.columns.Places.{face_place, bar_place, width_of};
     ghost use Rattle.draw_elements.specs.declared.columns.line.ColumnLine.TheVariants as lines;
 
     /// No bus, where a column would start there.
@@ -93,7 +97,8 @@ impl Columns {
         bus: u8,
         lines: &[ColumnLine],
     ) -> Result<(), NoMemory>
-        ensures { (items : List Journey) → IsMost items most.now → OnOk result (self.new ≡ with_bus board.now items bus lines.now self.old) }
+        ensures { (items : List Journey) → IsMost items most.now →
+            OnOk result (self.new ≡ with_bus board.now items bus lines.now self.old) }
     {
         let start = self.past;
         let first = sum(start, 14)?;
@@ -205,8 +210,10 @@ fn add_columns(
     first: u64,
     lines: &[ColumnLine],
 ) -> Result<u64, NoMemory>
-    ensures columns { (items : List Journey) → IsMost items most.now → OnOk result (columns.new.items ≡ columns.old.items ++ columns_from items first 0 lines.now) }
-    ensures past { (items : List Journey) → IsMost items most.now → IfOk result (λ past. past ≡ past_lines items first lines.now) }
+    ensures columns { (items : List Journey) → IsMost items most.now → OnOk result
+        (columns.new.items ≡ columns.old.items ++ columns_from items first 0 lines.now) }
+    ensures past { (items : List Journey) → IsMost items most.now →
+        IfOk result (λ past. past ≡ past_lines items first lines.now) }
 {
     let mut x = first;
     for (row, line) in lines.iter().enumerate() {
@@ -229,7 +236,8 @@ fn names_end(
     end: u64,
     lines: &[ColumnLine],
 ) -> Result<u64, NoMemory>
-    ensures { (items : List Journey) → IsMost items most.now → IfOk result (λ past. past ≡ past_names board.now items first end lines.now) }
+    ensures { (items : List Journey) → IsMost items most.now →
+        IfOk result (λ past. past ≡ past_names board.now items first end lines.now) }
 {
     let mut x = first;
     let mut end = end;
@@ -244,7 +252,8 @@ fn names_end(
 
 /// The next line stands from here on.
 fn next_x(most: &Most, x: u64, line: ColumnLine) -> Result<u64, NoMemory>
-    ensures { (items : List Journey) → IsMost items most.now → IfOk result (λ next. next ≡ next_x items x line) }
+    ensures { (items : List Journey) → IsMost items most.now →
+        IfOk result (λ next. next ≡ next_x items x line) }
 {
     let place = sum(x, room_before(most, line)?)?;
     sum(sum(place, 22)?, room_behind(most, line)?)
@@ -252,7 +261,8 @@ fn next_x(most: &Most, x: u64, line: ColumnLine) -> Result<u64, NoMemory>
 
 /// The room for bars before a face at the left.
 fn room_before(most: &Most, line: ColumnLine) -> Result<u64, NoMemory>
-    ensures { (items : List Journey) → IsMost items most.now → IfOk result (λ room. room ≡ room_before items line) }
+    ensures { (items : List Journey) → IsMost items most.now →
+        IfOk result (λ room. room ≡ room_before items line) }
 {
     match line {
         ColumnLine::Left(lane) => product(6, most.of(lane) as u64),
@@ -262,7 +272,8 @@ fn room_before(most: &Most, line: ColumnLine) -> Result<u64, NoMemory>
 
 /// The room for bars behind a face at the right.
 fn room_behind(most: &Most, line: ColumnLine) -> Result<u64, NoMemory>
-    ensures { (items : List Journey) → IsMost items most.now → IfOk result (λ room. room ≡ room_behind items line) }
+    ensures { (items : List Journey) → IsMost items most.now →
+        IfOk result (λ room. room ≡ room_behind items line) }
 {
     match line {
         ColumnLine::Right(lane) => product(6, most.of(lane) as u64),

@@ -19,7 +19,8 @@ pub enum ColumnLine {
 
 /// The name of a line, behind a text.
 pub fn print_name(text: &mut String, board: &Board, line: ColumnLine) -> Result<(), AllocError>
-    ensures { OnOk result (string_bytes text.new ≡ string_bytes text.old ++ name_of board.now line) }
+    ensures { OnOk result (string_bytes text.new ≡ string_bytes text.old ++
+        name_of board.now line) }
 {
     match line {
         ColumnLine::Left(lane) | ColumnLine::Right(lane) => write!(text, "bridge {}", lane.bus),

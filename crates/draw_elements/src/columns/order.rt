@@ -1,7 +1,10 @@
 ghost use Rattle.std.specs.Prelude.{◌≡◌, ◌++◌, ◌&&◌, nat_lt, nat_le, IfOk, OnOk};
 ghost use Rattle.std.specs.List.{filter};
 ghost use Rattle.board_model.specs.Valid.{has_bridge_to};
-ghost use Rattle.draw_elements.specs.columns.Order.{lower_buses, children_of, is_child, first_of_right, middle_of, in_order, lines_on, masters_on, targets_on, left_faces, right_faces, own_left, own_right};
+ghost use Rattle.draw_elements.specs.columns.Order.{lower_buses, children_of, is_child};
+ghost use Rattle.draw_elements.specs.columns.Order.{first_of_right, middle_of, in_order, lines_on};
+ghost use Rattle.draw_elements.specs.columns.Order.{masters_on, targets_on, left_faces};
+ghost use Rattle.draw_elements.specs.columns.Order.{right_faces, own_left, own_right};
 
 use crate::columns::line::ColumnLine;
 use board_model::{Board, Lane, has_bridge_to, primary_of};
@@ -70,7 +73,8 @@ pub(crate) fn in_order(alloc: Global, board: &Board, middle: u16) -> Result<Vec<
 }
 
 fn left_wing(alloc: Global, board: &Board, middle: u16, lower: &[u8]) -> Result<Vec<u8>, AllocError>
-    ensures { IfOk result (λ buses. buses.items ≡ filter (λ bus. nat_lt bus middle && has_bridge_to board.now bus) lower.now) }
+    ensures { IfOk result (λ buses. buses.items ≡ filter (λ bus.
+        nat_lt bus middle && has_bridge_to board.now bus) lower.now) }
 {
     lower
         .iter()
@@ -85,7 +89,8 @@ fn right_wing(
     middle: u16,
     lower: &[u8],
 ) -> Result<Vec<u8>, AllocError>
-    ensures { IfOk result (λ buses. buses.items ≡ filter (λ bus. nat_le middle bus && has_bridge_to board.now bus) lower.now) }
+    ensures { IfOk result (λ buses. buses.items ≡ filter (λ bus.
+        nat_le middle bus && has_bridge_to board.now bus) lower.now) }
 {
     lower
         .iter()
@@ -180,7 +185,8 @@ fn add_right_faces(
 }
 
 fn add_masters(lines: &mut Vec<ColumnLine>, board: &Board, bus: u8) -> Result<(), AllocError>
-    ensures { OnOk result (lines.new.items ≡ lines.old.items ++ masters_on bus 0 board.now.masters) }
+    ensures { OnOk result (lines.new.items ≡ lines.old.items ++
+        masters_on bus 0 board.now.masters) }
 {
     for (master, agent) in board.masters.as_slice().iter().enumerate() {
         if agent.bus == bus {
@@ -191,7 +197,8 @@ fn add_masters(lines: &mut Vec<ColumnLine>, board: &Board, bus: u8) -> Result<()
 }
 
 fn add_targets(lines: &mut Vec<ColumnLine>, board: &Board, bus: u8) -> Result<(), AllocError>
-    ensures { OnOk result (lines.new.items ≡ lines.old.items ++ targets_on bus 0 board.now.targets) }
+    ensures { OnOk result (lines.new.items ≡ lines.old.items ++
+        targets_on bus 0 board.now.targets) }
 {
     for (target, agent) in board.targets.as_slice().iter().enumerate() {
         if agent.bus == bus {
