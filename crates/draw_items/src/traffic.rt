@@ -36,8 +36,11 @@ impl Model for Traffic {
 
     ghost Value = { Lanes };
 
-    ghost view = { λ k.
-        record { items = k.items.items; under_way = k.under_way.items; touched = k.touched.items } };
+    ghost view = { λ k. record {
+      items = k.items.items;
+      under_way = k.under_way.items;
+      touched = k.touched.items;
+    } };
 }
 
 /// What travels on the lanes by these events, the oldest first.
