@@ -19,7 +19,9 @@ pub enum InputForm {
 pub fn form_of(word: &str) -> InputForm {
     match word {
         "run" | "headers" | "combine" => InputForm::Board,
-        "check" | "finish" | "audit" | "report" | "waves" | "draw" => InputForm::Trace(Rule::Tagged),
+        "check" | "finish" | "audit" | "report" | "waves" | "draw" => {
+            InputForm::Trace(Rule::Tagged)
+        }
         "untagged" => InputForm::Trace(Rule::Untagged),
         "fill" => InputForm::Filled,
         "observe" => InputForm::Log,
