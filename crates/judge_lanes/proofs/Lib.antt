@@ -4,4 +4,3 @@ pub mod LaneLemmas
 pub mod SumLemmas
 pub mod ReachLemmas
 pub mod RunningLemmas
-pub mod LeaveRules
