@@ -122,7 +122,7 @@ impl<'a> Heads<'a> {
 
 /// The act at this place is of this bus.
 fn list(heads: &mut Vec<Head>, bus: u8, place: usize) -> Result<(), NoMemory> {
-    if is_last_of(heads, bus) {
+    if is_last_of(heads.as_slice(), bus) {
         lengthen(heads.as_mut_slice(), place.saturating_add(1));
         return Ok(());
     }
