@@ -54,7 +54,14 @@ fn list_reads(
 {
     let index = index_of(alloc, tree, events)?;
     let mut knowers = Knowers::new(alloc, tree.board())?;
-    list_each(stale, &mut knowers, alloc, tree, &index, &GotRun { events, gots })
+    list_each(
+        stale,
+        &mut knowers,
+        alloc,
+        tree,
+        &index,
+        &GotRun { events, gots },
+    )
 }
 
 /// A run, and what each of its events gives a master that reads.
