@@ -48,7 +48,8 @@ fn print_act_line(text: &mut String, board: &Board, line: ActLine) -> Result<(),
     ensures { OnOk result (string_bytes text.new ≡ string_bytes text.old ++
         words_text (act_line board.now line.bus line.by line.op line.step line.place)) }
 {
-    write!(text, "{} {} {} ", line.bus, step_word(line.step), ByWord(line.by))?;
+    let by = ByWord(line.by);
+    write!(text, "{} {} {by} ", line.bus, step_word(line.step))?;
     print_operation(text, board, &line.op)?;
     print_place(text, board, line.place)?;
     print_result(text, line.step)

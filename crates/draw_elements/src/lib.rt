@@ -12,7 +12,7 @@ mod words;
 
 pub use acts::{Act, ActLine, ActRow, print_act, print_act_rim, print_head};
 pub use columns::{
-    Band, Column, Columns, ColumnLine, Most, columns_of, most_of, print_name, product, sum,
+    Band, Column, ColumnLine, Columns, Most, columns_of, most_of, print_name, product, sum,
 };
 pub use height::{Height, print_circle, row_middle};
 pub use items::{DrawnRoute, print_item, print_item_rim};

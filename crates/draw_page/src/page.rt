@@ -42,7 +42,8 @@ pub fn page_of(
     let allowed = allowed_in(close, events);
     let told = told_of(alloc, tree, allowed)?;
     let last = last.min(events.len() as u32);
-    page_from(alloc, tree.board(), events, close, &told, Shown { first, last })
+    let shown = Shown { first, last };
+    page_from(alloc, tree.board(), events, close, &told, shown)
 }
 
 /// The first and the last event that are drawn.

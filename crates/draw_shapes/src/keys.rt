@@ -62,7 +62,8 @@ pub(crate) fn print_dotted(
     ensures { OnOk result (string_bytes text.new ≡ string_bytes text.old ++
         dotted_text first n x to) }
 {
-    writeln!(text, "<path class=\"u\" d=\"M{x} {}H{to}\"/>", row_middle(first, n))
+    let y = row_middle(first, n);
+    writeln!(text, "<path class=\"u\" d=\"M{x} {y}H{to}\"/>")
 }
 
 /// The bar of a master that waits.
@@ -139,7 +140,8 @@ fn print_bracket_path(text: &mut String, first: u32, way: BracketWay) -> Result<
     ensures { OnOk result (string_bytes text.new ≡ string_bytes text.old ++
         bracket_path first way.x way.right way.landed way.read way.tip) }
 {
-    write!(text, "<path d=\"M{} {}", way.x, row_middle(first, way.landed))?;
+    let y = row_middle(first, way.landed);
+    write!(text, "<path d=\"M{} {y}", way.x)?;
     print_bracket_down(text, first, way.right, way.read, way.tip)
 }
 

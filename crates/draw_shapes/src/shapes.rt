@@ -309,7 +309,8 @@ fn add_routed(
 {
     if is_seen(canvas.frame, route.sent, route.left) {
         let mut text = String::new(alloc);
-        print_item(&mut text, canvas.board, canvas.frame.first, pale, item, route)?;
+        let first = canvas.frame.first;
+        print_item(&mut text, canvas.board, first, pale, item, route)?;
         add_between(elements, route.sent, route.left, text)
     } else {
         Ok(())

@@ -87,11 +87,13 @@ fn print_moments(
     for (number, event) in events.iter().enumerate() {
         let from = watch.scene();
         watch.happen(tree, event);
-        print_moment(text, board, number + 1, signals, shown, &Passed { from, watch })?;
+        let passed = Passed { from, watch };
+        print_moment(text, board, number + 1, signals, shown, &passed)?;
     }
     let from = watch.scene();
     watch.rest();
-    print_moment(text, board, events.len() + 1, signals, shown, &Passed { from, watch })?;
+    let passed = Passed { from, watch };
+    print_moment(text, board, events.len() + 1, signals, shown, &passed)?;
     Ok(())
 }
 

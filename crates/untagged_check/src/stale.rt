@@ -54,7 +54,8 @@ fn list_reads(
 {
     let index = index_of(alloc, tree, events)?;
     let mut knowers = Knowers::new(alloc, tree.board())?;
-    list_each(stale, &mut knowers, alloc, tree, &index, &GotRun { events, gots })
+    let course = GotRun { events, gots };
+    list_each(stale, &mut knowers, alloc, tree, &index, &course)
 }
 
 /// A run, and what each of its events gives a master that reads.
