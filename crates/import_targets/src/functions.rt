@@ -63,7 +63,7 @@ pub(crate) fn functions_behind(
 }
 
 /// The bus of a device, the root bus of its machine, and the bridges that are taken.
-#[derive(Clone, Copy, Debug)]
+#[derive(Clone, Copy)]
 struct OnBus<'a> {
     root: u8,
     bridges: &'a [TakenBridge],
