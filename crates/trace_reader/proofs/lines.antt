@@ -1,5 +1,3 @@
 mod CutLemmas
 mod ShapeLemmas
 mod NameLemmas
-mod ScanLemmas
-mod ReadLemmas

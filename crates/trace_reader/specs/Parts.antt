@@ -1,5 +1,5 @@
 -- Where the parts of a trace text stand in its bytes.
-use Rattle.std.specs.Prelude.{◌≡◌, ℕ, ◌+◌, ◌<◌, ◌≤◌, ◌∷◌, List, length, drop, Some, None, Result, Ok, Err, codes}
+use Rattle.std.specs.Prelude.{◌≡◌, ℕ, ◌+◌, ◌≤◌, ◌∷◌, List, length, drop, Some, None, Result, Ok, Err, codes}
 use Rattle.std.specs.List.{slice_range}
 use Rattle.board_model.specs.declared.board.Board.{Board}
 use Rattle.board_text.specs.Lines.{lines_of}
@@ -8,9 +8,6 @@ use Rattle.trace_reader.specs.declared.fault.TraceFault.{TraceFault}
 use Rattle.trace_reader.specs.declared.fault.TraceFault.TheVariants.{Trace, Board as OfBoard, NoMemory}
 use Rattle.text_faults.specs.declared.trace_line.TraceLineFault.TheVariants.{NoEventsLine}
 use Rattle.trace_reader.specs.declared.parts.EventsLine.{EventsLine}
-use Rattle.trace_reader.specs.declared.lines.line.TraceLine.{TraceLine}
-use Rattle.trace_reader.specs.declared.lines.line.LineFault.{LineFault as EventFault}
-use Rattle.trace_reader.specs.lines.Lines.{line_of}
 use Rattle.trace_reader.specs.Traces.{until_events}
 
 -- behind the first line, which is `pcitrace 1`, the second begins here
@@ -37,11 +34,3 @@ TellsBoard (Ok board) reading = reading ≡ Ok board
 TellsBoard (Err (OfBoard line fault)) reading = (at : ℕ) × (reading ≡ Err (at, fault)) × (line ≡ at + 1)
 TellsBoard (Err (Trace line fault)) reading = ⊥
 TellsBoard (Err NoMemory) reading = Unit {0}
-
--- the line that begins at a place of the text is read so, and the next begins there
-pub record IsReadAt (board : Board) (text : List ℕ) (at : ℕ) (read : Result TraceLine EventFault) (next : ℕ) : Type 0 where
-  pub line : List ℕ
-  pub lines : lines_of (drop at text) ≡ line ∷ lines_of (drop next text)
-  pub reads : read ≡ line_of board line
-  pub goes_on : at < next
-  pub within : next ≤ length text + 1

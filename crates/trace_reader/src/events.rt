@@ -1,11 +1,9 @@
-ghost use Rattle.std.specs.Prelude.{◌+◌, ◌-◌, ◌<◌, ◌≤◌, ◌↔◌, ◌^◌, [], length, drop};
-ghost use Rattle.std.specs.Prelude.{IfOk, IfSome, IsNone};
+ghost use Rattle.std.specs.Prelude.{◌+◌, ◌-◌, ◌<◌, ◌≤◌, ◌^◌, [], length, drop, IfOk};
 ghost use Rattle.board_text.specs.Lines.{lines_of};
-ghost use Rattle.trace_reader.specs.Parts.{IsReadAt};
 ghost use Rattle.trace_reader.specs.Traces.{nothing_behind, at_end, events_read, Tells};
 
 use crate::TraceFault;
-use crate::lines::{LineFault, Names, TraceLine, read_line, read_words, scan_line};
+use crate::lines::{Names, TraceLine, read_line};
 use board_model::Board;
 use board_text::next_line;
 use history_model::Event;
@@ -34,8 +32,8 @@ pub(crate) fn read_events(
     let mut events = Vec::new(alloc);
     let mut number = first;
     let mut at = from;
-    while let Some((line, next)) = read_line_at(&names, bytes, at) {
-        match line {
+    while let Some((line, next)) = next_line(bytes, at) {
+        match read_line(&names, line) {
             Ok(TraceLine::Happens(event)) => events.push(event)?,
             Ok(TraceLine::Ends(count)) => {
                 let read = List::from_vec(events);
@@ -55,42 +53,6 @@ pub(crate) fn read_events(
         line: number,
         fault: TraceLineFault::WrongCount,
     })
-}
-
-/// The line that begins at `at`, as it is read, and the place behind its newline. There is none
-/// exactly from the end of the text on.
-fn read_line_at(
-    names: &Names,
-    bytes: &[u8],
-    at: usize,
-) -> Option<(Result<TraceLine, LineFault>, usize)>
-    ensures end { IsNone result ↔ (length bytes.now ≤ at) }
-    ensures read { IfSome result (λ read. IsReadAt names.now bytes.now at read.0 read.1) }
-{
-    if at >= bytes.len() {
-        return None;
-    }
-    let (_before, rest) = bytes.split_at(at);
-    match scan_line(rest) {
-        Some((words, behind)) => {
-            let line = read_words(names, words.as_slice());
-            Some((line, bytes.len() - behind.len()))
-        }
-        None => read_next_line(names, bytes, at),
-    }
-}
-
-/// The same, where the line is found first and then cut.
-fn read_next_line(
-    names: &Names,
-    bytes: &[u8],
-    at: usize,
-) -> Option<(Result<TraceLine, LineFault>, usize)>
-    ensures end { IsNone result ↔ (length bytes.now ≤ at) }
-    ensures read { IfSome result (λ read. IsReadAt names.now bytes.now at read.0 read.1) }
-{
-    let (line, next) = next_line(bytes, at)?;
-    Some((read_line(names, line), next))
 }
 
 /// The events at the `end` line of this number, where it counts them right and nothing stands

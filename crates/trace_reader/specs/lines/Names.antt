@@ -3,20 +3,21 @@ use Rattle.std.specs.Prelude.{◌≡◌, ℕ, ◌<◌, List, Option, Some, None,
 use Rattle.std.specs.Borrow.{Bor}
 use Rattle.std.specs.Option.{option_map}
 use Rattle.std.specs.List.{position, find}
-use Rattle.std.specs.HashMap.{HashMap, get_by}
-use Rattle.std.specs.Str.{bytes_eq}
+use Rattle.std.specs.BTreeMap.{BTreeMap, get_by}
+use Rattle.std.specs.Cmp.Lexicographic.{slice_cmp}
+use Rattle.std.specs.Ordering.{nat_cmp}
 use Rattle.board_model.specs.declared.board.Board.{Board}
 use Rattle.board_model.specs.declared.bridge.Bridge.{Bridge}
 use Rattle.board_model.specs.WellFormed.{has_bus, is_master_named, is_target_named}
 use Rattle.trace_reader.specs.lines.Words.{only_where}
 
 -- places by names
-abbrev pub Places : Type 0 → Type 0
-Places S = HashMap (Bor (List ℕ)) ℕ S
+abbrev pub Places : Type 0
+Places = BTreeMap (Bor (List ℕ)) ℕ
 
 -- the place of a name
-abbrev pub place_of : {S : Type 0} → Places S → List ℕ → Option ℕ
-place_of places word = get_by (λ k. bytes_eq word k.now) places
+abbrev pub place_of : Places → List ℕ → Option ℕ
+place_of places word = get_by (λ k. slice_cmp nat_cmp word k.now) places
 
 -- the first place of a name, where it may stand at a last one too
 abbrev pub also_at : Option ℕ → Bool → ℕ → Option ℕ
@@ -28,7 +29,7 @@ abbrev pub above : Board → ℕ → Option ℕ
 above board bus = option_map (λ (bridge : Bridge). bridge.parent) (find (has_bus bus) board.bridges)
 
 -- each name of the board is found where it stands first, and each bridge by its secondary bus
-pub record Knows {S : Type 0} (board : Board) (by_master by_target : Places S) (by_bus : List (Option ℕ)) : Type 0 where
+pub record Knows (board : Board) (by_master by_target : Places) (by_bus : List (Option ℕ)) : Type 0 where
   pub masters : (word : List ℕ) → place_of by_master word ≡ position (is_master_named word) board.masters
   pub targets : (word : List ℕ) → place_of by_target word ≡ position (is_target_named word) board.targets
   pub bridges : (bus : ℕ) → bus < 256 → slice_index_or by_bus bus None ≡ above board bus

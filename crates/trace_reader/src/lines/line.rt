@@ -49,8 +49,7 @@ pub fn read_line(names: &Names, line: &[u8]) -> Result<TraceLine, LineFault>
     }
 }
 
-/// The same of a line by its words, which stand between single spaces.
-pub(crate) fn read_words(names: &Names, words: &[&[u8]]) -> Result<TraceLine, LineFault>
+fn read_words(names: &Names, words: &[&[u8]]) -> Result<TraceLine, LineFault>
     requires { is_regular (map (λ word. word.now) words.now) ≡ true }
     ensures { result ≡ pieces_line names.now (map (λ word. word.now) words.now) }
 {

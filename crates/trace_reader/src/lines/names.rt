@@ -7,7 +7,7 @@ ghost use Rattle.trace_reader.specs.lines.Names.{place_of, also_at, above};
 use board_model::{Board, Lane, bridge_to};
 use pci_command::NoMemory;
 use std::alloc::Global;
-use std::collections::HashMap;
+use std::collections::BTreeMap;
 use std::marker::Model;
 
 /// A board whose names and bridges were looked up once for all lines of a trace. Clauses see the
@@ -15,8 +15,8 @@ use std::marker::Model;
 #[derive(Debug, Drop)]
 pub struct Names<'a> {
     board: &'a Board,
-    masters: HashMap<&'a [u8], usize>,
-    targets: HashMap<&'a [u8], usize>,
+    masters: BTreeMap<&'a [u8], usize>,
+    targets: BTreeMap<&'a [u8], usize>,
     // By secondary bus: the bus above the bridge to it.
     above: [Option<u8>; 256],
 }
@@ -94,7 +94,7 @@ impl<'a> Names<'a> {
     }
 }
 
-fn place_of(places: &HashMap<&[u8], usize>, word: &[u8]) -> Option<usize>
+fn place_of(places: &BTreeMap<&[u8], usize>, word: &[u8]) -> Option<usize>
     ensures { result ≡ place_of places.now word.now }
 {
     places.get(word).copied()
@@ -102,7 +102,7 @@ fn place_of(places: &HashMap<&[u8], usize>, word: &[u8]) -> Option<usize>
 
 /// The name has this place, unless it has one.
 fn note<'a>(
-    places: &mut HashMap<&'a [u8], usize>,
+    places: &mut BTreeMap<&'a [u8], usize>,
     name: &'a [u8],
     place: usize,
 ) -> Result<(), NoMemory>
@@ -115,10 +115,10 @@ fn note<'a>(
     Ok(())
 }
 
-fn masters_of<'a>(alloc: Global, board: &'a Board) -> Result<HashMap<&'a [u8], usize>, NoMemory>
+fn masters_of<'a>(alloc: Global, board: &'a Board) -> Result<BTreeMap<&'a [u8], usize>, NoMemory>
     ensures { IfOk result (λ places. (word : List ℕ) → place_of places word ≡ position (is_master_named word) board.now.masters) }
 {
-    let mut places = HashMap::new(alloc);
+    let mut places = BTreeMap::new(alloc);
     let masters = board.masters.as_slice();
     for (place, master) in masters.iter().enumerate() {
         note(&mut places, master.name.bytes(), place)?;
@@ -126,10 +126,10 @@ fn masters_of<'a>(alloc: Global, board: &'a Board) -> Result<HashMap<&'a [u8], u
     Ok(places)
 }
 
-fn targets_of<'a>(alloc: Global, board: &'a Board) -> Result<HashMap<&'a [u8], usize>, NoMemory>
+fn targets_of<'a>(alloc: Global, board: &'a Board) -> Result<BTreeMap<&'a [u8], usize>, NoMemory>
     ensures { IfOk result (λ places. (word : List ℕ) → place_of places word ≡ position (is_target_named word) board.now.targets) }
 {
-    let mut places = HashMap::new(alloc);
+    let mut places = BTreeMap::new(alloc);
     let targets = board.targets.as_slice();
     for (place, target) in targets.iter().enumerate() {
         note(&mut places, target.name.bytes(), place)?;
