@@ -3,4 +3,3 @@ pub mod FewLemmas
 pub mod DecodableLemmas
 pub mod BoundLemmas
 pub mod ValidLemmas
-pub mod SpanLemmas

@@ -1,3 +1,2 @@
 pub mod Decodable
 pub mod Refusals
-pub mod Spans

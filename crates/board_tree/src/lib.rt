@@ -3,9 +3,7 @@
 #![tactic(auto)]
 
 mod bound;
-mod claiming;
 mod refusal;
-mod spans;
 mod tree;
 mod ways;
 

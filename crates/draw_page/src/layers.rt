@@ -3,5 +3,5 @@
 mod layers;
 mod rows;
 
-pub use layers::layers_of;
+pub(crate) use layers::layers_of;
 pub(crate) use rows::rows_of;

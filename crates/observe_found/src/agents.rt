@@ -1,6 +1,6 @@
 use crate::ground::Ground;
 use crate::programs::{Draft, Programs};
-use crate::words::Openings;
+use crate::words::{Further, Openings, further_of};
 use board_model::{Board, Bridge, Master, Name, Opening, Planned, Range, Target};
 use board_parser::{ParseFault, parse, read_is_well_formed};
 use board_printer::print_board;
@@ -58,12 +58,14 @@ fn all_masters(alloc: Global, drafts: Vec<Draft>) -> Result<Vec<Master>, NoMemor
     Ok(masters)
 }
 
-fn targets(ground: &Ground, openings: &Openings) -> Result<Vec<Target>, Unfound> {
+fn targets(ground: &Ground, openings: &Openings) -> Result<Vec<Target>, NoMemory> {
+    let further = openings.further(ground.alloc)?;
     let mut targets = Vec::new(ground.alloc);
     for (place, target) in ground.board.targets.as_slice().iter().enumerate() {
         let place = u16::try_from(place).unwrap_or(u16::MAX);
         if let Some(name) = Name::new(target.name.bytes()) {
-            let openings = openings_of(ground.alloc, place, target, openings)?;
+            let own = further_of(further.as_slice(), place);
+            let openings = openings_of(ground.alloc, target, own)?;
             targets.push(copy_target(ground.alloc, target, name, openings)?)?;
         }
     }
@@ -72,12 +74,13 @@ fn targets(ground: &Ground, openings: &Openings) -> Result<Vec<Target>, Unfound>
 
 fn openings_of(
     alloc: Global,
-    place: u16,
     target: &Target,
-    openings: &Openings,
-) -> Result<Vec<Opening>, Unfound> {
+    further: &[Further],
+) -> Result<Vec<Opening>, NoMemory> {
     let mut all = Vec::from_slice(alloc, target.openings.as_slice())?;
-    openings.add_to(place, &mut all)?;
+    for further in further {
+        all.push(further.opening)?;
+    }
     Ok(all)
 }
 

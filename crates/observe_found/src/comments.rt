@@ -1,8 +1,8 @@
 use crate::{Counts, LogFound, Note};
 use board_model::Board;
-use observe_told::{Log, Who};
+use observe_told::{LineWord, Log, Who};
 use pci_command::{NoMemory, OpId};
-use std::alloc::Global;
+use std::alloc::{AllocError, Global};
 use trace_text::{LaneWord, master_name, print_operation};
 
 /// What was done and cannot be seen in the trace: lines of comments.
@@ -33,42 +33,64 @@ fn add_note(
     match note {
         Note::Discarded { bridge, op, line } => {
             let op = op_word(alloc, board, &op)?;
-            let line = log.word_of(line);
-            writeln!(
-                text,
-                "# bridge {bridge}: the completion of {op}, read at {line}, was discarded"
-            )?;
+            add_discarded(text, bridge, op.as_str(), log.word_of(line))?;
         }
         Note::Raised {
             bridge,
             posted,
             given,
-        } => {
-            writeln!(
-                text,
-                "# bridge {bridge}: posted {posted} for {given}: bursts that were cut"
-            )?;
-        }
+        } => add_raised(text, bridge, posted, given)?,
         Note::NotLookedAt { op, count } => {
             let op = op_word(alloc, board, &op)?;
-            writeln!(
-                text,
-                "# {op}: {count} further dwords of a read were not looked at"
-            )?;
+            add_not_looked_at(text, op.as_str(), count)?;
         }
         Note::NotEnded { op, line, asked } => {
             let what = match op {
                 Some(op) => op_word(alloc, board, &op)?,
                 None => request_word(alloc, log, board, line)?,
             };
-            let line = log.word_of(line);
-            writeln!(
-                text,
-                "# {what} was not ended: asked {asked} times since {line}"
-            )?;
+            add_not_ended(text, what.as_str(), log.word_of(line), asked)?;
         }
     }
     Ok(())
+}
+
+fn add_discarded(
+    text: &mut String,
+    bridge: u8,
+    op: &str,
+    line: LineWord,
+) -> Result<(), AllocError> {
+    writeln!(
+        text,
+        "# bridge {bridge}: the completion of {op}, read at {line}, was discarded"
+    )
+}
+
+fn add_raised(text: &mut String, bridge: u8, posted: u8, given: u8) -> Result<(), AllocError> {
+    writeln!(
+        text,
+        "# bridge {bridge}: posted {posted} for {given}: bursts that were cut"
+    )
+}
+
+fn add_not_looked_at(text: &mut String, op: &str, count: u32) -> Result<(), AllocError> {
+    writeln!(
+        text,
+        "# {op}: {count} further dwords of a read were not looked at"
+    )
+}
+
+fn add_not_ended(
+    text: &mut String,
+    what: &str,
+    line: LineWord,
+    asked: u32,
+) -> Result<(), AllocError> {
+    writeln!(
+        text,
+        "# {what} was not ended: asked {asked} times since {line}"
+    )
 }
 
 /// A request that has no operation, by who asked.

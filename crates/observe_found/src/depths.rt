@@ -29,7 +29,8 @@ pub(crate) fn discards(
     let crowded = crowded(ground, lanes, errands)?;
     let mut discards = Vec::new(ground.alloc);
     let (mut rank, mut count) = (u32::MAX, 0u32);
-    for made in &all_made(ground, lanes, errands)? {
+    let all = all_made(ground, lanes, errands)?;
+    for made in &all {
         count = if made.rank == rank {
             count.saturating_add(1)
         } else {

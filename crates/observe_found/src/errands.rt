@@ -25,8 +25,7 @@ pub(crate) struct Errand {
     pub(crate) near: Option<u32>,
     pub(crate) before: Option<u32>,
     pub(crate) latch: Option<u32>,
-    /// Of one that a lane claims: the first and the last that were made for it.
-    pub(crate) first_far: Option<u32>,
+    /// Of one that a lane claims: the last that was made for it.
     pub(crate) last_far: Option<u32>,
     /// Whose operation it is.
     pub(crate) op: Option<OpId>,
@@ -203,9 +202,6 @@ impl Errands {
         }
         if let Some(near) = self.all.get_mut(near as usize) {
             near.last_far = Some(far);
-            if before.is_none() {
-                near.first_far = Some(far);
-            }
         }
     }
 
@@ -215,9 +211,6 @@ impl Errands {
         if let Some(near) = given.near {
             if let Some(near) = self.all.get_mut(near as usize) {
                 near.last_far = given.before;
-                if given.before.is_none() {
-                    near.first_far = None;
-                }
             }
         }
         if let Some(far) = self.all.get_mut(far as usize) {

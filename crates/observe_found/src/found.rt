@@ -154,20 +154,20 @@ fn not_looked_at(ground: &Ground, line: u32) -> u32 {
 
 /// A Retry with an effect has one act, the latch.
 fn counts_of(ground: &Ground, acts: &[SeenAct]) -> Counts {
-    let is_retry = |line: u32| {
-        ground
-            .seen(line)
-            .is_some_and(|seen| seen.ending == Ending::Retry)
-    };
-    let retries = ground
-        .lines
-        .iter()
-        .filter(|seen| seen.ending == Ending::Retry)
-        .count();
-    let latches = acts.iter().filter(|act| is_retry(act.line)).count();
+    let retries = ground.lines.iter().filter(|seen| is_retry(seen)).count();
+    let latches = acts.iter().filter(|act| is_latch(ground, act)).count();
     Counts {
         lines: number(ground.lines.len()),
         acts: number(acts.len()),
         fruitless: number(retries).saturating_sub(number(latches)),
     }
+}
+
+fn is_retry(seen: &Seen) -> bool {
+    seen.ending == Ending::Retry
+}
+
+/// Whether it is the act of a line that ended with Retry.
+fn is_latch(ground: &Ground, act: &SeenAct) -> bool {
+    ground.seen(act.line).is_some_and(is_retry)
 }

@@ -133,9 +133,7 @@ impl Part {
             return Ok(());
         };
         let mode = bridge_to(ground.board, lane.bus).is_some_and(|bridge| bridge.mode);
-        self.fars.sort_unstable_by_key(|far| {
-            errands.get(*far).shown.map_or(0, |line| ground.place(line))
-        });
+        sort_by_shown(ground, errands, &mut self.fars);
         let sides = Sides {
             ground,
             stream,
@@ -144,6 +142,16 @@ impl Part {
         };
         choose(sides, errands, self.fars.as_slice(), self.nears.as_slice())
     }
+}
+
+/// Far errands in the order in which they were shown.
+fn sort_by_shown(ground: &Ground, errands: &Errands, fars: &mut Vec<u32>) {
+    fars.sort_unstable_by_key(|far| shown_at(ground, errands, *far));
+}
+
+fn shown_at(ground: &Ground, errands: &Errands, far: u32) -> u32 {
+    let shown = errands.get(far).shown;
+    shown.map_or(0, |line| ground.place(line))
 }
 
 /// The first choice that suffices; where none does, one that shows what is wrong.

@@ -46,7 +46,6 @@ struct Left {
 #[derive(Debug, Drop)]
 pub(crate) struct Stream {
     pub(crate) lane: Lane,
-    phases: Vec<u32>,
     /// Of each the place of its line on the near bus.
     places: Vec<u32>,
     left: Vec<Left>,
@@ -184,9 +183,7 @@ impl Streams {
         let address = ground.first_address(line).saturating_add(before);
         match flow.oldest_at(ground, address) {
             Some(at) => {
-                let next = ground
-                    .next_posted(flow.stream.lane, place)
-                    .filter(|next| !flow.begins_at(ground, *next));
+                let next = flow.next_start(ground, place);
                 let lost = self.lose_from(ground, flow, at, line, next);
                 self.lost.insert(line, lost)?;
                 Ok(())
@@ -292,7 +289,6 @@ impl Flow {
     fn new(ground: &Ground, lane: Lane) -> Flow {
         let stream = Stream {
             lane,
-            phases: Vec::new(ground.alloc),
             places: Vec::new(ground.alloc),
             left: Vec::new(ground.alloc),
         };
@@ -323,7 +319,6 @@ impl Flow {
     fn bring_line(&mut self, ground: &Ground, line: u32) -> Result<(), NoMemory> {
         let (first, end) = ground.span(line);
         for phase in first..end {
-            self.stream.phases.push(phase)?;
             self.stream.places.push(ground.place(line))?;
             self.waiting.push_back(phase)?;
         }
@@ -354,6 +349,16 @@ impl Flow {
 
     fn oldest_at(&self, ground: &Ground, address: u64) -> Option<usize> {
         self.oldest_where(ground, address, None)
+    }
+
+    /// Where the next posted line of the lane goes on behind this place of its far bus.
+    fn next_start(&self, ground: &Ground, place: u32) -> Option<u64> {
+        let next = ground.next_posted(self.stream.lane, place)?;
+        if self.begins_at(ground, next) {
+            None
+        } else {
+            Some(next)
+        }
     }
 
     /// Whether a write waits that begins at this address: a line that goes on there is that one's,

@@ -94,7 +94,8 @@ impl<'a> Trial<'a> {
 
     /// The first far errand for which nobody was asking.
     pub(crate) fn unasked(&mut self, errands: &Errands) -> Result<Option<u32>, NoMemory> {
-        for far in self.fars {
+        let fars = self.fars;
+        for far in fars {
             self.queue.clear();
             let far = errands.get(*far);
             self.list(errands, &far, Strictness::Loose, 0)?;
@@ -111,11 +112,12 @@ impl<'a> Trial<'a> {
         errands: &mut Errands,
         strictness: Strictness,
     ) -> Result<bool, Unfound> {
+        let (sides, fars, nears) = (self.sides, self.fars, self.nears);
         self.queue.clear();
         self.levels.clear();
         self.open(errands, strictness, 0)?;
         let mut steps = 0usize;
-        let most = MOST_STEPS.saturating_add(self.fars.len().saturating_mul(2));
+        let most = MOST_STEPS.saturating_add(fars.len().saturating_mul(2));
         for _ in 0..most.saturating_mul(2) {
             let Some(far) = self.current() else {
                 return Ok(false);
@@ -126,25 +128,26 @@ impl<'a> Trial<'a> {
             };
             errands.give(far, near);
             steps = steps.saturating_add(1);
-            if self.levels.len() < self.fars.len() {
+            if self.levels.len() < fars.len() {
                 let floor = self.floor_behind(errands, far);
                 self.open(errands, strictness, floor)?;
-            } else if self
-                .sides
-                .settle(errands, self.fars, self.nears, strictness)?
-            {
+            } else if sides.settle(errands, fars, nears, strictness)? {
                 return Ok(true);
             } else {
-                steps = steps.saturating_add(self.fars.len() / 64);
+                steps = steps.saturating_add(fars.len() / 64);
             }
             if steps > most {
                 break;
             }
         }
+        Err(self.too_many(errands))
+    }
+
+    fn too_many(&self, errands: &Errands) -> Unfound {
         let line = self.fars.first().and_then(|far| errands.get(*far).shown);
-        Err(Unfound::TooManyPairings {
+        Unfound::TooManyPairings {
             line: line.unwrap_or(0),
-        })
+        }
     }
 
     /// The far errand for which a near one is looked for.
@@ -156,17 +159,21 @@ impl<'a> Trial<'a> {
     /// The next near errand that is tried for it; where there is none more, the one before is tried
     /// otherwise.
     fn choose(&mut self) -> Option<u32> {
-        let level = self.levels.last_mut()?;
-        match self.queue.get(level.next).copied() {
-            Some(near) => {
-                level.next = level.next.saturating_add(1);
-                Some(near)
-            }
-            None => {
-                self.queue.truncate(level.from);
-                self.levels.pop();
-                None
-            }
+        let level = self.levels.last().copied()?;
+        let near = self.queue.get(level.next).copied();
+        if near.is_some() {
+            self.pass_on();
+        } else {
+            self.queue.truncate(level.from);
+            self.levels.pop();
+        }
+        near
+    }
+
+    /// What is tried next for the last far errand is the one behind.
+    fn pass_on(&mut self) {
+        if let Some(level) = self.levels.as_mut_slice().last_mut() {
+            level.next = level.next.saturating_add(1);
         }
     }
 

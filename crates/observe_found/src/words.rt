@@ -1,7 +1,8 @@
 use crate::ground::Ground;
 use board_model::{Opening, Place};
 use observe_told::{Seen, Unfound, Who};
-use pci_command::{Phase, Space};
+use pci_command::{NoMemory, Phase, Space};
+use std::alloc::Global;
 use std::collections::BTreeMap;
 
 /// How many opening words a target has at most.
@@ -20,6 +21,13 @@ pub(crate) struct Dword {
 pub(crate) struct Known {
     enables: u8,
     pub(crate) opening: u32,
+}
+
+/// A word that a target opened with.
+#[derive(Clone, Copy, Debug)]
+pub(crate) struct Further {
+    target: u16,
+    pub(crate) opening: Opening,
 }
 
 /// What dwords opened as: their bytes as first read before they were written.
@@ -129,19 +137,35 @@ impl Openings {
         Ok(())
     }
 
-    /// The further opening words of the target.
-    pub(crate) fn add_to(&self, target: u16, openings: &mut Vec<Opening>) -> Result<(), Unfound> {
+    /// The opening words of all targets beside those that the board of the log names, target by
+    /// target.
+    pub(crate) fn further(&self, alloc: Global) -> Result<Vec<Further>, NoMemory> {
+        let mut all = Vec::new(alloc);
         for (dword, known) in &self.dwords {
-            if dword.target == target && known.opening != 0 {
-                openings.push(Opening {
-                    space: if dword.is_io { Space::Io } else { Space::Mem },
-                    address: dword.address,
-                    value: known.opening,
+            if known.opening != 0 {
+                all.push(Further {
+                    target: dword.target,
+                    opening: opening_of(dword, known.opening),
                 })?;
             }
         }
-        Ok(())
+        Ok(all)
     }
+}
+
+fn opening_of(dword: &Dword, value: u32) -> Opening {
+    Opening {
+        space: if dword.is_io { Space::Io } else { Space::Mem },
+        address: dword.address,
+        value,
+    }
+}
+
+/// Those of this target, of all that stand target by target.
+pub(crate) fn further_of(all: &[Further], target: u16) -> &[Further] {
+    let first = all.partition_point(|further| further.target < target);
+    let end = all.partition_point(|further| further.target <= target);
+    all.get(first..end).unwrap_or(&[])
 }
 
 /// The data phases that acts tell of: of a read of a lane the first.

@@ -122,16 +122,27 @@ impl<'a> Heads<'a> {
 
 /// The act at this place is of this bus.
 fn list(heads: &mut Vec<Head>, bus: u8, place: usize) -> Result<(), NoMemory> {
-    let end = place.saturating_add(1);
-    match heads.as_mut_slice().last_mut() {
-        Some(head) if head.bus == bus => head.end = end,
-        _ => heads.push(Head {
-            bus,
-            next: place,
-            end,
-        })?,
+    if is_last_of(heads, bus) {
+        lengthen(heads.as_mut_slice(), place.saturating_add(1));
+        return Ok(());
     }
+    heads.push(Head {
+        bus,
+        next: place,
+        end: place.saturating_add(1),
+    })?;
     Ok(())
+}
+
+fn is_last_of(heads: &[Head], bus: u8) -> bool {
+    heads.last().is_some_and(|head| head.bus == bus)
+}
+
+/// The acts of the last bus end here.
+fn lengthen(heads: &mut [Head], end: usize) {
+    if let Some(head) = heads.last_mut() {
+        head.end = end;
+    }
 }
 
 /// The act as an event.

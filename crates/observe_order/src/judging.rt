@@ -48,7 +48,10 @@ fn is_still(alloc: Global, tree: &Tree, kept: Kept) -> Result<bool, NoMemory>
         IfOk result (λ still. IsTrue still → NothingFlies Tagged tree.now h) }
 {
     let course = Course::new(alloc, tree, kept)?;
-    Ok(course.next_arrival(tree).is_none())
+    match course.next_arrival(tree) {
+        Some(_arrival) => Ok(false),
+        None => Ok(true),
+    }
 }
 
 /// Whether some run has the acts of these events.

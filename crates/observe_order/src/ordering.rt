@@ -73,7 +73,7 @@ fn go_on(
     requires { IsGoing tree.now going.old.events.items going.old.course }
     ensures { OnOk result (IsGoing tree.now going.new.events.items going.new.course) }
 {
-    for _ in 0..heads.total() {
+    for _act in 0..heads.total() {
         heads.list(candidates)?;
         match take_first(going, tree, candidates.as_slice())? {
             Some(candidate) => {
@@ -95,13 +95,12 @@ fn take_first(
     requires { IsGoing tree.now going.old.events.items going.old.course }
     ensures { OnOk result (IsGoing tree.now going.new.events.items going.new.course) }
 {
-    match candidates {
-        [] => Ok(None),
-        [candidate, rest @ ..] => match going.try_act(tree, &candidate.event)? {
-            None => Ok(Some(*candidate)),
-            Some(_why) => take_first(going, tree, rest),
-        },
+    for candidate in candidates {
+        if going.try_act(tree, &candidate.event)?.is_none() {
+            return Ok(Some(*candidate));
+        }
     }
+    Ok(None)
 }
 
 /// The acts that were taken, and where one is left that which is named and all others.
@@ -110,27 +109,38 @@ fn tell(
     going: &Going,
     tree: &Tree,
     heads: &Heads,
-    taken: Vec<SeenAct>,
+    mut taken: Vec<SeenAct>,
 ) -> Result<ActsTold, NoMemory> {
     let mut candidates = Vec::new(alloc);
     heads.list(&mut candidates)?;
+    let count = taken.len();
+    let refused = refused_of(going, tree, heads, taken.as_slice(), candidates.as_slice());
+    if let Some((candidate, _refused)) = refused {
+        list_left(alloc, heads, candidate.act, &mut taken)?;
+    }
+    Ok(ActsTold {
+        acts: List::from_vec(events_of(alloc, heads, taken.as_slice())?),
+        lines: List::from_vec(lines_of(alloc, heads, taken.as_slice())?),
+        taken: count,
+        refused: refused.map(|(_candidate, refused)| refused),
+    })
+}
+
+/// Which of the candidates is refused behind the acts that were taken, and why.
+fn refused_of(
+    going: &Going,
+    tree: &Tree,
+    heads: &Heads,
+    taken: &[SeenAct],
+    candidates: &[Candidate],
+) -> Option<(Candidate, Refused)> {
     let past = Past {
         kept: going.course.kept(),
         board: tree.board(),
-        taken: taken.as_slice(),
+        taken,
         heads,
     };
-    let refused = blamed(&past, candidates.as_slice());
-    let mut all = Vec::from_slice(alloc, taken.as_slice())?;
-    if let Some((candidate, _refused)) = refused {
-        list_left(alloc, heads, candidate.act, &mut all)?;
-    }
-    Ok(ActsTold {
-        acts: List::from_vec(events_of(alloc, heads, all.as_slice())?),
-        lines: List::from_vec(lines_of(alloc, heads, all.as_slice())?),
-        taken: taken.len(),
-        refused: refused.map(|(_candidate, refused)| refused),
-    })
+    blamed(&past, candidates)
 }
 
 /// The act that is refused, and behind it all others that are left.
@@ -141,7 +151,8 @@ fn list_left(
     all: &mut Vec<SeenAct>,
 ) -> Result<(), NoMemory> {
     all.push(refused)?;
-    for act in &heads.left(alloc)? {
+    let left = heads.left(alloc)?;
+    for act in &left {
         if *act != refused {
             all.push(*act)?;
         }

@@ -100,7 +100,7 @@ impl<'a> Past<'a> {
     /// It has left the lane, or it has not come there.
     fn not_there(&self, lane: Lane, op: OpId) -> WhyNot {
         let bridge = lane.bus;
-        match self.line_of(|seen, act| act.op == op && seen.who == Who::Lane(lane) && ends(act)) {
+        match self.ended_at(lane, op) {
             Some(line) => WhyNot::Left { bridge, line },
             None => WhyNot::NotAsked {
                 bridge,
@@ -194,17 +194,36 @@ impl<'a> Past<'a> {
 
     /// The line at which the lane ended the operation.
     fn made_at(&self, lane: Lane, op: OpId) -> u32 {
-        self.line_of(|seen, act| act.op == op && seen.who == Who::Lane(lane) && ends(act))
-            .unwrap_or(0)
+        self.ended_at(lane, op).unwrap_or(0)
+    }
+
+    /// The same, where it did.
+    fn ended_at(&self, lane: Lane, op: OpId) -> Option<u32> {
+        let mut acts = self.taken.iter().rev();
+        let found = acts.find(|act| act.op == op && ends(act) && self.is_by(act, lane));
+        found.map(|act| act.line)
+    }
+
+    /// Whether the lane drove the line of the act.
+    fn is_by(&self, act: &SeenAct, lane: Lane) -> bool {
+        let seen = self.heads.seen(act.line);
+        seen.is_some_and(|seen| seen.who == Who::Lane(lane))
     }
 
     /// The last line that wrote the dword that the operation reads.
     fn written_at(&self, presented: Presented) -> Option<u32> {
-        let read = request_of(self.board, presented.op, presented.bus)?;
-        self.line_of(|seen, act| match act.step {
-            Step::Land if seen.bus == presented.bus => self.writes(act.op, seen.bus, read.address),
-            _ => false,
-        })
+        let bus = presented.bus;
+        let read = request_of(self.board, presented.op, bus)?;
+        let address = read.address;
+        let mut acts = self.taken.iter().rev();
+        let found = acts.find(|act| self.lands_on(act, bus) && self.writes(act.op, bus, address));
+        found.map(|act| act.line)
+    }
+
+    /// Whether the act is a write that landed on the bus.
+    fn lands_on(&self, act: &SeenAct, bus: u8) -> bool {
+        let seen = self.heads.seen(act.line);
+        act.step == Step::Land && seen.is_some_and(|seen| seen.bus == bus)
     }
 
     fn writes(&self, op: OpId, bus: u8, address: u64) -> bool {
@@ -230,14 +249,11 @@ impl<'a> Past<'a> {
 
     /// The operation with the last line at which the lane took it.
     fn item(&self, lane: Lane, op: OpId) -> Brought {
-        let line = self.line_of(|_seen, act| {
-            act.op == op
-                && act.place == Place::Lane(lane)
-                && matches!(act.step, Step::Accept | Step::Latch)
-        });
+        let mut acts = self.taken.iter().rev();
+        let found = acts.find(|act| act.op == op && enters(act, lane));
         Brought {
             op,
-            line: line.unwrap_or(0),
+            line: found.map_or(0, |act| act.line),
         }
     }
 
@@ -248,18 +264,11 @@ impl<'a> Past<'a> {
             None => &[],
         }
     }
+}
 
-    /// The line of the last act that was taken and is so.
-    fn line_of(&self, is_so: impl Fn(&Seen, &SeenAct) -> bool) -> Option<u32> {
-        for act in self.taken.iter().rev() {
-            if let Some(seen) = self.heads.seen(act.line) {
-                if is_so(seen, act) {
-                    return Some(act.line);
-                }
-            }
-        }
-        None
-    }
+/// Whether the lane took its operation by the act.
+fn enters(act: &SeenAct, lane: Lane) -> bool {
+    act.place == Place::Lane(lane) && matches!(act.step, Step::Accept | Step::Latch)
 }
 
 /// Whether an act ends its operation on the bus.

@@ -136,8 +136,14 @@ fn answer_of<R: Threads + Sync, S: Source, G: Gate + Sync>(
     gate: &G,
 ) -> Result<Answered, Status>
     requires { is_of (parts_of form) [] (map string_bytes words.now) ≡ true }
-    ensures ok { IfOk result (λ answer. AnswersInput form (map string_bytes words.now) (given form (map string_bytes words.now) (S.held source.old)) (left form (map string_bytes words.now) (S.held source.new)) answer.text.items answer.ending) }
-    ensures stopped { IfErr result (StopsAnswering form (map string_bytes words.now) (given form (map string_bytes words.now) (S.held source.old)) (left form (map string_bytes words.now) (S.held source.new)) (S.faults source.old) (S.faults source.new)) }
+    ensures ok { IfOk result (λ answer. AnswersInput form (map string_bytes words.now)
+        (given form (map string_bytes words.now) (S.held source.old))
+        (left form (map string_bytes words.now) (S.held source.new))
+        answer.text.items answer.ending) }
+    ensures stopped { IfErr result (StopsAnswering form (map string_bytes words.now)
+        (given form (map string_bytes words.now) (S.held source.old))
+        (left form (map string_bytes words.now) (S.held source.new))
+        (S.faults source.old) (S.faults source.new)) }
     ensures unasked { IsSome (number_of form (map string_bytes words.now)) → source.new ≡ source.old }
 {
     match number_of(form, words) {

@@ -1,6 +1,6 @@
 ghost use Rattle.std.specs.Prelude.{◌<◌, ◌^◌, length};
 
-use crate::form::Form;
+use crate::form::InputForm;
 use crate::refused::{
     TOO_LONG, board_part, owner_lines, smallest, word_at_fault, word_lines,
 };
@@ -25,7 +25,7 @@ const MOST_SHOWN: u32 = 8;
 pub(crate) fn tell_board(
     teller: &mut Teller,
     input: &[u8],
-    form: Form,
+    form: InputForm,
     status: &Status,
     number: u32,
     fault: BoardFault,
@@ -37,7 +37,7 @@ pub(crate) fn tell_board(
     };
     match fault {
         BoardFault::Line(LineFault::WrongWord)
-            if form == Form::Log && is_board(teller.alloc(), text.as_slice())? => {
+            if form == InputForm::Log && is_board(teller.alloc(), text.as_slice())? => {
             let line = line_at(text.as_slice(), number).map_or(b"".as_slice(), |(_, line)| line);
             teller.point(number, line, 0, NO_LINE_OF_A_LOG)
         }

@@ -16,7 +16,7 @@ mod unclear;
 mod unshown;
 
 pub use asked::{Asked, asked_for};
-pub use form::{Form, MOST_DRAWN, form_of, limit_words};
+pub use form::{InputForm, MOST_DRAWN, form_of, limit_words};
 pub use log::message_of_log;
 pub use ports::{unread, unwritten};
 pub use refused::{smallest, word_at_fault};

@@ -5,7 +5,7 @@ ghost use Rattle.program_messages.specs.Quiet.{IsQuiet};
 
 use crate::board::tell_board;
 use crate::event::tell_event;
-use crate::form::Form;
+use crate::form::InputForm;
 use crate::log::{tell_log_line, tell_seen};
 use crate::machine::tell_machine_line;
 use crate::trace::tell_trace_line;
@@ -22,7 +22,7 @@ pub fn message(
     name: &str,
     input: &[u8],
     status: &Status,
-    form: Form,
+    form: InputForm,
 ) -> Result<Message, NoMemory>
     ensures printing { IfOk result (λ message. IsTrue (list_all is_shown message)) }
     ensures quiet { IsQuiet status.now → IfOk result (λ message. message ≡ []) }
@@ -65,7 +65,7 @@ fn told(
     name: &str,
     input: &[u8],
     status: &Status,
-    form: Form,
+    form: InputForm,
 ) -> Result<Message, NoMemory>
     ensures { IfOk result (λ message. IsTrue (list_all is_shown message)) }
 {

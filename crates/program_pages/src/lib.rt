@@ -1,5 +1,5 @@
-//! What each code that the program tells of a fault means: one page for each, by which `explain` and the
-//! messages on standard error are printed.
+//! What each code that the program tells of a fault means: one page for each, by which `explain`
+//! and the messages on standard error are printed.
 #![tactic(auto)]
 
 mod codes;

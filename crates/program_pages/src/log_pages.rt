@@ -84,9 +84,9 @@ pub static LOG_PAGES: [Page; 10] = [
             least. A write of I/O\n\
             or configuration has its word however it ended, since it is known by what is \
             written; nothing of\n\
-            I/O or configuration has two. A burst ends at the last address of its space: \
-            ffffffff, or the last\n\
-            of 64 bits in a board that begins with `pciboard 2`.",
+            I/O or configuration has two. A burst ends at the last address of its \
+            space, which has 64\n\
+            bits.",
         example: "pcilog 1\n\
             pciboard 1\n\
             master cpu on 0\n\

@@ -1,4 +1,5 @@
-//! The table of words: each form in which the program is called, how long its input may be, and what the help says of it.
+//! The table of words: each form in which the program is called, how long its input may be, and
+//! what the help says of it.
 #![tactic(auto)]
 
 ghost use Rattle.std.specs.Prelude.{◌≡◌, ◌≤◌, ◌<◌, ◌^◌, map, length};

@@ -11,7 +11,6 @@ use Rattle.trace_reader.specs.declared.parts.EventsLine.{EventsLine}
 use Rattle.trace_reader.specs.declared.lines.line.TraceLine.{TraceLine}
 use Rattle.trace_reader.specs.declared.lines.line.LineFault.{LineFault as EventFault}
 use Rattle.trace_reader.specs.lines.Lines.{line_of}
-use Rattle.trace_reader.specs.lines.Scanned.{first_line}
 use Rattle.trace_reader.specs.Traces.{until_events}
 
 -- behind the first line, which is `pcitrace 1`, the second begins here
@@ -41,7 +40,8 @@ TellsBoard (Err NoMemory) reading = Unit {0}
 
 -- the line that begins at a place of the text is read so, and the next begins there
 pub record IsReadAt (board : Board) (text : List ℕ) (at : ℕ) (read : Result TraceLine EventFault) (next : ℕ) : Type 0 where
-  pub lines : lines_of (drop at text) ≡ first_line (drop at text) ∷ lines_of (drop next text)
-  pub reads : read ≡ line_of board (first_line (drop at text))
+  pub line : List ℕ
+  pub lines : lines_of (drop at text) ≡ line ∷ lines_of (drop next text)
+  pub reads : read ≡ line_of board line
   pub goes_on : at < next
   pub within : next ≤ length text + 1

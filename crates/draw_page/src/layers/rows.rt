@@ -9,8 +9,8 @@ ghost use Rattle.draw_page.specs.layers.Rows.{row_with, row_of, refused_row, row
 ghost use Rattle.draw_page.specs.layers.Rows.{rows_after, drawn, rows_of};
 
 use crate::known::Known;
-use draw_items::{Item, Tries};
-use draw_sheets::{Row, width_of};
+use draw_items::{Journey, Tries};
+use draw_shapes::{Row, width_of};
 use draw_told::Told;
 use history_model::Event;
 use pci_command::NoMemory;
@@ -117,7 +117,7 @@ fn is_loud(told: &Told, event: &Event) -> bool
 }
 
 #[tactic(auto, unfolding(crate::specs::layers::Rows::is_event_pale))]
-fn is_pale(tries: &Tries, item: Option<Item>, event: &Event) -> bool
+fn is_pale(tries: &Tries, item: Option<Journey>, event: &Event) -> bool
     ensures { (events : List Event) → TellsTries events tries.now
         → result ≡ is_event_pale events item event.now }
 {
@@ -127,7 +127,7 @@ fn is_pale(tries: &Tries, item: Option<Item>, event: &Event) -> bool
     }
 }
 
-fn is_item_pale(tries: &Tries, item: Option<Item>) -> bool
+fn is_item_pale(tries: &Tries, item: Option<Journey>) -> bool
     ensures { (events : List Event) → TellsTries events tries.now
         → result ≡ is_item_pale events item }
 {

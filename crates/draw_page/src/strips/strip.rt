@@ -5,8 +5,7 @@ ghost use Rattle.draw_shapes.specs.Shapes.{is_seen};
 ghost use Rattle.draw_page.specs.strips.Strips.{strips_count};
 ghost use Rattle.draw_page.specs.strips.Kept.{text_at, IsDrawn, Draws, AddsTo};
 
-use draw_shapes::Element;
-use draw_sheets::Frame;
+use draw_shapes::{Element, Frame};
 use pci_command::NoMemory;
 use std::alloc::{AllocError, Global};
 use std::marker::Model;

@@ -1,4 +1,4 @@
-use crate::form::Form;
+use crate::form::InputForm;
 use board_statements::{Words, has_words};
 use board_text::next_line;
 use pci_command::NoMemory;
@@ -26,13 +26,13 @@ pub fn without_lines(
 /// The board text of an input of this form, each line with the number that it has in the input: of a
 /// trace the part between its first line, which is blank here, and the line `events`, of a log that
 /// up to the line `log`, and of a text of devices that up to the line `devices`.
-pub fn board_part(alloc: Global, input: &[u8], form: Form) -> Result<Vec<u8>, NoMemory> {
+pub fn board_part(alloc: Global, input: &[u8], form: InputForm) -> Result<Vec<u8>, NoMemory> {
     match (form, next_line(input, 0)) {
-        (Form::Trace(_) | Form::Filled, Some((b"pcitrace 1", next))) => {
+        (InputForm::Trace(_) | InputForm::Filled, Some((b"pcitrace 1", next))) => {
             board_between(alloc, input, next, b"events")
         }
-        (Form::Log, Some((_, next))) => board_between(alloc, input, next, b"log"),
-        (Form::Protocol, Some((b"pcidevices 1", next))) => {
+        (InputForm::Log, Some((_, next))) => board_between(alloc, input, next, b"log"),
+        (InputForm::Protocol, Some((b"pcidevices 1", next))) => {
             board_between(alloc, input, next, b"devices")
         }
         _ => Ok(input.to_vec(alloc)?),

@@ -2,13 +2,14 @@
 use Rattle.std.proofs.Common.{◌≡◌, ℕ, suc, ◌+◌, ◌<◌, ◌≤◌, Bool, true, false, cond, ltb, leb, eqb, List, [], ◌∷◌, ◌++◌, append_assoc, append-nil, length, take, drop, refl, ap, sym, ◌∙◌, arith}
 use Rattle.std.specs.Prelude.{not, ◌&&◌, ◌||◌}
 use Rattle.std.specs.List.{position_or_len, list_all, onto_first}
+use Rattle.std.proofs.lemmas.Bool.{false≢true}
 use Rattle.std.proofs.lemmas.Bool.Decides.{nat_tests}
 use Rattle.std.proofs.lemmas.List.{length-append, length-take-le, take-append-drop}
-use Rattle.trace_reader.proofs.lines.CutLemmas.{words_regular}
 use Rattle.std.proofs.lemmas.List.Folds.{list_all-append}
+use Rattle.std.proofs.lemmas.List.Splits.{slice_split-cons_no}
 use Rattle.board_text.specs.Lines.{is_newline}
-use Rattle.trace_reader.specs.lines.Lines.{is_space, pieces_of, is_printing, is_unreadable, is_regular}
-use Rattle.trace_reader.specs.lines.Scanned.{first_line, behind_line, in_word, ends_word, IsScanned}
+use Rattle.trace_reader.specs.lines.Lines.{is_space, pieces_of, has_bytes, is_printing, is_unreadable, is_regular}
+use Rattle.trace_reader.specs.lines.Scanned.{first_line, behind_line, in_word, ends_word, BeginsWith, IsScanned}
 
 -- how many bytes stand before the first newline
 abbrev pub line_length : List ℕ → ℕ
@@ -18,9 +19,6 @@ line_length text = position_or_len is_newline text
 
 length_more : (x : ℕ) (xs : List ℕ) → is_newline x ≡ false → line_length (x ∷ xs) ≡ 1 + line_length xs
 length_more x xs goes = rw goes refl
-
-length_last : (xs : List ℕ) → line_length (10 ∷ xs) ≡ 0
-length_last xs = refl
 
 first_more : (x : ℕ) (xs : List ℕ) → is_newline x ≡ false → first_line (x ∷ xs) ≡ x ∷ first_line xs
 first_more x xs goes =
@@ -34,6 +32,11 @@ behind_more x xs goes =
 
 -- A word before the rest of a line.
 
+both_true : (a b : Bool) → (a && b) ≡ true → (a ≡ true) × (b ≡ true)
+both_true true true e = (refl, refl)
+both_true true false e = absurd (false≢true e)
+both_true false b e = absurd (false≢true e)
+
 word_goes : (x : ℕ) → in_word x ≡ true → is_newline x ≡ false
 word_goes x word = grind (arith, nat_tests)
 
@@ -42,11 +45,6 @@ word_apart x word = grind (arith, nat_tests)
 
 word_prints : (x : ℕ) → in_word x ≡ true → is_printing x ≡ true
 word_prints x word = grind (arith, nat_tests)
-
-both_true : (a b : Bool) → (a && b) ≡ true → (a ≡ true) × (b ≡ true)
-both_true true true e = (refl, refl)
-both_true true false e = cc
-both_true false b e = cc
 
 length_word : (w xs : List ℕ) → list_all in_word w ≡ true → line_length (w ++ xs) ≡ length w + line_length xs
 length_word [] xs all = omega arith
@@ -79,32 +77,40 @@ pieces_word : (w xs : List ℕ) → list_all in_word w ≡ true → pieces_of (w
 pieces_word [] xs all = refl
 pieces_word (x ∷ w) xs all =
     let parts = both_true (in_word x) (list_all in_word w) all in
-    rw (word_apart x parts.0) (ap (onto_first x) (pieces_word w xs parts.1))
+    slice_split-cons_no is_space x (w ++ 32 ∷ xs) (word_apart x parts.0) ∙ ap (onto_first x) (pieces_word w xs parts.1)
 
 -- and a word alone the only one
 pieces_end : (w : List ℕ) → list_all in_word w ≡ true → pieces_of w ≡ w ∷ []
 pieces_end [] all = refl
 pieces_end (x ∷ w) all =
     let parts = both_true (in_word x) (list_all in_word w) all in
-    rw (word_apart x parts.0) (ap (onto_first x) (pieces_end w parts.1))
+    slice_split-cons_no is_space x w (word_apart x parts.0) ∙ ap (onto_first x) (pieces_end w parts.1)
 
 -- what stands before the first byte that ends a word is one
+word_more : (x : ℕ) (xs : List ℕ) (b : Bool) → in_word x ≡ b → list_all in_word (take (position_or_len ends_word xs) xs) ≡ true → list_all in_word (take (position_or_len ends_word (x ∷ xs)) (x ∷ xs)) ≡ true
+word_more x xs true word rest =
+    let one : 1 + position_or_len ends_word xs ≡ suc (position_or_len ends_word xs) = omega arith in
+    rw (word, one, word) rest
+word_more x xs false ends rest = rw ends refl
+
 word_of : (xs : List ℕ) → list_all in_word (take (position_or_len ends_word xs) xs) ≡ true
 word_of [] = refl
-word_of (x ∷ xs) = by (in_word x) refl
-  where
-    by : (b : Bool) → in_word x ≡ b → list_all in_word (take (position_or_len ends_word (x ∷ xs)) (x ∷ xs)) ≡ true
-    by true word =
-        let one : 1 + position_or_len ends_word xs ≡ suc (position_or_len ends_word xs) = omega arith in
-        rw (word, one, word) (word_of xs)
-    by false ends = rw ends refl
+word_of (x ∷ xs) = word_more x xs (in_word x) refl (word_of xs)
 
--- the same of a text that was cut there
-pub word_cut : (text word from : List ℕ) (n : ℕ) → n ≡ position_or_len ends_word text → word ≡ take n text → from ≡ drop n text → (list_all in_word word ≡ true) × (text ≡ word ++ from)
-word_cut text word from n at front back =
-    let all : list_all in_word word ≡ true = rw (front, at) (word_of text) in
-    let whole : text ≡ word ++ from = rw (front, back) (sym (take-append-drop n text)) in
-    (all, whole)
+-- the word of a text that was cut there
+pub begins_with : (text word from behind : List ℕ) (stop n : ℕ) (empty : Bool) → n ≡ position_or_len ends_word text → word ≡ take n text → from ≡ drop n text → from ≡ stop ∷ behind → empty ≡ eqb (length word) 0 → empty ≡ false → BeginsWith text word stop behind
+begins_with text word from behind stop n empty is front back cut told some =
+    let here : eqb (length word) 0 ≡ false = sym told ∙ some in
+    record {
+      whole = sym (take-append-drop n text) ∙ ap (λ (l : List ℕ). l ++ drop n text) (sym front) ∙ ap (λ (l : List ℕ). word ++ l) (sym back ∙ cut);
+      printing = ap (list_all in_word) (front ∙ ap (λ (m : ℕ). take m text) is) ∙ word_of text;
+      filled = rw here refl;
+    }
+
+-- one word more that has bytes
+regular_more : (words more : List (List ℕ)) (word : List ℕ) → more ≡ words ++ word ∷ [] → is_regular words ≡ true → has_bytes word ≡ true → is_regular more ≡ true
+regular_more words more word is regular filled =
+    ap is_regular is ∙ list_all-append has_bytes words (word ∷ []) ∙ rw (regular, filled) refl
 
 -- The words so far of the first line of a text, and the text that is left.
 pub record Scans (text rest : List ℕ) (words : List (List ℕ)) : Type 0 where
@@ -117,44 +123,46 @@ pub record Scans (text rest : List ℕ) (words : List (List ℕ)) : Type 0 where
 pub scans_none : (text : List ℕ) → Scans text text []
 scans_none text = record { whole = refl; regular = refl; printing = refl; behind = refl; passed = refl }
 
--- a word that has bytes, and a space
-pub scans_on : (text rest word from behind : List ℕ) (words more : List (List ℕ)) (empty : Bool) → Scans text rest words → list_all in_word word ≡ true → rest ≡ word ++ from → from ≡ 32 ∷ behind → more ≡ words ++ word ∷ [] → empty ≡ eqb (length word) 0 → empty ≡ false → Scans text behind more
-scans_on text rest word from behind words more empty so_far all whole space is told some =
-    let here : rest ≡ word ++ 32 ∷ behind = whole ∙ ap (λ (l : List ℕ). word ++ l) space in
+-- a word, and a space
+pub scans_on : (text rest word behind : List ℕ) (words more : List (List ℕ)) (stop : ℕ) → Scans text rest words → BeginsWith rest word stop behind → stop ≡ 32 → more ≡ words ++ word ∷ [] → Scans text behind more
+scans_on text rest word behind words more stop so_far begins space is =
+    let all : list_all in_word word ≡ true = begins.printing in
+    let here : rest ≡ word ++ 32 ∷ behind = begins.whole ∙ ap (λ (n : ℕ). word ++ n ∷ behind) space in
     let first : first_line rest ≡ word ++ 32 ∷ first_line behind = ap first_line here ∙ first_word_of word (32 ∷ behind) all ∙ ap (λ (l : List ℕ). word ++ l) (first_more 32 behind refl) in
-    let pieces : pieces_of (first_line rest) ≡ word ∷ pieces_of (first_line behind) = ap pieces_of first ∙ pieces_word word (first_line behind) all in
-    let prints_on : list_all is_printing (first_line rest) ≡ list_all is_printing (first_line behind) =
-    ap (list_all is_printing) first ∙ list_all-append is_printing word (32 ∷ first_line behind) ∙ rw (prints word all) refl in
+    let cut : pieces_of (first_line rest) ≡ word ∷ pieces_of (first_line behind) = ap pieces_of first ∙ pieces_word word (first_line behind) all in
+    let prints_on : list_all is_printing (first_line rest) ≡ list_all is_printing (first_line behind) = ap (list_all is_printing) first ∙ list_all-append is_printing word (32 ∷ first_line behind) ∙ rw (prints word all) refl in
     let later : behind_line rest ≡ behind_line behind = ap behind_line here ∙ behind_word word (32 ∷ behind) all ∙ behind_more 32 behind refl in
     let long : line_length rest ≡ length word + (1 + line_length behind) = ap line_length here ∙ length_word word (32 ∷ behind) all ∙ ap (λ (n : ℕ). length word + n) (length_more 32 behind refl) in
     let size : length rest ≡ length word + length (32 ∷ behind) = ap length here ∙ length-append word (32 ∷ behind) in
     record {
-      whole = ap (λ (ws : List (List ℕ)). ws ++ pieces_of (first_line behind)) is ∙ append_assoc words (word ∷ []) (pieces_of (first_line behind)) ∙ ap (λ (ws : List (List ℕ)). words ++ ws) (sym pieces) ∙ so_far.whole;
-      regular = words_regular words more word empty is so_far.regular told some;
+      whole = ap (λ (ws : List (List ℕ)). ws ++ pieces_of (first_line behind)) is ∙ append_assoc words (word ∷ []) (pieces_of (first_line behind)) ∙ ap (λ (ws : List (List ℕ)). words ++ ws) (sym cut) ∙ so_far.whole;
+      regular = regular_more words more word is so_far.regular begins.filled;
       printing = so_far.printing ∙ prints_on;
       behind = sym later ∙ so_far.behind;
       passed = omega (arith, so_far.passed, long, size);
     }
 
--- a word that has bytes, and the newline
-pub scans_end : (text rest word from behind : List ℕ) (words more : List (List ℕ)) (empty : Bool) → Scans text rest words → list_all in_word word ≡ true → rest ≡ word ++ from → from ≡ 10 ∷ behind → more ≡ words ++ word ∷ [] → empty ≡ eqb (length word) 0 → empty ≡ false → length text ≤ 256 + length from → IsScanned text more behind
-scans_end text rest word from behind words more empty so_far all whole newline is told some short =
-    let here : rest ≡ word ++ 10 ∷ behind = whole ∙ ap (λ (l : List ℕ). word ++ l) newline in
+-- a word, and the newline, where the line is no longer than 256 bytes
+pub scans_end : (text rest word behind : List ℕ) (words more : List (List ℕ)) (stop : ℕ) → Scans text rest words → BeginsWith rest word stop behind → stop ≡ 10 → more ≡ words ++ word ∷ [] → length text ≤ length behind + 257 → IsScanned text more behind
+scans_end text rest word behind words more stop so_far begins newline is short =
+    let all : list_all in_word word ≡ true = begins.printing in
+    let here : rest ≡ word ++ 10 ∷ behind = begins.whole ∙ ap (λ (n : ℕ). word ++ n ∷ behind) newline in
     let first : first_line rest ≡ word ++ [] = ap first_line here ∙ first_word_of word (10 ∷ behind) all in
     let line : first_line rest ≡ word = first ∙ append-nil word in
-    let pieces : pieces_of (first_line rest) ≡ word ∷ [] = ap pieces_of line ∙ pieces_end word all in
+    let cut : pieces_of (first_line rest) ≡ word ∷ [] = ap pieces_of line ∙ pieces_end word all in
     let later : behind_line rest ≡ behind = ap behind_line here ∙ behind_word word (10 ∷ behind) all in
     let long : line_length rest ≡ length word + 0 = ap line_length here ∙ length_word word (10 ∷ behind) all in
     let size : length rest ≡ length word + length (10 ∷ behind) = ap length here ∙ length-append word (10 ∷ behind) in
-    let size_from : length from ≡ length (10 ∷ behind) = ap length newline in
-    let inside : line_length text < length text = omega (arith, so_far.passed, long, size) in
-    let line_size : length (first_line text) ≡ line_length text = length-take-le (line_length text) text (omega arith) in
-    let fits : ltb 256 (length (first_line text)) ≡ false = (let within : length (first_line text) ≤ 256 = omega (arith, so_far.passed, long, size, size_from, line_size) in grind (arith, nat_tests)) in
-    let printing : list_all is_printing (first_line text) ≡ true = so_far.printing ∙ ap (list_all is_printing) line ∙ prints word all in
+    let within : line_length text < length text = omega (arith, so_far.passed, long, size) in
+    let line_size : length (first_line text) ≡ line_length text = length-take-le (line_length text) text (omega (arith, within)) in
+    let few : length (first_line text) ≤ 256 = omega (arith, short, so_far.passed, long, size, line_size) in
+    let readable : ltb 256 (length (first_line text)) ≡ false = grind (arith, nat_tests) in
+    let all_print : list_all is_printing (first_line text) ≡ true = so_far.printing ∙ ap (list_all is_printing) line ∙ prints word all in
     record {
-      inside = inside;
-      readable = rw (fits, printing) refl;
-      pieces = is ∙ ap (λ (ws : List (List ℕ)). words ++ ws) (sym pieces) ∙ so_far.whole;
-      regular = words_regular words more word empty is so_far.regular told some;
+      inside = within;
+      readable = rw (readable, all_print) refl;
+      pieces = is ∙ ap (λ (ws : List (List ℕ)). words ++ ws) (sym cut) ∙ so_far.whole;
+      regular = regular_more words more word is so_far.regular begins.filled;
       left = sym later ∙ so_far.behind;
+      shorter = omega (arith, so_far.passed, long, size);
     }

@@ -1,8 +1,8 @@
 -- The first line of a text, found and cut in one pass.
-use Rattle.std.specs.Prelude.{◌≡◌, ℕ, ◌<◌, Bool, true, false, List, length, not, nat_le, ◌&&◌}
-use Rattle.std.specs.List.{position_or_len, before_first, after_first}
+use Rattle.std.specs.Prelude.{◌≡◌, ℕ, ◌<◌, ◌∷◌, ◌++◌, Bool, true, false, List, length, not, nat_le, ◌&&◌}
+use Rattle.std.specs.List.{list_all, position_or_len, before_first, after_first}
 use Rattle.board_text.specs.Lines.{is_newline}
-use Rattle.trace_reader.specs.lines.Lines.{is_unreadable, is_regular, pieces_of}
+use Rattle.trace_reader.specs.lines.Lines.{has_bytes, is_unreadable, is_regular, pieces_of}
 
 -- the first line, without its newline
 abbrev pub first_line : List ℕ → List ℕ
@@ -20,6 +20,12 @@ in_word byte = nat_le 33 byte && nat_le byte 126
 abbrev pub ends_word : ℕ → Bool
 ends_word byte = not (in_word byte)
 
+-- the text begins with this word, which has bytes, and the byte that ends it; this stands behind it
+pub record BeginsWith (text word : List ℕ) (stop : ℕ) (behind : List ℕ) : Type 0 where
+  pub whole : text ≡ word ++ stop ∷ behind
+  pub printing : list_all in_word word ≡ true
+  pub filled : has_bytes word ≡ true
+
 -- the first line has a newline and is readable, single spaces alone stand between these words of it,
 -- and this stands behind it
 pub record IsScanned (text : List ℕ) (words : List (List ℕ)) (behind : List ℕ) : Type 0 where
@@ -28,3 +34,4 @@ pub record IsScanned (text : List ℕ) (words : List (List ℕ)) (behind : List 
   pub pieces : words ≡ pieces_of (first_line text)
   pub regular : is_regular words ≡ true
   pub left : behind ≡ behind_line text
+  pub shorter : length behind < length text

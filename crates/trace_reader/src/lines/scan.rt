@@ -1,6 +1,6 @@
 ghost use Rattle.std.specs.Prelude.{◌≡◌, ◌≤◌, length, map, IfSome};
 ghost use Rattle.std.specs.List.{position_or_len};
-ghost use Rattle.trace_reader.specs.lines.Scanned.{ends_word, IsScanned};
+ghost use Rattle.trace_reader.specs.lines.Scanned.{ends_word, BeginsWith, IsScanned};
 
 use arrayvec::ArrayVec;
 
@@ -8,31 +8,38 @@ use arrayvec::ArrayVec;
 /// where the line is readable, single spaces alone stand between its words, and there are no more
 /// than the longest line of an event has.
 pub(crate) fn scan_line(text: &[u8]) -> Option<(ArrayVec<&[u8], 6>, &[u8])>
-    ensures { IfSome result (λ line. IsScanned text.now (map (λ word. word.now) line.0.items) line.1.now) }
+    ensures { IfSome result
+        (λ line. IsScanned text.now (map (λ word. word.now) line.0.items) line.1.now) }
 {
     let mut words = ArrayVec::new();
     let mut rest = text;
     while !words.is_full() {
-        let (word, from) = rest.split_at(length_of_word(rest));
-        if word.is_empty() {
+        let (word, stop, behind) = next_word(rest)?;
+        words.push(word);
+        if stop == b'\n' {
+            if behind.len() + 257 < text.len() {
+                return None;
+            }
+            return Some((words, behind));
+        }
+        if stop != b' ' {
             return None;
         }
-        match from {
-            [b' ', behind @ ..] => {
-                words.push(word);
-                rest = behind;
-            }
-            [b'\n', behind @ ..] => {
-                words.push(word);
-                if text.len() - from.len() > 256 {
-                    return None;
-                }
-                return Some((words, behind));
-            }
-            _ => return None,
-        }
+        rest = behind;
     }
     None
+}
+
+/// The word with which a text begins, the byte that ends it, and what stands behind that.
+fn next_word(text: &[u8]) -> Option<(&[u8], u8, &[u8])>
+    ensures { IfSome result (λ found. BeginsWith text.now found.0.now found.1 found.2.now) }
+{
+    let (word, from) = text.split_at(length_of_word(text));
+    if word.is_empty() {
+        return None;
+    }
+    let (stop, behind) = from.split_first()?;
+    Some((word, *stop, behind))
 }
 
 /// How many bytes stand before the first that ends a word.
@@ -41,6 +48,12 @@ fn length_of_word(text: &[u8]) -> usize
     ensures within { result ≤ length text.now }
 {
     text.iter()
-        .position(|byte| !(b'!'..=b'~').contains(byte))
+        .position(|byte| ends_word(*byte))
         .unwrap_or(text.len())
+}
+
+fn ends_word(byte: u8) -> bool
+    ensures { result ≡ ends_word byte }
+{
+    !(b'!'..=b'~').contains(&byte)
 }

@@ -5,7 +5,7 @@ use Rattle.trace_reader.proofs.lines.scan.scan_line.Given as goal
 
 -- the words so far and what is left are the first line
 abbrev pub invariant-loop-words : goal.invariant-loop-words
-invariant-loop-words l = Scans l.text l.rest.now (map (λ word. word.now) l.words.items)
+invariant-loop-words l = Scans l.text l.rest (map (λ word. word.now) l.words.items)
 
 abbrev pub decreases-loop-words : goal.decreases-loop-words
 decreases-loop-words l = 6 - array_vec_len l.words
