@@ -33,8 +33,10 @@ allowed_before board h later bus by o step place stays allowed =
 
 -- so an initiator that has no act has none after an event on another bus
 idle_stays : (board : Board) (h later : List Event) (initiator : Initiator) → Stays board (bus_on initiator) h later → Idles board h initiator → Idles board later initiator
-idle_stays board h later (LaneOn bus lane) stays idles o step place allowed = idles o step place (allowed_before board h later bus (ByLane lane) o step place stays allowed)
-idle_stays board h later (MasterOn bus master) stays idles o step place its allowed = idles o step place its (allowed_before board h later bus Master o step place stays allowed)
+idle_stays board h later (LaneOn bus lane) stays idles =
+    λ o step place allowed. idles o step place (allowed_before board h later bus (ByLane lane) o step place stays allowed)
+idle_stays board h later (MasterOn bus master) stays idles =
+    λ o step place its allowed. idles o step place its (allowed_before board h later bus Master o step place stays allowed)
 
 -- what is known of those that are not woken stays
 pub woken_knows : (board : Board) (h : List Event) (e : Event) (old new : Ring) → ((bus : ℕ) → bus_of board e ≢ bus → Stays board bus h (e ∷ h)) → KnowsIdle board h old

@@ -1,5 +1,5 @@
 -- Where no arrival is allowed and each initiator rests, nothing may come next.
-use Rattle.std.proofs.Common.{◌≡◌, cond, ℕ, ◌<◌, ◌≤◌, Bool, true, false, eqb, eq-eqb, List, [], ◌∷◌, length, Option, Some, None, refl, sym, subst, ◌∙◌, slice_get, ⊎_elim, arith}
+use Rattle.std.proofs.Common.{◌≡◌, cond, ℕ, ◌<◌, ◌≤◌, Bool, true, false, eqb, eq-eqb, List, [], ◌∷◌, length, Option, Some, None, refl, sym, ap, subst, ◌∙◌, ◌+◌, slice_get, ⊎_elim, arith}
 use Rattle.std.specs.Prelude.{IfSome, IfNone}
 use Rattle.std.specs.List.{AllByRecursion}
 use Rattle.std.specs.Option.{option_or}
@@ -35,7 +35,7 @@ use Rattle.judge_next.proofs.EachLineLemmas.{lane_holds, master_holds}
 use Rattle.judge_adverse.specs.declared.ring.Initiator.{Initiator}
 use Rattle.judge_adverse.specs.declared.ring.Initiator.TheVariants.{Lane as LaneOn, Master as MasterOn}
 use Rattle.judge_adverse.specs.declared.ring.Ring.{Ring}
-use Rattle.judge_adverse.specs.Turns.{ring_below, IsSameRing, is_passed_over, act_of_initiator, Idles, MayCome, NothingMayCome, Rests, AllRest, WentOnBy, GoesOnBy}
+use Rattle.judge_adverse.specs.Turns.{ring_below, IsRing, IsSameRing, IsWoken, is_passed_over, act_of_initiator, Idles, MayCome, NothingMayCome, Rests, AllRest, WentOnBy, GoesOnBy}
 use Rattle.judge_adverse.proofs.RingLemmas.{each_placed, lanes_on, masters_on}
 
 module _ (board : Board) (h : List Event) (held : Option OpId) (run : Run board h) (fits : BusesFit board) where
@@ -161,6 +161,26 @@ module _ (board : Board) (h : List Event) (held : Option OpId) where
 pub same_after : (old mid new : Ring) → IsSameRing old mid → IsSameRing mid new → IsSameRing old new
 same_after old mid new first second =
     record { initiators = second.initiators ∙ first.initiators; place = second.place ∙ first.place; flags = second.flags ∙ first.flags }
+
+-- so it is a ring still, also where another initiator comes next
+pub same_is_ring : (board : Board) (old new : Ring) → IsRing board old → IsSameRing old new → IsRing board new
+same_is_ring board old new is same = record {
+  all = same.initiators ∙ is.all;
+  flags = same.flags ∙ (is.flags ∙ sym (ap length same.initiators));
+  within = let many = ap length same.initiators in let place = same.place in let within = is.within in omega (arith, many, place, within);
+}
+
+pub moved_is_ring : (board : Board) (old new : Ring) (place : ℕ) → IsRing board old → IsSameRing old new → place < length old.initiators.items → IsRing board (record new { place = place + 1 })
+moved_is_ring board old new place is same within = record {
+  all = same.initiators ∙ is.all;
+  flags = same.flags ∙ (is.flags ∙ sym (ap length same.initiators));
+  within = let many = ap length same.initiators in omega (arith, many, within);
+}
+
+-- and where initiators are woken
+pub woken_is_ring : (board : Board) (bus : ℕ) (old new : Ring) → IsRing board old → new.initiators.items ≡ old.initiators.items → new.place ≡ old.place
+    → IsWoken bus old.initiators.items old.idle.items new.idle.items → IsRing board new
+woken_is_ring board bus old new is same place woken = same_is_ring board old new is (record { initiators = same; place = place; flags = woken.many })
 
 pub same_at_first : (ring : Ring) → IsSameRing ring ring
 same_at_first ring = record { initiators = refl; place = refl; flags = refl }

@@ -1,5 +1,5 @@
 ghost use Rattle.std.specs.Prelude.{◌≡◌, ◌++◌, ◌≤◌, ◌<◌, ◌==◌, IfOk, OnOk, IsTrue, List, true, false};
-ghost use Rattle.std.specs.Prelude.{length, map, slice_get, Some, if◌then◌else◌};
+ghost use Rattle.std.specs.Prelude.{length, map, replicate, slice_get, Some, if◌then◌else◌};
 ghost use Rattle.std.proofs.Math.ListN.{set};
 ghost use Rattle.board_model.specs.WellFormed.{is_well_formed};
 ghost use Rattle.history_model.specs.declared.event.Event.{Event};
@@ -37,7 +37,7 @@ impl Ring {
         ensures idle { (h : List Event) → IfOk result (KnowsIdle tree.now h) }
     {
         let initiators = initiators_of(alloc, tree.board())?;
-        let idle = vec![in alloc; false; initiators.len()]?;
+        let idle = none_idle(alloc, initiators.len())?;
         Ok(Ring {
             initiators,
             idle,
@@ -55,6 +55,14 @@ impl Ring {
     {
         wake_all(self.initiators.as_slice(), &mut self.idle, bus);
     }
+}
+
+/// Of none of so many initiators it is known that it idles.
+fn none_idle(alloc: Global, many: usize) -> Result<Vec<bool>, NoMemory>
+    ensures { IfOk result (λ idle. idle.items ≡ replicate many false) }
+{
+    let idle = vec![in alloc; false; many]?;
+    Ok(idle)
 }
 
 /// The initiators on the bus are not known to idle any more.

@@ -1,7 +1,8 @@
-use Rattle.std.proofs.Common.{◌≡◌, true, List, Some, refl, sym, subst, slice_get}
+use Rattle.std.proofs.Common.{◌≡◌, ◌∙◌, true, length, Some, refl, sym, ap, subst, slice_get}
 use Rattle.std.proofs.lemmas.List.{length-set}
+use Rattle.std.proofs.lemmas.Option.{slice_get-get_or}
 use Rattle.judge_next.proofs.RowLemmas.{read_there}
-use Rattle.judge_adverse.specs.declared.ring.Initiator.{Initiator}
+use Rattle.judge_adverse.specs.declared.ring.Ring.{Ring}
 use Rattle.judge_adverse.specs.Turns.{Idles, Rests}
 use Rattle.judge_adverse.proofs.IdleLemmas.{hushed_knows}
 use Rattle.judge_adverse.proofs.TurnsLemmas.{idle_rests, passed_over_rests, comes_may, none_weaker, same_at_first}
@@ -26,15 +27,23 @@ returns-in-Some-clause-found c = λ h is.
 pub returns-in-Some-clause-none : goal.returns-in-Some-clause-none
 returns-in-Some-clause-none c = λ h is known.
     none_weaker c.unless_passed_over.result _ _
-    (λ passed initiator there. ?)
+    (λ passed initiator there.
+    let one : c.index.result.now ≡ initiator = read_there c.args.ring.now.initiators.items c.args.place c.index.result.now initiator c.requires.place c.index.ensures there in
+    subst (Rests c.args.tree.now h c.args.held) one (passed_over_rests c.args.tree.now h c.args.held c.index.result.now c.in-Some.event (c.in-Some.ensures.act h is) passed))
     c.unless_passed_over.ensures.passed
 
 pub returns-in-None-clause-ring : goal.returns-in-None-clause-ring
-returns-in-None-clause-ring c = record { initiators = refl; place = refl; flags = ? }
+returns-in-None-clause-ring c = record { initiators = refl; place = refl; flags = ap length c.hush.ensures ∙ length-set c.args.ring.now.idle.items c.args.place true }
 
 -- it has no act
 pub returns-in-None-clause-none : goal.returns-in-None-clause-none
-returns-in-None-clause-none c = λ h is known initiator there. ?
+returns-in-None-clause-none c = λ h is known initiator there.
+    let one : c.index.result.now ≡ initiator = read_there c.args.ring.now.initiators.items c.args.place c.index.result.now initiator c.requires.place c.index.ensures there in
+    idle_rests c.args.tree.now h c.args.held initiator (subst (Idles c.args.tree.now h) one (c.in-None.ensures.none h is))
 
 pub returns-in-None-clause-knows : goal.returns-in-None-clause-knows
-returns-in-None-clause-knows c = λ h is known. ?
+returns-in-None-clause-knows c = λ h is known.
+    let new : Ring = record { initiators = c.args.ring.now.initiators; idle = c.hush.new.idle; place = c.args.ring.now.place } in
+    let at : slice_get c.args.ring.now.initiators.items c.args.place ≡ Some c.index.result.now =
+    slice_get-get_or c.args.ring.now.initiators.items c.args.place c.index.result.now c.requires.place ∙ ap Some (sym c.index.ensures) in
+    hushed_knows c.args.tree.now h c.args.ring.now new c.args.place c.index.result.now known refl c.hush.ensures at (c.in-None.ensures.none h is)

@@ -1,4 +1,4 @@
-use Rattle.std.proofs.Common.{◌∷◌, ◌≡◌, ◌≢◌, ◌∙◌, ℕ, ap, subst, List, Bool, length, sym}
+use Rattle.std.proofs.Common.{◌∷◌, ◌≡◌, ◌∙◌, ℕ, ap, subst}
 use Rattle.board_model.specs.declared.board.Board.{Board}
 use Rattle.history_model.specs.declared.event.Event.{Event}
 use Rattle.history_model.specs.Local.{bus_of}
@@ -8,7 +8,7 @@ use Rattle.judge_next.proofs.CourseLemmas.{allowed_is_ok}
 use Rattle.law_delivered.specs.Laws.{LawsOfRun}
 use Rattle.judge_adverse.specs.Turns.{MayCome, IsWoken}
 use Rattle.judge_adverse.proofs.IdleLemmas.{woken_knows}
-use Rattle.judge_adverse.proofs.TurnsLemmas.{went_on, stopped, none_holds}
+use Rattle.judge_adverse.proofs.TurnsLemmas.{went_on, stopped, none_holds, woken_is_ring}
 use Rattle.judge_adverse.proofs.turns.go_on.Goals as goal
 
 pub returns-clause-goes : goal.returns-clause-goes
@@ -38,3 +38,6 @@ returns-in_err-event-clause-goes c = λ h is known.
 
 pub returns-in_err-event-clause-knows : goal.returns-in_err-event-clause-knows
 returns-in_err-event-clause-knows c = λ h is known. none_holds c.from_residual.result _ c.from_residual.ensures
+
+pub returns-clause-ring : goal.returns-clause-ring
+returns-clause-ring c = woken_is_ring c.args.tree.now c.bus_of.result c.next_event.new.ring c.wake.new.self c.next_event.ensures.ring c.wake.ensures.initiators c.wake.ensures.place c.wake.ensures.woken
