@@ -18,7 +18,6 @@ pub(crate) struct Going {
 
 impl Going {
     /// Before the first act.
-    #[tactic(auto, using(crate::proofs::GoingLemmas::begins))]
     pub(crate) fn new(alloc: Global, tree: &Tree) -> Result<Going, NoMemory>
         ensures { IfOk result (λ going. IsGoing tree.now going.events.items going.course) }
     {

@@ -41,7 +41,6 @@ pub fn is_still_run(alloc: Global, tree: &Tree, events: &[Event]) -> Result<bool
 }
 
 /// Whether nothing is in flight after the run for which what is kept stands.
-#[tactic(auto, using(judge_fill::proofs::ArrivingLemmas::nothing_flies))]
 fn is_still(alloc: Global, tree: &Tree, kept: Kept) -> Result<bool, NoMemory>
     requires { Stands tree.now kept }
     ensures { (h : List Event) → StandsFor tree.now h kept →

@@ -210,7 +210,9 @@ const REPORT: FormRow = FormRow {
     limit: TRACE,
     line: "counts the events of a trace by bus and kind",
     more: "The trace is of a run, complete or not. Writes how many buses, masters, operations and events there\n\
-        are, the bound of the board, and for each bus its events by kind; a part of a burst is a land.",
+        are, the bound of the board, and for each bus its events by kind; a part of a burst is a land.\n\
+        Behind these `OP lost nobody` or `OP lost abort` is a write that no target took, `OP spent TRIES` a\n\
+        poll whose last try ended without its value.",
 };
 
 const WAVES: FormRow = FormRow {
