@@ -74,7 +74,7 @@ def comments(size):
 
 
 def targets_read(targets):
-    """So many targets of one bus each, up to six of them on each of the buses of an even tree, each read 64 times."""
+    """So many targets, up to six of them on each of the buses of an even tree, and ten operations for each."""
     buses = (targets + 5) // 6
     lines, devices = ["pciboard 1"], [1] * buses
     for bus, above, last in sorted(MAKE.tree(0, buses, 3)):
@@ -84,7 +84,7 @@ def targets_read(targets):
         bus, place = divmod(number, 6)
         lines += MAKE.target(f"t{number}", bus, place, devices[bus] + place)
     for half in range(2):
-        lines += [f"master m{half} on {half * (buses - 1)}", *MAKE.program(min(1024, 32 * targets // 2), lambda turn: divmod(turn % targets, 6))]
+        lines += [f"master m{half} on {half * (buses - 1)}", *MAKE.program(5 * targets, lambda turn: divmod(turn % targets, 6))]
     return "\n".join(lines) + "\n"
 
 
@@ -232,23 +232,24 @@ def memory(measured):
 
 
 def growing():
-    """What grows, the three boards or texts, how large each is, and the words that are timed over them."""
+    """What grows, the three boards or texts, how large each is, and the words that are timed over them. They take some minutes."""
     traced = ["run --steady", "run", *OF_A_TRACE, FROM_NOTHING]
     texts = [1 << 18, 1 << 19, 1 << 20]
     yield "reads", [(size, lines_of_reads(size)) for size in texts], ["headers"]
     yield "comments", [(size, comments(size)) for size in texts], ["headers"]
-    yield "events", [(n, MAKE.one_bus(n - 1)[0]) for n in (62_500, 125_000, 250_000)], traced
-    yield "operations", [(n, reads(n)) for n in (8_192, 16_384, 32_768)], [*traced, "headers", "combine", "safe", "tree"]
-    yield "masters", [(n, MAKE.many_agents(120, 32, n)) for n in (32, 64, 128)], traced
+    yield "events", [(n, MAKE.one_bus(n - 1)[0]) for n in (50_000, 100_000, 200_000)], traced
+    yield "operations", [(n, reads(n)) for n in (4_096, 8_192, 16_384)], [*traced, "headers", "combine", "safe", "tree"]
+    yield "masters", [(n, MAKE.many_agents(40, 32, n)) for n in (32, 64, 128)], traced
     yield "targets", [(n, targets_read(n)) for n in (48, 96, 192)], traced
-    yield "depth", [(n, chain(n, 400)) for n in (8, 16, 31)], traced
-    yield "devices", [(4 // part, WORST.flags_of_devices(part)) for part in (4, 2, 1)], ["devices", "safe"]
+    yield "depth", [(n, chain(n, 200)) for n in (8, 16, 31)], traced
+    # half of the devices send half as many messages each
+    yield "messages", [(16 // part**2, WORST.flags_of_devices(part)) for part in (4, 2, 1)], ["devices", "safe"]
     yield "functions", [(4 // part, WORST.functions(part)) for part in (4, 2, 1)], ["import"]
 
 
 def growth(measured):
-    """Seconds of each word where what it reads is one, two and four times as large, and by which power they grow."""
-    print(f"{'what grows':<12} {'word':<14} " + " ".join(f"{of:>9}" for of in ("a quarter", "a half", "all")) + "   power")
+    """Seconds of each word where what it reads is small, larger and largest, and by which power they grow."""
+    print(f"{'what grows':<12} {'word':<14} " + " ".join(f"{of:>9}" for of in ("least", "more", "most")) + "   power")
     steep = 0
     for what, sizes, words in growing():
         read = {}

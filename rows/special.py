@@ -75,6 +75,29 @@ def trace_of_the_limit(place):
     yield "trace_past_the_limit", place.call("check", large), Wanted(5, b"", "pcitree: input too long")
 
 
+@row("log_of_the_limit")
+def log_of_the_limit(place):
+    text = place.read("observe/no_lines.log")
+    large = place.file("large", filled(text, "log", 1 << 26))
+    seen = place.call("observe", large)
+    yield "log_of_the_limit", seen.cut(11), Wanted(0, b"pcitrace 1\n", "-")
+    large = place.file("large", filled(text, "log", (1 << 26) + 1))
+    for name, words in ("log_past_the_limit", ["observe"]), ("acts_of_a_log_past_the_limit", ["observe", "--acts"]):
+        yield name, place.call(*words, large), Wanted(5, b"", "pcitree: input too long")
+
+
+@row("log_of_too_many_events")
+def log_of_too_many_events(place):
+    """Eight masters, each of which posts 1,020 writes to a target behind 31 bridges: more events than a run may have."""
+    board = [f"bridge {bus} on {bus - 1} dev 1 last 31 mem 80000000 800fffff posted 8" for bus in range(1, 32)]
+    board += ["target ram on 31 dev 1", "range mem 80000000 00001000", *(f"master m{number} on 0" for number in range(8))]
+    log = [f"{time} 0 m{time % 8} mw 80000000 00000001 done" for time in range(8160)]
+    lines = ["pcilog 1", "pciboard 1", *board, "log", *log, "end"]
+    seen = place.call("observe", place.file("large", "".join(f"{line}\n" for line in lines).encode()))
+    wanted = f"pcitree: log line {len(lines) - 1} is too much: O4"
+    yield "log_of_too_many_events", seen, Wanted(5, b"", wanted)
+
+
 @row("refused_at_the_end_of_64_mib")
 def refused_at_the_end(place):
     """A read that is stalled 499,999 times and then gives another value, behind comments that fill the length."""
@@ -221,12 +244,14 @@ def version(place):
     print(f"the kit that is here: {kit.strip()}; the program: {seen.out.decode().strip()}")
 
 
-# Each code: `explain` shows an input that has it; of I5 none of a few lines is known (import_longer_than_a_board).
+# Each code: `explain` shows an input that has it; of I5 none of a few lines is known (import_longer_than_a_board), nor
+# of O4 (log_of_too_many_events) and O5 (observe_eight_ask_for_the_same).
 
 CODES = {
     "headers": "L1 L2 L3 P1 P2 P3 P4 P5 P6 P7 P8 P9 P10 P11 P12 H1 H2 H3 H4 V1 V2 V3 V4 V5 V6 V7 V8 V9",
     "check": "X1 X2 X3 X4 X5 X6 X7 X8 N1 N2 N3 N4 N5",
     "import": "I1 I2 I3 I4",
+    "observe": "G1 G2 G3 G4 G5 O1 O2 O3",
 }
 
 
@@ -290,6 +315,9 @@ def scripts():
     yield "safe_by_definitions", ["../tools/safe-by-definitions", "--compare", PROGRAM, "250"]
     # arrivals taken out of each run here, and put in again
     yield "fill_again", ["../tools/fill-again"]
+    # the monitor of PCI buses in its test bench, where there is a simulator
+    if shutil.which("iverilog"):
+        yield "try_monitor", ["../tools/try-monitor"]
     # faults of the system in turn, disturbed schedules, inputs changed at random and the worst ones, each in a short form
     if shutil.which("cc"):
         yield "fail_each_call", ["../tools/fail-each-call", "--most", "5"]

@@ -68,10 +68,10 @@ impl Ledger {
     {
         let masters = board.masters.as_slice().len();
         let read = read_in(board, event);
+        let at = Moment { masters, index };
         record_read(
             alloc,
-            masters,
-            index,
+            at,
             &mut self.landings,
             read,
             &mut self.clocks,
@@ -133,21 +133,27 @@ impl Ledger {
     }
 }
 
+/// How many masters there are, and how many events were before.
+#[derive(Clone, Copy)]
+struct Moment {
+    masters: usize,
+    index: usize,
+}
+
 /// A Read event at a target: what it read, and what it tells.
 fn record_read(
     alloc: Global,
-    masters: usize,
-    index: usize,
+    at: Moment,
     landings: &mut DwordLandings,
     read: Option<Read>,
     clocks: &mut Clocks,
     readings: &mut OpTable<Reading>,
 ) -> Result<(), NoMemory>
-    requires { ToldsFor masters landings.old.whole clocks.old.starts landings.old.landed
+    requires { ToldsFor at.masters landings.old.whole clocks.old.starts landings.old.landed
         landings.old.tolds }
-    ensures reads { OnOk result
-        (Reads masters index landings.old read clocks.old clocks.new readings.old readings.new) }
-    ensures tolds { OnOk result (ToldsFor masters landings.new.whole clocks.old.starts
+    ensures reads { OnOk result (Reads at.masters at.index landings.old read
+        clocks.old clocks.new readings.old readings.new) }
+    ensures tolds { OnOk result (ToldsFor at.masters landings.new.whole clocks.old.starts
         landings.new.landed landings.new.tolds) }
     ensures same { OnOk result (SameLandings landings.old landings.new) }
 {
@@ -155,7 +161,7 @@ fn record_read(
         None => Ok(()),
         Some(read) => {
             let word = word_of(read.target, read.space, read.address);
-            let numbers = landings.told(alloc, masters, clocks.starts(), word)?;
+            let numbers = landings.told(alloc, at.masters, clocks.starts(), word)?;
             let count = landings.of(word).len();
             clocks.teach(read.op, numbers)?;
             readings.put(
@@ -166,7 +172,7 @@ fn record_read(
                     address: read.address,
                     value: read.value,
                     landed: count,
-                    events: index,
+                    events: at.index,
                 },
             )
         }

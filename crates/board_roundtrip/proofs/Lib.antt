@@ -8,3 +8,4 @@ pub mod TargetSteps
 pub mod OpSteps
 pub mod MasterSteps
 pub mod BoardLemmas
+pub mod CutLemmas

@@ -1,2 +1,3 @@
 pub mod words
 pub mod lines
+pub mod Cuts

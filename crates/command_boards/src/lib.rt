@@ -1,4 +1,5 @@
-//! The words that write a board, its headers or its outline: `headers`, `combine`, `import`, `tree`.
+//! The words that write a board, its headers or its outline: `headers`, `combine`, `import`,
+//! `tree`.
 #![tactic(auto)]
 
 mod combine;

@@ -1,3 +1,4 @@
+pub mod Runs
 pub mod check
 pub mod audit
 pub mod report

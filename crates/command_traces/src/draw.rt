@@ -5,4 +5,4 @@ mod rows;
 mod shown;
 
 pub use answer::{answer_draw, answer_draw_operation};
-pub use rows::{Rows, event_of, names_event, rows_of};
+pub use rows::{Rows, names_event, rows_of};

@@ -1,6 +1,6 @@
 -- The lines of a text up to its line `devices`.
 use Rattle.std.proofs.Common.{◌≡◌, ℕ, false, List, [], ◌∷◌, ◌++◌, append_assoc, Option, Some, None, refl, codes}
-use Rattle.trace_reader.specs.Parts.{behind_lines}
+use Rattle.board_roundtrip.specs.Cuts.{behind_lines}
 use Rattle.dma_agents.specs.Made.{is_line, with_before, until_devices}
 
 -- the parts of a text whose next line is not `devices`

@@ -5,7 +5,7 @@ ghost use Rattle.dma_agents.specs.messages.Message.{is_vector_count, message_of}
 
 /// The dword that a function with so many vectors writes for the vector of this number: its message
 /// data with the low bits replaced. There is none where a function cannot have so many vectors, or
-/// has none of this number.
+/// has none of this number. No word of the program calls it.
 pub fn message(low: u16, vectors: u8, number: u8) -> Option<u32>
     ensures { result ≡ message_of low vectors number }
 {

@@ -17,26 +17,26 @@ use Rattle.history_model.specs.declared.event.Event.{Event}
 use Rattle.history_model.specs.declared.event.Event.TheVariants.{Act as ActEvent, Arrive}
 use Rattle.history_model.specs.declared.event.Step.{Step}
 use Rattle.history_model.specs.declared.event.Step.TheVariants.{Land, Part, Read, Accept, Latch, Take, Stall, MasterAbort, TargetAbort}
-use Rattle.draw_items.specs.declared.item.Item.{Item}
-use Rattle.draw_elements.specs.declared.columns.line.Line.TheVariants as lines
+use Rattle.draw_items.specs.declared.journey.Journey.{Journey}
+use Rattle.draw_elements.specs.declared.columns.line.ColumnLine.TheVariants as lines
 use Rattle.draw_elements.specs.columns.Places.{Layout, place_of, face_place, bar_place, is_left}
 use Rattle.draw_elements.specs.Heights.{height_text, y, circle_element}
 use Rattle.draw_elements.specs.Items.{faint}
 use Rattle.draw_elements.specs.declared.acts.Act.{Act}
 
 -- the bar of an item; nothing stands at 0
-abbrev pub bar_of : Layout → Option Item → ℕ
+abbrev pub bar_of : Layout → Option Journey → ℕ
 bar_of layout None = 0
 bar_of layout (Some item) = bar_place item.lane item.track layout
 
 -- where it begins: at the line of the master, or at the bar of the item that a lane presents
-abbrev pub begin_of : Layout → By → OpId → Option Item → ℕ
+abbrev pub begin_of : Layout → By → OpId → Option Journey → ℕ
 begin_of layout Master o item = place_of (lines.Master o.master) layout
 begin_of layout (ByLane lane) o item = bar_of layout item
 
 -- where it ends: at the line of the target, the face of a bridge whose header answered, the face where what it sends goes, or
 -- the bar of the completion that is taken
-abbrev pub end_at : Layout → BridgeLane → Option Item → Step → ℕ
+abbrev pub end_at : Layout → BridgeLane → Option Journey → Step → ℕ
 end_at layout lane taken Land = face_place (lane_back lane) layout
 end_at layout lane taken (Part phases) = face_place (lane_back lane) layout
 end_at layout lane taken (Read value) = face_place (lane_back lane) layout
@@ -48,14 +48,14 @@ end_at layout lane taken MasterAbort = face_place (lane_back lane) layout
 end_at layout lane taken TargetAbort = face_place (lane_back lane) layout
 
 -- the same by what claims it; 0 for nobody
-abbrev pub end_of : Layout → Step → Place → Option Item → ℕ
+abbrev pub end_of : Layout → Step → Place → Option Journey → ℕ
 end_of layout step (Target target) taken = place_of (lines.Target target) layout
 end_of layout step (Header bus) taken = face_place (record { bus = bus; up = true }) layout
 end_of layout step (Lane lane) taken = end_at layout lane taken step
 end_of layout step Nobody taken = 0
 
 -- where an act begins and ends
-abbrev pub act_of : Layout → By → OpId → Step → Place → Option Item → Option Item → Act
+abbrev pub act_of : Layout → By → OpId → Step → Place → Option Journey → Option Journey → Act
 act_of layout by o step place item taken = record { begin = begin_of layout by o item; end = end_of layout step place taken }
 
 -- an arrow head with its point at a place, to the right or to the left
@@ -132,17 +132,17 @@ abbrev pub act_rim : ℕ → ℕ → Act → List ℕ
 act_rim first n act = codes "<path class=\"g\" d=\"" ++ (line_path first n act ++ codes "\"/>\n")
 
 -- the bar of an item that a lane presents, or the face of the lane where nothing of the operation stands
-abbrev pub bar_or_face : Layout → BridgeLane → Option Item → ℕ
+abbrev pub bar_or_face : Layout → BridgeLane → Option Journey → ℕ
 bar_or_face layout lane None = face_place lane layout
 bar_or_face layout lane (Some item) = bar_place item.lane item.track layout
 
 -- the line of a master, or that place of a lane
-abbrev pub initiator_place : Layout → By → OpId → Option Item → ℕ
+abbrev pub initiator_place : Layout → By → OpId → Option Journey → ℕ
 initiator_place layout Master o item = place_of (lines.Master o.master) layout
 initiator_place layout (ByLane lane) o item = bar_or_face layout lane item
 
 -- where an event that is not allowed has its cross: at its initiator, or at the face where it would arrive
-abbrev pub refused_place : Layout → Option Item → Event → ℕ
+abbrev pub refused_place : Layout → Option Journey → Event → ℕ
 refused_place layout item (ActEvent on by o step place) = initiator_place layout by o item
 refused_place layout item (Arrive lane mark) = face_place lane layout
 

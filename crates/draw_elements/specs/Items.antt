@@ -5,17 +5,17 @@ use Rattle.std.specs.Fmt.{decimal}
 use Rattle.board_model.specs.declared.board.Board.{Board}
 use Rattle.board_model.specs.Ways.{lane_back}
 use Rattle.trace_text.specs.Words.{lane_word, op_word}
-use Rattle.draw_items.specs.declared.item.Kind.{Kind}
-use Rattle.draw_items.specs.declared.item.Kind.TheVariants.{Post, Request, Completion, Credit, Gone}
-use Rattle.draw_items.specs.declared.item.Item.{Item}
+use Rattle.draw_items.specs.declared.journey.JourneyKind.{JourneyKind}
+use Rattle.draw_items.specs.declared.journey.JourneyKind.TheVariants.{Post, Request, Completion, Credit, Gone}
+use Rattle.draw_items.specs.declared.journey.Journey.{Journey}
 use Rattle.draw_items.specs.Items.{has_stood}
 use Rattle.draw_elements.specs.columns.Places.{Layout, face_place, bar_place}
 use Rattle.draw_elements.specs.Heights.{y, height_text, circle_element}
 use Rattle.draw_elements.specs.Labels.{kind_word}
-use Rattle.draw_elements.specs.declared.items.Route.{Route}
+use Rattle.draw_elements.specs.declared.items.DrawnRoute.{DrawnRoute}
 
 -- the class of an item: posted, asked, done, a credit, or in vain
-abbrev pub kind_class : Kind → List ℕ
+abbrev pub kind_class : JourneyKind → List ℕ
 kind_class Post = codes "p"
 kind_class Request = codes "a"
 kind_class Completion = codes "d"
@@ -33,7 +33,7 @@ or_end row end = if nat_lt 0 row then row else end
 
 -- where it is drawn: from the face where what goes on its lane is sent; where it stood to its bar, else to the face where its
 -- lane ends
-abbrev pub route_of : Layout → ℕ → Item → Route
+abbrev pub route_of : Layout → ℕ → Journey → DrawnRoute
 route_of layout end item =
     record {
       from = face_place (lane_back item.lane) layout;
@@ -44,11 +44,11 @@ route_of layout end item =
     }
 
 -- `M{x1} {y1}L{x2} {y2}`
-unfoldable pub route_text : ℕ → Route → List ℕ
+unfoldable pub route_text : ℕ → DrawnRoute → List ℕ
 route_text first route = 77 ∷ (decimal route.from ++ 32 ∷ (y first route.sent ++ 76 ∷ (decimal route.to ++ 32 ∷ y first route.came)))
 
 -- the rim: with `V{y3}` where it goes down
-abbrev pub rim_down : ℕ → Route → List ℕ
+abbrev pub rim_down : ℕ → DrawnRoute → List ℕ
 rim_down first route = if nat_lt route.came route.left then 86 ∷ y first route.left else []
 
 -- a path of this class
@@ -56,24 +56,24 @@ unfoldable pub path_open : List ℕ → List ℕ
 path_open class = codes "<path class=\"" ++ (class ++ codes "\" d=\"")
 
 -- the rim of an item, along its line and its bar, of this class
-abbrev pub item_rim : List ℕ → ℕ → Route → List ℕ
+abbrev pub item_rim : List ℕ → ℕ → DrawnRoute → List ℕ
 item_rim class first route = path_open class ++ (route_text first route ++ (rim_down first route ++ codes "\"/>\n"))
 
 -- the title: what it is, its operation and lane, and its events
-abbrev pub came_text : Item → List ℕ
+abbrev pub came_text : Journey → List ℕ
 came_text item = if nat_lt 0 item.came then codes ", arrived " ++ decimal item.came else []
 
 -- the same of the event in which it left
-abbrev pub left_text : Item → List ℕ
+abbrev pub left_text : Journey → List ℕ
 left_text item = if nat_lt 0 item.left then codes ", left " ++ decimal item.left else []
 
 -- the title of an item
-unfoldable pub title_text : Board → Item → List ℕ
+unfoldable pub title_text : Board → Journey → List ℕ
 title_text board item =
     codes "<title>" ++ (kind_word item.kind ++ (32 ∷ (op_word board item.op ++ (codes " on " ++ (lane_word item.lane ++ (codes ": sent " ++ (decimal item.sent ++ (came_text item ++ (left_text item ++ codes "</title>")))))))))
 
 -- a credit has none
-unfoldable pub title_of : Board → Kind → Item → List ℕ
+unfoldable pub title_of : Board → JourneyKind → Journey → List ℕ
 title_of board Post item = title_text board item
 title_of board Request item = title_text board item
 title_of board Completion item = title_text board item
@@ -81,31 +81,31 @@ title_of board Credit item = []
 title_of board Gone item = title_text board item
 
 -- the bar
-unfoldable pub bar_text : ℕ → Route → List ℕ
+unfoldable pub bar_text : ℕ → DrawnRoute → List ℕ
 bar_text first route =
     if nat_lt route.came route.left
     then codes "<path class=\"s\" d=\"M" ++ (decimal route.to ++ (32 ∷ (y first route.came ++ (86 ∷ (y first route.left ++ codes "\"/>")))))
     else []
 
 -- a cross where its arrival was marked, else a small circle where it stood
-unfoldable pub cross_sign : ℕ → Route → List ℕ
+unfoldable pub cross_sign : ℕ → DrawnRoute → List ℕ
 cross_sign first route =
     codes "<path class=\"x\" d=\"M" ++ (decimal (route.to - 4) ++ (32 ∷ (height_text first route.came 4 ++ codes "l8 8m0 -8l-8 8\"/>")))
 
 -- the sign where an item arrived: a cross, a circle, or none
-unfoldable pub sign_text : ℕ → Item → Route → List ℕ
+unfoldable pub sign_text : ℕ → Journey → DrawnRoute → List ℕ
 sign_text first item route = if item.marked then cross_sign first route else if has_stood item then circle_element first route.came route.to 3 else []
 
 -- the slanted line
-unfoldable pub slant_text : ℕ → Route → List ℕ
+unfoldable pub slant_text : ℕ → DrawnRoute → List ℕ
 slant_text first route = codes "<path d=\"" ++ (route_text first route ++ codes "\"/>")
 
 -- the group of its class
-unfoldable pub group_text : Kind → Bool → List ℕ
+unfoldable pub group_text : JourneyKind → Bool → List ℕ
 group_text kind pale = codes "<g class=\"" ++ (kind_class kind ++ (faint pale ++ codes "\">"))
 
 -- an item: its title, its line, its bar, its sign
-abbrev pub item_text : Board → ℕ → Bool → Item → Route → List ℕ
+abbrev pub item_text : Board → ℕ → Bool → Journey → DrawnRoute → List ℕ
 item_text board first pale item route =
     group_text item.kind pale
     ++ (title_of board item.kind item

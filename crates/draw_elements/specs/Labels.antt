@@ -20,12 +20,12 @@ use Rattle.board_printer.specs.Lines.{Line, spaced}
 use Rattle.board_printer.specs.Numbers.{address_text, phase_text}
 use Rattle.trace_text.specs.Words.{op_word}
 use Rattle.trace_text.specs.Events.{event_line}
-use Rattle.draw_items.specs.declared.item.Kind.{Kind}
-use Rattle.draw_items.specs.declared.item.Kind.TheVariants.{Post, Request as RequestItem, Completion, Credit, Gone}
-use Rattle.draw_items.specs.declared.item.Item.{Item}
+use Rattle.draw_items.specs.declared.journey.JourneyKind.{JourneyKind}
+use Rattle.draw_items.specs.declared.journey.JourneyKind.TheVariants.{Post, Request as RequestItem, Completion, Credit, Gone}
+use Rattle.draw_items.specs.declared.journey.Journey.{Journey}
 
 -- what an item is called
-abbrev pub kind_word : Kind → List ℕ
+abbrev pub kind_word : JourneyKind → List ℕ
 kind_word Post = codes "post"
 kind_word RequestItem = codes "request"
 kind_word Completion = codes "completion"
@@ -42,7 +42,7 @@ abbrev pub event_text : Board → Event → List ℕ
 event_text board e = words_text (event_line board e)
 
 -- The note of an arrival: what arrives, and its operation; of a credit there is none.
-abbrev pub item_note : Board → Kind → OpId → List ℕ
+abbrev pub item_note : Board → JourneyKind → OpId → List ℕ
 item_note board Post o = codes "post " ++ op_word board o
 item_note board RequestItem o = codes "request " ++ op_word board o
 item_note board Completion o = codes "completion " ++ op_word board o
@@ -50,7 +50,7 @@ item_note board Credit o = codes "credit"
 item_note board Gone o = codes "gone " ++ op_word board o
 
 -- the note of what arrives
-abbrev pub arrival_note : Board → Option Item → List ℕ
+abbrev pub arrival_note : Board → Option Journey → List ℕ
 arrival_note board None = []
 arrival_note board (Some item) = item_note board item.kind item.op
 
@@ -116,6 +116,6 @@ abbrev pub act_note : Board → ℕ → By → OpId → Step → Place → List 
 act_note board on by o step place = if tells_request by step place then request_note (request_of board o on) else []
 
 -- the note of an event, of which this arrives if anything does; other events have none
-abbrev pub note_of : Board → Option Item → Event → List ℕ
+abbrev pub note_of : Board → Option Journey → Event → List ℕ
 note_of board item (Act on by o step place) = act_note board on by o step place
 note_of board item (Arrive lane mark) = arrival_note board item

@@ -1,15 +1,36 @@
 ghost use Rattle.std.specs.Prelude.{◌≡◌, ◌++◌, codes, if◌then◌else◌, string_bytes, IfOk, OnOk};
 ghost use Rattle.board_model.specs.Requests.{request_of};
-ghost use Rattle.draw_elements.specs.Acts.{bar_of, begin_of, end_at, end_of, act_of, head_text, line_path, line_element, round_element, goes_right, cross_element, aside, nobody_element, writes_memory, act_class, act_body, act_text, act_rim};
+ghost use Rattle.draw_elements.specs.Acts.{bar_of, begin_of, end_at, end_of, act_of, head_text};
+ghost use Rattle.draw_elements.specs.Acts.{line_path, line_element, round_element, goes_right};
+ghost use Rattle.draw_elements.specs.Acts.{cross_element, aside, nobody_element, writes_memory};
+ghost use Rattle.draw_elements.specs.Acts.{act_class, act_body, act_text, act_rim};
 
 use crate::columns::Columns;
-use crate::height::{Height, print_circle};
+use crate::height::{print_circle, row_middle};
 use crate::words::faint;
 use board_model::{Board, Lane, Place, request_of};
-use draw_items::{Item, lane_back};
+use draw_items::{Journey, lane_back};
 use history_model::{By, Step};
 use pci_command::{Command, NoMemory, OpId};
 use std::alloc::AllocError;
+
+/// What an event says of its act.
+#[derive(Clone, Copy, Debug)]
+pub struct ActLine {
+    pub bus: u8,
+    pub by: By,
+    pub op: OpId,
+    pub step: Step,
+    pub place: Place,
+}
+
+/// The row of an act: the first that is drawn, its own number, and whether it is a fruitless try.
+#[derive(Clone, Copy, Debug)]
+pub struct ActRow {
+    pub first: u32,
+    pub n: u32,
+    pub pale: bool,
+}
 
 /// Where an act begins and ends.
 #[derive(Clone, Copy, Debug)]
@@ -19,20 +40,18 @@ pub struct Act {
 }
 
 impl Act {
-    /// That of this initiator, step and place; `item` is what a lane presents, and `taken` the completion that is taken.
+    /// That of this line; `item` is what a lane presents, and `taken` the completion that is taken.
     pub fn of(
         columns: &Columns,
-        by: By,
-        op: OpId,
-        step: Step,
-        place: Place,
-        item: Option<Item>,
-        taken: Option<Item>,
+        line: ActLine,
+        item: Option<Journey>,
+        taken: Option<Journey>,
     ) -> Result<Act, NoMemory>
-        ensures { IfOk result (λ act. act ≡ act_of columns.now by op step place item taken) }
+        ensures { IfOk result (λ act. act
+            ≡ act_of columns.now line.by line.op line.step line.place item taken) }
     {
-        let begin = begin_of(columns, by, op, item)?;
-        let end = end_of(columns, step, place, taken)?;
+        let begin = begin_of(columns, line.by, line.op, item)?;
+        let end = end_of(columns, line, taken)?;
         Ok(Act { begin, end })
     }
 
@@ -44,7 +63,7 @@ impl Act {
     }
 }
 
-fn bar_of(columns: &Columns, item: Option<Item>) -> Result<u64, NoMemory>
+fn bar_of(columns: &Columns, item: Option<Journey>) -> Result<u64, NoMemory>
     ensures { IfOk result (λ place. place ≡ bar_of columns.now item) }
 {
     match item {
@@ -53,7 +72,7 @@ fn bar_of(columns: &Columns, item: Option<Item>) -> Result<u64, NoMemory>
     }
 }
 
-fn begin_of(columns: &Columns, by: By, op: OpId, item: Option<Item>) -> Result<u64, NoMemory>
+fn begin_of(columns: &Columns, by: By, op: OpId, item: Option<Journey>) -> Result<u64, NoMemory>
     ensures { IfOk result (λ place. place ≡ begin_of columns.now by op item) }
 {
     match by {
@@ -62,18 +81,23 @@ fn begin_of(columns: &Columns, by: By, op: OpId, item: Option<Item>) -> Result<u
     }
 }
 
-fn end_of(columns: &Columns, step: Step, place: Place, taken: Option<Item>) -> Result<u64, NoMemory>
-    ensures { IfOk result (λ end. end ≡ end_of columns.now step place taken) }
+fn end_of(columns: &Columns, line: ActLine, taken: Option<Journey>) -> Result<u64, NoMemory>
+    ensures { IfOk result (λ end. end ≡ end_of columns.now line.step line.place taken) }
 {
-    match place {
+    match line.place {
         Place::Target(target) => Ok(columns.target(target)),
         Place::Header(bus) => Ok(columns.face(Lane { bus, up: true })),
-        Place::Lane(lane) => end_at(columns, lane, taken, step),
+        Place::Lane(lane) => end_at(columns, lane, taken, line.step),
         Place::Nobody => Ok(0),
     }
 }
 
-fn end_at(columns: &Columns, lane: Lane, taken: Option<Item>, step: Step) -> Result<u64, NoMemory>
+fn end_at(
+    columns: &Columns,
+    lane: Lane,
+    taken: Option<Journey>,
+    step: Step,
+) -> Result<u64, NoMemory>
     ensures { IfOk result (λ end. end ≡ end_at columns.now lane taken step) }
 {
     match step {
@@ -89,16 +113,6 @@ fn end_at(columns: &Columns, lane: Lane, taken: Option<Item>, step: Step) -> Res
     }
 }
 
-fn y(first: u32, row: u32) -> Height
-    ensures { result ≡ record { first = first; row = row; down = 8 } }
-{
-    Height {
-        first,
-        row,
-        down: 8,
-    }
-}
-
 /// An arrow head with its point at a place of row n, to the right or to the left.
 #[tactic(auto, unfolding(crate::specs::Acts::head_text))]
 pub fn print_head(
@@ -108,25 +122,28 @@ pub fn print_head(
     x: u64,
     right: bool,
 ) -> Result<(), AllocError>
-    ensures { OnOk result (string_bytes text.new ≡ string_bytes text.old ++ head_text first n x right) }
+    ensures { OnOk result (string_bytes text.new ≡ string_bytes text.old ++
+        head_text first n x right) }
 {
     let back = if right { "l-7" } else { "l7" };
     write!(
         text,
         "<path class=\"q\" d=\"M{x} {}{back} -4v8z\"/>",
-        y(first, n)
+        row_middle(first, n)
     )
 }
 
 fn print_path(text: &mut String, first: u32, n: u32, act: &Act) -> Result<(), AllocError>
-    ensures { OnOk result (string_bytes text.new ≡ string_bytes text.old ++ line_path first n act.now) }
+    ensures { OnOk result (string_bytes text.new ≡ string_bytes text.old ++
+        line_path first n act.now) }
 {
-    write!(text, "M{} {}H{}", act.begin, y(first, n), act.end)
+    write!(text, "M{} {}H{}", act.begin, row_middle(first, n), act.end)
 }
 
 #[tactic(auto, unfolding(crate::specs::Acts::line_element))]
 fn print_line(text: &mut String, first: u32, n: u32, act: &Act) -> Result<(), AllocError>
-    ensures { OnOk result (string_bytes text.new ≡ string_bytes text.old ++ line_element first n act.now) }
+    ensures { OnOk result (string_bytes text.new ≡ string_bytes text.old ++
+        line_element first n act.now) }
 {
     text.push_str("<path d=\"")?;
     print_path(text, first, n, act)?;
@@ -142,14 +159,16 @@ fn print_round(
     act: &Act,
     radius: u8,
 ) -> Result<(), AllocError>
-    ensures { OnOk result (string_bytes text.new ≡ string_bytes text.old ++ round_element first n act.now radius) }
+    ensures { OnOk result (string_bytes text.new ≡ string_bytes text.old ++
+        round_element first n act.now radius) }
 {
     print_line(text, first, n, act)?;
     print_circle(text, first, n, act.end, radius)
 }
 
 fn print_cross(text: &mut String, first: u32, n: u32, act: &Act) -> Result<(), AllocError>
-    ensures { OnOk result (string_bytes text.new ≡ string_bytes text.old ++ cross_element first n act.now) }
+    ensures { OnOk result (string_bytes text.new ≡ string_bytes text.old ++
+        cross_element first n act.now) }
 {
     text.push_str("<path d=\"")?;
     print_path(text, first, n, act)?;
@@ -174,13 +193,14 @@ fn print_nobody(
     by: By,
     act: &Act,
 ) -> Result<(), AllocError>
-    ensures { OnOk result (string_bytes text.new ≡ string_bytes text.old ++ nobody_element columns.now first n by act.now) }
+    ensures { OnOk result (string_bytes text.new ≡ string_bytes text.old ++
+        nobody_element columns.now first n by act.now) }
 {
     write!(
         text,
         "<path d=\"M{} {}h{}m-4 -4l8 8m0 -8l-8 8\"/>",
         act.begin,
-        y(first, n),
+        row_middle(first, n),
         aside(columns, by)
     )
 }
@@ -192,7 +212,8 @@ fn print_class(
     op: OpId,
     step: Step,
 ) -> Result<(), AllocError>
-    ensures { OnOk result (string_bytes text.new ≡ string_bytes text.old ++ act_class (request_of board.now op bus) step) }
+    ensures { OnOk result (string_bytes text.new ≡ string_bytes text.old ++
+        act_class (request_of board.now op bus) step) }
 {
     match step {
         Step::Land => print_landing(text, board, bus, op),
@@ -204,7 +225,8 @@ fn print_class(
 }
 
 fn print_landing(text: &mut String, board: &Board, bus: u8, op: OpId) -> Result<(), AllocError>
-    ensures { OnOk result (string_bytes text.new ≡ string_bytes text.old ++ (if writes_memory (request_of board.now op bus) then codes "p" else codes "a")) }
+    ensures { OnOk result (string_bytes text.new ≡ string_bytes text.old ++
+        (if writes_memory (request_of board.now op bus) then codes "p" else codes "a")) }
 {
     match request_of(board, op, bus) {
         Some(request) => {
@@ -221,14 +243,16 @@ fn print_landing(text: &mut String, board: &Board, bus: u8, op: OpId) -> Result<
 fn print_body(
     text: &mut String,
     columns: &Columns,
-    first: u32,
-    n: u32,
+    row: ActRow,
     by: By,
     act: &Act,
     step: Step,
 ) -> Result<(), AllocError>
-    ensures { OnOk result (string_bytes text.new ≡ string_bytes text.old ++ act_body columns.now first n by act.now step) }
+    ensures { OnOk result (string_bytes text.new ≡ string_bytes text.old ++
+        act_body columns.now row.first row.n by act.now step) }
 {
+    let first = row.first;
+    let n = row.n;
     match step {
         Step::Land => print_round(text, first, n, act, 5),
         Step::Part(_) => print_round(text, first, n, act, 3),
@@ -249,32 +273,30 @@ fn print_body(
     }
 }
 
-/// An act in row n, pale if it is a fruitless try.
+/// An act in its row, pale if it is a fruitless try.
 pub fn print_act(
     text: &mut String,
     board: &Board,
     columns: &Columns,
-    first: u32,
-    n: u32,
-    pale: bool,
-    bus: u8,
-    by: By,
-    op: OpId,
-    step: Step,
+    row: ActRow,
+    line: ActLine,
     act: &Act,
 ) -> Result<(), AllocError>
-    ensures { OnOk result (string_bytes text.new ≡ string_bytes text.old ++ act_text board.now columns.now first n pale bus by op step act.now) }
+    ensures { OnOk result (string_bytes text.new ≡ string_bytes text.old ++
+        act_text board.now columns.now row.first row.n row.pale
+        line.bus line.by line.op line.step act.now) }
 {
     text.push_str("<g class=\"")?;
-    print_class(text, board, bus, op, step)?;
-    write!(text, "{}\">", faint(pale))?;
-    print_body(text, columns, first, n, by, act, step)?;
+    print_class(text, board, line.bus, line.op, line.step)?;
+    write!(text, "{}\">", faint(row.pale))?;
+    print_body(text, columns, row, line.by, act, line.step)?;
     text.push_str("</g>\n")
 }
 
 /// The rim of an act that somebody claims.
 pub fn print_act_rim(text: &mut String, first: u32, n: u32, act: &Act) -> Result<(), AllocError>
-    ensures { OnOk result (string_bytes text.new ≡ string_bytes text.old ++ act_rim first n act.now) }
+    ensures { OnOk result (string_bytes text.new ≡ string_bytes text.old ++
+        act_rim first n act.now) }
 {
     text.push_str("<path class=\"g\" d=\"")?;
     print_path(text, first, n, act)?;

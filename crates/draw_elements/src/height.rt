@@ -4,8 +4,8 @@ ghost use Rattle.draw_elements.specs.Heights.{circle_rest, circle_element};
 use std::alloc::AllocError;
 use std::fmt;
 
-/// A height in a picture: so far below the upper edge of a row, 16 for each row from the first that is drawn on. It is
-/// negative above that.
+/// A height in a picture: so far below the upper edge of a row, 16 for each row from the first that
+/// is drawn on. It is negative above that.
 #[derive(Clone, Copy, Debug, PartialEq, Eq)]
 pub struct Height {
     pub first: u32,
@@ -31,6 +31,17 @@ impl fmt::Display for Height {
     }
 }
 
+/// The middle of a row.
+pub fn row_middle(first: u32, row: u32) -> Height
+    ensures { result ≡ record { first = first; row = row; down = 8 } }
+{
+    Height {
+        first,
+        row,
+        down: 8,
+    }
+}
+
 /// A circle in the middle of a row.
 #[tactic(auto, unfolding(crate::specs::Heights::circle_element))]
 pub fn print_circle(
@@ -40,7 +51,8 @@ pub fn print_circle(
     x: u64,
     radius: u8,
 ) -> Result<(), AllocError>
-    ensures { OnOk result (string_bytes text.new ≡ string_bytes text.old ++ circle_element first row x radius) }
+    ensures { OnOk result (string_bytes text.new ≡ string_bytes text.old ++
+        circle_element first row x radius) }
 {
     write!(text, "<circle cx=\"{x}\" cy=\"")?;
     print_circle_rest(text, first, row, radius)
@@ -48,12 +60,8 @@ pub fn print_circle(
 
 #[tactic(auto, unfolding(crate::specs::Heights::circle_rest))]
 fn print_circle_rest(text: &mut String, first: u32, row: u32, radius: u8) -> Result<(), AllocError>
-    ensures { OnOk result (string_bytes text.new ≡ string_bytes text.old ++ circle_rest first row radius) }
+    ensures { OnOk result (string_bytes text.new ≡ string_bytes text.old ++
+        circle_rest first row radius) }
 {
-    let y = Height {
-        first,
-        row,
-        down: 8,
-    };
-    write!(text, "{y}\" r=\"{radius}\"/>")
+    write!(text, "{}\" r=\"{radius}\"/>", row_middle(first, row))
 }

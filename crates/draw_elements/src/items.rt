@@ -1,18 +1,21 @@
 ghost use Rattle.std.specs.Prelude.{◌≡◌, ◌++◌, string_bytes, IfOk, OnOk};
-ghost use Rattle.draw_elements.specs.Items.{route_of, or_end, route_text, rim_down, path_open, item_rim, title_of, title_text, came_text, left_text, bar_text, cross_sign, sign_text, slant_text, group_text, item_text};
+ghost use Rattle.draw_elements.specs.Items.{route_of, or_end, route_text, rim_down, path_open};
+ghost use Rattle.draw_elements.specs.Items.{item_rim, title_of, title_text, came_text, left_text};
+ghost use Rattle.draw_elements.specs.Items.{bar_text, cross_sign, sign_text, slant_text};
+ghost use Rattle.draw_elements.specs.Items.{group_text, item_text};
 
 use crate::columns::Columns;
-use crate::height::{Height, print_circle};
+use crate::height::{Height, print_circle, row_middle};
 use crate::words::{faint, kind_class, kind_word};
 use board_model::Board;
-use draw_items::{Item, Kind, lane_back};
+use draw_items::{Journey, JourneyKind, lane_back};
 use pci_command::NoMemory;
 use std::alloc::AllocError;
 use trace_text::{LaneWord, print_operation};
 
 /// Where an item is drawn: from where it was sent to where it arrived, and down to where it left.
 #[derive(Clone, Copy, Debug)]
-pub struct Route {
+pub struct DrawnRoute {
     /// The places.
     pub from: u64,
     pub to: u64,
@@ -22,15 +25,15 @@ pub struct Route {
     pub left: u32,
 }
 
-impl Route {
+impl DrawnRoute {
     /// That of an item, if `end` is the row behind the last event.
-    pub fn of(columns: &Columns, end: u32, item: &Item) -> Result<Route, NoMemory>
+    pub fn of(columns: &Columns, end: u32, item: &Journey) -> Result<DrawnRoute, NoMemory>
         ensures { IfOk result (λ route. route ≡ route_of columns.now end item.now) }
     {
         let from = columns.face(lane_back(item.lane));
         let came = or_end(item.came, end);
         if item.has_stood() {
-            Ok(Route {
+            Ok(DrawnRoute {
                 from,
                 to: columns.bar(item.lane, item.track)?,
                 sent: item.sent,
@@ -38,7 +41,7 @@ impl Route {
                 left: or_end(item.left, end),
             })
         } else {
-            Ok(Route {
+            Ok(DrawnRoute {
                 from,
                 to: columns.face(item.lane),
                 sent: item.sent,
@@ -55,27 +58,18 @@ fn or_end(row: u32, end: u32) -> u32
     if row > 0 { row } else { end }
 }
 
-fn y(first: u32, row: u32) -> Height
-    ensures { result ≡ record { first = first; row = row; down = 8 } }
-{
-    Height {
-        first,
-        row,
-        down: 8,
-    }
-}
-
 #[tactic(auto, unfolding(crate::specs::Items::route_text))]
-fn print_route(text: &mut String, first: u32, route: &Route) -> Result<(), AllocError>
-    ensures { OnOk result (string_bytes text.new ≡ string_bytes text.old ++ route_text first route.now) }
+fn print_route(text: &mut String, first: u32, route: &DrawnRoute) -> Result<(), AllocError>
+    ensures { OnOk result (string_bytes text.new ≡ string_bytes text.old ++
+        route_text first route.now) }
 {
     write!(
         text,
         "M{} {}L{} {}",
         route.from,
-        y(first, route.sent),
+        row_middle(first, route.sent),
         route.to,
-        y(first, route.came)
+        row_middle(first, route.came)
     )
 }
 
@@ -84,7 +78,7 @@ pub fn print_item_rim(
     text: &mut String,
     class: &str,
     first: u32,
-    route: &Route,
+    route: &DrawnRoute,
 ) -> Result<(), AllocError>
     ensures { OnOk result (string_bytes text.new
         ≡ string_bytes text.old ++ item_rim class.now first route.now) }
@@ -102,11 +96,12 @@ fn print_path_open(text: &mut String, class: &str) -> Result<(), AllocError>
     write!(text, "<path class=\"{class}\" d=\"")
 }
 
-fn print_down(text: &mut String, first: u32, route: &Route) -> Result<(), AllocError>
-    ensures { OnOk result (string_bytes text.new ≡ string_bytes text.old ++ rim_down first route.now) }
+fn print_down(text: &mut String, first: u32, route: &DrawnRoute) -> Result<(), AllocError>
+    ensures { OnOk result (string_bytes text.new ≡ string_bytes text.old ++
+        rim_down first route.now) }
 {
     if route.came < route.left {
-        write!(text, "V{}", y(first, route.left))
+        write!(text, "V{}", row_middle(first, route.left))
     } else {
         Ok(())
     }
@@ -118,10 +113,11 @@ pub fn print_item(
     board: &Board,
     first: u32,
     pale: bool,
-    item: &Item,
-    route: &Route,
+    item: &Journey,
+    route: &DrawnRoute,
 ) -> Result<(), AllocError>
-    ensures { OnOk result (string_bytes text.new ≡ string_bytes text.old ++ item_text board.now first pale item.now route.now) }
+    ensures { OnOk result (string_bytes text.new ≡ string_bytes text.old ++
+        item_text board.now first pale item.now route.now) }
 {
     print_group(text, item.kind, pale)?;
     print_title_of(text, board, item)?;
@@ -132,20 +128,22 @@ pub fn print_item(
 }
 
 #[tactic(auto, unfolding(crate::specs::Items::title_of))]
-fn print_title_of(text: &mut String, board: &Board, item: &Item) -> Result<(), AllocError>
-    ensures { OnOk result (string_bytes text.new ≡ string_bytes text.old ++ title_of board.now item.now.kind item.now) }
+fn print_title_of(text: &mut String, board: &Board, item: &Journey) -> Result<(), AllocError>
+    ensures { OnOk result (string_bytes text.new ≡ string_bytes text.old ++
+        title_of board.now item.now.kind item.now) }
 {
     match item.kind {
-        Kind::Post | Kind::Request | Kind::Completion | Kind::Gone => {
+        JourneyKind::Post | JourneyKind::Request | JourneyKind::Completion | JourneyKind::Gone => {
             print_title(text, board, item)
         }
-        Kind::Credit => Ok(()),
+        JourneyKind::Credit => Ok(()),
     }
 }
 
 #[tactic(auto, unfolding(crate::specs::Items::title_text))]
-fn print_title(text: &mut String, board: &Board, item: &Item) -> Result<(), AllocError>
-    ensures { OnOk result (string_bytes text.new ≡ string_bytes text.old ++ title_text board.now item.now) }
+fn print_title(text: &mut String, board: &Board, item: &Journey) -> Result<(), AllocError>
+    ensures { OnOk result (string_bytes text.new ≡ string_bytes text.old ++
+        title_text board.now item.now) }
 {
     write!(text, "<title>{} ", kind_word(item.kind))?;
     print_operation(text, board, &item.op)?;
@@ -155,7 +153,7 @@ fn print_title(text: &mut String, board: &Board, item: &Item) -> Result<(), Allo
     text.push_str("</title>")
 }
 
-fn print_came(text: &mut String, item: &Item) -> Result<(), AllocError>
+fn print_came(text: &mut String, item: &Journey) -> Result<(), AllocError>
     ensures { OnOk result (string_bytes text.new ≡ string_bytes text.old ++ came_text item.now) }
 {
     if item.came > 0 {
@@ -165,7 +163,7 @@ fn print_came(text: &mut String, item: &Item) -> Result<(), AllocError>
     }
 }
 
-fn print_left(text: &mut String, item: &Item) -> Result<(), AllocError>
+fn print_left(text: &mut String, item: &Journey) -> Result<(), AllocError>
     ensures { OnOk result (string_bytes text.new ≡ string_bytes text.old ++ left_text item.now) }
 {
     if item.left > 0 {
@@ -176,16 +174,17 @@ fn print_left(text: &mut String, item: &Item) -> Result<(), AllocError>
 }
 
 #[tactic(auto, unfolding(crate::specs::Items::bar_text))]
-fn print_bar(text: &mut String, first: u32, route: &Route) -> Result<(), AllocError>
-    ensures { OnOk result (string_bytes text.new ≡ string_bytes text.old ++ bar_text first route.now) }
+fn print_bar(text: &mut String, first: u32, route: &DrawnRoute) -> Result<(), AllocError>
+    ensures { OnOk result (string_bytes text.new ≡ string_bytes text.old ++
+        bar_text first route.now) }
 {
     if route.came < route.left {
         write!(
             text,
             "<path class=\"s\" d=\"M{} {}V{}\"/>",
             route.to,
-            y(first, route.came),
-            y(first, route.left)
+            row_middle(first, route.came),
+            row_middle(first, route.left)
         )
     } else {
         Ok(())
@@ -193,15 +192,16 @@ fn print_bar(text: &mut String, first: u32, route: &Route) -> Result<(), AllocEr
 }
 
 #[tactic(auto, unfolding(crate::specs::Items::group_text))]
-fn print_group(text: &mut String, kind: Kind, pale: bool) -> Result<(), AllocError>
+fn print_group(text: &mut String, kind: JourneyKind, pale: bool) -> Result<(), AllocError>
     ensures { OnOk result (string_bytes text.new ≡ string_bytes text.old ++ group_text kind pale) }
 {
     write!(text, "<g class=\"{}{}\">", kind_class(kind), faint(pale))
 }
 
 #[tactic(auto, unfolding(crate::specs::Items::slant_text))]
-fn print_slant(text: &mut String, first: u32, route: &Route) -> Result<(), AllocError>
-    ensures { OnOk result (string_bytes text.new ≡ string_bytes text.old ++ slant_text first route.now) }
+fn print_slant(text: &mut String, first: u32, route: &DrawnRoute) -> Result<(), AllocError>
+    ensures { OnOk result (string_bytes text.new ≡ string_bytes text.old ++
+        slant_text first route.now) }
 {
     text.push_str("<path d=\"")?;
     print_route(text, first, route)?;
@@ -210,8 +210,14 @@ fn print_slant(text: &mut String, first: u32, route: &Route) -> Result<(), Alloc
 
 /// What stands where the item arrived.
 #[tactic(auto, unfolding(crate::specs::Items::sign_text))]
-fn print_sign(text: &mut String, first: u32, item: &Item, route: &Route) -> Result<(), AllocError>
-    ensures { OnOk result (string_bytes text.new ≡ string_bytes text.old ++ sign_text first item.now route.now) }
+fn print_sign(
+    text: &mut String,
+    first: u32,
+    item: &Journey,
+    route: &DrawnRoute,
+) -> Result<(), AllocError>
+    ensures { OnOk result (string_bytes text.new ≡ string_bytes text.old ++
+        sign_text first item.now route.now) }
 {
     if item.marked {
         print_cross_sign(text, first, route)
@@ -223,8 +229,9 @@ fn print_sign(text: &mut String, first: u32, item: &Item, route: &Route) -> Resu
 }
 
 #[tactic(auto, unfolding(crate::specs::Items::cross_sign))]
-fn print_cross_sign(text: &mut String, first: u32, route: &Route) -> Result<(), AllocError>
-    ensures { OnOk result (string_bytes text.new ≡ string_bytes text.old ++ cross_sign first route.now) }
+fn print_cross_sign(text: &mut String, first: u32, route: &DrawnRoute) -> Result<(), AllocError>
+    ensures { OnOk result (string_bytes text.new ≡ string_bytes text.old ++
+        cross_sign first route.now) }
 {
     let y = Height {
         first,

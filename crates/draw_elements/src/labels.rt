@@ -3,14 +3,16 @@ ghost use Rattle.board_printer.specs.Lines.{spaced};
 ghost use Rattle.trace_text.specs.Words.{place_words};
 ghost use Rattle.trace_text.specs.Events.{result_words, mark_words, act_line, arrival_line};
 ghost use Rattle.board_model.specs.Requests.{request_of};
-ghost use Rattle.draw_elements.specs.Labels.{words_text, event_text, item_note, arrival_note, note_of};
+ghost use Rattle.draw_elements.specs.Labels.{words_text, event_text, item_note, arrival_note};
+ghost use Rattle.draw_elements.specs.Labels.{note_of};
 ghost use Rattle.draw_elements.specs.Labels.{space_note, phases_note, data_note, request_note};
 ghost use Rattle.draw_elements.specs.Labels.{reaches, enters, is_new, tells_request, act_note};
 
+use crate::acts::ActLine;
 use crate::words::kind_word;
 use board_model::{Board, Lane, Place, end_of, request_of};
 use board_printer::{Address, DataWord, HexWord};
-use draw_items::{Item, Kind};
+use draw_items::{Journey, JourneyKind};
 use history_model::{By, Event, Mark, Step};
 use pci_command::{OpId, Outcome, Phase, Request, Space};
 use std::alloc::AllocError;
@@ -18,7 +20,8 @@ use trace_text::{ByWord, LaneWord, print_operation, step_word, target_name};
 
 /// The line of the event, without its newline.
 pub fn print_event(text: &mut String, board: &Board, event: &Event) -> Result<(), AllocError>
-    ensures { OnOk result (string_bytes text.new ≡ string_bytes text.old ++ event_text board.now event.now) }
+    ensures { OnOk result (string_bytes text.new ≡ string_bytes text.old ++
+        event_text board.now event.now) }
 {
     match *event {
         Event::Act {
@@ -27,37 +30,42 @@ pub fn print_event(text: &mut String, board: &Board, event: &Event) -> Result<()
             op,
             step,
             place,
-        } => print_act_line(text, board, bus, by, op, step, place),
+        } => {
+            let line = ActLine {
+                bus,
+                by,
+                op,
+                step,
+                place,
+            };
+            print_act_line(text, board, line)
+        }
         Event::Arrive { lane, mark } => print_arrival(text, board, lane, mark),
     }
 }
 
-fn print_act_line(
-    text: &mut String,
-    board: &Board,
-    bus: u8,
-    by: By,
-    op: OpId,
-    step: Step,
-    place: Place,
-) -> Result<(), AllocError>
-    ensures { OnOk result (string_bytes text.new ≡ string_bytes text.old ++ words_text (act_line board.now bus by op step place)) }
+fn print_act_line(text: &mut String, board: &Board, line: ActLine) -> Result<(), AllocError>
+    ensures { OnOk result (string_bytes text.new ≡ string_bytes text.old ++
+        words_text (act_line board.now line.bus line.by line.op line.step line.place)) }
 {
-    write!(text, "{bus} {} {} ", step_word(step), ByWord(by))?;
-    print_operation(text, board, &op)?;
-    print_place(text, board, place)?;
-    print_result(text, step)
+    let by = ByWord(line.by);
+    write!(text, "{} {} {by} ", line.bus, step_word(line.step))?;
+    print_operation(text, board, &line.op)?;
+    print_place(text, board, line.place)?;
+    print_result(text, line.step)
 }
 
 fn print_arrival(text: &mut String, board: &Board, lane: Lane, mark: Mark) -> Result<(), AllocError>
-    ensures { OnOk result (string_bytes text.new ≡ string_bytes text.old ++ words_text (arrival_line board.now lane mark)) }
+    ensures { OnOk result (string_bytes text.new ≡ string_bytes text.old ++
+        words_text (arrival_line board.now lane mark)) }
 {
     write!(text, "{} arrive {}", end_of(board, lane), LaneWord(lane))?;
     print_mark(text, mark)
 }
 
 fn print_place(text: &mut String, board: &Board, place: Place) -> Result<(), AllocError>
-    ensures { OnOk result (string_bytes text.new ≡ string_bytes text.old ++ spaced (place_words board.now place) []) }
+    ensures { OnOk result (string_bytes text.new ≡ string_bytes text.old ++
+        spaced (place_words board.now place) []) }
 {
     match place {
         Place::Target(index) => write!(text, " {}", target_name(board, index)),
@@ -68,7 +76,8 @@ fn print_place(text: &mut String, board: &Board, place: Place) -> Result<(), All
 }
 
 fn print_result(text: &mut String, step: Step) -> Result<(), AllocError>
-    ensures { OnOk result (string_bytes text.new ≡ string_bytes text.old ++ spaced (result_words step) []) }
+    ensures { OnOk result (string_bytes text.new ≡ string_bytes text.old ++
+        spaced (result_words step) []) }
 {
     match step {
         Step::Part(phases) => write!(text, " {phases}"),
@@ -89,7 +98,8 @@ fn print_result(text: &mut String, step: Step) -> Result<(), AllocError>
 }
 
 fn print_mark(text: &mut String, mark: Mark) -> Result<(), AllocError>
-    ensures { OnOk result (string_bytes text.new ≡ string_bytes text.old ++ spaced (mark_words mark) []) }
+    ensures { OnOk result (string_bytes text.new ≡ string_bytes text.old ++
+        spaced (mark_words mark) []) }
 {
     match mark {
         Mark::Plain => Ok(()),
@@ -102,10 +112,11 @@ fn print_mark(text: &mut String, mark: Mark) -> Result<(), AllocError>
 pub fn print_note(
     text: &mut String,
     board: &Board,
-    item: Option<Item>,
+    item: Option<Journey>,
     event: &Event,
 ) -> Result<(), AllocError>
-    ensures { OnOk result (string_bytes text.new ≡ string_bytes text.old ++ note_of board.now item event.now) }
+    ensures { OnOk result (string_bytes text.new ≡ string_bytes text.old ++
+        note_of board.now item event.now) }
 {
     match *event {
         Event::Act {
@@ -125,8 +136,9 @@ pub fn print_note(
     }
 }
 
-fn print_arriving(text: &mut String, board: &Board, item: Option<Item>) -> Result<(), AllocError>
-    ensures { OnOk result (string_bytes text.new ≡ string_bytes text.old ++ arrival_note board.now item) }
+fn print_arriving(text: &mut String, board: &Board, item: Option<Journey>) -> Result<(), AllocError>
+    ensures { OnOk result (string_bytes text.new ≡ string_bytes text.old ++
+        arrival_note board.now item) }
 {
     match item {
         Some(item) => print_item_note(text, board, item.kind, item.op),
@@ -134,20 +146,26 @@ fn print_arriving(text: &mut String, board: &Board, item: Option<Item>) -> Resul
     }
 }
 
-fn print_item_note(text: &mut String, board: &Board, kind: Kind, op: OpId) -> Result<(), AllocError>
-    ensures { OnOk result (string_bytes text.new ≡ string_bytes text.old ++ item_note board.now kind op) }
+fn print_item_note(
+    text: &mut String,
+    board: &Board,
+    kind: JourneyKind,
+    op: OpId,
+) -> Result<(), AllocError>
+    ensures { OnOk result (string_bytes text.new ≡ string_bytes text.old ++
+        item_note board.now kind op) }
 {
     match kind {
-        Kind::Post | Kind::Request | Kind::Completion | Kind::Gone => {
+        JourneyKind::Post | JourneyKind::Request | JourneyKind::Completion | JourneyKind::Gone => {
             write!(text, "{} ", kind_word(kind))?;
             print_operation(text, board, &op)
         }
-        Kind::Credit => text.push_str("credit"),
+        JourneyKind::Credit => text.push_str("credit"),
     }
 }
 
-/// Whether the act has a note of its request: a landing or a read at a target, and what a bridge accepts or latches of a
-/// master.
+/// Whether the act has a note of its request: a landing or a read at a target, and what a bridge
+/// accepts or latches of a master.
 fn tells_request(by: By, step: Step, place: Place) -> bool
     ensures { result ≡ tells_request by step place }
 {
@@ -180,7 +198,8 @@ fn enters(step: Step) -> bool
 }
 
 fn print_request_of(text: &mut String, board: &Board, bus: u8, op: OpId) -> Result<(), AllocError>
-    ensures { OnOk result (string_bytes text.new ≡ string_bytes text.old ++ request_note (request_of board.now op bus)) }
+    ensures { OnOk result (string_bytes text.new ≡ string_bytes text.old ++
+        request_note (request_of board.now op bus)) }
 {
     match request_of(board, op, bus) {
         Some(request) => {
@@ -204,7 +223,8 @@ fn print_data(text: &mut String, request: &Request) -> Result<(), AllocError>
 }
 
 fn print_address(text: &mut String, space: Space, address: u64) -> Result<(), AllocError>
-    ensures { OnOk result (string_bytes text.new ≡ string_bytes text.old ++ space_note space address) }
+    ensures { OnOk result (string_bytes text.new ≡ string_bytes text.old ++
+        space_note space address) }
 {
     match space {
         Space::Mem => write!(text, "{}", Address(address)),
@@ -214,7 +234,8 @@ fn print_address(text: &mut String, space: Space, address: u64) -> Result<(), Al
 }
 
 fn print_phases(text: &mut String, phases: &[Phase]) -> Result<(), AllocError>
-    ensures { OnOk result (string_bytes text.new ≡ string_bytes text.old ++ phases_note phases.now) }
+    ensures { OnOk result (string_bytes text.new ≡ string_bytes text.old ++
+        phases_note phases.now) }
 {
     match phases {
         [] => Ok(()),

@@ -1,4 +1,5 @@
-//! The elements of a picture of a run, as text: events with what is noted behind them, items on lanes, and acts.
+//! The elements of a picture of a run, as text: events with what is noted behind them, items on
+//! lanes, and acts.
 #![tactic(auto)]
 
 mod acts;
@@ -9,12 +10,12 @@ mod labels;
 mod refused;
 mod words;
 
-pub use acts::{Act, print_act, print_act_rim, print_head};
+pub use acts::{Act, ActLine, ActRow, print_act, print_act_rim, print_head};
 pub use columns::{
-    Band, Column, Columns, Line, Most, columns_of, most_of, print_name, product, sum,
+    Band, Column, ColumnLine, Columns, Most, columns_of, most_of, print_name, product, sum,
 };
-pub use height::{Height, print_circle};
-pub use items::{Route, print_item, print_item_rim};
+pub use height::{Height, print_circle, row_middle};
+pub use items::{DrawnRoute, print_item, print_item_rim};
 pub use labels::{print_event, print_note};
 pub use refused::{print_refused, refused_place};
 pub use words::faint;

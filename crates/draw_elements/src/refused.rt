@@ -1,17 +1,22 @@
 ghost use Rattle.std.specs.Prelude.{◌≡◌, ◌++◌, string_bytes, IfOk, OnOk};
-ghost use Rattle.draw_elements.specs.Acts.{bar_or_face, initiator_place, refused_place, refused_path, refused_text};
+ghost use Rattle.draw_elements.specs.Acts.{bar_or_face, initiator_place, refused_place};
+ghost use Rattle.draw_elements.specs.Acts.{refused_path, refused_text};
 
 use crate::columns::Columns;
 use crate::height::Height;
 use board_model::Lane;
-use draw_items::Item;
+use draw_items::Journey;
 use history_model::{By, Event};
 use pci_command::{NoMemory, OpId};
 use std::alloc::AllocError;
 
-/// Where an event that is not allowed has its cross: at the line of the master, at the bar of the item that it names, or at
-/// the face of the lane where nothing of it stands.
-pub fn refused_place(columns: &Columns, item: Option<Item>, event: &Event) -> Result<u64, NoMemory>
+/// Where an event that is not allowed has its cross: at the line of the master, at the bar of the
+/// item that it names, or at the face of the lane where nothing of it stands.
+pub fn refused_place(
+    columns: &Columns,
+    item: Option<Journey>,
+    event: &Event,
+) -> Result<u64, NoMemory>
     ensures { IfOk result (λ place. place ≡ refused_place columns.now item event.now) }
 {
     match *event {
@@ -20,7 +25,12 @@ pub fn refused_place(columns: &Columns, item: Option<Item>, event: &Event) -> Re
     }
 }
 
-fn initiator_place(columns: &Columns, by: By, op: OpId, item: Option<Item>) -> Result<u64, NoMemory>
+fn initiator_place(
+    columns: &Columns,
+    by: By,
+    op: OpId,
+    item: Option<Journey>,
+) -> Result<u64, NoMemory>
     ensures { IfOk result (λ place. place ≡ initiator_place columns.now by op item) }
 {
     match by {
@@ -29,7 +39,7 @@ fn initiator_place(columns: &Columns, by: By, op: OpId, item: Option<Item>) -> R
     }
 }
 
-fn bar_or_face(columns: &Columns, lane: Lane, item: Option<Item>) -> Result<u64, NoMemory>
+fn bar_or_face(columns: &Columns, lane: Lane, item: Option<Journey>) -> Result<u64, NoMemory>
     ensures { IfOk result (λ place. place ≡ bar_or_face columns.now lane item) }
 {
     match item {
@@ -41,7 +51,8 @@ fn bar_or_face(columns: &Columns, lane: Lane, item: Option<Item>) -> Result<u64,
 /// The cross of an event that is not allowed, in row n.
 #[tactic(auto, unfolding(crate::specs::Acts::refused_text))]
 pub fn print_refused(text: &mut String, first: u32, n: u32, x: u64) -> Result<(), AllocError>
-    ensures { OnOk result (string_bytes text.new ≡ string_bytes text.old ++ refused_text first n x) }
+    ensures { OnOk result (string_bytes text.new ≡ string_bytes text.old ++
+        refused_text first n x) }
 {
     text.push_str("<g class=\"x\">")?;
     print_refused_path(text, first, n, x)
@@ -49,7 +60,8 @@ pub fn print_refused(text: &mut String, first: u32, n: u32, x: u64) -> Result<()
 
 #[tactic(auto, unfolding(crate::specs::Acts::refused_path))]
 fn print_refused_path(text: &mut String, first: u32, n: u32, x: u64) -> Result<(), AllocError>
-    ensures { OnOk result (string_bytes text.new ≡ string_bytes text.old ++ refused_path first n x) }
+    ensures { OnOk result (string_bytes text.new ≡ string_bytes text.old ++
+        refused_path first n x) }
 {
     let top = Height {
         first,

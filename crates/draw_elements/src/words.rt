@@ -2,31 +2,31 @@ ghost use Rattle.std.specs.Prelude.{◌≡◌};
 ghost use Rattle.draw_elements.specs.Labels.{kind_word};
 ghost use Rattle.draw_elements.specs.Items.{kind_class, faint};
 
-use draw_items::Kind;
+use draw_items::JourneyKind;
 
 /// What an item is called.
-pub fn kind_word(kind: Kind) -> &'static str
+pub fn kind_word(kind: JourneyKind) -> &'static str
     ensures { result.now ≡ kind_word kind }
 {
     match kind {
-        Kind::Post => "post",
-        Kind::Request => "request",
-        Kind::Completion => "completion",
-        Kind::Credit => "credit",
-        Kind::Gone => "gone",
+        JourneyKind::Post => "post",
+        JourneyKind::Request => "request",
+        JourneyKind::Completion => "completion",
+        JourneyKind::Credit => "credit",
+        JourneyKind::Gone => "gone",
     }
 }
 
 /// The class of an item.
-pub fn kind_class(kind: Kind) -> &'static str
+pub fn kind_class(kind: JourneyKind) -> &'static str
     ensures { result.now ≡ kind_class kind }
 {
     match kind {
-        Kind::Post => "p",
-        Kind::Request => "a",
-        Kind::Completion => "d",
-        Kind::Credit => "r",
-        Kind::Gone => "x",
+        JourneyKind::Post => "p",
+        JourneyKind::Request => "a",
+        JourneyKind::Completion => "d",
+        JourneyKind::Credit => "r",
+        JourneyKind::Gone => "x",
     }
 }
 

@@ -19,15 +19,15 @@ use Rattle.history_model.specs.declared.event.Step.TheVariants.{Land, Part, Read
 use Rattle.history_model.specs.declared.event.Event.{Event}
 use Rattle.history_model.specs.declared.event.Event.TheVariants.{Act, Arrive}
 use Rattle.history_model.specs.World.{same_lane}
-use Rattle.draw_items.specs.declared.item.Kind.{Kind}
-use Rattle.draw_items.specs.declared.item.Kind.TheVariants.{Post, Request, Completion, Credit, Gone}
-use Rattle.draw_items.specs.declared.item.Item.{Item}
+use Rattle.draw_items.specs.declared.journey.JourneyKind.{JourneyKind}
+use Rattle.draw_items.specs.declared.journey.JourneyKind.TheVariants.{Post, Request, Completion, Credit, Gone}
+use Rattle.draw_items.specs.declared.journey.Journey.{Journey}
 use Rattle.draw_items.specs.declared.traffic.Touched.{Touched}
 
 -- Items.
 
 -- a post, a request and a completion stand after a plain arrival
-abbrev pub can_stand : Kind → Bool
+abbrev pub can_stand : JourneyKind → Bool
 can_stand Post = true
 can_stand Request = true
 can_stand Completion = true
@@ -35,23 +35,23 @@ can_stand Credit = false
 can_stand Gone = false
 
 -- it stood where its lane ends
-abbrev pub has_stood : Item → Bool
+abbrev pub has_stood : Journey → Bool
 has_stood item = nat_lt 0 item.came && (not item.marked && can_stand item.kind)
 
 -- it is in flight on the lane
-abbrev pub is_in_flight : BridgeLane → Item → Bool
+abbrev pub is_in_flight : BridgeLane → Journey → Bool
 is_in_flight lane item = same_lane item.lane lane && item.came == 0
 
 -- it stands where the lane ends
-abbrev pub is_standing : BridgeLane → Item → Bool
+abbrev pub is_standing : BridgeLane → Journey → Bool
 is_standing lane item = same_lane item.lane lane && (has_stood item && item.left == 0)
 
 -- of an item that arrived: it does not stand, or not any more
-abbrev pub is_done : Item → Bool
+abbrev pub is_done : Journey → Bool
 is_done item = not (has_stood item) || nat_lt 0 item.left
 
 -- a completion
-abbrev pub is_completion : Kind → Bool
+abbrev pub is_completion : JourneyKind → Bool
 is_completion Post = false
 is_completion Request = false
 is_completion Completion = true
@@ -59,17 +59,17 @@ is_completion Credit = false
 is_completion Gone = false
 
 -- a post or request of the operation stands there, or a completion of it
-abbrev pub is_presented : BridgeLane → OpId → Item → Bool
+abbrev pub is_presented : BridgeLane → OpId → Journey → Bool
 is_presented lane o item = is_standing lane item && (not (is_completion item.kind) && same_op item.op o)
 
 -- the completion of this operation stands there
-abbrev pub is_taken : BridgeLane → OpId → Item → Bool
+abbrev pub is_taken : BridgeLane → OpId → Journey → Bool
 is_taken lane o item = is_standing lane item && (is_completion item.kind && same_op item.op o)
 
 -- All lanes: what was sent, in the order of sending; the numbers of the items that are in flight or stand, in that order;
 -- and the items that each event has to do with.
 pub record Lanes : Type 0 where
-  pub items : List Item
+  pub items : List Journey
   pub under_way : List ℕ
   pub touched : List Touched
 
@@ -78,16 +78,16 @@ abbrev pub nothing : Lanes
 nothing = record { items = []; under_way = []; touched = [] }
 
 -- an item is there, and passes
-abbrev pub passes : (Item → Bool) → Option Item → Bool
+abbrev pub passes : (Journey → Bool) → Option Journey → Bool
 passes test None = false
 passes test (Some item) = test item
 
 -- the oldest item under way that passes
-abbrev pub oldest : (Item → Bool) → Lanes → Option ℕ
+abbrev pub oldest : (Journey → Bool) → Lanes → Option ℕ
 oldest test lanes = find (λ number. passes test (slice_get lanes.items number)) lanes.under_way
 
 -- event n sends an item
-abbrev pub sent : ℕ → Kind → OpId → BridgeLane → Lanes → Lanes
+abbrev pub sent : ℕ → JourneyKind → OpId → BridgeLane → Lanes → Lanes
 sent n kind o lane lanes =
     record {
       items = lanes.items ++ record { kind = kind; op = o; lane = lane; sent = n; came = 0; left = 0; marked = false; track = 0 } ∷ [];
@@ -96,7 +96,7 @@ sent n kind o lane lanes =
     }
 
 -- an item is otherwise now
-abbrev pub changed : ℕ → Item → Lanes → Lanes
+abbrev pub changed : ℕ → Journey → Lanes → Lanes
 changed number item lanes =
     record {
       items = set lanes.items number item;
@@ -112,7 +112,7 @@ touching item taken lanes =
 -- Tracks.
 
 -- the track of an item that stands on the lane
-abbrev pub track_on : BridgeLane → Option Item → List ℕ
+abbrev pub track_on : BridgeLane → Option Journey → List ℕ
 track_on lane None = []
 track_on lane (Some item) = if is_standing lane item then item.track ∷ [] else []
 
@@ -148,12 +148,12 @@ dropped n lane o Discard lanes = lanes
 dropped n lane o Drop lanes = sent n Gone o (lane_back lane) lanes
 
 -- an item arrives, and has the least track that is free where its lane ends
-abbrev pub with_arrival : ℕ → Mark → ℕ → Item → Item
+abbrev pub with_arrival : ℕ → Mark → ℕ → Journey → Journey
 with_arrival n mark track item =
     record { kind = item.kind; op = item.op; lane = item.lane; sent = item.sent; came = n; left = item.left; marked = is_marked mark; track = track }
 
 -- the item is there, and arrives
-abbrev pub arrived : ℕ → BridgeLane → Mark → ℕ → Option Item → Lanes → Lanes
+abbrev pub arrived : ℕ → BridgeLane → Mark → ℕ → Option Journey → Lanes → Lanes
 arrived n lane mark number None lanes = lanes
 arrived n lane mark number (Some item) lanes =
     dropped n lane item.op mark (changed number (with_arrival n mark (least_free (tracks_on lane lanes)) item) lanes)
@@ -195,7 +195,7 @@ taken o MasterAbort place lanes = None
 taken o TargetAbort place lanes = None
 
 -- the act sends an item on the lane that claimed it
-abbrev pub sent_at : ℕ → Kind → OpId → Place → Lanes → Lanes
+abbrev pub sent_at : ℕ → JourneyKind → OpId → Place → Lanes → Lanes
 sent_at n kind o (Target target) lanes = lanes
 sent_at n kind o (Header bus) lanes = lanes
 sent_at n kind o (Lane lane) lanes = sent n kind o lane lanes
@@ -226,7 +226,7 @@ ends MasterAbort = true
 ends TargetAbort = true
 
 -- what is answered on the lane back, when an item leaves: a credit for a post, a completion for a request
-abbrev pub answered : ℕ → Kind → OpId → BridgeLane → Lanes → Lanes
+abbrev pub answered : ℕ → JourneyKind → OpId → BridgeLane → Lanes → Lanes
 answered n Post o lane lanes = sent n Credit o (lane_back lane) lanes
 answered n Request o lane lanes = sent n Completion o (lane_back lane) lanes
 answered n Completion o lane lanes = lanes
@@ -234,12 +234,12 @@ answered n Credit o lane lanes = lanes
 answered n Gone o lane lanes = lanes
 
 -- an item that left in event n
-abbrev pub with_leave : ℕ → Item → Item
+abbrev pub with_leave : ℕ → Journey → Journey
 with_leave n item =
     record { kind = item.kind; op = item.op; lane = item.lane; sent = item.sent; came = item.came; left = n; marked = item.marked; track = item.track }
 
 -- an item that is there leaves, and is answered
-abbrev pub left_by : ℕ → ℕ → Option Item → Lanes → Lanes
+abbrev pub left_by : ℕ → ℕ → Option Journey → Lanes → Lanes
 left_by n number None lanes = lanes
 left_by n number (Some item) lanes = answered n item.kind item.op item.lane (changed number (with_leave n item) lanes)
 
@@ -275,11 +275,11 @@ unfoldable pub traffic_of : List Event → Lanes
 traffic_of events = after 0 events nothing
 
 -- the item that arrives by event n, or that a lane presents in it; and the completion that is taken
-abbrev pub item_of : ℕ → Lanes → Option Item
+abbrev pub item_of : ℕ → Lanes → Option Journey
 item_of n lanes = option_and_then (λ touched. option_and_then (λ number. slice_get lanes.items number) touched.item) (slice_get lanes.touched (n - 1))
 
 -- the same of the completion that is taken
-abbrev pub taken_by : ℕ → Lanes → Option Item
+abbrev pub taken_by : ℕ → Lanes → Option Journey
 taken_by n lanes = option_and_then (λ touched. option_and_then (λ number. slice_get lanes.items number) touched.taken) (slice_get lanes.touched (n - 1))
 
 -- the number of the item that an event names which did not happen: what would arrive next, or what its lane presents
@@ -288,9 +288,9 @@ named_number (Act on by o step place) lanes = presented by o lanes
 named_number (Arrive lane mark) lanes = oldest (is_in_flight lane) lanes
 
 -- that item
-abbrev pub named_by : Event → Lanes → Option Item
+abbrev pub named_by : Event → Lanes → Option Journey
 named_by e lanes = option_and_then (λ number. slice_get lanes.items number) (named_number e lanes)
 
 -- the completion of the operation that stands where it would be taken at this place
-abbrev pub completion_at : OpId → Place → Lanes → Option Item
+abbrev pub completion_at : OpId → Place → Lanes → Option Journey
 completion_at o place lanes = option_and_then (λ number. slice_get lanes.items number) (taken_at o place lanes)

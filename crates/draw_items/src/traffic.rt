@@ -1,9 +1,10 @@
 ghost use Rattle.std.specs.Prelude.{◌≡◌, ◌<◌, ◌^◌, ◌++◌, ◌==◌, not, length, slice_get, IfOk, OnOk};
 ghost use Rattle.std.specs.List.{filter};
 ghost use Rattle.std.proofs.Math.ListN.{set};
-ghost use Rattle.draw_items.specs.Items.{traffic_of, track_on, is_in, least_free, passes, is_in_flight, is_presented, is_taken, ends, is_marked};
+ghost use Rattle.draw_items.specs.Items.{traffic_of, track_on, is_in, least_free, passes};
+ghost use Rattle.draw_items.specs.Items.{is_in_flight, is_presented, is_taken, ends, is_marked};
 
-use crate::item::{Item, Kind, lane_back};
+use crate::journey::{Journey, JourneyKind, lane_back};
 use board_model::{Lane, Place};
 use history_model::{By, Event, Mark, Step};
 use pci_command::{NoMemory, OpId};
@@ -23,7 +24,7 @@ pub struct Touched {
 #[derive(Debug, Drop)]
 pub struct Traffic {
     /// What was sent, in the order of sending.
-    items: Vec<Item>,
+    items: Vec<Journey>,
     /// The numbers of those in flight and of those that stand, in that order.
     under_way: Vec<usize>,
     /// What each event has to do with.
@@ -35,7 +36,11 @@ impl Model for Traffic {
 
     ghost Value = { Lanes };
 
-    ghost view = { λ k. record { items = k.items.items; under_way = k.under_way.items; touched = k.touched.items } };
+    ghost view = { λ k. record {
+      items = k.items.items;
+      under_way = k.under_way.items;
+      touched = k.touched.items;
+    } };
 }
 
 /// What travels on the lanes by these events, the oldest first.
@@ -55,7 +60,12 @@ impl Traffic {
     ghost use Rattle.std.specs.Prelude.{None};
     ghost use Rattle.std.specs.Option.{option_copied};
     ghost use Rattle.history_model.specs.declared.event.Event.{Event};
-    ghost use Rattle.draw_items.specs.Items.{nothing, item_of, taken_by, named_number, named_by, completion_at, taken_at, happen, arrive, brought, arrived, dropped, act, acted, ended, sent_on, left, left_by, answered, sent, changed, touching, oldest, is_in_flight, is_presented, is_taken, presented, taken, tracks_on};
+    ghost use Rattle.draw_items.specs.Items.{nothing, item_of, taken_by, named_number, named_by};
+    ghost use Rattle.draw_items.specs.Items.{completion_at, taken_at, happen, arrive, brought};
+    ghost use Rattle.draw_items.specs.Items.{arrived, dropped, act, acted, ended, sent_on, left};
+    ghost use Rattle.draw_items.specs.Items.{left_by, answered, sent, changed, touching, oldest};
+    ghost use Rattle.draw_items.specs.Items.{is_in_flight, is_presented, is_taken, presented};
+    ghost use Rattle.draw_items.specs.Items.{taken, tracks_on};
 
     fn new(alloc: Global) -> Traffic
         ensures { result ≡ nothing }
@@ -68,14 +78,14 @@ impl Traffic {
     }
 
     /// What was sent, in the order of sending.
-    pub fn items(&self) -> &[Item]
+    pub fn items(&self) -> &[Journey]
         ensures { result.now ≡ self.now.items }
     {
         self.items.as_slice()
     }
 
     /// What arrives by event number n, or what a lane presents in it.
-    pub fn item_of(&self, n: u32) -> Option<&Item>
+    pub fn item_of(&self, n: u32) -> Option<&Journey>
         ensures { option_copied result ≡ item_of n self.now }
     {
         let touched = self.touched.as_slice().get((n as usize).saturating_sub(1))?;
@@ -83,7 +93,7 @@ impl Traffic {
     }
 
     /// The completion that is taken in event number n.
-    pub fn taken_by(&self, n: u32) -> Option<&Item>
+    pub fn taken_by(&self, n: u32) -> Option<&Journey>
         ensures { option_copied result ≡ taken_by n self.now }
     {
         let touched = self.touched.as_slice().get((n as usize).saturating_sub(1))?;
@@ -91,7 +101,7 @@ impl Traffic {
     }
 
     /// What an event names that did not happen: what would arrive next, or what its lane presents.
-    pub fn named_by(&self, event: &Event) -> Option<&Item>
+    pub fn named_by(&self, event: &Event) -> Option<&Journey>
         ensures { option_copied result ≡ named_by event.now self.now }
     {
         let number = self.named_number(event)?;
@@ -108,7 +118,7 @@ impl Traffic {
     }
 
     /// The completion of the operation that stands where it would be taken at this place.
-    pub fn completion_at(&self, op: OpId, place: Place) -> Option<&Item>
+    pub fn completion_at(&self, op: OpId, place: Place) -> Option<&Journey>
         ensures { option_copied result ≡ completion_at op place self.now }
     {
         let number = self.taken_at(op, place)?;
@@ -173,13 +183,14 @@ impl Traffic {
         mark: Mark,
         number: usize,
     ) -> Result<(), NoMemory>
-        ensures { OnOk result (self.new ≡ arrived n lane mark number (slice_get self.old.items number) self.old) }
+        ensures { OnOk result (self.new ≡
+            arrived n lane mark number (slice_get self.old.items number) self.old) }
     {
         match self.items.as_slice().get(number).copied() {
             Some(item) => {
                 let track = self.free_track(alloc, lane)?;
                 let marked = is_marked(mark);
-                let came = Item {
+                let came = Journey {
                     came: n,
                     marked,
                     track,
@@ -197,13 +208,13 @@ impl Traffic {
         ensures { OnOk result (self.new ≡ dropped n lane op mark self.old) }
     {
         match mark {
-            Mark::Drop => self.send(n, Kind::Gone, op, lane_back(lane)),
+            Mark::Drop => self.send(n, JourneyKind::Gone, op, lane_back(lane)),
             Mark::Plain | Mark::Discard => Ok(()),
         }
     }
 
     /// The item is so now; one that does not stand any more is not under way.
-    fn change(&mut self, number: usize, item: Item)
+    fn change(&mut self, number: usize, item: Journey)
         ensures { self.new ≡ changed number item self.old }
     {
         put_item(&mut self.items, number, item);
@@ -235,8 +246,8 @@ impl Traffic {
         ensures { OnOk result (self.new ≡ sent_on n op step place self.old) }
     {
         match (step, place) {
-            (Step::Accept, Place::Lane(lane)) => self.send(n, Kind::Post, op, lane),
-            (Step::Latch, Place::Lane(lane)) => self.send(n, Kind::Request, op, lane),
+            (Step::Accept, Place::Lane(lane)) => self.send(n, JourneyKind::Post, op, lane),
+            (Step::Latch, Place::Lane(lane)) => self.send(n, JourneyKind::Request, op, lane),
             _ => Ok(()),
         }
     }
@@ -263,33 +274,34 @@ impl Traffic {
     }
 
     fn leave_from(&mut self, n: u32, number: usize) -> Result<(), NoMemory>
-        ensures { OnOk result (self.new ≡ left_by n number (slice_get self.old.items number) self.old) }
+        ensures { OnOk result (self.new ≡
+            left_by n number (slice_get self.old.items number) self.old) }
     {
         match self.items.as_slice().get(number).copied() {
             Some(item) => {
-                self.change(number, Item { left: n, ..item });
+                self.change(number, Journey { left: n, ..item });
                 self.answer(n, item.kind, item.op, item.lane)
             }
             None => Ok(()),
         }
     }
 
-    fn answer(&mut self, n: u32, kind: Kind, op: OpId, lane: Lane) -> Result<(), NoMemory>
+    fn answer(&mut self, n: u32, kind: JourneyKind, op: OpId, lane: Lane) -> Result<(), NoMemory>
         ensures { OnOk result (self.new ≡ answered n kind op lane self.old) }
     {
         match kind {
-            Kind::Post => self.send(n, Kind::Credit, op, lane_back(lane)),
-            Kind::Request => self.send(n, Kind::Completion, op, lane_back(lane)),
-            Kind::Completion | Kind::Credit | Kind::Gone => Ok(()),
+            JourneyKind::Post => self.send(n, JourneyKind::Credit, op, lane_back(lane)),
+            JourneyKind::Request => self.send(n, JourneyKind::Completion, op, lane_back(lane)),
+            JourneyKind::Completion | JourneyKind::Credit | JourneyKind::Gone => Ok(()),
         }
     }
 
-    fn send(&mut self, n: u32, kind: Kind, op: OpId, lane: Lane) -> Result<(), NoMemory>
+    fn send(&mut self, n: u32, kind: JourneyKind, op: OpId, lane: Lane) -> Result<(), NoMemory>
         ensures { OnOk result (self.new ≡ sent n kind op lane self.old) }
     {
         let number = self.items.len();
         self.under_way.push(number)?;
-        self.items.push(Item {
+        self.items.push(Journey {
             kind,
             op,
             lane,
@@ -373,11 +385,12 @@ impl Traffic {
 /// The track of an item that stands on the lane, behind others.
 fn add_track(
     tracks: &mut Vec<usize>,
-    items: &[Item],
+    items: &[Journey],
     number: usize,
     lane: Lane,
 ) -> Result<(), AllocError>
-    ensures { OnOk result (tracks.new.items ≡ tracks.old.items ++ track_on lane (slice_get items.now number)) }
+    ensures { OnOk result (tracks.new.items ≡ tracks.old.items ++
+        track_on lane (slice_get items.now number)) }
 {
     match items.get(number) {
         Some(item) => {
@@ -407,7 +420,7 @@ fn is_in(tracks: &[usize], track: usize) -> bool
     tracks.iter().any(|other| *other == track)
 }
 
-fn put_item(items: &mut Vec<Item>, number: usize, item: Item)
+fn put_item(items: &mut Vec<Journey>, number: usize, item: Journey)
     ensures { items.new.items ≡ set items.old.items number item }
 {
     if number < items.len() {
@@ -421,7 +434,7 @@ fn drop_number(numbers: &mut Vec<usize>, number: usize)
     numbers.retain(|other| *other != number);
 }
 
-fn flies_at(items: &[Item], number: usize, lane: Lane) -> bool
+fn flies_at(items: &[Journey], number: usize, lane: Lane) -> bool
     ensures { result ≡ passes (is_in_flight lane) (slice_get items.now number) }
 {
     match items.get(number) {
@@ -430,7 +443,7 @@ fn flies_at(items: &[Item], number: usize, lane: Lane) -> bool
     }
 }
 
-fn is_presented_at(items: &[Item], number: usize, lane: Lane, op: OpId) -> bool
+fn is_presented_at(items: &[Journey], number: usize, lane: Lane, op: OpId) -> bool
     ensures { result ≡ passes (is_presented lane op) (slice_get items.now number) }
 {
     match items.get(number) {
@@ -439,7 +452,7 @@ fn is_presented_at(items: &[Item], number: usize, lane: Lane, op: OpId) -> bool
     }
 }
 
-fn is_taken_at(items: &[Item], number: usize, lane: Lane, op: OpId) -> bool
+fn is_taken_at(items: &[Journey], number: usize, lane: Lane, op: OpId) -> bool
     ensures { result ≡ passes (is_taken lane op) (slice_get items.now number) }
 {
     match items.get(number) {

@@ -50,7 +50,8 @@ impl Tries {
 
     /// One event more.
     fn name(&mut self, event: &Event) -> Result<(), NoMemory>
-        ensures { (events : List Event) → TellsTries events self.old → OnOk result (TellsTries (events ++ event.now ∷ []) self.new) }
+        ensures { (events : List Event) → TellsTries events self.old →
+            OnOk result (TellsTries (events ++ event.now ∷ []) self.new) }
     {
         match *event {
             Event::Act { op, .. } => self.raise(op),

@@ -4,21 +4,21 @@ use Rattle.board_model.specs.declared.board.Board.{Board}
 use Rattle.history_model.specs.declared.event.Event.{Event}
 use Rattle.history_model.specs.Runs.{history_of}
 use Rattle.law_audit.specs.Audit.{Finding, findings}
-use Rattle.draw_items.specs.declared.item.Item.{Item}
+use Rattle.draw_items.specs.declared.journey.Journey.{Journey}
 use Rattle.draw_items.specs.Items.{traffic_of}
 use Rattle.draw_items.specs.Waits.{waits_of}
 use Rattle.draw_told.specs.declared.told.Span.{Span}
 use Rattle.draw_told.specs.Told.{spans_of}
 use Rattle.draw_told.specs.Brackets.{brackets_of}
 use Rattle.draw_elements.specs.columns.Places.{Layout, layout_of}
-use Rattle.draw_sheets.specs.declared.row.Row.{Row}
-use Rattle.draw_sheets.specs.declared.frame.Frame.{Frame}
-use Rattle.draw_sheets.specs.Frames.{frame_of}
+use Rattle.draw_shapes.specs.declared.row.Row.{Row}
+use Rattle.draw_shapes.specs.declared.frame.Frame.{Frame}
+use Rattle.draw_shapes.specs.Frames.{frame_of}
 use Rattle.draw_shapes.specs.Shapes.{Shape}
 use Rattle.draw_page.specs.layers.Rows.{rows_of}
 use Rattle.draw_told.specs.Ahead.{ahead_in}
 use Rattle.draw_page.specs.layers.Layers.{layers}
-use Rattle.draw_sheets.specs.heads.Names.{names_text}
+use Rattle.draw_shapes.specs.heads.Names.{names_text}
 use Rattle.draw_told.specs.declared.close.Close.{Close}
 use Rattle.draw_told.specs.Closes.{allowed_in}
 use Rattle.draw_told.specs.Tops.{title_text, close_line, top_text, told_text}
@@ -58,17 +58,17 @@ unfoldable pub layout_in : Board → List Event → Frame → Layout
 layout_in board events frame = layout_of board (traffic_of events).items (brackets_end board events frame)
 
 -- all elements of the picture, with what the events tell of items, waits and lines of the audit
-unfoldable pub shapes_in : Board → List Event → Layout → Frame → List Row → Option Item → List Shape
+unfoldable pub shapes_in : Board → List Event → Layout → Frame → List Row → Option Journey → List Shape
 shapes_in board events layout frame rows ahead =
     layers board events layout frame rows (traffic_of events).items ahead (waits_of events) (spans_of board events) (brackets_of (spans_of board events)).tracks
 
 -- the page of these columns, rows and elements
-abbrev pub page_on : Board → List Event → Close → Layout → Frame → List Row → Option Item → List ℕ
+abbrev pub page_on : Board → List Event → Close → Layout → Frame → List Row → Option Journey → List ℕ
 page_on board events close layout frame rows ahead =
     page_with board close layout frame (findings board (history_of events)) (spans_of board events) (shapes_in board events layout frame rows ahead)
 
 -- the page of this frame
-unfoldable pub page_in : Board → List Event → Close → Frame → List Row → Option Item → List ℕ
+unfoldable pub page_in : Board → List Event → Close → Frame → List Row → Option Journey → List ℕ
 page_in board events close frame rows ahead = page_on board events close (layout_in board events frame) frame rows ahead
 
 -- the page of these rows

@@ -1,11 +1,13 @@
-ghost use Rattle.std.specs.Prelude.{◌≡◌, ◌++◌, ◌+◌, ◌*◌, ◌<◌, ◌^◌, length, string_bytes, IfOk, OnOk};
+ghost use Rattle.std.specs.Prelude.{◌≡◌, ◌++◌, ◌+◌, ◌*◌, ◌<◌, ◌^◌};
+ghost use Rattle.std.specs.Prelude.{length, string_bytes, IfOk, OnOk};
 ghost use Rattle.history_model.specs.Runs.{Run, history_of};
 ghost use Rattle.draw_items.specs.Items.{traffic_of};
 ghost use Rattle.draw_items.specs.Kept.{TellsTries};
 ghost use Rattle.draw_told.specs.Kept.{TellsTold};
 ghost use Rattle.draw_elements.specs.columns.Places.{layout_of};
 ghost use Rattle.draw_told.specs.Closes.{allowed_in};
-ghost use Rattle.draw_page.specs.Pages.{table_open, names_part, table_text, page_with, page_in, page_from, page_of};
+ghost use Rattle.draw_page.specs.Pages.{table_open, names_part, table_text};
+ghost use Rattle.draw_page.specs.Pages.{page_with, page_in, page_from, page_of};
 
 use crate::known::Known;
 use crate::layers::{layers_of, rows_of};
@@ -13,9 +15,8 @@ use crate::strips::print_strips;
 use board_model::Board;
 use board_tree::Tree;
 use draw_elements::{Columns, columns_of, most_of, product, sum};
-use draw_items::{Item, Traffic, traffic_of, tries_of, waits_of};
-use draw_shapes::Element;
-use draw_sheets::{Frame, Row, frame_of, print_names};
+use draw_items::{Journey, Traffic, traffic_of, tries_of};
+use draw_shapes::{Canvas, Element, Frame, Row, frame_of, print_names};
 use draw_told::{
     Brackets, Close, Title, Told, ahead_in, allowed_in, brackets_of, print_told, print_top, told_of,
 };
@@ -41,7 +42,15 @@ pub fn page_of(
     let allowed = allowed_in(close, events);
     let told = told_of(alloc, tree, allowed)?;
     let last = last.min(events.len() as u32);
-    page_from(alloc, tree.board(), events, close, &told, first, last)
+    let shown = Shown { first, last };
+    page_from(alloc, tree.board(), events, close, &told, shown)
+}
+
+/// The first and the last event that are drawn.
+#[derive(Clone, Copy)]
+struct Shown {
+    first: u32,
+    last: u32,
 }
 
 #[tactic(auto, unfolding(crate::specs::Pages::page_from))]
@@ -51,12 +60,12 @@ fn page_from(
     events: &[Event],
     close: Close,
     told: &Told,
-    first: u32,
-    last: u32,
+    shown: Shown,
 ) -> Result<List<u8>, NoMemory>
     requires few { length events.now < 2 ^ 31 }
     requires told { TellsTold board.now (allowed_in close events.now) told.now }
-    ensures { IfOk result (λ page. page ≡ page_from board.now events.now close first last) }
+    ensures { IfOk result (λ page. page
+        ≡ page_from board.now events.now close shown.first shown.last) }
 {
     let allowed = allowed_in(close, events);
     let traffic = traffic_of(alloc, allowed)?;
@@ -68,9 +77,9 @@ fn page_from(
         tries: &tries,
         told,
     };
-    let rows = rows_of(alloc, &known, events, first, last)?;
+    let rows = rows_of(alloc, &known, events, shown.first, shown.last)?;
     let rows = rows.as_slice();
-    let frame = frame_of(alloc, events.len() as u32, first, last, rows)?;
+    let frame = frame_of(alloc, events.len() as u32, shown.first, shown.last, rows)?;
     let ahead = ahead_in(board, &traffic, close, events);
     page_in(alloc, &known, close, &frame, rows, ahead)
 }
@@ -82,7 +91,7 @@ fn page_in(
     close: Close,
     frame: &Frame,
     rows: &[Row],
-    ahead: Option<Item>,
+    ahead: Option<Journey>,
 ) -> Result<List<u8>, NoMemory>
     requires few { length known.now.events.now < 2 ^ 31 }
     requires told { TellsTold known.now.board.now known.now.events.now known.now.told.now }
@@ -93,31 +102,15 @@ fn page_in(
 {
     let brackets = brackets_of(alloc, known.told.spans())?;
     let columns = columns_in(alloc, known.board, known.traffic, &brackets, frame)?;
-    let waits = waits_of(alloc, known.events)?;
-    let elements = layers_of(
-        alloc,
-        known.board,
-        &columns,
+    let canvas = Canvas {
+        board: known.board,
+        columns: &columns,
         frame,
-        rows,
-        known.traffic.items(),
-        ahead,
-        waits.as_slice(),
-        known.tries,
-        known.told,
-        &brackets,
-    )?;
+    };
+    let elements = layers_of(alloc, known, &canvas, rows, ahead, &brackets)?;
+    let elements = elements.as_slice();
     let mut text = String::new(alloc);
-    print_page(
-        alloc,
-        &mut text,
-        known.board,
-        close,
-        &columns,
-        frame,
-        known.told,
-        elements.as_slice(),
-    )?;
+    print_page(alloc, &mut text, &canvas, close, known.told, elements)?;
     Ok(List::from_vec(text.into_bytes()))
 }
 
@@ -129,7 +122,8 @@ fn columns_in(
     brackets: &Brackets,
     frame: &Frame,
 ) -> Result<Columns, NoMemory>
-    ensures { IfOk result (λ columns. columns ≡ layout_of board.now traffic.now.items (frame.now.told_x + (10 * length brackets.now.ends + 10))) }
+    ensures { IfOk result (λ columns. columns ≡ layout_of board.now traffic.now.items
+        (frame.now.told_x + (10 * length brackets.now.ends + 10))) }
 {
     let wide = sum(product(10, brackets.count() as u64)?, 10)?;
     let start = sum(frame.told_x, wide)?;
@@ -141,15 +135,17 @@ fn columns_in(
 fn print_page(
     alloc: Global,
     text: &mut String,
-    board: &Board,
+    canvas: &Canvas,
     close: Close,
-    columns: &Columns,
-    frame: &Frame,
     told: &Told,
     elements: &[Element],
 ) -> Result<(), NoMemory>
-    ensures { OnOk result (string_bytes text.new ≡ string_bytes text.old ++ page_with board.now close columns.now frame.now told.now.found told.now.spans elements.now) }
+    ensures { OnOk result (string_bytes text.new ≡ string_bytes text.old ++
+        page_with canvas.now.board.now close canvas.now.columns.now canvas.now.frame.now
+        told.now.found told.now.spans elements.now) }
 {
+    let board = canvas.board;
+    let frame = canvas.frame;
     let title = Title {
         count: frame.end.saturating_sub(1),
         buses: sum(board.bridges.as_slice().len() as u64, 1)?,
@@ -159,7 +155,7 @@ fn print_page(
     };
     print_top(text, title)?;
     print_told(text, board, told.found(), told.spans())?;
-    print_table(alloc, text, board, columns, frame, elements)
+    print_table(alloc, text, canvas, elements)
 }
 
 /// The columns with their names, and the strips.
@@ -167,22 +163,22 @@ fn print_page(
 fn print_table(
     alloc: Global,
     text: &mut String,
-    board: &Board,
-    columns: &Columns,
-    frame: &Frame,
+    canvas: &Canvas,
     elements: &[Element],
 ) -> Result<(), NoMemory>
-    ensures { OnOk result (string_bytes text.new ≡ string_bytes text.old ++ table_text board.now columns.now frame.now elements.now) }
+    ensures { OnOk result (string_bytes text.new ≡ string_bytes text.old ++ table_text
+        canvas.now.board.now canvas.now.columns.now canvas.now.frame.now elements.now) }
 {
-    print_names_part(text, board, columns)?;
-    print_strips(alloc, text, columns, frame, elements)?;
+    print_names_part(text, canvas.board, canvas.columns)?;
+    print_strips(alloc, text, canvas.columns, canvas.frame, elements)?;
     text.push_str("</table>\n")?;
     Ok(())
 }
 
 #[tactic(auto, unfolding(crate::specs::Pages::names_part))]
 fn print_names_part(text: &mut String, board: &Board, columns: &Columns) -> Result<(), NoMemory>
-    ensures { OnOk result (string_bytes text.new ≡ string_bytes text.old ++ names_part board.now columns.now) }
+    ensures { OnOk result (string_bytes text.new ≡
+        string_bytes text.old ++ names_part board.now columns.now) }
 {
     print_table_open(text)?;
     print_names(text, board, columns)?;

@@ -5,18 +5,18 @@ use Rattle.history_model.specs.declared.event.Step.{Step}
 use Rattle.history_model.specs.declared.event.Step.TheVariants.{Land, Part, Read, Accept, Latch, Take, Stall, MasterAbort, TargetAbort}
 use Rattle.history_model.specs.declared.event.Event.{Event}
 use Rattle.history_model.specs.declared.event.Event.TheVariants.{Act, Arrive}
-use Rattle.draw_items.specs.declared.item.Kind.{Kind}
-use Rattle.draw_items.specs.declared.item.Kind.TheVariants.{Post, Request, Completion, Credit, Gone}
-use Rattle.draw_items.specs.declared.item.Item.{Item}
+use Rattle.draw_items.specs.declared.journey.JourneyKind.{JourneyKind}
+use Rattle.draw_items.specs.declared.journey.JourneyKind.TheVariants.{Post, Request, Completion, Credit, Gone}
+use Rattle.draw_items.specs.declared.journey.Journey.{Journey}
 use Rattle.draw_items.specs.declared.waits.Wait.{Wait}
-use Rattle.draw_elements.specs.declared.columns.line.Line.TheVariants as lines
+use Rattle.draw_elements.specs.declared.columns.line.ColumnLine.TheVariants as lines
 use Rattle.draw_elements.specs.columns.Places.{Layout, place_of}
 use Rattle.draw_elements.specs.declared.acts.Act.{Act as Ends}
-use Rattle.draw_elements.specs.declared.items.Route.{Route}
+use Rattle.draw_elements.specs.declared.items.DrawnRoute.{DrawnRoute}
 use Rattle.draw_elements.specs.Items.{route_of, item_text, item_rim}
 use Rattle.draw_elements.specs.Acts.{act_of, act_text, act_rim, refused_place, refused_text}
-use Rattle.draw_sheets.specs.declared.row.Row.{Row}
-use Rattle.draw_sheets.specs.declared.frame.Frame.{Frame}
+use Rattle.draw_shapes.specs.declared.row.Row.{Row}
+use Rattle.draw_shapes.specs.declared.frame.Frame.{Frame}
 use Rattle.draw_shapes.specs.Shapes.{Shape, in_row, seen}
 use Rattle.draw_shapes.specs.Keys.{mark_text, dotted_text, wait_text, bracket_text}
 use Rattle.draw_shapes.specs.Lists.{row_text}
@@ -62,7 +62,7 @@ key_shapes layout frame row =
 -- Layer 2: rims of what belongs to an operation in the chain of a line.
 
 -- a post, a request and a completion belong to an operation
-abbrev pub can_have_rim : Kind → Bool
+abbrev pub can_have_rim : JourneyKind → Bool
 can_have_rim Post = true
 can_have_rim Request = true
 can_have_rim Completion = true
@@ -70,11 +70,11 @@ can_have_rim Credit = false
 can_have_rim Gone = false
 
 -- the rim along the way of an item
-abbrev pub route_rim : List ℕ → Frame → Route → List Shape
+abbrev pub route_rim : List ℕ → Frame → DrawnRoute → List Shape
 route_rim class frame route = seen frame route.sent route.left (item_rim class frame.first route)
 
 -- the rim of an item, where its operation is in a chain
-unfoldable pub item_rims : Layout → Frame → Bool → Item → List Shape
+unfoldable pub item_rims : Layout → Frame → Bool → Journey → List Shape
 item_rims layout frame loud item = if can_have_rim item.kind && loud then route_rim (codes "g") frame (route_of layout frame.end item) else []
 
 -- the rim along an act, in its row
@@ -96,7 +96,7 @@ abbrev pub ahead_class : List ℕ
 ahead_class = codes "z\" fill-opacity=\"0"
 
 -- that rim, where there is such an item
-unfoldable pub ahead_rims : Layout → Frame → Option Item → List Shape
+unfoldable pub ahead_rims : Layout → Frame → Option Journey → List Shape
 ahead_rims layout frame None = []
 ahead_rims layout frame (Some item) = route_rim ahead_class frame (route_of layout frame.end item)
 
@@ -112,11 +112,11 @@ wait_shapes layout frame pale wait =
 -- Layer 4: items.
 
 -- an item along its way
-abbrev pub routed : Board → Frame → Bool → Item → Route → List Shape
+abbrev pub routed : Board → Frame → Bool → Journey → DrawnRoute → List Shape
 routed board frame pale item route = seen frame route.sent route.left (item_text board frame.first pale item route)
 
 -- an item, from where it was sent to where it left
-unfoldable pub item_shapes : Board → Layout → Frame → Bool → Item → List Shape
+unfoldable pub item_shapes : Board → Layout → Frame → Bool → Journey → List Shape
 item_shapes board layout frame pale item = routed board frame pale item (route_of layout frame.end item)
 
 -- Layer 5: acts; of an event that is not allowed a cross.

@@ -1,3 +1,6 @@
+pub mod Widths
+pub mod Frames
+pub mod heads
 pub mod Shapes
 pub mod Keys
 pub mod Lists

@@ -2,18 +2,18 @@
 use Rattle.std.specs.Prelude.{ℕ, Bool, true, false, ◌||◌, ◌==◌, List, [], ◌++◌, length, codes, Option, Some, None, if◌then◌else◌}
 use Rattle.std.specs.Fmt.{decimal}
 use Rattle.board_model.specs.declared.board.Board.{Board}
-use Rattle.draw_items.specs.declared.item.Kind.{Kind}
-use Rattle.draw_items.specs.declared.item.Kind.TheVariants.{Post, Request, Completion, Credit, Gone}
-use Rattle.draw_items.specs.declared.item.Item.{Item}
+use Rattle.draw_items.specs.declared.journey.JourneyKind.{JourneyKind}
+use Rattle.draw_items.specs.declared.journey.JourneyKind.TheVariants.{Post, Request, Completion, Credit, Gone}
+use Rattle.draw_items.specs.declared.journey.Journey.{Journey}
 use Rattle.history_model.specs.declared.event.Event.{Event}
 use Rattle.history_model.specs.declared.event.Event.TheVariants.{Act, Arrive}
 use Rattle.draw_elements.specs.Heights.{height_text}
 use Rattle.draw_elements.specs.Labels.{event_text, note_of}
-use Rattle.draw_sheets.specs.declared.row.Row.{Row}
-use Rattle.draw_sheets.specs.declared.frame.Frame.{Frame}
+use Rattle.draw_shapes.specs.declared.row.Row.{Row}
+use Rattle.draw_shapes.specs.declared.frame.Frame.{Frame}
 
 -- a credit
-abbrev pub is_credit : Kind → Bool
+abbrev pub is_credit : JourneyKind → Bool
 is_credit Post = false
 is_credit Request = false
 is_credit Completion = false
@@ -21,12 +21,12 @@ is_credit Credit = true
 is_credit Gone = false
 
 -- what arrives is a credit
-abbrev pub brings_credit : Option Item → Bool
+abbrev pub brings_credit : Option Journey → Bool
 brings_credit None = false
 brings_credit (Some item) = is_credit item.kind
 
 -- a credit arrives in the event
-abbrev pub is_credit_event : Option Item → Event → Bool
+abbrev pub is_credit_event : Option Journey → Event → Bool
 is_credit_event item (Act on by o step place) = false
 is_credit_event item (Arrive lane mark) = brings_credit item
 

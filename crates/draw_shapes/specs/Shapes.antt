@@ -1,7 +1,7 @@
 -- The elements of a picture. What goes from the middle of a row to that of another is seen in just the rows from the one to the
 -- other.
 use Rattle.std.specs.Prelude.{ℕ, Bool, ◌&&◌, nat_le, List, [], ◌∷◌, if◌then◌else◌}
-use Rattle.draw_sheets.specs.declared.frame.Frame.{Frame}
+use Rattle.draw_shapes.specs.declared.frame.Frame.{Frame}
 
 -- an element, and the rows from which and to which it goes
 pub record Shape : Type 0 where

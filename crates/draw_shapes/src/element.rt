@@ -1,7 +1,7 @@
 ghost use Rattle.std.specs.Prelude.{◌≡◌, ◌∷◌, [], ◌++◌, OnOk, string_bytes};
 ghost use Rattle.draw_shapes.specs.Shapes.{in_row, is_seen};
 
-use draw_sheets::Frame;
+use crate::frame::Frame;
 use pci_command::NoMemory;
 use std::marker::Model;
 
@@ -45,7 +45,8 @@ impl Element {
 
 /// An element more, in one row.
 pub(crate) fn add_in_row(elements: &mut Vec<Element>, n: u32, text: String) -> Result<(), NoMemory>
-    ensures { OnOk result (elements.new.items ≡ elements.old.items ++ in_row n (string_bytes text)) }
+    ensures { OnOk result (elements.new.items ≡ elements.old.items ++
+        in_row n (string_bytes text)) }
 {
     elements.push(Element {
         from: n,
@@ -62,7 +63,8 @@ pub(crate) fn add_between(
     to: u32,
     text: String,
 ) -> Result<(), NoMemory>
-    ensures { OnOk result (elements.new.items ≡ elements.old.items ++ record { from = from; to = to; text = string_bytes text } ∷ []) }
+    ensures { OnOk result (elements.new.items ≡ elements.old.items ++
+        record { from = from; to = to; text = string_bytes text } ∷ []) }
 {
     elements.push(Element { from, to, text })?;
     Ok(())

@@ -1,19 +1,11 @@
 ghost use Rattle.std.specs.Prelude.{◌≡◌, ◌++◌, string_bytes, OnOk};
-ghost use Rattle.draw_shapes.specs.Keys.{mark_size, mark_open, mark_text, dotted_text, wait_bar, wait_text, bracket_title, bracket_down, bracket_path, bracket_text};
+ghost use Rattle.draw_shapes.specs.Keys.{mark_size, mark_open, mark_text, dotted_text, wait_bar};
+ghost use Rattle.draw_shapes.specs.Keys.{wait_text, bracket_title, bracket_down, bracket_path};
+ghost use Rattle.draw_shapes.specs.Keys.{bracket_text};
 
-use draw_elements::{Height, faint, print_circle, print_head};
+use draw_elements::{Height, faint, print_circle, print_head, row_middle};
 use draw_items::Wait;
 use std::alloc::AllocError;
-
-fn y(first: u32, row: u32) -> Height
-    ensures { result ≡ record { first = first; row = row; down = 8 } }
-{
-    Height {
-        first,
-        row,
-        down: 8,
-    }
-}
 
 /// A mark of this class behind the line of an event, from a place on and so wide.
 #[tactic(auto, unfolding(crate::specs::Keys::mark_text))]
@@ -25,7 +17,8 @@ pub(crate) fn print_mark(
     x: u64,
     size: u64,
 ) -> Result<(), AllocError>
-    ensures { OnOk result (string_bytes text.new ≡ string_bytes text.old ++ mark_text class.now first n x size) }
+    ensures { OnOk result (string_bytes text.new ≡ string_bytes text.old ++
+        mark_text class.now first n x size) }
 {
     print_mark_open(text, class, first, n, x)?;
     print_mark_size(text, size)
@@ -39,7 +32,8 @@ fn print_mark_open(
     n: u32,
     x: u64,
 ) -> Result<(), AllocError>
-    ensures { OnOk result (string_bytes text.new ≡ string_bytes text.old ++ mark_open class.now first n x) }
+    ensures { OnOk result (string_bytes text.new ≡ string_bytes text.old ++
+        mark_open class.now first n x) }
 {
     let top = Height {
         first,
@@ -65,9 +59,11 @@ pub(crate) fn print_dotted(
     x: u64,
     to: u64,
 ) -> Result<(), AllocError>
-    ensures { OnOk result (string_bytes text.new ≡ string_bytes text.old ++ dotted_text first n x to) }
+    ensures { OnOk result (string_bytes text.new ≡ string_bytes text.old ++
+        dotted_text first n x to) }
 {
-    writeln!(text, "<path class=\"u\" d=\"M{x} {}H{to}\"/>", y(first, n))
+    let y = row_middle(first, n);
+    writeln!(text, "<path class=\"u\" d=\"M{x} {y}H{to}\"/>")
 }
 
 /// The bar of a master that waits.
@@ -79,7 +75,8 @@ pub(crate) fn print_wait(
     pale: bool,
     wait: &Wait,
 ) -> Result<(), AllocError>
-    ensures { OnOk result (string_bytes text.new ≡ string_bytes text.old ++ wait_text first x pale wait.now) }
+    ensures { OnOk result (string_bytes text.new ≡ string_bytes text.old ++
+        wait_text first x pale wait.now) }
 {
     text.push_str("<path class=\"w")?;
     text.push_str(faint(pale))?;
@@ -88,39 +85,49 @@ pub(crate) fn print_wait(
 
 #[tactic(auto, unfolding(crate::specs::Keys::wait_bar))]
 fn print_wait_bar(text: &mut String, first: u32, x: u64, wait: &Wait) -> Result<(), AllocError>
-    ensures { OnOk result (string_bytes text.new ≡ string_bytes text.old ++ wait_bar first x wait.now) }
+    ensures { OnOk result (string_bytes text.new ≡ string_bytes text.old ++
+        wait_bar first x wait.now) }
 {
     writeln!(
         text,
         "\" d=\"M{x} {}V{}\"/>",
-        y(first, wait.first),
-        y(first, wait.last)
+        row_middle(first, wait.first),
+        row_middle(first, wait.last)
     )
 }
 
-/// The bracket of a line of the audit, from a place out to another and back, with an arrow whose tip is there.
+/// Where a bracket goes: from `x` out to the right in the row of the landing, and back to its tip
+/// in that of the read.
+#[derive(Clone, Copy)]
+pub(crate) struct BracketWay {
+    pub(crate) x: u64,
+    pub(crate) right: u64,
+    pub(crate) tip: u64,
+    pub(crate) landed: u32,
+    pub(crate) read: u32,
+}
+
+/// The bracket of a line of the audit.
 #[tactic(auto, unfolding(crate::specs::Keys::bracket_text))]
 pub(crate) fn print_bracket(
     text: &mut String,
     first: u32,
-    x: u64,
-    right: u64,
-    landed: u32,
-    read: u32,
-    tip: u64,
+    way: BracketWay,
 ) -> Result<(), AllocError>
-    ensures { OnOk result (string_bytes text.new ≡ string_bytes text.old ++ bracket_text first x right landed read tip) }
+    ensures { OnOk result (string_bytes text.new ≡ string_bytes text.old ++
+        bracket_text first way.x way.right way.landed way.read way.tip) }
 {
-    print_bracket_title(text, landed, read)?;
-    print_bracket_path(text, first, x, right, landed, read, tip)?;
-    print_circle(text, first, landed, x, 4)?;
-    print_head(text, first, read, x, false)?;
+    print_bracket_title(text, way.landed, way.read)?;
+    print_bracket_path(text, first, way)?;
+    print_circle(text, first, way.landed, way.x, 4)?;
+    print_head(text, first, way.read, way.x, false)?;
     text.push_str("</g>\n")
 }
 
 #[tactic(auto, unfolding(crate::specs::Keys::bracket_title))]
 fn print_bracket_title(text: &mut String, landed: u32, read: u32) -> Result<(), AllocError>
-    ensures { OnOk result (string_bytes text.new ≡ string_bytes text.old ++ bracket_title landed read) }
+    ensures { OnOk result (string_bytes text.new ≡ string_bytes text.old ++
+        bracket_title landed read) }
 {
     write!(
         text,
@@ -129,19 +136,13 @@ fn print_bracket_title(text: &mut String, landed: u32, read: u32) -> Result<(), 
 }
 
 #[tactic(auto, unfolding(crate::specs::Keys::bracket_path))]
-fn print_bracket_path(
-    text: &mut String,
-    first: u32,
-    x: u64,
-    right: u64,
-    landed: u32,
-    read: u32,
-    tip: u64,
-) -> Result<(), AllocError>
-    ensures { OnOk result (string_bytes text.new ≡ string_bytes text.old ++ bracket_path first x right landed read tip) }
+fn print_bracket_path(text: &mut String, first: u32, way: BracketWay) -> Result<(), AllocError>
+    ensures { OnOk result (string_bytes text.new ≡ string_bytes text.old ++
+        bracket_path first way.x way.right way.landed way.read way.tip) }
 {
-    write!(text, "<path d=\"M{x} {}", y(first, landed))?;
-    print_bracket_down(text, first, right, read, tip)
+    let y = row_middle(first, way.landed);
+    write!(text, "<path d=\"M{} {y}", way.x)?;
+    print_bracket_down(text, first, way.right, way.read, way.tip)
 }
 
 #[tactic(auto, unfolding(crate::specs::Keys::bracket_down))]
@@ -152,7 +153,8 @@ fn print_bracket_down(
     read: u32,
     tip: u64,
 ) -> Result<(), AllocError>
-    ensures { OnOk result (string_bytes text.new ≡ string_bytes text.old ++ bracket_down first right read tip) }
+    ensures { OnOk result (string_bytes text.new ≡ string_bytes text.old ++
+        bracket_down first right read tip) }
 {
-    write!(text, "H{right}V{}H{tip}\"/>", y(first, read))
+    write!(text, "H{right}V{}H{tip}\"/>", row_middle(first, read))
 }

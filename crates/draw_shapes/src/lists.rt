@@ -1,11 +1,13 @@
 ghost use Rattle.std.specs.Prelude.{◌≡◌, ◌++◌, string_bytes, OnOk};
 ghost use Rattle.draw_elements.specs.Labels.{note_of};
-ghost use Rattle.draw_shapes.specs.Lists.{is_credit, brings_credit, is_credit_event, row_class, number_text, line_open, noted, row_text};
+ghost use Rattle.draw_shapes.specs.Lists.{is_credit, brings_credit, is_credit_event, row_class};
+ghost use Rattle.draw_shapes.specs.Lists.{number_text, line_open, noted, row_text};
 
+use crate::frame::Frame;
+use crate::row::Row;
 use board_model::Board;
 use draw_elements::{Height, print_event, print_note};
-use draw_items::{Item, Kind};
-use draw_sheets::{Frame, Row};
+use draw_items::{Journey, JourneyKind};
 use history_model::Event;
 use std::alloc::{AllocError, Global};
 
@@ -18,7 +20,8 @@ pub(crate) fn print_row(
     frame: &Frame,
     row: &Row,
 ) -> Result<(), AllocError>
-    ensures { OnOk result (string_bytes text.new ≡ string_bytes text.old ++ row_text board.now frame.now row.now) }
+    ensures { OnOk result (string_bytes text.new ≡ string_bytes text.old ++
+        row_text board.now frame.now row.now) }
 {
     print_number(text, frame.first, row.n, frame.number_x)?;
     print_line_open(text, frame.first, row.n, frame.text_x, row_class(row))?;
@@ -56,7 +59,8 @@ fn print_line_open(
     x: u64,
     class: &str,
 ) -> Result<(), AllocError>
-    ensures { OnOk result (string_bytes text.new ≡ string_bytes text.old ++ line_open first n x class.now) }
+    ensures { OnOk result (string_bytes text.new ≡ string_bytes text.old ++
+        line_open first n x class.now) }
 {
     write!(text, "<text{class} x=\"{x}\" y=\"{}\">", foot(first, n))
 }
@@ -64,7 +68,8 @@ fn print_line_open(
 /// What is noted behind the line, where there is anything.
 #[tactic(auto, unfolding(crate::specs::Lists::noted))]
 fn print_noted(alloc: Global, text: &mut String, board: &Board, row: &Row) -> Result<(), AllocError>
-    ensures { OnOk result (string_bytes text.new ≡ string_bytes text.old ++ noted (note_of board.now row.now.item row.now.event)) }
+    ensures { OnOk result (string_bytes text.new ≡ string_bytes text.old ++
+        noted (note_of board.now row.now.item row.now.event)) }
 {
     let mut note = String::new(alloc);
     print_note(&mut note, board, row.item, &row.event)?;
@@ -88,7 +93,7 @@ fn row_class(row: &Row) -> &'static str
     }
 }
 
-fn is_credit_event(item: Option<Item>, event: &Event) -> bool
+fn is_credit_event(item: Option<Journey>, event: &Event) -> bool
     ensures { result ≡ is_credit_event item event.now }
 {
     match event {
@@ -97,7 +102,7 @@ fn is_credit_event(item: Option<Item>, event: &Event) -> bool
     }
 }
 
-fn brings_credit(item: Option<Item>) -> bool
+fn brings_credit(item: Option<Journey>) -> bool
     ensures { result ≡ brings_credit item }
 {
     match item {
@@ -106,11 +111,8 @@ fn brings_credit(item: Option<Item>) -> bool
     }
 }
 
-fn is_credit(kind: Kind) -> bool
+fn is_credit(kind: JourneyKind) -> bool
     ensures { result ≡ is_credit kind }
 {
-    match kind {
-        Kind::Credit => true,
-        Kind::Post | Kind::Request | Kind::Completion | Kind::Gone => false,
-    }
+    matches!(kind, JourneyKind::Credit)
 }

@@ -1,16 +1,22 @@
 ghost use Rattle.std.specs.Prelude.{◌≡◌, ◌++◌, min, OnOk, IfOk};
-ghost use Rattle.draw_shapes.specs.Elements.{is_claimed, dotted_to, dotted_shapes, mark_shapes, refused_marks, key_shapes, can_have_rim, route_rim, item_rims, rim_in, act_rims_of, act_rims, ahead_class, ahead_rims, wait_shapes, routed, item_shapes, act_shapes_of, cross_at, refused_shapes, act_shapes, bracket_on, bracket_shapes, list_shapes};
+ghost use Rattle.draw_shapes.specs.Elements.{is_claimed, dotted_to, dotted_shapes, mark_shapes};
+ghost use Rattle.draw_shapes.specs.Elements.{refused_marks, key_shapes, can_have_rim, route_rim};
+ghost use Rattle.draw_shapes.specs.Elements.{item_rims, rim_in, act_rims_of, act_rims, ahead_class};
+ghost use Rattle.draw_shapes.specs.Elements.{ahead_rims, wait_shapes, routed, item_shapes};
+ghost use Rattle.draw_shapes.specs.Elements.{act_shapes_of, cross_at, refused_shapes, act_shapes};
+ghost use Rattle.draw_shapes.specs.Elements.{bracket_on, bracket_shapes, list_shapes};
 
+use crate::canvas::Canvas;
 use crate::element::{Element, add_between, add_in_row, is_seen};
-use crate::keys::{print_bracket, print_dotted, print_mark, print_wait};
+use crate::frame::Frame;
+use crate::keys::{BracketWay, print_bracket, print_dotted, print_mark, print_wait};
 use crate::lists::print_row;
-use board_model::Board;
+use crate::row::Row;
 use draw_elements::{
-    Act, Columns, Route, print_act, print_act_rim, print_item, print_item_rim, print_refused,
-    product, refused_place, sum,
+    Act, ActLine, ActRow, DrawnRoute, print_act, print_act_rim, print_item, print_item_rim,
+    print_refused, product, refused_place, sum,
 };
-use draw_items::{Item, Kind, Wait};
-use draw_sheets::{Frame, Row};
+use draw_items::{Journey, JourneyKind, Wait};
 use history_model::{Event, Step};
 use pci_command::NoMemory;
 use std::alloc::Global;
@@ -23,17 +29,17 @@ const AHEAD: &str = "z\" fill-opacity=\"0";
 pub fn add_key(
     alloc: Global,
     elements: &mut Vec<Element>,
-    columns: &Columns,
-    frame: &Frame,
+    canvas: &Canvas,
     row: &Row,
 ) -> Result<(), NoMemory>
-    ensures { OnOk result (elements.new.items ≡ elements.old.items ++ key_shapes columns.now frame.now row.now) }
+    ensures { OnOk result (elements.new.items ≡ elements.old.items ++
+        key_shapes canvas.now.columns.now canvas.now.frame.now row.now) }
 {
     if row.key {
-        add_mark(alloc, elements, "o", frame, row)?;
-        add_dotted_of(alloc, elements, columns, frame, row, &row.event)
+        add_mark(alloc, elements, "o", canvas.frame, row)?;
+        add_dotted_of(alloc, elements, canvas, row, &row.event)
     } else {
-        add_refused_mark(alloc, elements, frame, row)
+        add_refused_mark(alloc, elements, canvas.frame, row)
     }
 }
 
@@ -43,7 +49,8 @@ fn add_refused_mark(
     frame: &Frame,
     row: &Row,
 ) -> Result<(), NoMemory>
-    ensures { OnOk result (elements.new.items ≡ elements.old.items ++ refused_marks frame.now row.now) }
+    ensures { OnOk result (elements.new.items ≡ elements.old.items ++
+        refused_marks frame.now row.now) }
 {
     if row.refused {
         add_mark(alloc, elements, "z", frame, row)
@@ -59,7 +66,8 @@ fn add_mark(
     frame: &Frame,
     row: &Row,
 ) -> Result<(), NoMemory>
-    ensures { OnOk result (elements.new.items ≡ elements.old.items ++ mark_shapes class.now frame.now row.now) }
+    ensures { OnOk result (elements.new.items ≡ elements.old.items ++
+        mark_shapes class.now frame.now row.now) }
 {
     let mut text = String::new(alloc);
     let x = frame.text_x.saturating_sub(4);
@@ -71,23 +79,30 @@ fn add_mark(
 fn add_dotted_of(
     alloc: Global,
     elements: &mut Vec<Element>,
-    columns: &Columns,
-    frame: &Frame,
+    canvas: &Canvas,
     row: &Row,
     event: &Event,
 ) -> Result<(), NoMemory>
-    ensures { OnOk result (elements.new.items ≡ elements.old.items ++ dotted_shapes columns.now frame.now row.now event.now) }
+    ensures { OnOk result (elements.new.items ≡ elements.old.items ++
+        dotted_shapes canvas.now.columns.now canvas.now.frame.now row.now event.now) }
 {
     match *event {
         Event::Act {
+            bus,
             by,
             op,
             step,
             place,
-            ..
         } if is_claimed(step) => {
-            let act = Act::of(columns, by, op, step, place, row.item, row.taken)?;
-            add_dotted(alloc, elements, frame, row.n, &act)
+            let line = ActLine {
+                bus,
+                by,
+                op,
+                step,
+                place,
+            };
+            let act = Act::of(canvas.columns, line, row.item, row.taken)?;
+            add_dotted(alloc, elements, canvas.frame, row.n, &act)
         }
         Event::Act { .. } | Event::Arrive { .. } => Ok(()),
     }
@@ -101,7 +116,8 @@ fn add_dotted(
     n: u32,
     act: &Act,
 ) -> Result<(), NoMemory>
-    ensures { OnOk result (elements.new.items ≡ elements.old.items ++ dotted_to frame.now n act.now) }
+    ensures { OnOk result (elements.new.items ≡ elements.old.items ++
+        dotted_to frame.now n act.now) }
 {
     let mut text = String::new(alloc);
     let nearer = act.begin.min(act.end);
@@ -113,17 +129,7 @@ fn add_dotted(
 fn is_claimed(step: Step) -> bool
     ensures { result ≡ is_claimed step }
 {
-    match step {
-        Step::Land
-        | Step::Part(_)
-        | Step::Read(_)
-        | Step::Accept
-        | Step::Latch
-        | Step::Take(_)
-        | Step::Stall
-        | Step::TargetAbort => true,
-        Step::MasterAbort => false,
-    }
+    !matches!(step, Step::MasterAbort)
 }
 
 /// The rim of an item whose operation is in the chain of a line.
@@ -131,16 +137,16 @@ fn is_claimed(step: Step) -> bool
 pub fn add_item_rim(
     alloc: Global,
     elements: &mut Vec<Element>,
-    columns: &Columns,
-    frame: &Frame,
+    canvas: &Canvas,
     loud: bool,
-    item: &Item,
+    item: &Journey,
 ) -> Result<(), NoMemory>
-    ensures { OnOk result (elements.new.items ≡ elements.old.items ++ item_rims columns.now frame.now loud item.now) }
+    ensures { OnOk result (elements.new.items ≡ elements.old.items ++
+        item_rims canvas.now.columns.now canvas.now.frame.now loud item.now) }
 {
     if can_have_rim(item.kind) && loud {
-        let route = Route::of(columns, frame.end, item)?;
-        add_route_rim(alloc, elements, "g", frame, &route)
+        let route = DrawnRoute::of(canvas.columns, canvas.frame.end, item)?;
+        add_route_rim(alloc, elements, "g", canvas.frame, &route)
     } else {
         Ok(())
     }
@@ -151,7 +157,7 @@ fn add_route_rim(
     elements: &mut Vec<Element>,
     class: &str,
     frame: &Frame,
-    route: &Route,
+    route: &DrawnRoute,
 ) -> Result<(), NoMemory>
     ensures { OnOk result (elements.new.items
         ≡ elements.old.items ++ route_rim class.now frame.now route.now) }
@@ -165,13 +171,10 @@ fn add_route_rim(
     }
 }
 
-fn can_have_rim(kind: Kind) -> bool
+fn can_have_rim(kind: JourneyKind) -> bool
     ensures { result ≡ can_have_rim kind }
 {
-    match kind {
-        Kind::Post | Kind::Request | Kind::Completion => true,
-        Kind::Credit | Kind::Gone => false,
-    }
+    !matches!(kind, JourneyKind::Credit | JourneyKind::Gone)
 }
 
 /// The rim of an act whose operation is in the chain of a line.
@@ -179,35 +182,42 @@ fn can_have_rim(kind: Kind) -> bool
 pub fn add_act_rim(
     alloc: Global,
     elements: &mut Vec<Element>,
-    columns: &Columns,
-    frame: &Frame,
+    canvas: &Canvas,
     row: &Row,
 ) -> Result<(), NoMemory>
-    ensures { OnOk result (elements.new.items ≡ elements.old.items ++ act_rims columns.now frame.now row.now) }
+    ensures { OnOk result (elements.new.items ≡ elements.old.items ++
+        act_rims canvas.now.columns.now canvas.now.frame.now row.now) }
 {
-    add_act_rim_of(alloc, elements, columns, frame, row, &row.event)
+    add_act_rim_of(alloc, elements, canvas, row, &row.event)
 }
 
 fn add_act_rim_of(
     alloc: Global,
     elements: &mut Vec<Element>,
-    columns: &Columns,
-    frame: &Frame,
+    canvas: &Canvas,
     row: &Row,
     event: &Event,
 ) -> Result<(), NoMemory>
-    ensures { OnOk result (elements.new.items ≡ elements.old.items ++ act_rims_of columns.now frame.now row.now event.now) }
+    ensures { OnOk result (elements.new.items ≡ elements.old.items ++
+        act_rims_of canvas.now.columns.now canvas.now.frame.now row.now event.now) }
 {
     match *event {
         Event::Act {
+            bus,
             by,
             op,
             step,
             place,
-            ..
         } if is_claimed(step) && row.loud => {
-            let act = Act::of(columns, by, op, step, place, row.item, row.taken)?;
-            add_rim(alloc, elements, frame, row.n, &act)
+            let line = ActLine {
+                bus,
+                by,
+                op,
+                step,
+                place,
+            };
+            let act = Act::of(canvas.columns, line, row.item, row.taken)?;
+            add_rim(alloc, elements, canvas.frame, row.n, &act)
         }
         Event::Act { .. } | Event::Arrive { .. } => Ok(()),
     }
@@ -232,16 +242,16 @@ fn add_rim(
 pub fn add_ahead_rim(
     alloc: Global,
     elements: &mut Vec<Element>,
-    columns: &Columns,
-    frame: &Frame,
-    item: Option<Item>,
+    canvas: &Canvas,
+    item: Option<Journey>,
 ) -> Result<(), NoMemory>
-    ensures { OnOk result (elements.new.items ≡ elements.old.items ++ ahead_rims columns.now frame.now item) }
+    ensures { OnOk result (elements.new.items ≡ elements.old.items ++
+        ahead_rims canvas.now.columns.now canvas.now.frame.now item) }
 {
     match item {
         Some(item) => {
-            let route = Route::of(columns, frame.end, &item)?;
-            add_route_rim(alloc, elements, AHEAD, frame, &route)
+            let route = DrawnRoute::of(canvas.columns, canvas.frame.end, &item)?;
+            add_route_rim(alloc, elements, AHEAD, canvas.frame, &route)
         }
         None => Ok(()),
     }
@@ -252,17 +262,17 @@ pub fn add_ahead_rim(
 pub fn add_wait(
     alloc: Global,
     elements: &mut Vec<Element>,
-    columns: &Columns,
-    frame: &Frame,
+    canvas: &Canvas,
     pale: bool,
     wait: &Wait,
 ) -> Result<(), NoMemory>
-    ensures { OnOk result (elements.new.items ≡ elements.old.items ++ wait_shapes columns.now frame.now pale wait.now) }
+    ensures { OnOk result (elements.new.items ≡ elements.old.items ++
+        wait_shapes canvas.now.columns.now canvas.now.frame.now pale wait.now) }
 {
-    if wait.first < wait.last && is_seen(frame, wait.first, wait.last) {
+    if wait.first < wait.last && is_seen(canvas.frame, wait.first, wait.last) {
         let mut text = String::new(alloc);
-        let x = columns.master(wait.op.master);
-        print_wait(&mut text, frame.first, x, pale, wait)?;
+        let x = canvas.columns.master(wait.op.master);
+        print_wait(&mut text, canvas.frame.first, x, pale, wait)?;
         add_between(elements, wait.first, wait.last, text)
     } else {
         Ok(())
@@ -274,32 +284,33 @@ pub fn add_wait(
 pub fn add_item(
     alloc: Global,
     elements: &mut Vec<Element>,
-    board: &Board,
-    columns: &Columns,
-    frame: &Frame,
+    canvas: &Canvas,
     pale: bool,
-    item: &Item,
+    item: &Journey,
 ) -> Result<(), NoMemory>
-    ensures { OnOk result (elements.new.items ≡ elements.old.items ++ item_shapes board.now columns.now frame.now pale item.now) }
+    ensures { OnOk result (elements.new.items ≡ elements.old.items ++
+        item_shapes canvas.now.board.now canvas.now.columns.now canvas.now.frame.now
+        pale item.now) }
 {
-    let route = Route::of(columns, frame.end, item)?;
-    add_routed(alloc, elements, board, frame, pale, item, &route)
+    let route = DrawnRoute::of(canvas.columns, canvas.frame.end, item)?;
+    add_routed(alloc, elements, canvas, pale, item, &route)
 }
 
 fn add_routed(
     alloc: Global,
     elements: &mut Vec<Element>,
-    board: &Board,
-    frame: &Frame,
+    canvas: &Canvas,
     pale: bool,
-    item: &Item,
-    route: &Route,
+    item: &Journey,
+    route: &DrawnRoute,
 ) -> Result<(), NoMemory>
-    ensures { OnOk result (elements.new.items ≡ elements.old.items ++ routed board.now frame.now pale item.now route.now) }
+    ensures { OnOk result (elements.new.items ≡ elements.old.items ++
+        routed canvas.now.board.now canvas.now.frame.now pale item.now route.now) }
 {
-    if is_seen(frame, route.sent, route.left) {
+    if is_seen(canvas.frame, route.sent, route.left) {
         let mut text = String::new(alloc);
-        print_item(&mut text, board, frame.first, pale, item, route)?;
+        let first = canvas.frame.first;
+        print_item(&mut text, canvas.board, first, pale, item, route)?;
         add_between(elements, route.sent, route.left, text)
     } else {
         Ok(())
@@ -311,31 +322,30 @@ fn add_routed(
 pub fn add_act(
     alloc: Global,
     elements: &mut Vec<Element>,
-    board: &Board,
-    columns: &Columns,
-    frame: &Frame,
+    canvas: &Canvas,
     row: &Row,
 ) -> Result<(), NoMemory>
-    ensures { OnOk result (elements.new.items ≡ elements.old.items ++ act_shapes board.now columns.now frame.now row.now) }
+    ensures { OnOk result (elements.new.items ≡ elements.old.items ++
+        act_shapes canvas.now.board.now canvas.now.columns.now canvas.now.frame.now row.now) }
 {
     if row.refused {
-        add_refused(alloc, elements, columns, frame, row)
+        add_refused(alloc, elements, canvas, row)
     } else {
-        add_act_of(alloc, elements, board, columns, frame, row, &row.event)
+        add_act_of(alloc, elements, canvas, row, &row.event)
     }
 }
 
 fn add_refused(
     alloc: Global,
     elements: &mut Vec<Element>,
-    columns: &Columns,
-    frame: &Frame,
+    canvas: &Canvas,
     row: &Row,
 ) -> Result<(), NoMemory>
-    ensures { OnOk result (elements.new.items ≡ elements.old.items ++ refused_shapes columns.now frame.now row.now) }
+    ensures { OnOk result (elements.new.items ≡ elements.old.items ++
+        refused_shapes canvas.now.columns.now canvas.now.frame.now row.now) }
 {
-    let x = refused_place(columns, row.item, &row.event)?;
-    add_cross(alloc, elements, frame, row.n, x)
+    let x = refused_place(canvas.columns, row.item, &row.event)?;
+    add_cross(alloc, elements, canvas.frame, row.n, x)
 }
 
 fn add_cross(
@@ -355,13 +365,13 @@ fn add_cross(
 fn add_act_of(
     alloc: Global,
     elements: &mut Vec<Element>,
-    board: &Board,
-    columns: &Columns,
-    frame: &Frame,
+    canvas: &Canvas,
     row: &Row,
     event: &Event,
 ) -> Result<(), NoMemory>
-    ensures { OnOk result (elements.new.items ≡ elements.old.items ++ act_shapes_of board.now columns.now frame.now row.now event.now) }
+    ensures { OnOk result (elements.new.items ≡ elements.old.items ++
+        act_shapes_of canvas.now.board.now canvas.now.columns.now canvas.now.frame.now row.now
+        event.now) }
 {
     match *event {
         Event::Act {
@@ -371,21 +381,21 @@ fn add_act_of(
             step,
             place,
         } => {
-            let act = Act::of(columns, by, op, step, place, row.item, row.taken)?;
-            let mut text = String::new(alloc);
-            print_act(
-                &mut text,
-                board,
-                columns,
-                frame.first,
-                row.n,
-                row.pale,
+            let line = ActLine {
                 bus,
                 by,
                 op,
                 step,
-                &act,
-            )?;
+                place,
+            };
+            let act = Act::of(canvas.columns, line, row.item, row.taken)?;
+            let in_row = ActRow {
+                first: canvas.frame.first,
+                n: row.n,
+                pale: row.pale,
+            };
+            let mut text = String::new(alloc);
+            print_act(&mut text, canvas.board, canvas.columns, in_row, line, &act)?;
             add_in_row(elements, row.n, text)
         }
         Event::Arrive { .. } => Ok(()),
@@ -402,7 +412,8 @@ pub fn add_bracket(
     read: u32,
     track: Option<usize>,
 ) -> Result<(), NoMemory>
-    ensures { OnOk result (elements.new.items ≡ elements.old.items ++ bracket_shapes frame.now landed read track) }
+    ensures { OnOk result (elements.new.items ≡ elements.old.items ++
+        bracket_shapes frame.now landed read track) }
 {
     match track {
         Some(track) => add_bracket_on(alloc, elements, frame, landed, read, track as u64),
@@ -418,7 +429,8 @@ fn add_bracket_on(
     read: u32,
     track: u64,
 ) -> Result<(), NoMemory>
-    ensures { OnOk result (elements.new.items ≡ elements.old.items ++ bracket_on frame.now landed read track) }
+    ensures { OnOk result (elements.new.items ≡ elements.old.items ++
+        bracket_on frame.now landed read track) }
 {
     let low = landed.min(read);
     let high = landed.max(read);
@@ -426,10 +438,15 @@ fn add_bracket_on(
         return Ok(());
     }
     let x = frame.told_x;
-    let right = sum(x, sum(product(10, track)?, 10)?)?;
-    let tip = sum(x, 4)?;
+    let way = BracketWay {
+        x,
+        right: sum(x, sum(product(10, track)?, 10)?)?,
+        tip: sum(x, 4)?,
+        landed,
+        read,
+    };
     let mut text = String::new(alloc);
-    print_bracket(&mut text, frame.first, x, right, landed, read, tip)?;
+    print_bracket(&mut text, frame.first, way)?;
     add_between(elements, low, high, text)
 }
 
@@ -438,13 +455,13 @@ fn add_bracket_on(
 pub fn add_row(
     alloc: Global,
     elements: &mut Vec<Element>,
-    board: &Board,
-    frame: &Frame,
+    canvas: &Canvas,
     row: &Row,
 ) -> Result<(), NoMemory>
-    ensures { OnOk result (elements.new.items ≡ elements.old.items ++ list_shapes board.now frame.now row.now) }
+    ensures { OnOk result (elements.new.items ≡ elements.old.items ++
+        list_shapes canvas.now.board.now canvas.now.frame.now row.now) }
 {
     let mut text = String::new(alloc);
-    print_row(alloc, &mut text, board, frame, row)?;
+    print_row(alloc, &mut text, canvas.board, canvas.frame, row)?;
     add_in_row(elements, row.n, text)
 }

@@ -61,3 +61,6 @@ ends_next h e n old new counted tells next = record {
   lands = λ q.
       next.lands q ∙ ap (λ x. cond (is_land_of q e && (x == 0)) n x) (tells.lands q) ∙ ap (λ k. cond (is_land_of q e && (told.land_event h q == 0)) k (told.land_event h q)) counted;
 }
+
+-- what an event wants
+pub ruleset of_event = (read_next, land_next, other_next, arrival_next)

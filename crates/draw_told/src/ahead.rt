@@ -6,14 +6,14 @@ ghost use Rattle.draw_told.specs.Ahead.{ahead_of_event, ahead_in};
 
 use crate::close::Close;
 use board_model::{Board, end_of};
-use draw_items::{Item, Kind, Traffic};
+use draw_items::{Journey, JourneyKind, Traffic};
 use history_model::{By, Carried, Event, Rule, Why};
 use machine_steps::may_go;
 use pci_command::Outcome;
 
 /// What stands before the item of the last of these events, where that is why it is not allowed.
 #[tactic(auto, unfolding(crate::specs::Ahead::ahead_in))]
-pub fn ahead_in(board: &Board, traffic: &Traffic, close: Close, events: &[Event]) -> Option<Item>
+pub fn ahead_in(board: &Board, traffic: &Traffic, close: Close, events: &[Event]) -> Option<Journey>
     ensures { result ≡ ahead_in board.now traffic.now close events.now }
 {
     match close {
@@ -25,7 +25,12 @@ pub fn ahead_in(board: &Board, traffic: &Traffic, close: Close, events: &[Event]
     }
 }
 
-fn ahead_of_event(board: &Board, traffic: &Traffic, why: Why, event: Option<Event>) -> Option<Item>
+fn ahead_of_event(
+    board: &Board,
+    traffic: &Traffic,
+    why: Why,
+    event: Option<Event>,
+) -> Option<Journey>
     ensures { result ≡ ahead_of_event board.now traffic.now why event }
 {
     match event {
@@ -38,7 +43,7 @@ fn ahead_of_event(board: &Board, traffic: &Traffic, why: Why, event: Option<Even
 }
 
 /// The item that the event would have to do with.
-fn waiting_in(board: &Board, traffic: &Traffic, why: Why, event: Event) -> Option<Item>
+fn waiting_in(board: &Board, traffic: &Traffic, why: Why, event: Event) -> Option<Journey>
     ensures { result ≡ waiting_in board.now why event traffic.now }
 {
     match why {
@@ -48,7 +53,7 @@ fn waiting_in(board: &Board, traffic: &Traffic, why: Why, event: Event) -> Optio
     }
 }
 
-fn unpresented(board: &Board, traffic: &Traffic, event: Event) -> Option<Item>
+fn unpresented(board: &Board, traffic: &Traffic, event: Event) -> Option<Journey>
     ensures { result ≡ unpresented board.now event traffic.now }
 {
     match event {
@@ -66,7 +71,7 @@ fn ends_on(board: &Board, bus: u8, by: By) -> bool
     }
 }
 
-fn retried(traffic: &Traffic, event: Event) -> Option<Item>
+fn retried(traffic: &Traffic, event: Event) -> Option<Journey>
     ensures { result ≡ retried event traffic.now }
 {
     match event {
@@ -75,7 +80,7 @@ fn retried(traffic: &Traffic, event: Event) -> Option<Item>
     }
 }
 
-fn first_ahead(board: &Board, items: &[Item], item: Option<Item>) -> Option<Item>
+fn first_ahead(board: &Board, items: &[Journey], item: Option<Journey>) -> Option<Journey>
     ensures { result ≡ first_ahead board.now items.now item }
 {
     match item {
@@ -84,7 +89,7 @@ fn first_ahead(board: &Board, items: &[Item], item: Option<Item>) -> Option<Item
     }
 }
 
-fn first_before(board: &Board, items: &[Item], item: Item) -> Option<Item>
+fn first_before(board: &Board, items: &[Journey], item: Journey) -> Option<Journey>
     ensures { result ≡ find (is_ahead board.now item) items.now }
 {
     items
@@ -94,33 +99,32 @@ fn first_before(board: &Board, items: &[Item], item: Item) -> Option<Item>
 }
 
 /// Whether it stands where the item does, came before it, and holds it up.
-fn is_ahead(board: &Board, item: Item, older: Item) -> bool
+fn is_ahead(board: &Board, item: Journey, older: Journey) -> bool
     ensures { result ≡ is_ahead board.now item older }
 {
     older.is_standing(item.lane) && older.came < item.came && is_held(board, item, older)
 }
 
 /// What a completion that is not given waits for is a posted write.
-fn is_held(board: &Board, item: Item, older: Item) -> bool
+fn is_held(board: &Board, item: Journey, older: Journey) -> bool
     ensures { result ≡ is_held board.now item older }
 {
     match item.kind {
-        Kind::Completion => is_post(older.kind),
-        Kind::Post | Kind::Request | Kind::Credit | Kind::Gone => waits_for(board, item, older),
+        JourneyKind::Completion => is_post(older.kind),
+        JourneyKind::Post | JourneyKind::Request | JourneyKind::Credit | JourneyKind::Gone => {
+            waits_for(board, item, older)
+        }
     }
 }
 
-fn is_post(kind: Kind) -> bool
+fn is_post(kind: JourneyKind) -> bool
     ensures { result ≡ is_post kind }
 {
-    match kind {
-        Kind::Post => true,
-        Kind::Request | Kind::Completion | Kind::Credit | Kind::Gone => false,
-    }
+    matches!(kind, JourneyKind::Post)
 }
 
 /// Whether the lane does not present the item with this older one alone before it.
-fn waits_for(board: &Board, item: Item, older: Item) -> bool
+fn waits_for(board: &Board, item: Journey, older: Journey) -> bool
     ensures { result ≡ waits_for board.now item older }
 {
     let bus = end_of(board, item.lane);
@@ -129,21 +133,21 @@ fn waits_for(board: &Board, item: Item, older: Item) -> bool
 }
 
 /// What a lane has of an item that stands; slots and outcomes do not matter here.
-fn carried_of(item: Item) -> Carried
+fn carried_of(item: Journey) -> Carried
     ensures { result ≡ carried_of item }
 {
     match item.kind {
-        Kind::Post => Carried::Post { op: item.op },
-        Kind::Request => Carried::Ask {
+        JourneyKind::Post => Carried::Post { op: item.op },
+        JourneyKind::Request => Carried::Ask {
             op: item.op,
             slot: 0,
         },
-        Kind::Completion => Carried::Done {
+        JourneyKind::Completion => Carried::Done {
             op: item.op,
             slot: 0,
             outcome: Outcome::Written,
         },
-        Kind::Credit => Carried::Room,
-        Kind::Gone => Carried::Gone { slot: 0 },
+        JourneyKind::Credit => Carried::Room,
+        JourneyKind::Gone => Carried::Gone { slot: 0 },
     }
 }

@@ -37,7 +37,7 @@ impl Ends {
     }
 
     /// Event number n happens.
-    #[tactic(auto, using(crate::proofs::EndLemmas::read_next, crate::proofs::EndLemmas::land_next, crate::proofs::EndLemmas::other_next, crate::proofs::EndLemmas::arrival_next))]
+    #[tactic(auto, using(crate::proofs::EndLemmas::of_event))]
     pub(crate) fn happen(&mut self, n: u32, event: &Event) -> Result<(), NoMemory>
         ensures { OnOk result (EndsNext n event.now self.old self.new) }
     {

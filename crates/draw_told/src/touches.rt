@@ -199,44 +199,44 @@ fn record_landed(
             step,
             place,
             ..
-        } => record_place(
-            alloc,
-            writes,
-            board,
-            n,
-            gone_of(gone, op),
-            bus,
-            op,
-            step,
-            place,
-        ),
+        } => {
+            let gone = gone_of(gone, op);
+            let brought = PhasesBrought { n, gone, op, step };
+            record_place(alloc, writes, board, brought, bus, place)
+        }
         Event::Arrive { .. } => Ok(()),
     }
+}
+
+/// What an event brings: its number, how much of the operation went through before, and its step.
+#[derive(Clone, Copy)]
+struct PhasesBrought {
+    n: u32,
+    gone: u128,
+    op: OpId,
+    step: Step,
 }
 
 fn record_place(
     alloc: Global,
     writes: &mut TouchTable,
     board: &Board,
-    n: u32,
-    gone: u128,
+    brought: PhasesBrought,
     bus: u8,
-    op: OpId,
-    step: Step,
     place: Place,
 ) -> Result<(), NoMemory>
-    requires { gone ≤ 2 ^ 100 }
-    ensures { OnOk result (Adds writes.old writes.new
-        (λ o. if same_op op o then place_touches board.now n gone bus op step place else [])) }
+    requires { brought.gone ≤ 2 ^ 100 }
+    ensures { OnOk result (Adds writes.old writes.new (λ o. if same_op brought.op o then
+        place_touches board.now brought.n brought.gone bus brought.op brought.step place else [])) }
 {
     match place {
         Place::Target(target) => {
-            if !lands(step) {
+            if !lands(brought.step) {
                 return Ok(());
             }
-            match request_of(board, op, bus) {
+            match request_of(board, brought.op, bus) {
                 None => Ok(()),
-                Some(request) => record_request(alloc, writes, &request, n, gone, op, step, target),
+                Some(request) => record_request(alloc, writes, &request, brought, target),
             }
         }
         Place::Header(_) | Place::Lane(_) | Place::Nobody => Ok(()),
@@ -247,24 +247,22 @@ fn record_request(
     alloc: Global,
     writes: &mut TouchTable,
     request: &Request,
-    n: u32,
-    gone: u128,
-    op: OpId,
-    step: Step,
+    brought: PhasesBrought,
     target: u16,
 ) -> Result<(), NoMemory>
-    requires { gone ≤ 2 ^ 100 }
-    ensures { OnOk result (Adds writes.old writes.new
-        (λ o. if same_op op o then request_touches n gone step target request.now else [])) }
+    requires { brought.gone ≤ 2 ^ 100 }
+    ensures { OnOk result (Adds writes.old writes.new (λ o. if same_op brought.op o then
+        request_touches brought.n brought.gone brought.step target request.now else [])) }
 {
     let space = request.command.space();
     let first = Word {
         target,
         space,
-        address: dword_address(space, u128::from(request.address) + 4 * gone),
+        address: dword_address(space, u128::from(request.address) + 4 * brought.gone),
     };
-    let phases = brought_by(step, left_of(request.phases.as_slice(), gone));
-    record_phases(alloc, writes, n, first, op, phases.len())
+    let left = left_of(request.phases.as_slice(), brought.gone);
+    let phases = brought_by(brought.step, left);
+    record_phases(alloc, writes, brought.n, first, brought.op, phases.len())
 }
 
 #[tactic(auto, using(crate::proofs::TouchLemmas::adds_none, crate::proofs::TouchLemmas::adds_more))]

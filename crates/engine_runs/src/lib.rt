@@ -1,6 +1,7 @@
 //! The engine that works the buses of a board one after another, phase by phase: in each phase each
-//! bus does one turn, and then all lanes are settled, so that what is sent in a phase arrives in the
-//! next one. What all buses did is a complete run of the board, and so it is on threads (`rings`).
+//! bus does one turn, and then all lanes are settled, so that what is sent in a phase arrives in
+//! the next one. What all buses did is a complete run of the board, and so it is on threads
+//! (`rings`).
 #![tactic(auto)]
 
 mod first;

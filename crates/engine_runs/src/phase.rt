@@ -15,7 +15,8 @@ pub(crate) fn work_all<L: LaneEnd + Drop>(
 ) -> Result<bool, NoMemory>
     requires valid { IsValid board.now }
     requires ready { AreReady (all_seen workers.old) }
-    ensures { IfOk result (λ busy. AllWorked L.had L.sent L.got L.kept L.paired board.now phase (all_seen workers.old) (all_seen workers.new) busy) }
+    ensures { IfOk result (λ busy. AllWorked L.had L.sent L.got L.kept L.paired board.now phase
+        (all_seen workers.old) (all_seen workers.new) busy) }
 {
     let mut busy = false;
     for worker in workers.iter_mut() {
@@ -34,7 +35,8 @@ fn work<L: LaneEnd + Drop>(
 ) -> Result<bool, NoMemory>
     requires valid { IsValid board.now }
     requires ready { IsReady (seen worker.old) }
-    ensures { IfOk result (λ busy. Worked L.had L.sent L.got L.kept L.paired board.now phase (seen worker.old) (seen worker.new) busy) }
+    ensures { IfOk result (λ busy. Worked L.had L.sent L.got L.kept L.paired board.now phase
+        (seen worker.old) (seen worker.new) busy) }
 {
     worker.reserve()?;
     worker.begin(phase);

@@ -11,9 +11,9 @@ use pci_command::{List, NoMemory};
 use std::alloc::Global;
 use std::thread::Threads;
 
-/// A complete run of the board, the first event first: in each phase each bus does turns in a thread
-/// of its own, and what it sends may come to other buses in the same phase. The gate is told of the
-/// turns. Which complete run it is depends on how the threads run.
+/// A complete run of the board, the first event first: in each phase each bus does turns in a
+/// thread of its own, and what it sends may come to other buses in the same phase. The gate is told
+/// of the turns. Which complete run it is depends on how the threads run.
 pub fn threaded_run<R: Threads + Sync, G: Gate + Sync>(
     rt: &R,
     alloc: Global,

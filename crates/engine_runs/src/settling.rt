@@ -18,7 +18,8 @@ pub fn settle_all<L: LaneEnd + Drop>(workers: &mut [Worker<L>], above: &[Above])
     requires laid { AreLaidOut (all_seen workers.old) }
     requires above { AreAbove (all_seen workers.old) above.now }
     requires may { AllMaySettle L.had L.sent L.got L.kept L.paired (all_seen workers.old) }
-    ensures { AllSettled L.had L.sent L.got L.kept L.paired (all_seen workers.old) (all_seen workers.new) }
+    ensures { AllSettled L.had L.sent L.got L.kept L.paired (all_seen workers.old)
+        (all_seen workers.new) }
 {
     for (place, up) in above.iter().enumerate() {
         settle_one(workers, *up, place + 1);
@@ -28,7 +29,8 @@ pub fn settle_all<L: LaneEnd + Drop>(workers: &mut [Worker<L>], above: &[Above])
 /// Settles the bridge to the bus of the worker at the place.
 fn settle_one<L: LaneEnd + Drop>(workers: &mut [Worker<L>], above: Above, place: usize)
     requires { CanMeet L.had L.sent L.got L.kept L.paired (all_seen workers.old) above place }
-    ensures { SettlesOne L.had L.sent L.got L.kept L.paired (all_seen workers.old) above place (all_seen workers.new) }
+    ensures { SettlesOne L.had L.sent L.got L.kept L.paired (all_seen workers.old) above place
+        (all_seen workers.new) }
 {
     let (earlier, later) = workers.split_at_mut(place);
     let upper = &mut earlier[above.worker];

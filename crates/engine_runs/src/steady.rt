@@ -24,8 +24,9 @@ use pci_command::{List, NoMemory};
 use std::alloc::Global;
 
 /// Works the buses of the board one after another, phase by phase: in each phase each bus does one
-/// turn, and then all lanes are settled. It ends after a phase in which no bus did anything; what all
-/// buses did is then a complete run, no longer than the board's bound. The first event comes first.
+/// turn, and then all lanes are settled. It ends after a phase in which no bus did anything; what
+/// all buses did is then a complete run, no longer than the board's bound. The first event comes
+/// first.
 pub fn run_steady(alloc: Global, tree: &Tree) -> Result<List<Event>, NoMemory>
     ensures run { IfOk result (λ events. Run tree.now (history_of events)) }
     ensures complete { IfOk result (λ events. Complete tree.now (history_of events)) }
@@ -42,7 +43,8 @@ pub fn run_steady(alloc: Global, tree: &Tree) -> Result<List<Event>, NoMemory>
 /// More phases than there ever are: each but the last one makes an event.
 const TOO_MANY_PHASES: u32 = 500_001;
 
-/// Phase after phase, until one makes no event: what all workers did is a complete run of the board.
+/// Phase after phase, until one makes no event: what all workers did is a complete run of the
+/// board.
 fn run_all<L: LaneEnd + Drop>(
     alloc: Global,
     board: &Board,
@@ -51,7 +53,8 @@ fn run_all<L: LaneEnd + Drop>(
 ) -> Result<List<Event>, NoMemory>
     requires valid { IsValid board.now }
     requires crosses { CrossesAtSettle L.had L.got }
-    requires steady { IsSteady L.had L.sent L.got L.kept L.paired board.now (all_seen workers.items) above.now 0 }
+    requires steady { IsSteady L.had L.sent L.got L.kept L.paired board.now
+        (all_seen workers.items) above.now 0 }
     ensures { IfOk result (λ events. IsCompleteRun board.now (history_of events)) }
 {
     run_phases(workers.as_mut_slice(), board, above)?;
@@ -66,7 +69,8 @@ fn run_phases<L: LaneEnd + Drop>(
 ) -> Result<(), NoMemory>
     requires valid { IsValid board.now }
     requires crosses { CrossesAtSettle L.had L.got }
-    requires steady { IsSteady L.had L.sent L.got L.kept L.paired board.now (all_seen workers.old) above.now 0 }
+    requires steady { IsSteady L.had L.sent L.got L.kept L.paired board.now
+        (all_seen workers.old) above.now 0 }
     ensures { OnOk result (IsCompleteRun board.now (history_of_all (all_seen workers.new))) }
 {
     phases_are_few::<L>();
@@ -88,9 +92,12 @@ fn run_phase<L: LaneEnd + Drop>(
     requires valid { IsValid board.now }
     requires crosses { CrossesAtSettle L.had L.got }
     requires few { phases < 500001 }
-    requires steady { IsSteady L.had L.sent L.got L.kept L.paired board.now (all_seen workers.old) above.now phases }
-    ensures busy { IfOk result (λ busy. busy ≡ true → IsSteady L.had L.sent L.got L.kept L.paired board.now (all_seen workers.new) above.now (phases + 1)) }
-    ensures idle { IfOk result (λ busy. busy ≡ false → IsCompleteRun board.now (history_of_all (all_seen workers.new))) }
+    requires steady { IsSteady L.had L.sent L.got L.kept L.paired board.now (all_seen workers.old)
+        above.now phases }
+    ensures busy { IfOk result (λ busy. busy ≡ true → IsSteady L.had L.sent L.got L.kept L.paired
+        board.now (all_seen workers.new) above.now (phases + 1)) }
+    ensures idle { IfOk result (λ busy. busy ≡ false →
+        IsCompleteRun board.now (history_of_all (all_seen workers.new))) }
 {
     turns_stop_no_worker::<L>();
     settles_end_a_phase::<L>();

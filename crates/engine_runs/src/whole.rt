@@ -9,8 +9,8 @@ use law_delivered::laws_of_runs;
 use pci_command::{List, NoMemory};
 use std::alloc::Global;
 
-/// A complete run of the board, the first event first: in each phase each bus does one turn, and what
-/// it sends comes to other buses in the next one.
+/// A complete run of the board, the first event first: in each phase each bus does one turn, and
+/// what it sends comes to other buses in the next one.
 pub fn steady_run(alloc: Global, tree: &Tree) -> Result<List<Event>, NoMemory>
     ensures { IfOk result (CompleteRun tree.now) }
 {

@@ -1,7 +1,8 @@
 ghost use Rattle.std.specs.Prelude.{◌≡◌, length, map, IfOk};
 ghost use Rattle.std.specs.List.{AllByRecursion};
 ghost use Rattle.board_model.specs.Valid.{IsValid};
-ghost use Rattle.engine_segments.specs.First.{lanes_to, AreEndsOf, worker_of, IsAtFirst, AreAtFirst};
+ghost use Rattle.engine_segments.specs.First.{lanes_to, AreEndsOf, worker_of};
+ghost use Rattle.engine_segments.specs.First.{IsAtFirst, AreAtFirst};
 ghost use Rattle.engine_segments.specs.Parts.{BridgeFits, BusAtFirst};
 
 use crate::agents::{masters_on, targets_on};
@@ -25,7 +26,8 @@ pub fn segments<L: LaneEnd + Drop>(
     ends: Vec<Vec<L>>,
 ) -> Result<Vec<Segment<L>>, NoMemory>
     requires { AreEndsOf tree.now (map (λ at. at.items) ends.items) }
-    ensures { IfOk result (λ segments. AreAtFirst tree.now (map (λ at. at.items) ends.items) (map worker_of segments.items)) }
+    ensures { IfOk result (λ segments.
+        AreAtFirst tree.now (map (λ at. at.items) ends.items) (map worker_of segments.items)) }
 {
     let board = tree.board();
     bridges_fit(board.bridges.as_slice());

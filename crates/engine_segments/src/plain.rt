@@ -11,7 +11,8 @@ use std::alloc::Global;
 /// For each bus of the board, by increasing number, an end of a plain lane at each of its ports,
 /// with nothing in hand and nothing sent.
 pub fn plain_ends(alloc: Global, tree: &Tree) -> Result<Vec<Vec<PlainEnd>>, NoMemory>
-    ensures ends { IfOk result (λ ends. map (λ at. at.items) ends.items ≡ ends_alike tree.now (record { got = []; hand = []; sent = [] })) }
+    ensures ends { IfOk result (λ ends. map (λ at. at.items) ends.items ≡
+        ends_alike tree.now (record { got = []; hand = []; sent = [] })) }
     ensures fit { IfOk result (λ ends. AreEndsOf tree.now (map (λ at. at.items) ends.items)) }
 {
     let buses = buses(alloc, tree.board())?;
@@ -23,7 +24,8 @@ pub fn plain_ends(alloc: Global, tree: &Tree) -> Result<Vec<Vec<PlainEnd>>, NoMe
 }
 
 fn plain_ends_on(alloc: Global, board: &Board, bus: u8) -> Result<Vec<PlainEnd>, NoMemory>
-    ensures { IfOk result (λ ends. ends.items ≡ map (λ lane. record { got = []; hand = []; sent = [] }) (lanes_to board.now bus)) }
+    ensures { IfOk result (λ ends. ends.items ≡
+        map (λ lane. record { got = []; hand = []; sent = [] }) (lanes_to board.now bus)) }
 {
     let lanes = lanes_to(alloc, board, bus)?;
     let ends = lanes.iter().map(|_| PlainEnd::new()).collect(alloc)?;

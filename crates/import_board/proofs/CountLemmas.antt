@@ -10,3 +10,6 @@ capped_more count x rest = omega arith
 
 pub capped_inner : (count x rest : ℕ) → capped (min (count + capped x) (2 ^ 64 - 1) + rest) ≡ capped (count + (x + rest))
 capped_inner count x rest = omega arith
+
+-- what each sum wants
+pub ruleset of_sums = (capped_small, capped_more, capped_inner)

@@ -76,7 +76,7 @@ fn windows_left_of(fate: &BridgeFate) -> u64
     }
 }
 
-#[tactic(auto, using(crate::proofs::CountLemmas::capped_small, crate::proofs::CountLemmas::capped_more, crate::proofs::CountLemmas::capped_inner))]
+#[tactic(auto, using(crate::proofs::CountLemmas::of_sums))]
 pub(crate) fn windows_left(fates: &[BridgeFate]) -> u64
     ensures { result ≡ capped (total windows_left fates.now) }
 {
@@ -100,7 +100,7 @@ fn own_ranges_of(function: &Function, fate: &BridgeFate) -> u64
 }
 
 /// How many own ranges the bridges have that are taken.
-#[tactic(auto, using(crate::proofs::CountLemmas::capped_small, crate::proofs::CountLemmas::capped_more, crate::proofs::CountLemmas::capped_inner))]
+#[tactic(auto, using(crate::proofs::CountLemmas::of_sums))]
 fn own_ranges(functions: &[Function], fates: &[BridgeFate]) -> u64
     ensures { result ≡ capped (own_ranges functions.now fates.now) }
 {
@@ -130,7 +130,7 @@ fn count_not_placed(judged: &[Judged]) -> usize
     judged.iter().filter(|one| !is_placed(one.fate)).count()
 }
 
-#[tactic(auto, using(crate::proofs::CountLemmas::capped_small, crate::proofs::CountLemmas::capped_more, crate::proofs::CountLemmas::capped_inner))]
+#[tactic(auto, using(crate::proofs::CountLemmas::of_sums))]
 fn placed_in(functions: &[List<Judged>]) -> u64
     ensures { result ≡ capped (total ranges_placed functions.now) }
 {
@@ -143,7 +143,7 @@ fn placed_in(functions: &[List<Judged>]) -> u64
     count
 }
 
-#[tactic(auto, using(crate::proofs::CountLemmas::capped_small, crate::proofs::CountLemmas::capped_more, crate::proofs::CountLemmas::capped_inner))]
+#[tactic(auto, using(crate::proofs::CountLemmas::of_sums))]
 fn not_placed_in(functions: &[List<Judged>]) -> u64
     ensures { result ≡ capped (total ranges_not_placed functions.now) }
 {
@@ -156,7 +156,7 @@ fn not_placed_in(functions: &[List<Judged>]) -> u64
     count
 }
 
-#[tactic(auto, using(crate::proofs::CountLemmas::capped_small, crate::proofs::CountLemmas::capped_more, crate::proofs::CountLemmas::capped_inner))]
+#[tactic(auto, using(crate::proofs::CountLemmas::of_sums))]
 fn all_in(functions: &[List<Judged>]) -> u64
     ensures { result ≡ capped (total length functions.now) }
 {
@@ -192,7 +192,7 @@ fn left_of(device: &Device) -> u64
     }
 }
 
-#[tactic(auto, using(crate::proofs::CountLemmas::capped_small, crate::proofs::CountLemmas::capped_more, crate::proofs::CountLemmas::capped_inner))]
+#[tactic(auto, using(crate::proofs::CountLemmas::of_sums))]
 pub(crate) fn ranges_taken(devices: &[Device]) -> u64
     ensures { result ≡ capped (total ranges_taken devices.now) }
 {
@@ -205,7 +205,7 @@ pub(crate) fn ranges_taken(devices: &[Device]) -> u64
     count
 }
 
-#[tactic(auto, using(crate::proofs::CountLemmas::capped_small, crate::proofs::CountLemmas::capped_more, crate::proofs::CountLemmas::capped_inner))]
+#[tactic(auto, using(crate::proofs::CountLemmas::of_sums))]
 fn ranges_left_in(devices: &[Device]) -> u64
     ensures { result ≡ capped (total ranges_left devices.now) }
 {
@@ -245,7 +245,7 @@ fn functions_left_of(device: &Device) -> usize
     }
 }
 
-#[tactic(auto, using(crate::proofs::CountLemmas::capped_small, crate::proofs::CountLemmas::capped_more, crate::proofs::CountLemmas::capped_inner))]
+#[tactic(auto, using(crate::proofs::CountLemmas::of_sums))]
 fn functions_left_in(devices: &[Device]) -> u64
     ensures { result ≡ capped (total functions_left devices.now) }
 {

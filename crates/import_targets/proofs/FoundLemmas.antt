@@ -15,3 +15,6 @@ pub found_step : (function : Function) (many n steps : ℕ) → 0 < steps → na
     → found_from steps function many n ≡ found_at function many n ++ found_from (steps - 1) function many (behind function n)
 found_step function many n zero some e = absurd (omega (arith, some))
 found_step function many n (suc steps) some e = let less : suc steps - 1 ≡ steps = omega arith in rw (e, less) refl
+
+-- what the end of the list wants
+pub ruleset of_end = (found_none, found_end)

@@ -43,7 +43,7 @@ pub(crate) fn found_in(function: &Function) -> ArrayVec<FoundFunction, 6>
 }
 
 /// Of so many registers those from this number on, in so many steps at most.
-#[tactic(auto, using(crate::proofs::FoundLemmas::found_none, crate::proofs::FoundLemmas::found_end))]
+#[tactic(auto, using(crate::proofs::FoundLemmas::of_end))]
 fn push_from(
     found: &mut ArrayVec<FoundFunction, 6>,
     function: &Function,

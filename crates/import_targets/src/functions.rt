@@ -56,36 +56,43 @@ pub(crate) fn functions_behind(
     ensures placed { IfOk result
         (λ judged. placed.new.items ≡ placed.old.items ++ flat_map (placed_in bus) judged) }
 {
+    let on = OnBus { root, bridges, bus };
     let mut judged = Vec::new(alloc);
-    push_functions(alloc, &mut judged, root, bridges, bus, placed, 0, functions)?;
+    push_functions(alloc, &mut judged, &on, placed, 0, functions)?;
     Ok(List::from_vec(judged))
+}
+
+/// The bus of a device, the root bus of its machine, and the bridges that are taken.
+#[derive(Clone, Copy)]
+struct OnBus<'a> {
+    root: u8,
+    bridges: &'a [TakenBridge],
+    bus: u8,
 }
 
 /// The same, where their target uses so many registers by now.
 fn push_functions(
     alloc: Global,
     judged: &mut Vec<List<Judged>>,
-    root: u8,
-    bridges: &[TakenBridge],
-    bus: u8,
+    on: &OnBus,
     placed: &mut Vec<Placed>,
     used: u32,
     functions: &[Function],
 ) -> Result<(), NoMemory>
     requires { used ≤ 6 }
-    ensures judged { IfOk result (λ _. judged.new.items ≡ judged.old.items ++
-        functions_behind root bridges.now bus placed.old.items used functions.now) }
-    ensures placed { IfOk result
-        (λ _. placed.new.items ≡ placed.old.items ++ flat_map (placed_in bus)
-        (functions_behind root bridges.now bus placed.old.items used functions.now)) }
+    ensures judged { IfOk result (λ _. judged.new.items ≡ judged.old.items ++ functions_behind
+        on.now.root on.now.bridges.now on.now.bus placed.old.items used functions.now) }
+    ensures placed { IfOk result (λ _. placed.new.items ≡ placed.old.items ++
+        flat_map (placed_in on.now.bus) (functions_behind
+        on.now.root on.now.bridges.now on.now.bus placed.old.items used functions.now)) }
 {
     match functions.split_first() {
         None => Ok(()),
         Some((function, behind)) => {
             let mut later = used;
-            let own = judged_behind(alloc, root, bridges, bus, placed, &mut later, function)?;
+            let own = judged_behind(alloc, on, placed, &mut later, function)?;
             judged.push(own)?;
-            push_functions(alloc, judged, root, bridges, bus, placed, later, behind)
+            push_functions(alloc, judged, on, placed, later, behind)
         }
     }
 }
@@ -94,69 +101,61 @@ fn push_functions(
 /// registers are used.
 fn judged_behind(
     alloc: Global,
-    root: u8,
-    bridges: &[TakenBridge],
-    bus: u8,
+    on: &OnBus,
     placed: &mut Vec<Placed>,
     used: &mut u32,
     function: &Function,
 ) -> Result<List<Judged>, NoMemory>
     requires { used.old ≤ 6 }
-    ensures judged { IfOk result (λ judged. judged ≡ judged_behind root bridges.now bus function.now
+    ensures judged { IfOk result (λ judged. judged ≡ judged_behind
+        on.now.root on.now.bridges.now on.now.bus function.now
         placed.old.items used.old (found_in function.now)) }
     ensures placed { IfOk result
-        (λ judged. placed.new.items ≡ placed.old.items ++ placed_in bus judged) }
+        (λ judged. placed.new.items ≡ placed.old.items ++ placed_in on.now.bus judged) }
     ensures used { IfOk result (λ judged. used.new ≡ used.old + used_in judged) }
     ensures few { used.new ≤ 6 }
 {
     let found = found_in(function);
     let mut judged = Vec::new(alloc);
-    push_judged(
-        &mut judged,
-        root,
-        bridges,
-        bus,
-        placed,
-        used,
-        function,
-        found.as_slice(),
-    )?;
+    push_judged(&mut judged, on, placed, used, function, found.as_slice())?;
     Ok(List::from_vec(judged))
 }
 
 /// The same of the registers that are left.
 fn push_judged(
     judged: &mut Vec<Judged>,
-    root: u8,
-    bridges: &[TakenBridge],
-    bus: u8,
+    on: &OnBus,
     placed: &mut Vec<Placed>,
     used: &mut u32,
     function: &Function,
     found: &[FoundFunction],
 ) -> Result<(), NoMemory>
     requires { used.old ≤ 6 }
-    ensures judged { IfOk result (λ _. judged.new.items ≡ judged.old.items ++
-        judged_behind root bridges.now bus function.now placed.old.items used.old found.now) }
-    ensures placed { IfOk result (λ _. placed.new.items ≡ placed.old.items ++ placed_in bus
-        (judged_behind root bridges.now bus function.now placed.old.items used.old found.now)) }
-    ensures used { IfOk result (λ _. used.new ≡ used.old + used_in
-        (judged_behind root bridges.now bus function.now placed.old.items used.old found.now)) }
+    ensures judged { IfOk result (λ _. judged.new.items ≡ judged.old.items ++ judged_behind
+        on.now.root on.now.bridges.now on.now.bus function.now
+        placed.old.items used.old found.now) }
+    ensures placed { IfOk result (λ _. placed.new.items ≡ placed.old.items ++
+        placed_in on.now.bus (judged_behind
+        on.now.root on.now.bridges.now on.now.bus function.now
+        placed.old.items used.old found.now)) }
+    ensures used { IfOk result (λ _. used.new ≡ used.old + used_in (judged_behind
+        on.now.root on.now.bridges.now on.now.bus function.now
+        placed.old.items used.old found.now)) }
     ensures few { used.new ≤ 6 }
 {
     match found.split_first() {
         None => Ok(()),
         Some((one, behind)) => {
             let before = Before {
-                root,
-                bridges,
+                root: on.root,
+                bridges: on.bridges,
                 placed: placed.as_slice(),
                 used: *used,
             };
-            let fate = range_fate(before, bus, function, one);
-            place(placed, used, bus, one.space, fate)?;
+            let fate = range_fate(before, on.bus, function, one);
+            place(placed, used, on.bus, one.space, fate)?;
             judged.push(Judged { found: *one, fate })?;
-            push_judged(judged, root, bridges, bus, placed, used, function, behind)
+            push_judged(judged, on, placed, used, function, behind)
         }
     }
 }

@@ -8,11 +8,11 @@ use Rattle.std.specs.declared.cmp.Ordering.{Ordering}
 use Rattle.std.specs.declared.cmp.Ordering.TheVariants.{Less, Equal, Greater}
 use Rattle.std.specs.Ordering.{nat_cmp, ordering_then, is_eq}
 use Rattle.std.specs.List.{list_any}
-use Rattle.import_text.specs.declared.slot.Slot.{Slot}
+use Rattle.import_text.specs.declared.slot.DeviceAddress.{DeviceAddress}
 use Rattle.import_text.specs.declared.function.Function.{Function}
 use Rattle.import_text.specs.Functions.{is_same_slot, has_slot, repeated_after}
 
-abbrev pub order : Slot → Slot → Ordering
+abbrev pub order : DeviceAddress → DeviceAddress → Ordering
 order a b = ordering_then (nat_cmp a.domain b.domain) (ordering_then (nat_cmp a.bus b.bus) (ordering_then (nat_cmp a.device b.device) (nat_cmp a.function b.function)))
 
 same_flip : (m n : ℕ) → (m == n) ≡ (n == m)
@@ -39,7 +39,7 @@ last_same m n =
       | false ↦ λ more. rw (← same_flip m n) (elim (m == n) as Q [ true ↦ refl | false ↦ refl ])
     ]) refl
 
-order_same : (a b : Slot) → is_eq (order a b) ≡ is_same_slot b a
+order_same : (a b : DeviceAddress) → is_eq (order a b) ≡ is_same_slot b a
 order_same a b =
     then_same a.domain b.domain _
     ∙ ap (λ t. (b.domain == a.domain) && t) (then_same a.bus b.bus _
@@ -62,7 +62,7 @@ any_more false true = refl
 any_more false false = refl
 
 -- one slot more is seen
-pub seen_more : (slot : Slot) (functions : List Function) (i : ℕ) (function : Function) (old new : Bool) → i < length functions → function ≡ get_or functions i function
+pub seen_more : (slot : DeviceAddress) (functions : List Function) (i : ℕ) (function : Function) (old new : Bool) → i < length functions → function ≡ get_or functions i function
     → old ≡ list_any (has_slot slot) (take i functions) → new ≡ cond (is_eq (order function.slot slot)) true old → new ≡ list_any (has_slot slot) (take (i + 1) functions)
 seen_more slot functions i function old new inside is was now =
     let item : take (i + 1) functions ≡ take i functions ++ function ∷ [] = take_more functions i function inside ∙ ap (λ (f : Function). take i functions ++ f ∷ []) (sym is) in

@@ -1,7 +1,7 @@
 -- What each line of the text is: a slot, a row, a region, a capability, or passed over.
 use Rattle.std.specs.Prelude.{ℕ, ◌-◌, List, Option, Some, None, map, take, length, slice_index, ◌==◌, ◌&&◌, nat_lt, if◌then◌else◌}
 use Rattle.board_text.specs.Lines.{lines_of}
-use Rattle.import_text.specs.declared.slot.Slot.{Slot as Place}
+use Rattle.import_text.specs.declared.slot.DeviceAddress.{DeviceAddress}
 use Rattle.import_text.specs.declared.capability.CapabilityKind.{CapabilityKind}
 use Rattle.import_text.specs.declared.entry.Entry.{Entry}
 use Rattle.import_text.specs.declared.entry.Entry.TheVariants.{Slot, Row, Region, Capability, Other}
@@ -26,7 +26,7 @@ region_entry None line = capability_entry (kind_of line)
 region_entry (Some told) line = Region (region_number line) told
 
 -- a slot, else a row, else as above
-abbrev pub slot_entry : Option Place → List ℕ → Entry
+abbrev pub slot_entry : Option DeviceAddress → List ℕ → Entry
 slot_entry None line = if is_row line then Row (offset_of line) (row_bytes line) else region_entry (region_size line) line
 slot_entry (Some place) line = Slot place (name_of line)
 

@@ -1,7 +1,7 @@
 -- The functions of a text, or its first fault.
 use Rattle.std.specs.Prelude.{◌≡◌, ℕ, Bool, true, false, ◌+◌, List, [], ◌∷◌, ◌++◌, length, take, find, Option, Some, None, Result, Ok, Err, ◌==◌, ◌&&◌, not, nat_lt, if◌then◌else◌}
 use Rattle.std.specs.List.{position_or_len, list_any}
-use Rattle.import_text.specs.declared.slot.Slot.{Slot as Place}
+use Rattle.import_text.specs.declared.slot.DeviceAddress.{DeviceAddress}
 use Rattle.import_text.specs.declared.capability.CapabilityKind.{CapabilityKind}
 use Rattle.import_text.specs.declared.entry.Entry.{Entry}
 use Rattle.import_text.specs.declared.entry.Entry.TheVariants.{Slot, Row, Region, Capability, Other}
@@ -84,7 +84,7 @@ abbrev pub own_entries : List Entry → List Entry
 own_entries behind = take (position_or_len is_slot behind) behind
 
 -- a function, by its slot line and what belongs to it
-abbrev pub function_of : ℕ → Place → List ℕ → List Entry → Function
+abbrev pub function_of : ℕ → DeviceAddress → List ℕ → List Entry → Function
 function_of number place text own = record {
   line = number;
   slot = place;
@@ -108,12 +108,12 @@ functions_of number [] = []
 functions_of number (entry ∷ behind) = with_entry number entry behind (functions_of (number + 1) behind)
 
 -- domain, bus, device and function are the same
-abbrev pub is_same_slot : Place → Place → Bool
+abbrev pub is_same_slot : DeviceAddress → DeviceAddress → Bool
 is_same_slot one other =
     one.domain == other.domain && (one.bus == other.bus && (one.device == other.device && one.function == other.function))
 
 -- the function has this slot
-abbrev pub has_slot : Place → Function → Bool
+abbrev pub has_slot : DeviceAddress → Function → Bool
 has_slot place function = is_same_slot place function.slot
 
 -- the line of the first function that has the slot of one before

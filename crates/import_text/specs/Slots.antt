@@ -3,7 +3,7 @@
 use Rattle.std.specs.Prelude.{ℕ, Bool, ◌+◌, List, Option, Some, None, Result, Ok, Err, map, take, drop, slice_index, nat_le, ◌==◌, ◌&&◌, if◌then◌else◌}
 use Rattle.board_text.specs.declared.numbers.NumberFault.{NumberFault}
 use Rattle.board_text.specs.Numbers.{hex_answer}
-use Rattle.import_text.specs.declared.slot.Slot.{Slot}
+use Rattle.import_text.specs.declared.slot.DeviceAddress.{DeviceAddress}
 use Rattle.import_text.specs.Digits.{is_hex, hex_value, two_digits, hex_length}
 
 -- the line begins with a domain
@@ -31,7 +31,7 @@ is_place text =
     && (nat_le 48 (slice_index text 6) && (nat_le (slice_index text 6) 55 && slice_index text 7 == 32)))))))
 
 -- the slot that such a text says, in this domain
-abbrev pub slot_in : ℕ → List ℕ → Slot
+abbrev pub slot_in : ℕ → List ℕ → DeviceAddress
 slot_in given text = record {
   domain = given;
   bus = two_digits (slice_index text 0) (slice_index text 1);
@@ -40,7 +40,7 @@ slot_in given text = record {
 }
 
 -- the slot that a line begins with, if it is a slot line
-abbrev pub slot_of : List ℕ → Option Slot
+abbrev pub slot_of : List ℕ → Option DeviceAddress
 slot_of line =
     if is_place (drop (place_start line) line) then Some (slot_in (domain_in line) (drop (place_start line) line)) else None
 

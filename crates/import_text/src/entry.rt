@@ -5,14 +5,14 @@ ghost use Rattle.import_text.specs.Entries.{region_entry, entry_of};
 use crate::capability::{CapabilityKind, kind_of};
 use crate::region::{region_number, region_size};
 use crate::row::{is_row, offset_of, row_bytes};
-use crate::slot::{Slot as Place, name_of, slot_of};
+use crate::slot::{DeviceAddress, name_of, slot_of};
 use pci_command::{List, NoMemory};
 use std::alloc::Global;
 
 /// What a line is.
 #[derive(Debug, Drop)]
 pub(crate) enum Entry {
-    Slot(Place, List<u8>),
+    Slot(DeviceAddress, List<u8>),
     /// A row of sixteen bytes, and its offset.
     Row(u32, List<u8>),
     /// The number of a region, and its size.

@@ -6,7 +6,7 @@ ghost use Rattle.import_text.specs.Functions.{bytes_told, size_told, kind_told, 
 ghost use Rattle.import_text.specs.Functions.{size_of, sizes_in, kind_in, own_entries, function_of};
 ghost use Rattle.import_text.specs.Functions.{functions_of};
 
-use crate::Slot;
+use crate::DeviceAddress;
 use crate::capability::CapabilityKind;
 use crate::entry::Entry;
 use pci_command::{List, NoMemory};
@@ -17,7 +17,7 @@ use std::alloc::{AllocError, Global};
 pub struct Function {
     /// The number of its slot line, from 1.
     pub line: u32,
-    pub slot: Slot,
+    pub slot: DeviceAddress,
     /// Printing characters, at most 160.
     pub name: List<u8>,
     /// The first 64 bytes of its header, low byte first.
@@ -164,7 +164,7 @@ fn own_entries(behind: &[Entry]) -> &[Entry]
 fn function_of(
     alloc: Global,
     line: u32,
-    slot: Slot,
+    slot: DeviceAddress,
     name: &[u8],
     own: &[Entry],
 ) -> Result<Function, AllocError>

@@ -16,4 +16,4 @@ pub use capability::CapabilityKind;
 pub use fault::ReadFault;
 pub use function::Function;
 pub use read::read_functions;
-pub use slot::Slot;
+pub use slot::DeviceAddress;

@@ -8,7 +8,7 @@ use std::alloc::Global;
 
 /// Where a function is: its domain, its bus, its device number there, and its number in the device.
 #[derive(Clone, Copy, Debug, Default, PartialEq, Eq, PartialOrd, Ord)]
-pub struct Slot {
+pub struct DeviceAddress {
     pub domain: u32,
     pub bus: u8,
     pub device: u8,
@@ -57,10 +57,10 @@ fn is_place(text: &[u8]) -> bool
         && byte_at(text, 7) == b' '
 }
 
-fn slot_in(domain: u32, text: &[u8]) -> Slot
+fn slot_in(domain: u32, text: &[u8]) -> DeviceAddress
     ensures { result ≡ slot_in domain text.now }
 {
-    Slot {
+    DeviceAddress {
         domain,
         bus: two_digits(byte_at(text, 0), byte_at(text, 1)),
         device: two_digits(byte_at(text, 3), byte_at(text, 4)),
@@ -69,7 +69,7 @@ fn slot_in(domain: u32, text: &[u8]) -> Slot
 }
 
 /// The slot that a line names, if it is a slot line.
-pub(crate) fn slot_of(line: &[u8]) -> Option<Slot>
+pub(crate) fn slot_of(line: &[u8]) -> Option<DeviceAddress>
     ensures { result ≡ slot_of line.now }
 {
     let place = behind(line, place_start(line));

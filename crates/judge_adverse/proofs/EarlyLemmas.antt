@@ -23,7 +23,7 @@ use Rattle.judge_adverse.specs.declared.run.Pair.{Pair}
 use Rattle.judge_next.specs.declared.course.Course.{Course}
 use Rattle.judge_next.specs.Course.{IsCourse}
 use Rattle.judge_adverse.specs.declared.ring.Ring.{Ring}
-use Rattle.judge_adverse.specs.Turns.{IsRing, NothingMayCome, WentOnBy, is_from_on, is_passed_over}
+use Rattle.judge_adverse.specs.Turns.{IsRing, KnowsIdle, NothingMayCome, WentOnBy, is_from_on, is_passed_over}
 use Rattle.judge_adverse.specs.Runs.{IsPair, held_back, ReadsEarly, IsAdverse, MayWait}
 use Rattle.judge_adverse.proofs.BegunLemmas.{no_act, no_landing}
 
@@ -91,6 +91,7 @@ module _ (board : Board) (valid : IsValid board) (pair : Pair) (is : IsPair boar
 pub record RunsSoFar (board : Board) (pair : Pair) (ring : Ring) (course : Course) (events : List Event) (ended : Bool) : Type 0 where
   pub course_is : IsCourse board (history_of events) course
   pub ring_is : IsRing board ring
+  pub idle_is : KnowsIdle board (history_of events) ring
   pub ended_is : ended ≡ has_ended (history_of events) pair.read
   pub so_far : SoFar board pair (history_of events) ended
 
@@ -99,15 +100,16 @@ history_push : (events : List Event) (e : Event) → history_of (events ++ e ∷
 history_push events e = reverse-append events (e ∷ [])
 
 -- before the first event
-pub runs_none : (board : Board) (pair : Pair) (ring : Ring) (course : Course) (events : List Event) → IsCourse board [] course → IsRing board ring → events ≡ [] → RunsSoFar board pair ring course events false
-runs_none board pair ring course events course_is ring_is empty =
-    subst (λ (l : List Event). RunsSoFar board pair ring course l false) (sym empty) (record { course_is = course_is; ring_is = ring_is; ended_is = refl; so_far = refl })
+pub runs_none : (board : Board) (pair : Pair) (ring : Ring) (course : Course) (events : List Event) → IsCourse board [] course → IsRing board ring → KnowsIdle board [] ring → events ≡ []
+    → RunsSoFar board pair ring course events false
+runs_none board pair ring course events course_is ring_is idle_is empty =
+    subst (λ (l : List Event). RunsSoFar board pair ring course l false) (sym empty) (record { course_is = course_is; ring_is = ring_is; idle_is = idle_is; ended_is = refl; so_far = refl })
 
 -- one event further
 pub runs_more : (board : Board) (pair : Pair) (ring later_ring : Ring) (course later : Course) (events longer : List Event) (ended now : Bool) (e : Event) → IsValid board → IsPair board pair → RunsSoFar board pair ring course events ended
-    → WentOnBy board (history_of events) (held_back pair ended) later e → IsRing board later_ring → now ≡ (is_some (ends_as pair.read e) || ended) → longer ≡ events ++ e ∷ []
+    → WentOnBy board (history_of events) (held_back pair ended) later e → IsRing board later_ring → KnowsIdle board (e ∷ history_of events) later_ring → now ≡ (is_some (ends_as pair.read e) || ended) → longer ≡ events ++ e ∷ []
     → RunsSoFar board pair later_ring later longer now
-runs_more board pair ring later_ring course later events longer ended now e valid is so by ring_is now_is longer_is =
+runs_more board pair ring later_ring course later events longer ended now e valid is so by ring_is idle_is now_is longer_is =
     let h : List Event = history_of events in
     let same : history_of longer ≡ e ∷ h = ap history_of longer_is ∙ history_push events e in
     let run : Run board (e ∷ h) = (by.may.0, so.course_is.stands.run) in
@@ -116,6 +118,7 @@ runs_more board pair ring later_ring course later events longer ended now e vali
     record {
       course_is = subst (λ (g : List Event). IsCourse board g later) (sym same) by.course_is;
       ring_is = ring_is;
+      idle_is = subst (λ (g : List Event). KnowsIdle board g later_ring) (sym same) idle_is;
       ended_is = subst (λ (g : List Event). now ≡ has_ended g pair.read) (sym same) has;
       so_far = subst (λ (g : List Event). SoFar board pair g now) (sym same) (subst (λ (b : Bool). SoFar board pair (e ∷ h) b) (sym has) more);
     }

@@ -1,4 +1,5 @@
 mod BegunLemmas
 mod EarlyLemmas
+mod IdleLemmas
 mod RingLemmas
 mod TurnsLemmas

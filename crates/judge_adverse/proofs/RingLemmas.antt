@@ -1,6 +1,6 @@
 -- The ring has each initiator that can act.
 use Rattle.std.proofs.Common.{◌≡◌, ap, ◌∙◌, ◌+◌, ℕ, zero, suc, ◌<◌, List, [], ◌∷◌, ◌++◌, map, Some, refl, sym, subst, slice_get, ⊎_elim, arith}
-use Rattle.std.specs.Prelude.{Result, Ok, Err, IsErr, OnOk}
+use Rattle.std.specs.Prelude.{Result, Ok, Err, IsErr, IfOk, OnOk}
 use Rattle.std.specs.List.{AllByRecursion}
 use Rattle.board_model.specs.declared.bridge.Lane.{Lane as BridgeLane}
 use Rattle.board_model.specs.declared.board.Board.{Board}
@@ -53,6 +53,11 @@ ring_more board bus all more so_far is =
 pub on_err : {A B : Type 0} (r : Result A B) (P : Type 0) → IsErr r → OnOk r P
 on_err (Ok a) P is = cc
 on_err (Err b) P is = tt
+
+-- and what is to hold of what comes of it
+pub if_ok_on_err : {A B : Type 0} (r : Result A B) (P : A → Type 0) → IsErr r → IfOk r P
+if_ok_on_err (Ok a) P is = cc
+if_ok_on_err (Err b) P is = tt
 
 -- these lines are those of the bus
 pub with_lines : {A B : Type 0} (r : Result A B) (before now : List Initiator) (bus : ℕ) (lines of_bus : BusLines) → lines ≡ of_bus → OnOk r (now ≡ before ++ initiators_on bus lines) → OnOk r (now ≡ before ++ initiators_on bus of_bus)

@@ -1,9 +1,10 @@
 -- Where no arrival is allowed and each initiator rests, nothing may come next.
-use Rattle.std.proofs.Common.{◌≡◌, cond, ℕ, ◌<◌, Bool, true, false, eqb, eq-eqb, List, [], ◌∷◌, length, Option, Some, None, refl, sym, subst, slice_get, arith}
+use Rattle.std.proofs.Common.{◌≡◌, cond, ℕ, ◌<◌, ◌≤◌, Bool, true, false, eqb, eq-eqb, List, [], ◌∷◌, length, Option, Some, None, refl, sym, ap, subst, ◌∙◌, ◌+◌, slice_get, ⊎_elim, arith}
 use Rattle.std.specs.Prelude.{IfSome, IfNone}
 use Rattle.std.specs.List.{AllByRecursion}
 use Rattle.std.specs.Option.{option_or}
-use Rattle.std.proofs.lemmas.Bool.{and_from}
+use Rattle.std.proofs.lemmas.Bool.{and_from, cases_lt}
+use Rattle.std.proofs.lemmas.Option.{slice_get_within}
 use Rattle.pci_command.specs.declared.op_id.OpId.{OpId}
 use Rattle.board_model.specs.declared.bridge.Lane.{Lane as BridgeLane}
 use Rattle.board_model.specs.declared.bridge.Place.{Place}
@@ -33,7 +34,8 @@ use Rattle.judge_next.proofs.AllowedLemmas.{acts_on_board}
 use Rattle.judge_next.proofs.EachLineLemmas.{lane_holds, master_holds}
 use Rattle.judge_adverse.specs.declared.ring.Initiator.{Initiator}
 use Rattle.judge_adverse.specs.declared.ring.Initiator.TheVariants.{Lane as LaneOn, Master as MasterOn}
-use Rattle.judge_adverse.specs.Turns.{ring_below, is_passed_over, MayCome, NothingMayCome, Rests, WentOnBy, GoesOnBy}
+use Rattle.judge_adverse.specs.declared.ring.Ring.{Ring}
+use Rattle.judge_adverse.specs.Turns.{ring_below, IsRing, IsSameRing, IsWoken, is_passed_over, act_of_initiator, Idles, MayCome, NothingMayCome, Rests, AllRest, WentOnBy, GoesOnBy}
 use Rattle.judge_adverse.proofs.RingLemmas.{each_placed, lanes_on, masters_on}
 
 module _ (board : Board) (h : List Event) (held : Option OpId) (run : Run board h) (fits : BusesFit board) where
@@ -102,15 +104,6 @@ module _ (board : Board) (h : List Event) (held : Option OpId) where
       let P : Option Event → Type 0 = λ found. IfSome found NotPassed → IfSome (option_or found (first_in (act_of_item board h on lane) xs)) NotPassed in
       (elim (act_of_item board h on lane x) as P [ None ↦ λ _. items_not_passed on lane xs | Some e ↦ λ is. is ]) (item_not_passed on lane x)
 
-  both_some : (found : Option Event) → IfSome found (Allowed board h) → IfSome found NotPassed → IfSome found (MayCome board h held)
-  both_some None allowed passed = tt
-  both_some (Some e) allowed passed = (allowed, passed)
-
-  -- an act of a lane is not
-  pub lane_may : (on : ℕ) (lane : BridgeLane) (found : Option Event) → found ≡ act_of_lane board h on lane → IfSome found (Allowed board h) → IfSome found (MayCome board h held)
-  lane_may on lane found is allowed =
-      both_some found allowed (subst (λ (some : Option Event). IfSome some NotPassed) (sym is) (items_not_passed on lane (world_of board h lane).standing))
-
   -- a master has one act at most
   master_one : (on master : ℕ) (e : Event) → act_of_turn board h on (turn_of board h master) ≡ Some e → (o : OpId) (step : Step) (place : Place) → o.master ≡ master → Allowed board h (Act on Master o step place)
       → Act on Master o step place ≡ e
@@ -123,19 +116,74 @@ module _ (board : Board) (h : List Event) (held : Option OpId) where
       cc
 
   -- so where that is passed over the master rests
-  pub passed_rests : (on master : ℕ) (e : Event) → Some e ≡ act_of_turn board h on (turn_of board h master) → is_passed_over held e ≡ true → Rests board h held (MasterOn on master)
+  passed_rests : (on master : ℕ) (e : Event) → Some e ≡ act_of_turn board h on (turn_of board h master) → is_passed_over held e ≡ true → Rests board h held (MasterOn on master)
   passed_rests on master e found passed o step place its is =
       subst (λ (one : Event). is_passed_over held one ≡ true) (sym (master_one on master e (sym found) o step place its is)) passed
 
   -- and where it has none
-  pub none_rests : (on master : ℕ) → ((o : OpId) (step : Step) (place : Place) → o.master ≡ master → Allowed board h (Act on Master o step place) → ⊥) → Rests board h held (MasterOn on master)
+  none_rests : (on master : ℕ) → ((o : OpId) (step : Step) (place : Place) → o.master ≡ master → Allowed board h (Act on Master o step place) → ⊥) → Rests board h held (MasterOn on master)
   none_rests on master none o step place its is = absurd (none o step place its is)
+
+  -- an initiator that has no act rests
+  pub idle_rests : (initiator : Initiator) → Idles board h initiator → Rests board h held initiator
+  idle_rests (LaneOn bus lane) idles = idles
+  idle_rests (MasterOn bus master) idles = none_rests bus master idles
+
+  -- and so does one whose act is passed over, which is a master
+  pub passed_over_rests : (initiator : Initiator) (e : Event) → Some e ≡ act_of_initiator board h initiator → is_passed_over held e ≡ true → Rests board h held initiator
+  passed_over_rests (LaneOn bus lane) e found passed =
+      let not : is_passed_over held e ≡ false = subst (λ (some : Option Event). IfSome some NotPassed) (sym found) (items_not_passed bus lane (world_of board h lane).standing) in
+      absurd cc
+  passed_over_rests (MasterOn bus master) e found passed = passed_rests bus master e found passed
+
+  -- an act that is not passed over may come
+  pub comes_may : (e : Event) (found : Option Event) → Allowed board h e → IfSome found (λ it. (it ≡ e) × (is_passed_over held e ≡ false)) → IfSome found (MayCome board h held)
+  comes_may e None allowed comes = tt
+  comes_may e (Some it) allowed comes = subst (MayCome board h held) (sym comes.0) (allowed, comes.1)
+
+  -- all rest, where those from a place on do, and those before it
+  pub all_rest : (initiators : List Initiator) (place : ℕ) → ((k : ℕ) (initiator : Initiator) → place ≤ k → k < length initiators → slice_get initiators k ≡ Some initiator → Rests board h held initiator)
+      → ((k : ℕ) (initiator : Initiator) → 0 ≤ k → k < place → slice_get initiators k ≡ Some initiator → Rests board h held initiator) → AllRest board h held initiators
+  all_rest initiators place later before k initiator there =
+      ⊎_elim {C = Rests board h held initiator} (λ (less : k < place). before k initiator (omega arith) less there)
+      (λ (not_less : place ≤ k). later k initiator not_less (slice_get_within initiators k initiator there) there)
+      (cases_lt k place)
 
   -- Going on.
 
   -- the run went on by an event that may come
   pub went_on : (course : Course) (e : Event) → Run board h → LawsOfRun board h → MayCome board h held e → IsCourse board (e ∷ h) course → WentOnBy board h held course e
   went_on course e run laws may course_is = record { may = may; course_is = course_is; lowers = omega (arith, laws.falls (e ∷ []) (may.0, run)) }
+
+-- The ring.
+
+-- the ring is as it was after one more step
+pub same_after : (old mid new : Ring) → IsSameRing old mid → IsSameRing mid new → IsSameRing old new
+same_after old mid new first second =
+    record { initiators = second.initiators ∙ first.initiators; place = second.place ∙ first.place; flags = second.flags ∙ first.flags }
+
+-- so it is a ring still, also where another initiator comes next
+pub same_is_ring : (board : Board) (old new : Ring) → IsRing board old → IsSameRing old new → IsRing board new
+same_is_ring board old new is same = record {
+  all = same.initiators ∙ is.all;
+  flags = same.flags ∙ (is.flags ∙ sym (ap length same.initiators));
+  within = let many = ap length same.initiators in let place = same.place in let within = is.within in omega (arith, many, place, within);
+}
+
+pub moved_is_ring : (board : Board) (old new : Ring) (place : ℕ) → IsRing board old → IsSameRing old new → place < length old.initiators.items → IsRing board (record new { place = place + 1 })
+moved_is_ring board old new place is same within = record {
+  all = same.initiators ∙ is.all;
+  flags = same.flags ∙ (is.flags ∙ sym (ap length same.initiators));
+  within = let many = ap length same.initiators in omega (arith, many, within);
+}
+
+-- and where initiators are woken
+pub woken_is_ring : (board : Board) (bus : ℕ) (old new : Ring) → IsRing board old → new.initiators.items ≡ old.initiators.items → new.place ≡ old.place
+    → IsWoken bus old.initiators.items old.idle.items new.idle.items → IsRing board new
+woken_is_ring board bus old new is same place woken = same_is_ring board old new is (record { initiators = same; place = place; flags = woken.many })
+
+pub same_at_first : (ring : Ring) → IsSameRing ring ring
+same_at_first ring = record { initiators = refl; place = refl; flags = refl }
 
 -- Where there is none.
 
@@ -146,6 +194,15 @@ none_then (Some e) P none p = tt
 pub none_holds : (found : Option Event) (P : Event → Type 0) → found ≡ None → IfSome found P
 none_holds None P none = tt
 none_holds (Some e) P none = cc
+
+-- what follows where there is none is so
+pub none_gives : {X : Type 0} (found : Option X) (P : Type 0) → found ≡ None → IfNone found P → P
+none_gives None P none p = p
+none_gives (Some e) P none p = cc
+
+pub none_weaker : {X : Type 0} (found : Option X) (P Q : Type 0) → (P → Q) → IfNone found P → IfNone found Q
+none_weaker None P Q f p = f p
+none_weaker (Some e) P Q f p = tt
 
 pub stopped : (board : Board) (h : List Event) (held : Option OpId) (course : Course) (found : Option Event) → found ≡ None → NothingMayCome board h held → LawsOfRun board h → GoesOnBy board h held course found
 stopped board h held course None none nothing laws = (nothing, laws)

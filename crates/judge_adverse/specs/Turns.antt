@@ -1,5 +1,5 @@
 -- Whose turn it is to act, where nothing is in flight: the initiators stand in a ring, and one master is passed over.
-use Rattle.std.specs.Prelude.{◌≡◌, ◌+◌, ◌≤◌, ℕ, Bool, true, false, zero, suc, List, [], ◌∷◌, ◌++◌, length, map, Option, Some, None, ◌==◌, ◌&&◌, ◌||◌, slice_get}
+use Rattle.std.specs.Prelude.{◌≡◌, ◌≢◌, ◌+◌, ◌≤◌, ℕ, Bool, true, false, zero, suc, List, [], ◌∷◌, ◌++◌, length, map, Option, Some, None, ◌==◌, ◌&&◌, ◌||◌, slice_get}
 use Rattle.pci_command.specs.declared.op_id.OpId.{OpId}
 use Rattle.pci_command.specs.Same.{same_op}
 use Rattle.board_model.specs.declared.bridge.Place.{Place}
@@ -10,6 +10,8 @@ use Rattle.history_model.specs.declared.event.Event.{Event}
 use Rattle.history_model.specs.declared.event.Event.TheVariants.{Act, Arrive}
 use Rattle.history_model.specs.Knowledge.{stands_after}
 use Rattle.history_model.specs.Left.{left_of}
+use Rattle.history_model.specs.Next.{act_of_lane, act_of_turn}
+use Rattle.history_model.specs.Program.{turn_of}
 use Rattle.history_model.specs.Runs.{Allowed}
 use Rattle.law_delivered.specs.Laws.{LawsOfRun}
 use Rattle.judge_next.specs.declared.course.Course.{Course}
@@ -30,10 +32,44 @@ abbrev pub ring_below : ℕ → Board → List Initiator
 ring_below zero board = []
 ring_below (suc bus) board = ring_below bus board ++ initiators_on bus (lines_of board bus)
 
--- the ring of the board, and the place in it at which the next act is looked for first
+-- the ring of the board, with a flag for each initiator, and the place in it at which the next act is looked for first
 pub record IsRing (board : Board) (ring : Ring) : Type 0 where
   pub all : ring.initiators.items ≡ ring_below 256 board
+  pub flags : length ring.idle.items ≡ length ring.initiators.items
   pub within : ring.place ≤ length ring.initiators.items
+
+-- the ring is as it was, but for what is known to idle
+pub record IsSameRing (old new : Ring) : Type 0 where
+  pub initiators : new.initiators.items ≡ old.initiators.items
+  pub place : new.place ≡ old.place
+  pub flags : length new.idle.items ≡ length old.idle.items
+
+-- Who has no act.
+
+-- the bus on which the initiator acts
+abbrev pub bus_on : Initiator → ℕ
+bus_on (LaneOn bus lane) = bus
+bus_on (MasterOn bus master) = bus
+
+-- its act: what it presents and is not answered with Retry
+abbrev pub act_of_initiator : Board → List Event → Initiator → Option Event
+act_of_initiator board h (LaneOn bus lane) = act_of_lane board h bus lane
+act_of_initiator board h (MasterOn bus master) = act_of_turn board h bus (turn_of board h master)
+
+-- no act of it is allowed
+abbrev pub Idles : Board → List Event → Initiator → Type 0
+Idles board h (LaneOn bus lane) = (o : OpId) (step : Step) (place : Place) → Allowed board h (Act bus (ByLane lane) o step place) → ⊥
+Idles board h (MasterOn bus master) = (o : OpId) (step : Step) (place : Place) → o.master ≡ master → Allowed board h (Act bus Master o step place) → ⊥
+
+-- the initiators of the ring that are known to idle do
+abbrev pub KnowsIdle : Board → List Event → Ring → Type 0
+KnowsIdle board h ring = (k : ℕ) (initiator : Initiator) → slice_get ring.idle.items k ≡ Some true → slice_get ring.initiators.items k ≡ Some initiator → Idles board h initiator
+
+-- those on a bus are not known to idle any more, and what is known of the others stays
+pub record IsWoken (bus : ℕ) (initiators : List Initiator) (old new : List Bool) : Type 0 where
+  pub many : length new ≡ length old
+  pub fewer : (k : ℕ) → slice_get new k ≡ Some true → slice_get old k ≡ Some true
+  pub others : (k : ℕ) (initiator : Initiator) → slice_get new k ≡ Some true → slice_get initiators k ≡ Some initiator → bus_on initiator ≢ bus
 
 -- Who is passed over.
 

@@ -1,7 +1,7 @@
 ghost use Rattle.std.specs.Prelude.{◌≡◌, [], IfOk, MatchOption, is_some, ◌||◌};
 ghost use Rattle.history_model.specs.Knowledge.{ends_as};
 ghost use Rattle.judge_next.specs.Course.{IsCourse};
-ghost use Rattle.judge_adverse.specs.Turns.{IsRing};
+ghost use Rattle.judge_adverse.specs.Turns.{IsRing, KnowsIdle};
 ghost use Rattle.judge_adverse.specs.Runs.{IsAdverse, MayWait, IsPair, held_back};
 
 use crate::ring::Ring;
@@ -23,7 +23,7 @@ pub struct Pair {
 
 /// The events of a complete run in which the read reads before the write has begun. There is none
 /// where a run comes to wait for the write. The time grows with the number of events, and that of
-/// the initiators.
+/// the initiators, of which each is asked again only where something was done on its bus.
 pub fn adverse_run(alloc: Global, tree: &Tree, pair: Pair) -> Result<Option<List<Event>>, NoMemory>
     requires { IsPair tree.now pair }
     ensures { IfOk result (λ found. MatchOption found (MayWait tree.now pair.read pair.write)
@@ -46,6 +46,7 @@ fn to_the_end(
     requires pair { IsPair tree.now pair }
     requires course { IsCourse tree.now [] course.old }
     requires ring { IsRing tree.now ring.old }
+    requires idle { KnowsIdle tree.now [] ring.old }
     ensures { IfOk result (λ found. MatchOption found (MayWait tree.now pair.read pair.write)
         (IsAdverse tree.now pair.read pair.write)) }
 {

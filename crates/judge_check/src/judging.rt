@@ -38,7 +38,8 @@ fn judged(kept: &mut Kept, tree: &Tree, events: &[Event]) -> Verdict
 /// Of a run the verdict is whether it is complete, and what it has left.
 fn verdict_of_run(kept: &Kept, tree: &Tree) -> Verdict
     requires { Stands tree.now kept.now }
-    ensures { (events : List Event) → StandsFor tree.now (history_of events) kept.now → Judges tree.now events result }
+    ensures { (events : List Event) → StandsFor tree.now (history_of events) kept.now →
+        Judges tree.now events result }
 {
     laws_of_runs();
     // The board of a tree is valid, so that all of this holds of its runs.

@@ -45,7 +45,8 @@ fn left_on(kept: &Kept, board: &Board) -> u64
 /// stands on any lane.
 pub fn is_complete(kept: &Kept, tree: &Tree) -> bool
     requires { Stands tree.now kept.now }
-    ensures { (h : List Event) → StandsFor tree.now h kept.now → IsTrue result ↔ Complete tree.now h }
+    ensures { (h : List Event) → StandsFor tree.now h kept.now →
+        IsTrue result ↔ Complete tree.now h }
 {
     is_complete_on(kept, tree.board())
 }

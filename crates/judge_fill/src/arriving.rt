@@ -10,8 +10,9 @@ use judge_next::Course;
 use law_bound::runs_end;
 use pci_command::NoMemory;
 
-/// The event by which the course went on last, and behind it all arrivals.
-pub(crate) fn put(
+/// The event by which the course went on last behind these events, and behind it all arrivals: all
+/// that is in flight arrives, and what that puts in flight, one by one in the fixed order.
+pub fn put(
     course: &mut Course,
     tree: &Tree,
     event: Event,

@@ -13,9 +13,9 @@ use law_delivered::laws_of_runs;
 use pci_command::{List, NoMemory};
 use std::alloc::Global;
 
-/// The events of a run, and behind them those with which it goes on to the end of all programs, each
-/// the next event of those before it. There are fewer than 2^32 events, and the time grows with
-/// their number.
+/// The events of a run, and behind them those with which it goes on to the end of all programs,
+/// each the next event of those before it. There are fewer than 2^32 events, and the time grows
+/// with their number.
 pub fn finish(alloc: Global, tree: &Tree, events: List<Event>) -> Result<List<Event>, Unfinished>
     requires { length events < 2 ^ 32 }
     ensures ok { IfOk result (Finishes tree.now events) }
@@ -51,7 +51,8 @@ fn to_the_end(
 /// and then all laws hold of it.
 fn go_on(course: &mut Course, tree: &Tree) -> Option<Event>
     requires { HasCourse tree.now course.old }
-    ensures { (h : Items Event) → IsCourse tree.now h course.old → GoesOnBy tree.now h course.new result }
+    ensures { (h : Items Event) → IsCourse tree.now h course.old →
+        GoesOnBy tree.now h course.new result }
 {
     laws_of_runs();
     // The board of a tree is valid, so that the laws speak of it.

@@ -5,7 +5,8 @@ use thiserror::Error;
 /// Why events were not taken to the end of all programs.
 #[derive(Clone, Copy, Debug, PartialEq, Eq, Error)]
 pub enum Unfinished {
-    /// They are no run: this event, from 1 on, is the first that is not allowed after those before it.
+    /// They are no run: this event, from 1 on, is the first that is not allowed after those before
+    /// it.
     #[error("event {event} is not allowed: {why}")]
     NotRun { event: u32, why: Why },
     #[error("no memory")]

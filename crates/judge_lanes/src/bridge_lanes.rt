@@ -1,6 +1,8 @@
-ghost use Rattle.std.specs.Prelude.{◌≡◌, ◌∷◌, ◌≤◌, ◌^◌, ◌+◌, ◌<◌, length, IfSome, Some, true, false, if◌then◌else◌, nat_lt};
+ghost use Rattle.std.specs.Prelude.{◌≡◌, ◌∷◌, ◌≤◌, ◌^◌, ◌+◌, ◌<◌, length, IfSome};
+ghost use Rattle.std.specs.Prelude.{Some, true, false, if◌then◌else◌, nat_lt};
 ghost use Rattle.std.specs.List.{find};
-ghost use Rattle.history_model.specs.Lanes.{Both, post_enters, ask_enters, item_ends, slot_taken, reply_to, arrives, takes_effect, effect_of};
+ghost use Rattle.history_model.specs.Lanes.{Both, post_enters, ask_enters, item_ends, slot_taken};
+ghost use Rattle.history_model.specs.Lanes.{reply_to, arrives, takes_effect, effect_of};
 ghost use Rattle.history_model.specs.World.{enters, is_own, slot_found, lane_outcome};
 ghost use Rattle.pci_command.specs.Command.{is_read};
 ghost use Rattle.board_model.specs.Requests.{is_posted};
@@ -35,7 +37,8 @@ impl BridgeLanes {
     ghost use Rattle.history_model.specs.Lanes.{Both, empty_lane, item_ends, arrives};
     ghost use Rattle.history_model.specs.World.{enters};
     ghost use Rattle.judge_lanes.specs.Faces.{face_answer};
-    ghost use Rattle.judge_lanes.specs.Bridge.{turned, moved_on, place_on, leaves_on, initiator_on, lanes_after};
+    ghost use Rattle.judge_lanes.specs.Bridge.{turned, moved_on, place_on};
+    ghost use Rattle.judge_lanes.specs.Bridge.{leaves_on, initiator_on, lanes_after};
     ghost use Rattle.judge_lanes.specs.Room.{HaveRoom};
 
     /// Lanes with nothing on them.
@@ -72,7 +75,8 @@ impl BridgeLanes {
         request: &Request,
         lane: Lane,
     ) -> Answer
-        ensures { result ≡ face_answer board.now presented.bus presented.by presented.op request.now lane bridge.now
+        ensures { result ≡ face_answer board.now presented.bus presented.by presented.op
+            request.now lane bridge.now
             (turned lane.up self.now).here (turned lane.up self.now).back }
     {
         if is_posted(request) {
@@ -92,7 +96,8 @@ impl BridgeLanes {
         lane: Lane,
     ) -> Answer
         ensures { let here = (turned lane.up self.now).here in
-            result ≡ delayed_answer board.now (is_read request.now.command) bridge.now.delayed lane here.held (turned lane.up self.now).back.standing
+            result ≡ delayed_answer board.now (is_read request.now.command)
+            bridge.now.delayed lane here.held (turned lane.up self.now).back.standing
             (find (is_own board.now presented.bus presented.by presented.op) here.held) }
     {
         let held = self.lane(lane.up).held();
@@ -132,7 +137,8 @@ impl BridgeLanes {
 
     fn at_place(&mut self, board: &Board, presented: Presented, step: Step, place: Place, bus: u8)
         requires { HaveRoom 2 self.old }
-        ensures value { self.new ≡ place_on board.now presented.bus presented.by presented.op step place bus self.old }
+        ensures value { self.new ≡
+            place_on board.now presented.bus presented.by presented.op step place bus self.old }
         ensures room { HaveRoom 1 self.new }
     {
         match place {
@@ -143,7 +149,8 @@ impl BridgeLanes {
 
     fn enter(&mut self, board: &Board, presented: Presented, step: Step, up: bool)
         requires { HaveRoom 2 self.old }
-        ensures value { self.new ≡ turned up (enters board.now presented.bus presented.by presented.op step (turned up self.old)) }
+        ensures value { self.new ≡ turned up
+            (enters board.now presented.bus presented.by presented.op step (turned up self.old)) }
         ensures room { HaveRoom 1 self.new }
     {
         if up {
@@ -208,7 +215,8 @@ fn enter(
 )
     requires here { HasRoom 2 here.old }
     requires back { HasRoom 2 back.old }
-    ensures value { let before : Both = record { here = here.old; back = back.old } in let after : Both = record { here = here.new; back = back.new } in
+    ensures value { let before : Both = record { here = here.old; back = back.old } in
+        let after : Both = record { here = here.new; back = back.new } in
         after ≡ enters board.now presented.bus presented.by presented.op step before }
     ensures room_here { HasRoom 1 here.new }
     ensures room_back { HasRoom 1 back.new }
@@ -229,7 +237,8 @@ fn enter(
 /// A posted write is accepted: it is in flight, and owed.
 fn accept(op: OpId, here: &mut LaneTables)
     requires { HasRoom 2 here.old }
-    ensures value { let before : Both = record { here = here.old; back = here.old } in here.new ≡ (post_enters op before).here }
+    ensures value { let before : Both = record { here = here.old; back = here.old } in
+        here.new ≡ (post_enters op before).here }
     ensures room { HasRoom 1 here.new }
 {
     here.send(Carried::Post { op });
@@ -239,7 +248,8 @@ fn accept(op: OpId, here: &mut LaneTables)
 /// A delayed request is latched: the lowest free slot is held for it, and it is in flight.
 fn latch(by: By, op: OpId, here: &mut LaneTables)
     requires { HasRoom 2 here.old }
-    ensures value { let before : Both = record { here = here.old; back = here.old } in here.new ≡ (ask_enters by op before).here }
+    ensures value { let before : Both = record { here = here.old; back = here.old } in
+        here.new ≡ (ask_enters by op before).here }
     ensures room { HasRoom 1 here.new }
 {
     let slot = here.hold(by, op);
@@ -250,8 +260,10 @@ fn latch(by: By, op: OpId, here: &mut LaneTables)
 fn take(board: &Board, presented: Presented, here: &mut LaneTables, back: &mut LaneTables)
     requires here { HasRoom 2 here.old }
     requires back { HasRoom 2 back.old }
-    ensures value { let before : Both = record { here = here.old; back = back.old } in let after : Both = record { here = here.new; back = back.new } in
-        after ≡ slot_found (find (is_own board.now presented.bus presented.by presented.op) here.old.held) before }
+    ensures value { let before : Both = record { here = here.old; back = back.old } in
+        let after : Both = record { here = here.new; back = back.new } in
+        after ≡ slot_found (find (is_own board.now presented.bus presented.by presented.op)
+        here.old.held) before }
     ensures room_here { HasRoom 1 here.new }
     ensures room_back { HasRoom 1 back.new }
 {
@@ -264,7 +276,8 @@ fn take(board: &Board, presented: Presented, here: &mut LaneTables, back: &mut L
 /// The oldest standing item of the operation ends: it leaves, and its answer goes back.
 fn end(op: OpId, outcome: Outcome, here: &mut LaneTables, back: &mut LaneTables)
     requires { length back.old.flight < 34 }
-    ensures { let before : Both = record { here = here.old; back = back.old } in let after : Both = record { here = here.new; back = back.new } in
+    ensures { let before : Both = record { here = here.old; back = back.old } in
+        let after : Both = record { here = here.new; back = back.new } in
         after ≡ item_ends op outcome before }
 {
     match here.leave(op) {
@@ -278,7 +291,8 @@ fn end(op: OpId, outcome: Outcome, here: &mut LaneTables, back: &mut LaneTables)
 fn arrive(mark: Mark, here: &mut LaneTables, back: &mut LaneTables)
     requires here { HasRoom 1 here.old }
     requires back { HasRoom 1 back.old }
-    ensures { let before : Both = record { here = here.old; back = back.old } in let after : Both = record { here = here.new; back = back.new } in
+    ensures { let before : Both = record { here = here.old; back = back.old } in
+        let after : Both = record { here = here.new; back = back.new } in
         after ≡ arrives mark before }
 {
     if let Some(item) = here.come_off() {
@@ -290,7 +304,8 @@ fn arrive(mark: Mark, here: &mut LaneTables, back: &mut LaneTables)
 fn take_effect(mark: Mark, item: Carried, here: &mut LaneTables, back: &mut LaneTables)
     requires standing { length here.old.standing < 26 }
     requires flight { length back.old.flight < 34 }
-    ensures { let before : Both = record { here = here.old; back = back.old } in let after : Both = record { here = here.new; back = back.new } in
+    ensures { let before : Both = record { here = here.old; back = back.old } in
+        let after : Both = record { here = here.new; back = back.new } in
         after ≡ takes_effect (effect_of mark item) item before }
 {
     match (mark, item) {

@@ -1,7 +1,9 @@
-ghost use Rattle.std.specs.Prelude.{◌≡◌, ◌+◌, ◌-◌, ◌^◌, ◌<◌, ◌≤◌, [], ◌∷◌, ◌++◌, length, drop, IfNone, IfSome};
+ghost use Rattle.std.specs.Prelude.{◌≡◌, ◌+◌, ◌-◌, ◌^◌, ◌<◌, ◌≤◌, [], ◌∷◌};
+ghost use Rattle.std.specs.Prelude.{◌++◌, length, drop, IfNone, IfSome};
 ghost use Rattle.std.specs.List.{find, list_any, position};
 ghost use Rattle.list_facts.specs.Lists.{less};
-ghost use Rattle.history_model.specs.Lanes.{is_of, is_done_for, has_number, asks_in, dones_in, lowest_free, lowest_free_from};
+ghost use Rattle.history_model.specs.Lanes.{is_of, is_done_for, has_number, asks_in};
+ghost use Rattle.history_model.specs.Lanes.{dones_in, lowest_free, lowest_free_from};
 
 use arrayvec::ArrayVec;
 use history_model::{By, Carried, Slot};
@@ -26,7 +28,14 @@ impl Model for LaneTables {
 
     ghost Value = { LaneState };
 
-    ghost view = { λ t. record { asks = t.asks; dones = t.dones; flight = t.flight.items; standing = t.standing.items; held = t.held.items; owed = t.owed } };
+    ghost view = { λ t. record {
+      asks = t.asks;
+      dones = t.dones;
+      flight = t.flight.items;
+      standing = t.standing.items;
+      held = t.held.items;
+      owed = t.owed;
+    } };
 }
 
 impl LaneTables {
@@ -116,7 +125,10 @@ impl LaneTables {
     pub(crate) fn hold(&mut self, by: By, op: OpId) -> u8
         requires { length self.old.held < 10 }
         ensures number { result ≡ lowest_free self.old.held }
-        ensures held { self.new ≡ record self.old { held = self.old.held ++ record { number = lowest_free self.old.held; by = by; op = op } ∷ [] } }
+        ensures held { self.new ≡ record self.old {
+          held = self.old.held ++
+              record { number = lowest_free self.old.held; by = by; op = op } ∷ [];
+        } }
     {
         let number = lowest_free(self.held.as_slice());
         self.held.push(Slot { number, by, op });
@@ -126,7 +138,9 @@ impl LaneTables {
     /// The slot of this number is free.
     #[tactic(auto, using(machine_steps::proofs::LeaveLemmas::removes_first, machine_steps::proofs::LeaveLemmas::leaves_none, machine_steps::proofs::LeaveLemmas::finds_none, machine_steps::proofs::LeaveLemmas::finds_first, machine_steps::proofs::LeaveLemmas::no_more))]
     pub(crate) fn free(&mut self, number: u8)
-        ensures left { self.new ≡ record self.old { held = less (has_number number) self.old.held } }
+        ensures left { self.new ≡ record self.old {
+          held = less (has_number number) self.old.held;
+        } }
         ensures no_more { length self.new.held ≤ length self.old.held }
     {
         if let Some(place) = place_of_slot(self.held.as_slice(), number) {
@@ -145,7 +159,9 @@ impl LaneTables {
     /// The completion of this slot leaves.
     #[tactic(auto, using(machine_steps::proofs::LeaveLemmas::removes_first, machine_steps::proofs::LeaveLemmas::leaves_none, machine_steps::proofs::LeaveLemmas::finds_none, machine_steps::proofs::LeaveLemmas::finds_first, machine_steps::proofs::LeaveLemmas::no_more))]
     pub(crate) fn leave_done(&mut self, number: u8)
-        ensures left { self.new ≡ record self.old { standing = less (is_done_for number) self.old.standing } }
+        ensures left { self.new ≡ record self.old {
+          standing = less (is_done_for number) self.old.standing;
+        } }
         ensures no_more { length self.new.standing ≤ length self.old.standing }
     {
         if let Some(place) = place_of_completion(self.standing.as_slice(), number) {
@@ -170,7 +186,8 @@ impl LaneTables {
         ensures nothing { IfNone result (self.old.flight ≡ []) }
         ensures oldest { IfSome result (λ item. self.old.flight ≡ item ∷ drop 1 self.old.flight) }
         ensures unchanged { IfNone result (self.new ≡ self.old) }
-        ensures came_off { IfSome result (λ item. self.new ≡ came_off item (drop 1 self.old.flight) self.old) }
+        ensures came_off { IfSome result (λ item.
+            self.new ≡ came_off item (drop 1 self.old.flight) self.old) }
     {
         let item = self.flight.as_slice().first().copied()?;
         self.flight.remove(0);

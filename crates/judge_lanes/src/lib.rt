@@ -1,6 +1,6 @@
 //! What is on the two lanes of a bridge after the events of a run, in tables that take no memory:
-//! PCI-to-PCI Bridge Architecture Specification 1.1, chapter 5 (from memory; buffer management). And
-//! what an item on them has left, in events.
+//! PCI-to-PCI Bridge Architecture Specification 1.1, chapter 5 (from memory; buffer management).
+//! And what an item on them has left, in events.
 #![tactic(auto)]
 
 mod bridge_lanes;

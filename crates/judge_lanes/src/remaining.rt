@@ -1,4 +1,5 @@
-ghost use Rattle.std.specs.Prelude.{◌≡◌, ◌+◌, ◌*◌, ◌-◌, ◌^◌, ◌<◌, ◌≤◌, drop, length, Some, None, true, false};
+ghost use Rattle.std.specs.Prelude.{◌≡◌, ◌+◌, ◌*◌, ◌-◌, ◌^◌, ◌<◌, ◌≤◌};
+ghost use Rattle.std.specs.Prelude.{drop, length, Some, None, true, false};
 ghost use Rattle.std.specs.Option.{option_copied};
 ghost use Rattle.std.specs.List.{find, list_any};
 ghost use Rattle.list_facts.specs.Lists.{total};
@@ -20,7 +21,8 @@ use pci_command::{OpId, same_op};
 /// events for each lane of its way, and one for each piece that is left of it.
 pub fn posted_left(board: &Board, on: u8, op: &Op, gone: u128) -> u32
     requires { IsDecodable board.now }
-    ensures value { result ≡ 3 * length (way board.now op.now on) + pieces_of board.now op.now on (length (phases_of op.now) - gone) }
+    ensures value { result ≡ 3 * length (way board.now op.now on) +
+        pieces_of board.now op.now on (length (phases_of op.now) - gone) }
     ensures fits { result ≤ 66300 }
 {
     let route = route_of(board, op, on);
@@ -89,7 +91,10 @@ impl Reach {
     /// This lane holds one, and those behind it.
     pub fn through(lane: Lane, behind: Reach) -> Reach
         requires { behind.lanes < 255 }
-        ensures { result ≡ record { lanes = behind.lanes + 1; last = Some (lane_or behind.last lane) } }
+        ensures { result ≡ record {
+          lanes = behind.lanes + 1;
+          last = Some (lane_or behind.last lane);
+        } }
     {
         Reach {
             lanes: behind.lanes + 1,
@@ -123,7 +128,8 @@ fn some_slot(held: &[Slot], op: OpId) -> bool
 /// What a delayed request has left by its furthest slot, on lane number `far` of a way of `long`
 /// lanes: that lane, and the one of its bridge that comes back.
 pub fn found_left(long: u8, far: u8, here: &LaneTables, back: &LaneTables, op: OpId) -> u32
-    ensures value { result ≡ slot_left long far here.now back.now (find (is_slot_of op) here.now.held) }
+    ensures value { result ≡
+        slot_left long far here.now back.now (find (is_slot_of op) here.now.held) }
     ensures fits { result ≤ 2000 }
 {
     slot_left(long, far, here, back, slot_of(here.held(), op))

@@ -63,6 +63,13 @@ impl Course {
         })
     }
 
+    /// What is kept of the run.
+    pub fn kept(&self) -> &Kept
+        ensures { result.now ≡ self.now.kept }
+    {
+        &self.kept
+    }
+
     /// One more event, where it is allowed after those of the run: then the run goes on by it.
     pub fn step(&mut self, tree: &Tree, event: &Event) -> Result<(), Why>
         requires { HasCourse tree.now self.old }

@@ -42,7 +42,15 @@ impl Model for Kept {
 
     ghost Value = { KeptState };
 
-    ghost view = { λ k. record { rule = k.rule; turns = k.turns; lanes = k.lanes; tokens = k.tokens; gone = k.gone; places = k.words.places; values = k.words.values } };
+    ghost view = { λ k. record {
+      rule = k.rule;
+      turns = k.turns;
+      lanes = k.lanes;
+      tokens = k.tokens;
+      gone = k.gone;
+      places = k.words.places;
+      values = k.words.values;
+    } };
 }
 
 impl Kept {
@@ -51,11 +59,13 @@ impl Kept {
     ghost use Rattle.history_model.specs.declared.event.Event.{Event};
     ghost use Rattle.history_model.specs.declared.rule.Rule.{Rule};
     ghost use Rattle.judge_state.specs.Stands.{StandsForBy, StandsFor, Stands, StandsFew};
-    ghost use Rattle.judge_state.specs.State.{wants_now, lanes_in, turn_in, gone_in, tokens_in, mark_in};
+    ghost use Rattle.judge_state.specs.State.{wants_now, lanes_in, turn_in};
+    ghost use Rattle.judge_state.specs.State.{gone_in, tokens_in, mark_in};
     ghost use Rattle.std.specs.Option.{option_copied};
     ghost use Rattle.judge_state.specs.Rooms.{HaveRooms};
     ghost use Rattle.machine_steps.specs.Verdicts.{HoldsBy, Holds};
-    ghost use Rattle.judge_state.specs.Answer.{answer_now, answer_by, target_answer, target_step, face_in, HoldsNow, next_state, values_next};
+    ghost use Rattle.judge_state.specs.Answer.{answer_now, answer_by, target_answer, target_step};
+    ghost use Rattle.judge_state.specs.Answer.{face_in, HoldsNow, next_state, values_next};
 
     /// What is kept before the first event, on bridges that keep the local master.
     pub fn new(alloc: Global, tree: &Tree) -> Result<Kept, NoMemory>
@@ -89,8 +99,10 @@ impl Kept {
     /// it too. If it is not, the cause, and this is as it was.
     pub fn step(&mut self, tree: &Tree, event: &Event) -> Result<(), Why>
         requires { Stands tree.now self.old }
-        ensures verdict { (h : List Event) → StandsFor tree.now h self.old → Holds tree.now h event.now (cause_in result) }
-        ensures goes_on { (h : List Event) → StandsFor tree.now h self.old → OnOk result (StandsFor tree.now (event.now ∷ h) self.new) }
+        ensures verdict { (h : List Event) → StandsFor tree.now h self.old →
+            Holds tree.now h event.now (cause_in result) }
+        ensures goes_on { (h : List Event) → StandsFor tree.now h self.old →
+            OnOk result (StandsFor tree.now (event.now ∷ h) self.new) }
         ensures refused { OnErr result (self.new ≡ self.old) }
     {
         self.step_kept(tree.board(), event)
@@ -99,8 +111,10 @@ impl Kept {
     fn step_kept(&mut self, board: &Board, event: &Event) -> Result<(), Why>
         requires valid { IsValid board.now }
         requires stands { Stands board.now self.old }
-        ensures verdict { (h : List Event) → StandsFor board.now h self.old → Holds board.now h event.now (cause_in result) }
-        ensures goes_on { (h : List Event) → StandsFor board.now h self.old → OnOk result (StandsFor board.now (event.now ∷ h) self.new) }
+        ensures verdict { (h : List Event) → StandsFor board.now h self.old →
+            Holds board.now h event.now (cause_in result) }
+        ensures goes_on { (h : List Event) → StandsFor board.now h self.old →
+            OnOk result (StandsFor board.now (event.now ∷ h) self.new) }
         ensures refused { OnErr result (self.new ≡ self.old) }
     {
         // A run on bridges that keep the local master has few events.
@@ -109,12 +123,14 @@ impl Kept {
     }
 
     /// One more event, by the rule of the bridge, where it is allowed after those for which this
-    /// stands, of which there are few: then this stands for it too. If it is not, the cause, and this
-    /// is as it was.
+    /// stands, of which there are few: then this stands for it too. If it is not, the cause, and
+    /// this is as it was.
     pub fn step_by_rule(&mut self, tree: &Tree, event: &Event) -> Result<(), Why>
         requires { StandsFew tree.now self.old }
-        ensures verdict { (rule : Rule) (h : List Event) → StandsForBy rule tree.now h self.old → HoldsBy rule tree.now h event.now (cause_in result) }
-        ensures goes_on { (rule : Rule) (h : List Event) → StandsForBy rule tree.now h self.old → OnOk result (StandsForBy rule tree.now (event.now ∷ h) self.new) }
+        ensures verdict { (rule : Rule) (h : List Event) → StandsForBy rule tree.now h self.old →
+            HoldsBy rule tree.now h event.now (cause_in result) }
+        ensures goes_on { (rule : Rule) (h : List Event) → StandsForBy rule tree.now h self.old →
+            OnOk result (StandsForBy rule tree.now (event.now ∷ h) self.new) }
         ensures refused { OnErr result (self.new ≡ self.old) }
     {
         self.step_on(tree.board(), event)
@@ -123,8 +139,10 @@ impl Kept {
     fn step_on(&mut self, board: &Board, event: &Event) -> Result<(), Why>
         requires valid { IsValid board.now }
         requires stands { StandsFew board.now self.old }
-        ensures verdict { (rule : Rule) (h : List Event) → StandsForBy rule board.now h self.old → HoldsBy rule board.now h event.now (cause_in result) }
-        ensures goes_on { (rule : Rule) (h : List Event) → StandsForBy rule board.now h self.old → OnOk result (StandsForBy rule board.now (event.now ∷ h) self.new) }
+        ensures verdict { (rule : Rule) (h : List Event) → StandsForBy rule board.now h self.old →
+            HoldsBy rule board.now h event.now (cause_in result) }
+        ensures goes_on { (rule : Rule) (h : List Event) → StandsForBy rule board.now h self.old →
+            OnOk result (StandsForBy rule board.now (event.now ∷ h) self.new) }
         ensures refused { OnErr result (self.new ≡ self.old) }
     {
         match self.allows(board, event) {
@@ -215,7 +233,8 @@ impl Kept {
         requires formed { IsTrue (is_well_formed board.now) }
         requires fits { gone ≤ 2 ^ 100 }
         ensures { let rest = without gone request.now in
-            result ≡ answer_by board.now self.now presented.bus presented.by presented.op rest (claim board.now presented.bus rest) }
+            result ≡ answer_by board.now self.now presented.bus presented.by presented.op rest
+            (claim board.now presented.bus rest) }
     {
         let address = address_left(request, gone);
         match claim_in_space(board, presented.bus, request.command.space(), address) {
@@ -228,7 +247,8 @@ impl Kept {
 
     fn target_answer(&self, board: &Board, place: u16, request: &Request, gone: u128) -> Answer
         requires { gone ≤ 2 ^ 100 }
-        ensures { result ≡ target_answer self.now place (without gone request.now) (slice_get board.now.targets place) }
+        ensures { result ≡ target_answer self.now place (without gone request.now)
+            (slice_get board.now.targets place) }
     {
         match board.targets.as_slice().get(place as usize) {
             Some(target) => Answer::Gives {
@@ -273,7 +293,9 @@ impl Kept {
         lane: Lane,
         request: &Request,
     ) -> Answer
-        ensures { result ≡ face_in board.now self.now presented.bus presented.by presented.op request.now lane (bridge_to board.now lane.bus) (lanes_in board.now self.now.lanes lane.bus) }
+        ensures { result ≡
+            face_in board.now self.now presented.bus presented.by presented.op request.now lane
+            (bridge_to board.now lane.bus) (lanes_in board.now self.now.lanes lane.bus) }
     {
         match (bridge_to(board, lane.bus), self.lanes.to(board, lane.bus)) {
             (Some(bridge), Some(lanes)) => lanes.answer(board, bridge, presented, request, lane),
@@ -307,7 +329,8 @@ impl Kept {
     ) -> Result<(), Why>
         requires { IsTrue (is_well_formed board.now) }
         ensures { HoldsOfAct (wants_now board.now self.now presented.bus presented.by presented.op)
-            (answer_now board.now self.now presented.bus presented.by presented.op) step place (cause_in result) }
+            (answer_now board.now self.now presented.bus presented.by presented.op) step place
+            (cause_in result) }
     {
         if self.wants(board, presented) {
             answer_allows(self.answer(board, presented), step, place)
@@ -332,7 +355,9 @@ impl Kept {
 
     /// What the event brings to words.
     fn land(&mut self, board: &Board, event: &Event)
-        ensures { self.new ≡ record self.old { values = values_next board.now self.old.places self.old.gone event.now self.old.values } }
+        ensures { self.new ≡ record self.old {
+          values = values_next board.now self.old.places self.old.gone event.now self.old.values;
+        } }
     {
         match *event {
             Event::Act {

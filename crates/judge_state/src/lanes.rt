@@ -57,7 +57,8 @@ impl KeptLanes {
 
     /// Whether a lane presents what stands on it of the operation, by the rule of the bridge.
     pub(crate) fn presents(&self, board: &Board, rule: Rule, lane: Lane, bus: u8, op: OpId) -> bool
-        ensures { result ≡ presents_by rule board.now bus op (lane_in board.now self.now lane).standing }
+        ensures { result ≡
+            presents_by rule board.now bus op (lane_in board.now self.now lane).standing }
     {
         match self.to(board, lane.bus) {
             Some(lanes) => may_go(board, rule, bus, op, lanes.lane(lane.up).standing()),
@@ -120,7 +121,8 @@ fn happen_to(
     place: usize,
 )
     requires { RoomAt lanes.old (Some place) }
-    ensures { lanes.new ≡ changed_at (lanes_after rule board.now event.now bus) lanes.old (Some place) }
+    ensures { lanes.new ≡
+        changed_at (lanes_after rule board.now event.now bus) lanes.old (Some place) }
 {
     if place < lanes.len() {
         lanes[place].happen(board, rule, event, bus);

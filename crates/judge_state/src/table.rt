@@ -43,7 +43,8 @@ impl WordTable {
 
     /// The word has this place.
     pub(crate) fn put(&mut self, word: Word, place: usize) -> Result<(), NoMemory>
-        ensures { OnOk result ((q : Word) → place_at self.new q ≡ (if same_word word q then Some place else place_at self.old q)) }
+        ensures { OnOk result ((q : Word) →
+            place_at self.new q ≡ (if same_word word q then Some place else place_at self.old q)) }
     {
         self.places.insert(word, place)?;
         Ok(())

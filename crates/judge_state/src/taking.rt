@@ -19,7 +19,8 @@ pub fn first_refused(
     events: &[Event],
 ) -> Result<Option<(u32, Why)>, NoMemory>
     requires { length events.now < 2 ^ 32 }
-    ensures { IfOk result (λ first. MatchOption first (Run tree.now (history_of events.now)) (RefusesFirst tree.now events.now)) }
+    ensures { IfOk result (λ first. MatchOption first (Run tree.now (history_of events.now))
+        (RefusesFirst tree.now events.now)) }
 {
     let mut kept = Kept::new(alloc, tree)?;
     Ok(take_all(&mut kept, tree, events))

@@ -34,7 +34,8 @@ impl Model for KeptWords {
 
 impl KeptWords {
     ghost use Rattle.history_model.specs.Words.{brings};
-    ghost use Rattle.judge_state.specs.Words.{place_at, value_at, merged_at, landed_in, landed_by, WordsKnown, StillThere, KnowsRead};
+    ghost use Rattle.judge_state.specs.Words.{place_at, value_at, merged_at, landed_in};
+    ghost use Rattle.judge_state.specs.Words.{landed_by, WordsKnown, StillThere, KnowsRead};
     ghost use Rattle.std.specs.List.{AllByRecursion};
     ghost use Rattle.board_tree.specs.Decodable.{IsDecodable};
     ghost use Rattle.std.specs.Prelude.{OnOk, IfOk, is_some, true, None};
@@ -61,7 +62,8 @@ impl KeptWords {
         requires known { WordsKnown board.now self.old }
         ensures known { OnOk result (WordsKnown board.now self.new) }
         ensures stays { OnOk result (StillThere self.old.places self.new.places) }
-        ensures reads { OnOk result (AllByRecursion (KnowsRead board.now bus self.new.places) ops.now) }
+        ensures reads { OnOk result
+            (AllByRecursion (KnowsRead board.now bus self.new.places) ops.now) }
     {
         for op in ops {
             self.know_read(board, bus, op)?;
@@ -131,7 +133,8 @@ impl KeptWords {
     /// A data phase lands in the word.
     fn merge_at(&mut self, word: Word, phase: &Phase)
         ensures places { self.new.places ≡ self.old.places }
-        ensures values { self.new.values ≡ merged_at self.old.places word phase.now self.old.values }
+        ensures values { self.new.values ≡
+            merged_at self.old.places word phase.now self.old.values }
     {
         let mask = mask_of(word.space, word.address);
         if let Some(place) = self.places.get(word) {
@@ -143,7 +146,8 @@ impl KeptWords {
     fn land_from(&mut self, target: u16, space: Space, at: u128, phases: &[Phase])
         requires { at ≤ 2 ^ 120 }
         ensures places { self.new.places ≡ self.old.places }
-        ensures values { self.new.values ≡ landed_in self.old.places target space at phases.now self.old.values }
+        ensures values { self.new.values ≡
+            landed_in self.old.places target space at phases.now self.old.values }
     {
         let mut next = at;
         for phase in phases {
@@ -165,7 +169,8 @@ impl KeptWords {
     pub(crate) fn land(&mut self, target: u16, request: &Request, gone: u128, step: Step)
         requires { gone ≤ 2 ^ 100 }
         ensures places { self.new.places ≡ self.old.places }
-        ensures values { self.new.values ≡ landed_by self.old.places target step gone request.now self.old.values }
+        ensures values { self.new.values ≡
+            landed_by self.old.places target step gone request.now self.old.values }
     {
         let space = request.command.space();
         let at = dword_address(space, u128::from(request.address) + 4 * gone);

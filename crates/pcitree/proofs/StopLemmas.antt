@@ -10,7 +10,7 @@ use Rattle.program_input.specs.Refusals.{IsRefusing}
 use Rattle.program_input.proofs.RefusalLemmas.{board_refusing}
 use Rattle.command_traces.proofs.check.ServedLemmas.{check_refusing}
 use Rattle.command_runs.proofs.finish.ServedLemmas.{finish_refusing}
-use Rattle.program_input.proofs.RunLemmas.{run_refusing}
+use Rattle.command_traces.proofs.run.RunLemmas.{run_refusing}
 use Rattle.command_runs.proofs.generate.ServedLemmas.{generate_refusing}
 use Rattle.program_input.proofs.ProtocolLemmas.{protocol_refusing, devices_refusing}
 use Rattle.command_traces.proofs.draw.ServedLemmas.{draw_refusing, draw_succeeds}
@@ -21,6 +21,7 @@ use Rattle.command_traces.proofs.untagged.ServedLemmas.{untagged_refusing}
 use Rattle.command_boards.proofs.import.ServedLemmas.{import_refusing}
 use Rattle.command_safe.proofs.safe.EndingLemmas.{safe_succeeds}
 use Rattle.command_safe.proofs.adverse.ServedLemmas.{adverse_refusing}
+use Rattle.command_observe.proofs.ServedLemmas.{observe_refusing, acts_succeed}
 use Rattle.program_words.specs.declared.Form.{Form}
 use Rattle.program_words.specs.declared.Form.TheVariants as forms
 use Rattle.pcitree.specs.Words.{command_of, rows_in, operation_in, read_in, write_in}
@@ -44,6 +45,7 @@ succeeds forms.Safe words input text ending answers = safe_succeeds input text e
 succeeds forms.Draw words input text ending answers = draw_succeeds (rows_asked (rows_in words)) input text ending answers
 succeeds forms.DrawRows words input text ending answers = draw_succeeds (rows_asked (rows_in words)) input text ending answers
 succeeds forms.DrawOperation words input text ending answers = draw_succeeds (operation_asked (operation_in words)) input text ending answers
+succeeds forms.ObserveActs words input text ending answers = acts_succeed input text ending answers
 succeeds form words input text ending answers = ap subject_of answers.1
 
 pub succeeded : (known : Option Form) (words : List (List ℕ)) (held rest before after : Option (List ℕ)) (ending : Status) → IsSome known
@@ -92,6 +94,8 @@ refusing forms.Headers words = board_refusing
 refusing forms.Check words = check_refusing
 refusing forms.Finish words = finish_refusing
 refusing forms.Fill words = fill_refusing
+refusing forms.Observe words = observe_refusing
+refusing forms.ObserveActs words = observe_refusing
 refusing forms.Audit words = run_refusing
 refusing forms.Report words = run_refusing
 refusing forms.Waves words = run_refusing

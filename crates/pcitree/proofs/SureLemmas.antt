@@ -2,7 +2,7 @@
 use Rattle.std.proofs.Common.{◌≡◌, ◌≢◌, ◌⊎◌, ℕ, List, inl, inr, refl, arith}
 use Rattle.io_ports.specs.Faults.{Rose}
 use Rattle.program_status.specs.declared.status.Status.{Status}
-use Rattle.program_status.specs.declared.status.Status.TheVariants.{Done, NoMemory, Usage, ReadFault, WriteFault, TooLong, BadBoard, BadTrace, BadMachine, TooManyEvents, NotRun, Incomplete, NotSafe, NotShown, DrawnTo}
+use Rattle.program_status.specs.declared.status.Status.TheVariants.{Done, NoMemory, Usage, ReadFault, WriteFault, TooLong, BadBoard, BadTrace, BadMachine, TooManyEvents, NotRun, Incomplete, NotSafe, NotShown, DrawnTo, BadLog, NotTold, TooMuch, ToldTo}
 use Rattle.program_status.specs.Subjects.{Serves}
 use Rattle.program_words.specs.declared.Form.{Form}
 use Rattle.pcitree.specs.Answers.{IsAnswered, Causes}
@@ -17,6 +17,7 @@ module _ (form : Form) (words : List (List ℕ)) (input : List ℕ) where
   answered_or_no_memory Done reads writes serves cause = inl cause
   answered_or_no_memory (NotSafe unsafe_reads lost vain) reads writes serves cause = inl cause
   answered_or_no_memory (DrawnTo event why) reads writes serves cause = inl cause
+  answered_or_no_memory (ToldTo line why) reads writes serves cause = inl cause
   answered_or_no_memory NoMemory reads writes serves cause = inr refl
   answered_or_no_memory (Usage word) reads writes serves cause = absurd (serves.0 refl)
   answered_or_no_memory ReadFault reads writes serves cause = absurd (reads refl)
@@ -29,3 +30,6 @@ module _ (form : Form) (words : List (List ℕ)) (input : List ℕ) where
   answered_or_no_memory (NotRun event why) reads writes serves cause = absurd (serves.2 refl)
   answered_or_no_memory (Incomplete left) reads writes serves cause = absurd (serves.2 refl)
   answered_or_no_memory NotShown reads writes serves cause = absurd (serves.2 refl)
+  answered_or_no_memory (BadLog line fault) reads writes serves cause = absurd (serves.2 refl)
+  answered_or_no_memory (NotTold line refusal) reads writes serves cause = absurd (serves.2 refl)
+  answered_or_no_memory (TooMuch line excess) reads writes serves cause = absurd (serves.2 refl)

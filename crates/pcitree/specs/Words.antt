@@ -5,7 +5,8 @@ use Rattle.std.specs.Cmp.Lexicographic.{pointwise}
 use Rattle.program_status.specs.declared.status.Status.{Status}
 use Rattle.program_status.specs.declared.status.Status.TheVariants.{Done}
 use Rattle.program_input.specs.Boards.{RefusesBoard, IsBoardText}
-use Rattle.program_input.specs.Traces.{IsCompleteTrace, IsRunTrace, RefusesRun}
+use Rattle.program_input.specs.Traces.{IsCompleteTrace, IsRunTrace}
+use Rattle.command_traces.specs.Runs.{RefusesRun}
 use Rattle.command_runs.specs.run.Answers.{AnswersRun}
 use Rattle.command_boards.specs.headers.Answers.{AnswersHeaders}
 use Rattle.command_traces.specs.check.Answers.{AnswersCheck, RefusesCheck}
@@ -29,11 +30,12 @@ use Rattle.program_input.specs.Protocols.{RefusesProtocol, IsProtocolText}
 use Rattle.command_safe.specs.safe.Answers.{AnswersSafe}
 use Rattle.command_safe.specs.adverse.Operation.{names_operation}
 use Rattle.command_safe.specs.adverse.Answers.{AnswersAdverse, RefusesAdverse, IsShowable}
+use Rattle.command_observe.specs.Answers.{AnswersObserve, AnswersActs, RefusesObserve, IsToldSurely}
 use Rattle.program_words.specs.declared.Form.{Form}
 use Rattle.program_words.specs.declared.Form.TheVariants as forms
 use Rattle.program_words.specs.declared.TheConstants.{FORMS}
 use Rattle.program_words.specs.Shapes.{Shape, parts_of, input_limit}
-use Rattle.program_words.specs.Shapes.Shape.{Word, File, Rounds, First, Last, Operation}
+use Rattle.program_words.specs.Shapes.Shape.{Word, File, Log, Rounds, First, Last, Operation}
 
 -- the events that the words ask for, by the number of the first and of the last: in words of the form `draw FILE FIRST LAST`
 abbrev pub rows_in : List (List ℕ) → Option Rows
@@ -115,6 +117,18 @@ command_of forms.Fill words = record {
   Answers = WithDone AnswersFill;
   Refuses = RefusesFill;
   IsFaultless = HasRun;
+  writes_run = false;
+}
+command_of forms.Observe words = record {
+  Answers = WithDone AnswersObserve;
+  Refuses = RefusesObserve;
+  IsFaultless = IsToldSurely;
+  writes_run = false;
+}
+command_of forms.ObserveActs words = record {
+  Answers = AnswersActs;
+  Refuses = RefusesObserve;
+  IsFaultless = IsToldSurely;
   writes_run = false;
 }
 command_of forms.Audit words = record {
@@ -199,6 +213,7 @@ names_file (first ∷ _) = not (first == 45)
 abbrev pub fits : Shape → List ℕ → List ℕ → Bool
 fits (Word text) before word = pointwise nat_eq word text
 fits File before word = names_file word
+fits Log before word = names_file word
 fits Rounds before word = names_rounds word
 fits First before word = names_event word
 fits Last before word = is_some (rows_of before word)
@@ -229,6 +244,7 @@ misfit words = fold (λ longest form. max longest (fitting (parts_of form) [] wo
 -- the word that names the file
 abbrev pub is_file : Shape → Bool
 is_file File = true
+is_file Log = true
 is_file _ = false
 
 -- the word that is a number to be read

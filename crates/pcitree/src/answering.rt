@@ -36,6 +36,8 @@ pub(crate) fn answer<R: Threads + Sync, G: Gate + Sync>(
         Form::Check => done(command_traces::answer_check(alloc, input)),
         Form::Finish => done(command_runs::answer_finish(alloc, input)),
         Form::Fill => done(command_traces::answer_fill(alloc, input)),
+        Form::Observe => done(command_observe::answer_observe(alloc, input)),
+        Form::ObserveActs => command_observe::answer_acts(alloc, input),
         Form::Audit => done(command_traces::answer_audit(alloc, input)),
         Form::Report => done(command_traces::answer_report(alloc, input)),
         Form::Waves => done(command_traces::answer_waves(alloc, input)),

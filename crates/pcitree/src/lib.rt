@@ -8,6 +8,7 @@ mod surely;
 mod words;
 mod writing;
 
+pub use command_observe::{Retelling, retell};
 pub use command_runs::{Gate, NoGate};
 pub use program::pcitree;
 pub use program_status::{BoardFault, Status};

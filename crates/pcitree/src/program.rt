@@ -47,7 +47,8 @@ pub fn pcitree<R: Threads + Sync, S: Source, K: Sink, G: Gate + Sync>(
         → Rose (S.faults source.old) (S.faults source.new) }
     ensures write_fault { result ≡ Status.WriteFault
         → Rose (K.faults sink.old) (K.faults sink.new) }
-    // What the sink has: the whole text with `Done`, with `NotSafe` of `safe` and `DrawnTo` of `draw`.
+    // What the sink has: the whole text with `Done`, with `NotSafe` of `safe`, `DrawnTo` of `draw` and
+    // `ToldTo` of `observe --acts`.
     ensures unwritten { IsBeforeWriting result → sink.new ≡ sink.old }
     ensures front { result ≡ Status.WriteFault → IfSome (form_of (map string_bytes words.now)) (λ form.
         StopsInText form (map string_bytes words.now) (given form (map string_bytes words.now) (S.held source.old)) (left form (map string_bytes words.now) (S.held source.new))
@@ -135,8 +136,14 @@ fn answer_of<R: Threads + Sync, S: Source, G: Gate + Sync>(
     gate: &G,
 ) -> Result<Answered, Status>
     requires { is_of (parts_of form) [] (map string_bytes words.now) ≡ true }
-    ensures ok { IfOk result (λ answer. AnswersInput form (map string_bytes words.now) (given form (map string_bytes words.now) (S.held source.old)) (left form (map string_bytes words.now) (S.held source.new)) answer.text.items answer.ending) }
-    ensures stopped { IfErr result (StopsAnswering form (map string_bytes words.now) (given form (map string_bytes words.now) (S.held source.old)) (left form (map string_bytes words.now) (S.held source.new)) (S.faults source.old) (S.faults source.new)) }
+    ensures ok { IfOk result (λ answer. AnswersInput form (map string_bytes words.now)
+        (given form (map string_bytes words.now) (S.held source.old))
+        (left form (map string_bytes words.now) (S.held source.new))
+        answer.text.items answer.ending) }
+    ensures stopped { IfErr result (StopsAnswering form (map string_bytes words.now)
+        (given form (map string_bytes words.now) (S.held source.old))
+        (left form (map string_bytes words.now) (S.held source.new))
+        (S.faults source.old) (S.faults source.new)) }
     ensures unasked { IsSome (number_of form (map string_bytes words.now)) → source.new ≡ source.old }
 {
     match number_of(form, words) {

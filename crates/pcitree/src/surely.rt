@@ -12,7 +12,7 @@ use std::alloc::Global;
 use std::thread::Threads;
 
 /// `pcitree` over ports that never fail: an input that is served is answered wherever there is
-/// memory, and other answers refuse the words or the input.
+/// memory, and other answers refuse the words or the input. No word of the program calls it.
 pub fn pcitree_surely<R: Threads + Sync, G: Gate + Sync>(
     rt: &R,
     alloc: Global,

@@ -15,7 +15,7 @@ fn fits(part: Part, before: &str, word: &str) -> bool
 {
     match part {
         Part::Word(text) => word == text,
-        Part::File => names_file(word.as_bytes()),
+        Part::File | Part::Log => names_file(word.as_bytes()),
         Part::Rounds => names_rounds(word.as_bytes()),
         Part::First => names_event(word.as_bytes()),
         Part::Last => rows_of(before.as_bytes(), word.as_bytes()).is_some(),
@@ -27,7 +27,7 @@ fn fits(part: Part, before: &str, word: &str) -> bool
 fn is_file(part: Part) -> bool
     ensures { result ≡ is_file (shape_of part) }
 {
-    matches!(part, Part::File)
+    matches!(part, Part::File | Part::Log)
 }
 
 /// Whether the word is a number to be read.

@@ -6,9 +6,10 @@
 mod asked;
 mod report;
 
-use asked::{Asked, asked_for, tell};
+use asked::tell;
 use io_ports::{HeldSource, ReadPort, WritePort};
 use pcitree::{NoGate, Status, file_word, input_limit, pcitree};
+use program_messages::{Asked, asked_for};
 use report::report;
 use std::env;
 use std::fs::File;

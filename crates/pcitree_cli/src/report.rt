@@ -1,7 +1,7 @@
 use pci_command::NoMemory;
-use pcitree::{Status, input_limit};
+use pcitree::{Status, input_limit, retell};
 use program_messages::{
-    MOST_DRAWN, form_of, limit_words, message, not_shown, note, unread, unwritten,
+    MOST_DRAWN, form_of, limit_words, message, message_of_log, not_shown, note, unread, unwritten,
 };
 use program_pages::Message;
 use program_words::usage_help;
@@ -41,17 +41,20 @@ fn message_of(
     status: Status,
     reason: Option<ErrorKind>,
 ) -> Result<Message, NoMemory> {
+    let form = form_of(words.first().map_or("", |word| word.as_str()));
     match (status, words) {
         (Status::ReadFault, _) => unread(rt.alloc(), name, reason),
         (Status::WriteFault, _) => unwritten(rt.alloc(), reason),
-        (Status::TooLong, _) => note(rt.alloc(), limit_words(input_limit(words))),
+        (Status::TooLong, _) => note(rt.alloc(), limit_words(form, input_limit(words))),
         (Status::TooManyEvents { .. }, _) => note(rt.alloc(), MOST_DRAWN),
         (Status::NotShown, [_adverse, _file, read, write]) => {
             not_shown(rt.alloc(), input, read.as_str(), write.as_str())
         }
-        _ => {
-            let form = form_of(words.first().map_or("", |word| word.as_str()));
-            message(rt.alloc(), name, input, &status, form)
+        (Status::NotTold { .. } | Status::ToldTo { .. }, _) => {
+            let read = retell(rt.alloc(), input)?;
+            let refused = read.as_ref().map(|read| read.refused());
+            message_of_log(rt.alloc(), name, input, &status, refused)
         }
+        _ => message(rt.alloc(), name, input, &status, form),
     }
 }

@@ -3,4 +3,3 @@ pub mod TraceLemmas
 pub mod TreeLemmas
 pub mod DevicesLemmas
 pub mod ProtocolLemmas
-pub mod RunLemmas

@@ -6,9 +6,7 @@ use Rattle.history_model.specs.declared.event.Event.{Event}
 use Rattle.history_model.specs.declared.why.Why.{Why}
 use Rattle.history_model.specs.Runs.{Run, Complete, history_of}
 use Rattle.trace_reader.specs.Traces.{trace_read}
-use Rattle.judge_state.specs.Refused.{FirstRefused}
 use Rattle.program_status.specs.declared.status.Status.{Status}
-use Rattle.program_status.specs.declared.status.Status.TheVariants.{NotRun}
 use Rattle.program_input.specs.Refusals.{tree_fault, trace_refusal, RefusesBy}
 use Rattle.program_input.specs.declared.trace.TreeTrace.{TreeTrace}
 
@@ -21,13 +19,13 @@ pub record ReadsTrace (input : List ℕ) (board : Board) (events : List Event) :
 abbrev pub RefusesTrace : List ℕ → Status → Type 0
 RefusesTrace input status = RefusesBy (trace_refusal input) status
 
--- the input is the text of a valid board and of events that are no run of it, for this first event and this cause
-pub record IsNoRun (input : List ℕ) (event : ℕ) (why : Why) : Type 0 where
+-- the input is the text of a valid board and of events of which this one is refused for this cause
+pub record IsRefused (Refuses : Board → List Event → ℕ → Why → Type 0) (input : List ℕ) (event : ℕ) (why : Why) : Type 0 where
   pub board : Board
   pub events : List Event
   pub reads : ReadsTrace input board events
   pub valid : IsValid board
-  pub refused : FirstRefused board events event why
+  pub refused : Refuses board events event why
 
 -- the input is the text of a valid board and of a run of it
 pub record IsRunTrace (input : List ℕ) : Type 0 where
@@ -49,14 +47,3 @@ pub record ReadsTree (input : List ℕ) (read : TreeTrace) : Type 0 where
   pub reads : ReadsTrace input read.tree read.events
   pub valid : IsValid read.tree
   pub few : length read.events < 2 ^ 32
-
--- what was read of the text of a run, complete or not
-pub record ReadsRun (input : List ℕ) (read : TreeTrace) : Type 0 where
-  pub reads : ReadsTrace input read.tree read.events
-  pub valid : IsValid read.tree
-  pub run : Run read.tree (history_of read.events)
-
--- it is no text of a run: refused as no run, or as no trace text
-abbrev pub RefusesRun : List ℕ → Status → Type 0
-RefusesRun input (NotRun event why) = IsNoRun input event why
-RefusesRun input status = RefusesTrace input status

@@ -1,7 +1,8 @@
 ghost use Rattle.std.specs.Prelude.{◌≡◌, ◌<◌, ◌^◌, length, IsTrue, IfOk, IfErr, None};
 ghost use Rattle.board_model.specs.WellFormed.{is_well_formed};
 ghost use Rattle.program_input.specs.Refusals.{board_refusal};
-ghost use Rattle.program_input.specs.Boards.{ReadsBoard, RefusesBoard, RefusesTree, IsTreeOf, refusal_told};
+ghost use Rattle.program_input.specs.Boards.{ReadsBoard, RefusesBoard};
+ghost use Rattle.program_input.specs.Boards.{RefusesTree, IsTreeOf, refusal_told};
 
 use board_model::Board;
 use board_parser::{ParseFault, parse, read_is_well_formed};
@@ -28,7 +29,7 @@ pub fn read_tree(alloc: Global, input: &[u8]) -> Result<Tree, Status>
 }
 
 /// The tree of a valid board, or its first fault with line 0.
-pub(crate) fn tree_of(board: Board) -> Result<Tree, Status>
+pub fn tree_of(board: Board) -> Result<Tree, Status>
     requires { IsTrue (is_well_formed board) }
     ensures ok { IfOk result (IsTreeOf board) }
     ensures err { IfErr result (RefusesTree board) }

@@ -6,11 +6,9 @@
 mod board;
 mod devices;
 mod protocol;
-mod run;
 mod trace;
 
-pub use board::read_tree;
+pub use board::{read_tree, tree_of};
 pub use devices::read_devices;
 pub use protocol::read_protocol;
-pub use run::read_run;
 pub use trace::{TreeTrace, read_tree_trace};

@@ -1,6 +1,6 @@
 -- Of which statuses nothing is said behind the first line.
 use Rattle.program_status.specs.declared.status.Status.{Status}
-use Rattle.program_status.specs.declared.status.Status.TheVariants.{Done, NoMemory, Usage, ReadFault, WriteFault, TooLong, BadBoard, BadTrace, BadMachine, TooManyEvents, NotRun, Incomplete, NotSafe, NotShown, DrawnTo}
+use Rattle.program_status.specs.declared.status.Status.TheVariants.{Done, NoMemory, Usage, ReadFault, WriteFault, TooLong, BadBoard, BadTrace, BadMachine, TooManyEvents, NotRun, Incomplete, NotSafe, NotShown, DrawnTo, BadLog, NotTold, TooMuch, ToldTo}
 
 -- nothing is said of an input that ends so
 abbrev pub IsQuiet : Status → Type 0
@@ -19,3 +19,7 @@ IsQuiet (Incomplete _) = ⊥
 IsQuiet (NotSafe _ _ _) = Unit {0}
 IsQuiet NotShown = Unit {0}
 IsQuiet (DrawnTo _ _) = ⊥
+IsQuiet (BadLog _ _) = ⊥
+IsQuiet (NotTold _ _) = ⊥
+IsQuiet (TooMuch _ _) = ⊥
+IsQuiet (ToldTo _ _) = ⊥

@@ -1,8 +1,11 @@
-ghost use Rattle.std.specs.Prelude.{◌<◌, ◌≤◌, ◌^◌, length};
+ghost use Rattle.std.specs.Prelude.{◌<◌, ◌^◌, length};
 
-use crate::form::Form;
-use crate::refused::{TOO_LONG, board_part, smallest, word_at_fault, word_lines};
+use crate::form::InputForm;
+use crate::refused::{
+    TOO_LONG, board_part, owner_lines, smallest, word_at_fault, word_lines,
+};
 use crate::unclear::tell_unclear;
+use board_parser::{ParseFault, parse};
 use pci_command::NoMemory;
 use program_pages::{
     Case, Fault, Spot, Teller, Text, bus_not_there, line_at, named_spot, place_of, text_of_device,
@@ -12,6 +15,9 @@ use program_status::{BoardFault, Status};
 use std::alloc::Global;
 use text_faults::{DeviceFault, LineFault, TreeFault};
 
+/// What is said of a line that a board may have, and the board of a log may not.
+const NO_LINE_OF_A_LOG: &str = "no log has this line: what was done stands behind the line log";
+
 /// How many lines are shown of one fault.
 const MOST_SHOWN: u32 = 8;
 
@@ -19,7 +25,7 @@ const MOST_SHOWN: u32 = 8;
 pub(crate) fn tell_board(
     teller: &mut Teller,
     input: &[u8],
-    form: Form,
+    form: InputForm,
     status: &Status,
     number: u32,
     fault: BoardFault,
@@ -30,15 +36,13 @@ pub(crate) fn tell_board(
         None => String::new(teller.alloc()),
     };
     match fault {
+        BoardFault::Line(LineFault::WrongWord)
+            if form == InputForm::Log && is_board(teller.alloc(), text.as_slice())? => {
+            let line = line_at(text.as_slice(), number).map_or(b"".as_slice(), |(_, line)| line);
+            teller.point(number, line, 0, NO_LINE_OF_A_LOG)
+        }
         BoardFault::Line(fault) => {
-            tell_line(
-                teller,
-                text.as_slice(),
-                status,
-                number,
-                fault,
-                sentence.as_str(),
-            )
+            tell_line(teller, text.as_slice(), number, fault, sentence.as_str())
         }
         BoardFault::Tree(fault) => {
             tell_tree(teller, text.as_slice(), status, fault, sentence.as_str())
@@ -48,6 +52,18 @@ pub(crate) fn tell_board(
             teller.error(line.as_str())
         }
         BoardFault::Device(fault) => tell_device(teller, input, number, fault, sentence.as_str()),
+    }
+}
+
+/// Whether the text is read as a board, whatever its tree is.
+fn is_board(alloc: Global, text: &[u8]) -> Result<bool, NoMemory> {
+    if text.len() >= TOO_LONG {
+        return Ok(false);
+    }
+    match parse(alloc, text) {
+        Ok(_) => Ok(true),
+        Err(ParseFault::NoMemory) => Err(NoMemory),
+        Err(_) => Ok(false),
     }
 }
 
@@ -120,24 +136,18 @@ fn word_of_address(line: &[u8]) -> usize {
 fn tell_line(
     teller: &mut Teller,
     text: &[u8],
-    status: &Status,
     number: u32,
     fault: LineFault,
     sentence: &str,
 ) -> Result<(), NoMemory> {
-    let Some((start, line)) = line_at(text, number) else {
-        return teller.point(number, b"", 0, sentence);
+    let (before, line) = match line_at(text, number) {
+        Some((start, line)) if line.len() < TOO_LONG => (&text[..start.min(text.len())], line),
+        _ => return teller.point(number, b"", 0, sentence),
     };
-    let end = start.saturating_add(line.len()).min(text.len());
-    let front = &text[..end];
-    if front.len() >= TOO_LONG {
-        return teller.point(number, b"", 0, sentence);
-    }
-    let line = &front[start.min(end)..];
-    let spot = spot_at_fault(teller.alloc(), front, start.min(end), status, fault)?;
+    let spot = spot_at_fault(teller.alloc(), before, line, fault)?;
     let at = place_of(teller.alloc(), line, spot)?;
     let case = Case {
-        before: &front[..start.min(end)],
+        before,
         line,
         number,
         spot,
@@ -145,7 +155,7 @@ fn tell_line(
     };
     tell_case(teller, &case, fault, sentence)?;
     match fault {
-        LineFault::NameUsed | LineFault::BusUsed => tell_first_use(teller, front, status, number),
+        LineFault::NameUsed | LineFault::BusUsed => tell_first_use(teller, &case, fault),
         _ => Ok(()),
     }
 }
@@ -174,24 +184,47 @@ fn tell_text(
     teller.point(number, line, at, text.as_str())
 }
 
-/// The spot that the fault names, or else the word at fault of the line that begins at `start` and
-/// ends the text.
+/// The spot that the fault names, or else the word at fault of the line, which stands behind these.
 fn spot_at_fault(
     alloc: Global,
-    text: &[u8],
-    start: usize,
-    status: &Status,
+    before: &[u8],
+    line: &[u8],
     fault: LineFault,
-) -> Result<Spot, NoMemory>
-    requires line { start ≤ length text.now }
-    requires short { length text.now < 2 ^ 31 }
-{
+) -> Result<Spot, NoMemory> {
     match named_spot(fault) {
         Some(spot) => Ok(spot),
         None => {
-            let place = word_at_fault(alloc, text, start, status)?;
+            let place = word_behind(alloc, before, line, fault)?;
             Ok(Spot::Word(place.unwrap_or(0)))
         }
+    }
+}
+
+/// The word at fault of the line: as it is behind those lines alone that its words may depend on,
+/// of all that stand before it.
+fn word_behind(
+    alloc: Global,
+    before: &[u8],
+    line: &[u8],
+    fault: LineFault,
+) -> Result<Option<usize>, NoMemory> {
+    let mut lines = owner_lines(alloc, before)?;
+    let start = lines.text.len();
+    lines.text.extend_from_slice(line)?;
+    let text = lines.text.as_slice();
+    if text.len() >= TOO_LONG {
+        return Ok(None);
+    }
+    let status = refusal_behind(lines.numbers.len(), fault);
+    word_at_fault(alloc, text, start.min(text.len()), &status)
+}
+
+/// The status that tells this fault of the line behind so many.
+fn refusal_behind(lines: usize, fault: LineFault) -> Status {
+    let line = u32::try_from(lines).unwrap_or(u32::MAX).saturating_add(1);
+    Status::BadBoard {
+        line,
+        fault: BoardFault::Line(fault),
     }
 }
 
@@ -255,22 +288,19 @@ fn show_left(
     Ok(())
 }
 
-/// The line, but the one of this number, that has the fault of the status with it.
-fn tell_first_use(
-    teller: &mut Teller,
-    text: &[u8],
-    status: &Status,
-    but: u32,
-) -> Result<(), NoMemory> {
-    let Some(left) = smallest(teller.alloc(), text, status)? else {
+/// The line before that has this fault together with the one of the case.
+fn tell_first_use(teller: &mut Teller, case: &Case, fault: LineFault) -> Result<(), NoMemory> {
+    let mut lines = word_lines(teller.alloc(), case.before)?;
+    let status = refusal_behind(lines.numbers.len(), fault);
+    lines.push(case.line, case.number)?;
+    let Some(left) = smallest(teller.alloc(), lines.text.as_slice(), &status)? else {
         return Ok(());
     };
-    let mut number: u32 = 1;
-    for line in left.as_slice().split(|byte| *byte == b'\n') {
-        if number != but && says_more(line) {
+    for (place, line) in left.as_slice().split(|byte| *byte == b'\n').enumerate() {
+        let number = lines.numbers.get(place).copied().unwrap_or(case.number);
+        if number != case.number && says_more(line) {
             return teller.also(number, line, 0, "it is used here first");
         }
-        number = number.saturating_add(1);
     }
     Ok(())
 }

@@ -2,7 +2,7 @@ use history_model::Rule;
 
 /// As what a word of the program reads its input.
 #[derive(Clone, Copy, Debug, PartialEq, Eq)]
-pub enum Form {
+pub enum InputForm {
     /// As a board text.
     Board,
     /// As a board text or, by its first line, the text of devices on a board.
@@ -11,22 +11,29 @@ pub enum Form {
     Trace(Rule),
     /// As a trace, whose arrivals are put anew.
     Filled,
+    /// As a log.
+    Log,
 }
 
 /// As what this word reads it.
-pub fn form_of(word: &str) -> Form {
+pub fn form_of(word: &str) -> InputForm {
     match word {
-        "run" | "headers" | "combine" => Form::Board,
-        "check" | "finish" | "audit" | "report" | "waves" | "draw" => Form::Trace(Rule::Tagged),
-        "untagged" => Form::Trace(Rule::Untagged),
-        "fill" => Form::Filled,
-        _ => Form::Protocol,
+        "run" | "headers" | "combine" => InputForm::Board,
+        "check" | "finish" | "audit" | "report" | "waves" | "draw" => {
+            InputForm::Trace(Rule::Tagged)
+        }
+        "untagged" => InputForm::Trace(Rule::Untagged),
+        "fill" => InputForm::Filled,
+        "observe" => InputForm::Log,
+        _ => InputForm::Protocol,
     }
 }
 
-/// What is said of an input that is longer than this limit.
-pub fn limit_words(limit: usize) -> &'static str {
-    if limit > 0x10_0000 {
+/// What is said of an input of this form that is longer than this limit.
+pub fn limit_words(form: InputForm, limit: usize) -> &'static str {
+    if form == InputForm::Log {
+        "a log has at most 64 MiB"
+    } else if limit > 0x10_0000 {
         "a trace has at most 64 MiB"
     } else {
         "a board has at most 1 MiB"

@@ -2,9 +2,11 @@
 //! why. All of it is found by the program's own readers, from the input and the status alone.
 #![tactic(auto)]
 
+mod asked;
 mod board;
 mod event;
 mod form;
+mod log;
 mod machine;
 mod ports;
 mod refused;
@@ -13,7 +15,9 @@ mod trace;
 mod unclear;
 mod unshown;
 
-pub use form::{Form, MOST_DRAWN, form_of, limit_words};
+pub use asked::{Asked, asked_for};
+pub use form::{InputForm, MOST_DRAWN, form_of, limit_words};
+pub use log::message_of_log;
 pub use ports::{unread, unwritten};
 pub use refused::{smallest, word_at_fault};
 pub(crate) use telling::about;

@@ -6,7 +6,7 @@ mod leaving_out;
 mod reading;
 mod word;
 
-pub use cut::{WordLines, board_part, without_lines, word_lines};
+pub use cut::{SomeLines, board_part, owner_lines, without_lines, word_lines};
 pub use leaving_out::smallest;
 pub use reading::{TOO_LONG, is_refused};
 pub use word::word_at_fault;

@@ -5,7 +5,8 @@ ghost use Rattle.program_messages.specs.Quiet.{IsQuiet};
 
 use crate::board::tell_board;
 use crate::event::tell_event;
-use crate::form::Form;
+use crate::form::InputForm;
+use crate::log::{tell_log_line, tell_seen};
 use crate::machine::tell_machine_line;
 use crate::trace::tell_trace_line;
 use pci_command::NoMemory;
@@ -21,7 +22,7 @@ pub fn message(
     name: &str,
     input: &[u8],
     status: &Status,
-    form: Form,
+    form: InputForm,
 ) -> Result<Message, NoMemory>
     ensures printing { IfOk result (λ message. IsTrue (list_all is_shown message)) }
     ensures quiet { IsQuiet status.now → IfOk result (λ message. message ≡ []) }
@@ -32,7 +33,11 @@ pub fn message(
         | Status::BadMachine { .. }
         | Status::NotRun { .. }
         | Status::DrawnTo { .. }
-        | Status::Incomplete { .. } => told(alloc, name, input, status, form),
+        | Status::Incomplete { .. }
+        | Status::BadLog { .. }
+        | Status::NotTold { .. }
+        | Status::TooMuch { .. }
+        | Status::ToldTo { .. } => told(alloc, name, input, status, form),
         _ => Ok(Message::new(alloc)),
     }
 }
@@ -60,7 +65,7 @@ fn told(
     name: &str,
     input: &[u8],
     status: &Status,
-    form: Form,
+    form: InputForm,
 ) -> Result<Message, NoMemory>
     ensures { IfOk result (λ message. IsTrue (list_all is_shown message)) }
 {
@@ -76,6 +81,9 @@ fn told(
         Status::NotRun { .. } | Status::DrawnTo { .. } | Status::Incomplete { .. } => {
             tell_event(&mut teller, input, form)?;
         }
+        Status::BadLog { line, .. } => tell_log_line(&mut teller, input, line)?,
+        Status::NotTold { line, .. } | Status::TooMuch { line, .. } | Status::ToldTo { line, .. } =>
+            tell_seen(&mut teller, input, line)?,
         _ => {}
     }
     teller.more()?;

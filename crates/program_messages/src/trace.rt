@@ -1,5 +1,5 @@
 use crate::event::place_of_piece;
-use crate::form::Form;
+use crate::form::InputForm;
 use crate::refused::{TOO_LONG, board_part};
 use board_model::Board;
 use board_parser::{ParseFault, parse};
@@ -119,7 +119,7 @@ fn tell_unknown(
 /// is not read. Of an arrival, the lane or else the bus.
 fn first_unknown(teller: &Teller, input: &[u8], line: &[u8]) -> Result<Unknown, NoMemory> {
     let pieces: Vec<&[u8]> = line.split(|byte| *byte == b' ').collect(teller.alloc())?;
-    let text = board_part(teller.alloc(), input, Form::Trace(Rule::Tagged))?;
+    let text = board_part(teller.alloc(), input, InputForm::Trace(Rule::Tagged))?;
     if text.len() >= TOO_LONG {
         return Ok(Unknown::plain(0));
     }

@@ -1,7 +1,8 @@
-use crate::{DEVICE_PAGES, Fault, MACHINE_PAGES, PAGES, Page};
+use crate::{DEVICE_PAGES, Fault, LOG_PAGES, MACHINE_PAGES, PAGES, Page};
 use std::fmt;
 
-/// All codes, a line each, with its sentence: of boards, of devices, of traces, and of what `lspci` wrote.
+/// All codes, a line each, with its sentence: of boards, of devices, of traces, of what `lspci`
+/// wrote, and of logs.
 #[derive(Clone, Copy, Debug)]
 pub struct Codes;
 
@@ -21,6 +22,9 @@ impl fmt::Display for Codes {
             }
         }
         for page in &MACHINE_PAGES {
+            write_line(page, f)?;
+        }
+        for page in &LOG_PAGES {
             write_line(page, f)?;
         }
         Ok(())

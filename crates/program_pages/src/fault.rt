@@ -2,9 +2,9 @@ ghost use Rattle.std.specs.Prelude.{◌≡◌};
 ghost use Rattle.program_pages.specs.Sentences.{sentence_of};
 
 use history_model::Why;
-use program_status::{BoardFault, Status};
+use program_status::{BoardFault, LogExcess, LogRefusal, Status};
 use std::fmt;
-use text_faults::{DeviceFault, LineFault, LspciFault, TraceLineFault, TreeFault};
+use text_faults::{DeviceFault, LineFault, LogLineFault, LspciFault, TraceLineFault, TreeFault};
 
 /// What an input is refused for.
 #[derive(Clone, Copy, Debug, PartialEq, Eq)]
@@ -21,8 +21,14 @@ pub enum Fault {
     Trace(TraceLineFault),
     /// A fault of what `lspci` wrote of a machine.
     Machine(LspciFault),
-    /// An event is not allowed.
+    /// A fault of a log outside its board.
+    Log(LogLineFault),
+    /// An event is not allowed, or an act of a line of a log.
     Cause(Why),
+    /// No act of a line of a log can be named.
+    NoAct,
+    /// A log is more than a board or a run of it may have.
+    Excess(LogExcess),
 }
 
 impl Fault {
@@ -37,7 +43,19 @@ impl Fault {
             }),
             Status::BadTrace { fault, .. } => Some(Fault::Trace(*fault)),
             Status::BadMachine { fault, .. } => Some(Fault::Machine(*fault)),
-            Status::NotRun { why, .. } | Status::DrawnTo { why, .. } => Some(Fault::Cause(*why)),
+            Status::NotRun { why, .. }
+            | Status::DrawnTo { why, .. }
+            | Status::ToldTo { why, .. }
+            | Status::NotTold {
+                refusal: LogRefusal::Cause(why),
+                ..
+            } => Some(Fault::Cause(*why)),
+            Status::NotTold {
+                refusal: LogRefusal::NoAct,
+                ..
+            } => Some(Fault::NoAct),
+            Status::BadLog { fault, .. } => Some(Fault::Log(*fault)),
+            Status::TooMuch { excess, .. } => Some(Fault::Excess(*excess)),
             _ => None,
         }
     }
@@ -52,7 +70,10 @@ impl fmt::Display for Fault {
             Fault::Device(fault) => write!(f, "{fault}"),
             Fault::Trace(fault) => write!(f, "{fault}"),
             Fault::Machine(fault) => write!(f, "{fault}"),
+            Fault::Log(fault) => write!(f, "{fault}"),
             Fault::Cause(why) => f.write_str(sentence_of(*why)),
+            Fault::NoAct => f.write_str(NO_ACT),
+            Fault::Excess(excess) => f.write_str(sentence_of_excess(*excess)),
         }
     }
 }
@@ -70,7 +91,10 @@ impl fmt::Display for Code {
             Fault::Device(fault) => write!(f, "{}", BoardFault::Device(fault)),
             Fault::Trace(fault) => write!(f, "X{}", fault.code()),
             Fault::Machine(fault) => write!(f, "I{}", fault.code()),
+            Fault::Log(fault) => write!(f, "G{}", fault.code()),
             Fault::Cause(why) => write!(f, "{why}"),
+            Fault::NoAct => write!(f, "{}", LogRefusal::NoAct),
+            Fault::Excess(excess) => write!(f, "{excess}"),
         }
     }
 }
@@ -86,5 +110,18 @@ pub fn sentence_of(why: Why) -> &'static str
         Why::GetsRetry => "the operation is answered with Retry",
         Why::NothingInFlight => "nothing is in flight on the lane",
         Why::MarkedOtherwise => "the board marks this arrival otherwise",
+    }
+}
+
+/// Why a line of a log is no act.
+const NO_ACT: &str = "a bridge drives what it does not hold";
+
+/// What of a log is too much, as one sentence.
+fn sentence_of_excess(excess: LogExcess) -> &'static str {
+    match excess {
+        LogExcess::Operations => "more operations, masters or opening words than a board may have",
+        LogExcess::Pieces => "posted writes in more pieces than a bridge may hold",
+        LogExcess::Events => "more events than a run may have",
+        LogExcess::Pairings => "too many pairings of equal requests to try",
     }
 }

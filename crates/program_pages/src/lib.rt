@@ -1,11 +1,12 @@
-//! What each code that the program tells of a fault means: one page for each, by which `explain` and the
-//! messages on standard error are printed.
+//! What each code that the program tells of a fault means: one page for each, by which `explain`
+//! and the messages on standard error are printed.
 #![tactic(auto)]
 
 mod codes;
 mod device_pages;
 mod fault;
 mod lines;
+mod log_pages;
 mod machine_pages;
 mod page;
 mod pages;
@@ -17,6 +18,7 @@ pub use codes::Codes;
 pub use device_pages::DEVICE_PAGES;
 pub use fault::{Fault, sentence_of};
 pub use lines::{behind, find_line, line_at};
+pub use log_pages::LOG_PAGES;
 pub use machine_pages::MACHINE_PAGES;
 pub use page::{Page, explain};
 pub use pages::PAGES;

@@ -2,7 +2,7 @@ ghost use Rattle.std.specs.Prelude.{◌≡◌, IsTrue, IfSome, find};
 ghost use Rattle.std.specs.Option.{option_map};
 ghost use Rattle.program_pages.specs.Pages.{has_code};
 
-use crate::{DEVICE_PAGES, Fault, MACHINE_PAGES, PAGES};
+use crate::{DEVICE_PAGES, Fault, LOG_PAGES, MACHINE_PAGES, PAGES};
 use history_model::Why;
 use std::fmt;
 
@@ -37,7 +37,10 @@ pub fn explain(code: &str) -> Option<&'static Page>
         Some(page) => Some(page),
         None => match find_page(&DEVICE_PAGES, code) {
             Some(page) => Some(page),
-            None => find_page(&MACHINE_PAGES, code),
+            None => match find_page(&MACHINE_PAGES, code) {
+                Some(page) => Some(page),
+                None => find_page(&LOG_PAGES, code),
+            },
         },
     }
 }

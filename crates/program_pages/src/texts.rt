@@ -1,5 +1,5 @@
-//! What is said of a fault in place of the sentence of its code: one text for each case, which is found
-//! by the fault and its line alone. Nothing is claimed of what a text says.
+//! What is said of a fault in place of the sentence of its code: one text for each case, which is
+//! found by the fault and its line alone. Nothing is claimed of what a text says.
 mod board_lines;
 mod bytes;
 mod device_forms;

@@ -9,8 +9,10 @@ use Rattle.text_faults.specs.Device.{code_of as device_code_of}
 use Rattle.history_model.specs.WhyText.{why_text}
 use Rattle.text_faults.specs.Lspci.{code_of as machine_code_of}
 use Rattle.text_faults.specs.TraceLine.{code_of as trace_code_of}
+use Rattle.text_faults.specs.LogLine.{code_of as log_code_of}
+use Rattle.program_status.specs.LogText.{refusal_text, excess_text}
 use Rattle.program_status.specs.declared.status.Status.{Status}
-use Rattle.program_status.specs.declared.status.Status.TheVariants.{Done, NoMemory, Usage, ReadFault, WriteFault, TooLong, BadBoard, BadTrace, BadMachine, TooManyEvents, NotRun, Incomplete, NotSafe, NotShown, DrawnTo}
+use Rattle.program_status.specs.declared.status.Status.TheVariants.{Done, NoMemory, Usage, ReadFault, WriteFault, TooLong, BadBoard, BadTrace, BadMachine, TooManyEvents, NotRun, Incomplete, NotSafe, NotShown, DrawnTo, BadLog, NotTold, TooMuch, ToldTo}
 use Rattle.program_status.specs.declared.status.BoardFault.{BoardFault}
 use Rattle.program_status.specs.declared.status.BoardFault.TheVariants.{Line, Tree, Bound, Device}
 
@@ -31,6 +33,10 @@ number_of (Incomplete _) = 9
 number_of (NotSafe _ _ _) = 10
 number_of NotShown = 11
 number_of (DrawnTo _ _) = 8
+number_of (BadLog _ _) = 7
+number_of (NotTold _ _) = 8
+number_of (TooMuch _ _) = 5
+number_of (ToldTo _ _) = 8
 
 -- the letter by which the fault of a line is told
 abbrev pub letter_of : Family → List ℕ
@@ -64,3 +70,7 @@ status_text (NotSafe unsafe_reads lost vain) =
     codes "pcitree: " ++ (decimal unsafe_reads ++ (codes " unsafe, " ++ (decimal lost ++ (codes " lost, " ++ (decimal vain ++ codes " vain")))))
 status_text NotShown = codes "pcitree: READ did not read before WRITE landed"
 status_text (DrawnTo event why) = codes "pcitree: event " ++ (decimal event ++ (codes " is not allowed: " ++ why_text why))
+status_text (BadLog line fault) = codes "pcitree: log line " ++ (decimal line ++ (codes " fault G" ++ decimal (log_code_of fault)))
+status_text (NotTold line refusal) = codes "pcitree: log line " ++ (decimal line ++ (codes " is not allowed: " ++ refusal_text refusal))
+status_text (TooMuch line excess) = codes "pcitree: log line " ++ (decimal line ++ (codes " is too much: " ++ excess_text excess))
+status_text (ToldTo line why) = codes "pcitree: log line " ++ (decimal line ++ (codes " is not allowed: " ++ why_text why))

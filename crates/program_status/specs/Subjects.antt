@@ -1,7 +1,7 @@
 -- What each status speaks of.
 use Rattle.std.specs.Prelude.{◌≡◌, ◌≢◌}
 use Rattle.program_status.specs.declared.status.Status.{Status}
-use Rattle.program_status.specs.declared.status.Status.TheVariants.{Done, NoMemory, Usage, ReadFault, WriteFault, TooLong, BadBoard, BadTrace, BadMachine, TooManyEvents, NotRun, Incomplete, NotSafe, NotShown, DrawnTo}
+use Rattle.program_status.specs.declared.status.Status.TheVariants.{Done, NoMemory, Usage, ReadFault, WriteFault, TooLong, BadBoard, BadTrace, BadMachine, TooManyEvents, NotRun, Incomplete, NotSafe, NotShown, DrawnTo, BadLog, NotTold, TooMuch, ToldTo}
 
 -- of a text that is whole in the sink, of memory, of the words, of a failing source or sink, of the length of the input, or of
 -- what the input says
@@ -31,6 +31,10 @@ subject_of (Incomplete left) = Input
 subject_of (NotSafe unsafe_reads lost vain) = Success
 subject_of NotShown = Input
 subject_of (DrawnTo event why) = Success
+subject_of (BadLog line fault) = Input
+subject_of (NotTold line refusal) = Input
+subject_of (TooMuch line excess) = Input
+subject_of (ToldTo line why) = Success
 
 -- the words are of no form
 abbrev pub IsUsage : Status → Type 0

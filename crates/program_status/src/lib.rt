@@ -3,7 +3,9 @@
 #![tactic(auto)]
 
 mod answered;
+mod log;
 mod status;
 
 pub use answered::Answered;
+pub use log::{LogExcess, LogRefusal};
 pub use status::{BoardFault, Status};

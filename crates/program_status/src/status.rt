@@ -1,10 +1,13 @@
 ghost use Rattle.std.specs.Prelude.{◌≡◌};
 ghost use Rattle.program_status.specs.StatusText.{letter_of};
 
+use crate::log::{LogExcess, LogRefusal};
 use history_model::Why;
 use std::alloc::AllocError;
 use std::fmt;
-use text_faults::{DeviceFault, Family, LineFault, LspciFault, TraceLineFault, TreeFault};
+use text_faults::{
+    DeviceFault, Family, LineFault, LogLineFault, LspciFault, TraceLineFault, TreeFault,
+};
 
 /// A fault of a board.
 #[derive(Clone, Copy, Debug, PartialEq, Eq)]
@@ -80,6 +83,27 @@ pub enum Status {
         event: u32,
         why: Why,
     },
+    /// The text of the log has a fault outside its board, at this line from 1 on.
+    BadLog {
+        line: u32,
+        fault: LogLineFault,
+    },
+    /// What this line of the log shows, from 1 on, is not allowed.
+    NotTold {
+        line: u32,
+        refusal: LogRefusal,
+    },
+    /// This line of the log, from 1 on, is more than a board or a run of it may have.
+    TooMuch {
+        line: u32,
+        excess: LogExcess,
+    },
+    /// The text is whole in the sink: it has all acts of the log, of which one of this line, from 1
+    /// on, is not allowed after those before it.
+    ToldTo {
+        line: u32,
+        why: Why,
+    },
 }
 
 impl Status {
@@ -106,6 +130,10 @@ impl Status {
             Status::NotSafe { .. } => 10,
             Status::NotShown => 11,
             Status::DrawnTo { .. } => 8,
+            Status::BadLog { .. } => 7,
+            Status::NotTold { .. } => 8,
+            Status::TooMuch { .. } => 5,
+            Status::ToldTo { .. } => 8,
         }
     }
 }
@@ -190,6 +218,19 @@ impl fmt::Display for Status {
                 "pcitree: {unsafe_reads} unsafe, {lost} lost, {vain} vain"
             ),
             Status::NotShown => write!(f, "pcitree: READ did not read before WRITE landed"),
+            Status::BadLog { line, fault } => {
+                let code = fault.code();
+                write!(f, "pcitree: log line {line} fault G{code}")
+            }
+            Status::NotTold { line, refusal } => {
+                write!(f, "pcitree: log line {line} is not allowed: {refusal}")
+            }
+            Status::TooMuch { line, excess } => {
+                write!(f, "pcitree: log line {line} is too much: {excess}")
+            }
+            Status::ToldTo { line, why } => {
+                write!(f, "pcitree: log line {line} is not allowed: {why}")
+            }
         }
     }
 }

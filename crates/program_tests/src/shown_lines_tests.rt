@@ -1,5 +1,5 @@
 use pcitree::{BoardFault, Status};
-use program_messages::{Form, message, unread};
+use program_messages::{InputForm, message, unread};
 use std::alloc::Global;
 use std::io::ErrorKind;
 use std::test::Fail;
@@ -9,7 +9,7 @@ use text_faults::LineFault;
 fn said(alloc: Global, name: &str, text: &[u8], line: u32) -> Result<String, Fail> {
     let fault = BoardFault::Line(LineFault::BadByte);
     let status = Status::BadBoard { line, fault };
-    let message = message(alloc, name, text, &status, Form::Board)?;
+    let message = message(alloc, name, text, &status, InputForm::Board)?;
     let text = str::from_utf8(message.as_bytes()).map_err(|_| "no text")?;
     Ok(String::from_str(alloc, text)?)
 }

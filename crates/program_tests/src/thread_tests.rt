@@ -1,5 +1,5 @@
-//! As many threads run as there are buses, and what is read depends on which bus was held: the texts
-//! were worked out by hand.
+//! As many threads run as there are buses, and what is read depends on which bus was held: the
+//! texts were worked out by hand.
 use crate::calls::{sink, source, words};
 use pcitree::{Gate, NoGate, Status, pcitree};
 use std::alloc::Global;
@@ -75,7 +75,8 @@ events
 end 5
 ";
 
-/// How often a bus that is held looks whether it may go on. A gate that waits longer fails its test.
+/// How often a bus that is held looks whether it may go on. A gate that waits longer fails its
+/// test.
 const MOST_LOOKS: u64 = 100_000_000;
 
 /// Waits until the number is as high: whether it came to that.

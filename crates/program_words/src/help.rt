@@ -1,4 +1,5 @@
-//! What the program says of itself: how it is called, with a help line for each way, and its version.
+//! What the program says of itself: how it is called, with a help line for each way, and its
+//! version.
 mod call;
 mod help;
 mod own;

@@ -1,4 +1,5 @@
-//! The table of words: each form in which the program is called, how long its input may be, and what the help says of it.
+//! The table of words: each form in which the program is called, how long its input may be, and
+//! what the help says of it.
 #![tactic(auto)]
 
 ghost use Rattle.std.specs.Prelude.{◌≡◌, ◌≤◌, ◌<◌, ◌^◌, map, length};
@@ -15,6 +16,8 @@ pub enum Part {
     Word(&'static str),
     /// A word that is not empty and does not begin with `-`: it names the file.
     File,
+    /// The same, of a log.
+    Log,
     /// A number of rounds: a decimal of 1 to 10 digits, from 1 to 300. No file is read.
     Rounds,
     /// The number of an event: a decimal of 1 to 10 digits, from 1 on.
@@ -36,6 +39,8 @@ pub enum Form {
     Check,
     Finish,
     Fill,
+    Observe,
+    ObserveActs,
     Audit,
     Report,
     Waves,
@@ -66,14 +71,14 @@ pub struct FormRow {
 /// A board text may have 1 MiB.
 const BOARD: usize = 0x10_0000;
 
-/// A trace text may have 64 MiB.
+/// A trace text or a log may have 64 MiB.
 const TRACE: usize = 0x400_0000;
 
 /// A number may have 10 digits.
 const NUMBER: usize = 10;
 
 /// All forms, in the order in which they are told.
-pub const FORMS: [Form; 20] = [
+pub const FORMS: [Form; 22] = [
     Form::Safe,
     Form::Adverse,
     Form::Run,
@@ -81,6 +86,8 @@ pub const FORMS: [Form; 20] = [
     Form::Devices,
     Form::Check,
     Form::Fill,
+    Form::Observe,
+    Form::ObserveActs,
     Form::Finish,
     Form::Audit,
     Form::Report,
@@ -171,6 +178,25 @@ const FILL: FormRow = FormRow {
         What is written is a run; where that is refused, no other place of arrivals makes it one.",
 };
 
+const OBSERVE: FormRow = FormRow {
+    parts: &[Part::Word("observe"), Part::Log],
+    limit: TRACE,
+    line: "judges what was seen on the buses, and writes the run",
+    more: "LOG has a line for each transaction on each bus, as a monitor in a simulation prints it\n\
+        (`help log`). Finds which Retry took a request into a bridge, whose request each\n\
+        transaction of a bridge is, and the programs of the masters. What is written is a run\n\
+        that the log tells of, complete or not; where there is none the status is 8 and the\n\
+        line is named.",
+};
+
+const OBSERVE_ACTS: FormRow = FormRow {
+    parts: &[Part::Word("observe"), Part::Word("--acts"), Part::Log],
+    limit: TRACE,
+    line: "the same without arrivals, judged or not",
+    more: "Writes all acts of the log, also where one is not allowed: then the status is 8 behind\n\
+        the text. `draw` shows the acts up to that one.",
+};
+
 const AUDIT: FormRow = FormRow {
     parts: &[Part::Word("audit"), Part::File],
     limit: TRACE,
@@ -184,7 +210,9 @@ const REPORT: FormRow = FormRow {
     limit: TRACE,
     line: "counts the events of a trace by bus and kind",
     more: "The trace is of a run, complete or not. Writes how many buses, masters, operations and events there\n\
-        are, the bound of the board, and for each bus its events by kind; a part of a burst is a land.",
+        are, the bound of the board, and for each bus its events by kind; a part of a burst is a land.\n\
+        Behind these `OP lost nobody` or `OP lost abort` is a write that no target took, `OP spent TRIES` a\n\
+        poll whose last try ended without its value.",
 };
 
 const WAVES: FormRow = FormRow {
@@ -292,6 +320,8 @@ impl Form {
             Form::Check => CHECK,
             Form::Finish => FINISH,
             Form::Fill => FILL,
+            Form::Observe => OBSERVE,
+            Form::ObserveActs => OBSERVE_ACTS,
             Form::Audit => AUDIT,
             Form::Report => REPORT,
             Form::Waves => WAVES,
@@ -316,6 +346,7 @@ impl Part {
         match self {
             Part::Word(text) => text,
             Part::File => "FILE",
+            Part::Log => "LOG",
             Part::Rounds => "N",
             Part::First => "FIRST",
             Part::Last => "LAST",

@@ -11,8 +11,10 @@ mod past;
 mod reason;
 mod retry;
 mod scene;
+mod seen;
 mod told;
 mod words;
 
 pub use reason::Reason;
+pub use seen::reason_of_log;
 pub use told::{Findings, reasons, reasons_filled};

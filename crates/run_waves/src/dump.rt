@@ -87,12 +87,21 @@ fn print_moments(
     for (number, event) in events.iter().enumerate() {
         let from = watch.scene();
         watch.happen(tree, event);
-        print_moment(text, board, number + 1, signals, shown, from, watch)?;
+        let passed = Passed { from, watch };
+        print_moment(text, board, number + 1, signals, shown, &passed)?;
     }
     let from = watch.scene();
     watch.rest();
-    print_moment(text, board, events.len() + 1, signals, shown, from, watch)?;
+    let passed = Passed { from, watch };
+    print_moment(text, board, events.len() + 1, signals, shown, &passed)?;
     Ok(())
+}
+
+/// A moment: what happened a moment before, and what is watched now.
+#[derive(Clone, Copy)]
+struct Passed<'a> {
+    from: Option<Scene>,
+    watch: &'a Watch,
 }
 
 fn print_time(text: &mut String, number: usize) -> Result<(), AllocError>
@@ -158,23 +167,24 @@ fn print_moment(
     number: usize,
     signals: &[Signal],
     shown: &mut Vec<Reading>,
-    from: Option<Scene>,
-    watch: &Watch,
+    passed: &Passed,
 ) -> Result<(), AllocError>
     requires { length signals.now ≡ length shown.old.items }
     ensures each { OnOk result (length shown.new.items ≡ length shown.old.items) }
     ensures text { (before after : Moment) → Follows before after →
-        from ≡ scene_of board.now before → ReadsFrom board.now before signals.now shown.old.items 0
-        → IsAt board.now after watch.now.kept watch.now.waits.items watch.now.scene
+        passed.now.from ≡ scene_of board.now before
+        → ReadsFrom board.now before signals.now shown.old.items 0 → IsAt board.now after passed.now.watch.now.kept
+        passed.now.watch.now.waits.items passed.now.watch.now.scene
         → OnOk result (string_bytes text.new ≡ string_bytes text.old ++
         text_of (time_line number ∷ change_lines board.now before after 0 signals.now)) }
     ensures reads { (before after : Moment) → Follows before after →
-        from ≡ scene_of board.now before → ReadsFrom board.now before signals.now shown.old.items 0
-        → IsAt board.now after watch.now.kept watch.now.waits.items watch.now.scene
+        passed.now.from ≡ scene_of board.now before
+        → ReadsFrom board.now before signals.now shown.old.items 0 → IsAt board.now after passed.now.watch.now.kept
+        passed.now.watch.now.waits.items passed.now.watch.now.scene
         → OnOk result (ReadsFrom board.now after signals.now shown.new.items 0) }
 {
     print_time(text, number)?;
-    print_changes(text, board, signals, shown.as_mut_slice(), from, watch)
+    print_changes(text, board, signals, shown.as_mut_slice(), passed)
 }
 
 /// The signals that change: those that the event does not touch are passed over.
@@ -183,26 +193,27 @@ fn print_changes(
     board: &Board,
     signals: &[Signal],
     shown: &mut [Reading],
-    from: Option<Scene>,
-    watch: &Watch,
+    passed: &Passed,
 ) -> Result<(), AllocError>
     requires { length signals.now ≡ length shown.old }
     ensures text { (before after : Moment) → Follows before after →
-        from ≡ scene_of board.now before → ReadsFrom board.now before signals.now shown.old 0
-        → IsAt board.now after watch.now.kept watch.now.waits.items watch.now.scene
+        passed.now.from ≡ scene_of board.now before
+        → ReadsFrom board.now before signals.now shown.old 0 → IsAt board.now after passed.now.watch.now.kept
+        passed.now.watch.now.waits.items passed.now.watch.now.scene
         → OnOk result (string_bytes text.new ≡ string_bytes text.old ++
         text_of (change_lines board.now before after 0 signals.now)) }
     ensures reads { (before after : Moment) → Follows before after →
-        from ≡ scene_of board.now before → ReadsFrom board.now before signals.now shown.old 0
-        → IsAt board.now after watch.now.kept watch.now.waits.items watch.now.scene
+        passed.now.from ≡ scene_of board.now before
+        → ReadsFrom board.now before signals.now shown.old 0 → IsAt board.now after passed.now.watch.now.kept
+        passed.now.watch.now.waits.items passed.now.watch.now.scene
         → OnOk result (ReadsFrom board.now after signals.now shown.new 0) }
 {
-    let touch = Touch::of(board, from, watch.scene());
+    let touch = Touch::of(board, passed.from, passed.watch.scene());
     for number in 0..signals.len() {
         let signal = signals[number];
         if touch.may_change(signal) {
             let old = shown[number];
-            shown[number] = print_change(text, board, number, signal, old, from, watch)?;
+            shown[number] = print_change(text, board, number, signal, old, passed)?;
         }
     }
     Ok(())
@@ -215,23 +226,22 @@ fn print_change(
     number: usize,
     signal: Signal,
     old: Reading,
-    from: Option<Scene>,
-    watch: &Watch,
+    passed: &Passed,
 ) -> Result<Reading, AllocError>
-    ensures text { (before after : Moment) → from ≡ scene_of board.now before →
+    ensures text { (before after : Moment) → passed.now.from ≡ scene_of board.now before →
         Reads board.now before signal old
-        → IsAt board.now after watch.now.kept watch.now.waits.items watch.now.scene
+        → IsAt board.now after passed.now.watch.now.kept
+        passed.now.watch.now.waits.items passed.now.watch.now.scene
         → OnOk result (string_bytes text.new ≡ string_bytes text.old ++
         text_of (change_line board.now before after number signal)) }
     ensures reads { (after : Moment) →
-        IsAt board.now after watch.now.kept watch.now.waits.items watch.now.scene
+        IsAt board.now after passed.now.watch.now.kept
+        passed.now.watch.now.waits.items passed.now.watch.now.scene
         → IfOk result (λ reading. Reads board.now after signal reading) }
 {
-    let reading = watch.reading(board, signal);
+    let reading = passed.watch.reading(board, signal);
     match signal {
-        Signal::Bus { bus, part } => {
-            print_bus(text, board, number, bus, part, from, watch.scene())?
-        }
+        Signal::Bus { bus, part } => print_bus(text, board, number, bus, part, passed)?,
         _ => print_new(text, number, old, reading)?,
     }
     Ok(reading)
@@ -260,21 +270,20 @@ fn print_bus(
     number: usize,
     bus: u8,
     part: BusPart,
-    from: Option<Scene>,
-    to: Option<Scene>,
+    passed: &Passed,
 ) -> Result<(), AllocError>
-    ensures { OnOk result (string_bytes text.new
-        ≡ string_bytes text.old ++ text_of (bus_change board.now number bus part from to)) }
+    ensures { OnOk result (string_bytes text.new ≡ string_bytes text.old ++ text_of
+        (bus_change board.now number bus part passed.now.from passed.now.watch.now.scene)) }
 {
-    match to {
+    match passed.watch.scene() {
         Some(scene) => {
             if scene.bus(board) == bus {
                 print_part(text, board, number, part, &scene)
             } else {
-                print_gone(text, board, number, bus, part, from)
+                print_gone(text, board, number, bus, part, passed.from)
             }
         }
-        None => print_gone(text, board, number, bus, part, from),
+        None => print_gone(text, board, number, bus, part, passed.from),
     }
 }
 

@@ -4,12 +4,14 @@
 
 mod board_line;
 mod device;
+mod log_line;
 mod lspci;
 mod trace_line;
 mod tree;
 
 pub use board_line::{Family, LineFault};
 pub use device::DeviceFault;
+pub use log_line::LogLineFault;
 pub use lspci::LspciFault;
 pub use trace_line::TraceLineFault;
 pub use tree::TreeFault;

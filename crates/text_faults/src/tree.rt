@@ -1,6 +1,7 @@
 use thiserror::Error;
 
-/// What keeps the buses of a well-formed board from being a tree in which each address has one owner.
+/// What keeps the buses of a well-formed board from being a tree in which each address has one
+/// owner.
 #[derive(Clone, Copy, Debug, PartialEq, Eq, Error)]
 pub enum TreeFault {
     #[error("the primary bus of a bridge, the bus of an agent, or the bridge of a discard or a drop is not there")]

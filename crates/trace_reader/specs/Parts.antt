@@ -1,5 +1,5 @@
 -- Where the parts of a trace text stand in its bytes.
-use Rattle.std.specs.Prelude.{◌≡◌, ℕ, ◌+◌, ◌≤◌, ◌∷◌, ◌++◌, List, length, drop, Option, Some, None, Result, Ok, Err, codes}
+use Rattle.std.specs.Prelude.{◌≡◌, ℕ, ◌+◌, ◌≤◌, ◌∷◌, List, length, drop, Some, None, Result, Ok, Err, codes}
 use Rattle.std.specs.List.{slice_range}
 use Rattle.board_model.specs.declared.board.Board.{Board}
 use Rattle.board_text.specs.Lines.{lines_of}
@@ -34,13 +34,3 @@ TellsBoard (Ok board) reading = reading ≡ Ok board
 TellsBoard (Err (OfBoard line fault)) reading = (at : ℕ) × (reading ≡ Err (at, fault)) × (line ≡ at + 1)
 TellsBoard (Err (Trace line fault)) reading = ⊥
 TellsBoard (Err NoMemory) reading = Unit {0}
-
--- lines before the parts of those behind them
-abbrev pub behind_lines : List (List ℕ) → Option (List (List ℕ) × List (List ℕ)) → Option (List (List ℕ) × List (List ℕ))
-behind_lines before None = None
-behind_lines before (Some parts) = Some (before ++ parts.0, parts.1)
-
--- the lines of this part of a text, and of a text behind it, are those of both, unless it goes to the end
-abbrev pub IsWholeTo : List ℕ → ℕ → ℕ → Type 0
-IsWholeTo text from at =
-    at ≤ length text → (more : List ℕ) → lines_of (slice_range text from at ++ more) ≡ lines_of (slice_range text from at) ++ lines_of more

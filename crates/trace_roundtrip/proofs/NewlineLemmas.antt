@@ -7,7 +7,7 @@ use Rattle.board_text.specs.Lines.{is_newline, without_empty_end, lines_of}
 use Rattle.board_text.proofs.CutLemmas.{onto_line}
 use Rattle.board_printer.specs.Lines.{Line, line_text, text_of}
 use Rattle.board_roundtrip.specs.words.Printed.{joined}
-use Rattle.trace_reader.proofs.CutLemmas.{IsWhole, empty_is_whole}
+use Rattle.board_roundtrip.proofs.CutLemmas.{IsWhole, empty_is_whole}
 use Rattle.board_roundtrip.proofs.words.Laws.{line_is, first_piece}
 
 -- a byte before the pieces of a text is one before the first of them, whatever pieces stand behind

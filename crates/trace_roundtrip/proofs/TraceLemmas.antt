@@ -18,7 +18,7 @@ use Rattle.trace_text.specs.Events.{event_line, HasLine}
 use Rattle.trace_text.specs.Traces.{trace_of}
 use Rattle.trace_reader.specs.declared.fault.TraceFault.{TraceFault}
 use Rattle.trace_reader.specs.Traces.{events_read, with_events, by_board, by_parts, by_first, trace_read}
-use Rattle.trace_reader.proofs.CutLemmas.{IsWhole}
+use Rattle.board_roundtrip.proofs.CutLemmas.{IsWhole}
 use Rattle.trace_roundtrip.specs.events.Fits.{EventFits}
 use Rattle.trace_roundtrip.proofs.NewlineLemmas.{line_is_whole, text_is_whole}
 use Rattle.trace_roundtrip.proofs.BoardPartLemmas.{parts_of, draft_of}

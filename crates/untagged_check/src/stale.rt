@@ -54,7 +54,15 @@ fn list_reads(
 {
     let index = index_of(alloc, tree, events)?;
     let mut knowers = Knowers::new(alloc, tree.board())?;
-    list_each(stale, &mut knowers, alloc, tree, &index, events, gots)
+    let course = GotRun { events, gots };
+    list_each(stale, &mut knowers, alloc, tree, &index, &course)
+}
+
+/// A run, and what each of its events gives a master that reads.
+#[derive(Clone, Copy)]
+struct GotRun<'a> {
+    events: &'a [Event],
+    gots: &'a [Option<Got>],
 }
 
 /// The writes of the board, and when they landed in this run.
@@ -72,18 +80,18 @@ fn list_each(
     alloc: Global,
     tree: &Tree,
     index: &WriteIndex,
-    events: &[Event],
-    gots: &[Option<Got>],
+    course: &GotRun,
 ) -> Result<(), NoMemory>
-    requires run { RunBy Untagged tree.now (history_of events.now) }
-    requires gots { AreGots tree.now events.now gots.now }
-    requires index { IndexesRun tree.now (history_of events.now) index.now }
+    requires run { RunBy Untagged tree.now (history_of course.now.events.now) }
+    requires gots { AreGots tree.now course.now.events.now course.now.gots.now }
+    requires index { IndexesRun tree.now (history_of course.now.events.now) index.now }
     requires knowers { Knows tree.now [] knowers.old }
     requires none { stale.old.items ≡ [] }
-    ensures { OnOk result (reads_of stale.new.items ≡ stale_of tree.now (history_of events.now)) }
+    ensures { OnOk result (reads_of stale.new.items
+        ≡ stale_of tree.now (history_of course.now.events.now)) }
 {
-    for (place, event) in events.iter().enumerate() {
-        let got = got_at(gots, place);
+    for (place, event) in course.events.iter().enumerate() {
+        let got = got_at(course.gots, place);
         knowers.happen(alloc, tree.board(), event, got)?;
         add_ended(stale, index, knowers, event, got)?;
     }

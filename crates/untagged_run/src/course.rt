@@ -1,4 +1,5 @@
-ghost use Rattle.std.specs.Prelude.{◌≡◌, ◌<◌, ◌+◌, ◌^◌, ◌∷◌, ◌++◌, [], List, IfOk, IfNone, OnOk, length, Some};
+ghost use Rattle.std.specs.Prelude.{◌≡◌, ◌<◌, ◌+◌, ◌^◌, ◌∷◌, ◌++◌, []};
+ghost use Rattle.std.specs.Prelude.{List, IfOk, IfNone, OnOk, length, Some};
 ghost use Rattle.std.specs.List.{find};
 ghost use Rattle.pci_command.specs.declared.op_id.OpId.{OpId};
 ghost use Rattle.board_model.specs.declared.board.Board.{Board};
@@ -78,8 +79,10 @@ impl Course {
     fn step(&mut self, tree: &Tree, event: &Event) -> Result<Option<Why>, NoMemory>
         requires course { Courses tree.now self.old }
         requires few { length self.old.gots + 1 < 2 ^ 32 }
-        ensures verdict { IfOk result (λ verdict. (h : List Event) → IsCourse tree.now h self.old → HoldsBy Untagged tree.now h event.now verdict) }
-        ensures goes_on { IfOk result (λ verdict. (h : List Event) → IsCourse tree.now h self.old → IfNone verdict (GoesOn tree.now h event.now self.old self.new)) }
+        ensures verdict { IfOk result (λ verdict. (h : List Event) → IsCourse tree.now h self.old →
+            HoldsBy Untagged tree.now h event.now verdict) }
+        ensures goes_on { IfOk result (λ verdict. (h : List Event) → IsCourse tree.now h self.old →
+            IfNone verdict (GoesOn tree.now h event.now self.old self.new)) }
     {
         let made = self.made(tree.board(), event);
         match self.kept.step_by_rule(tree, event) {
@@ -107,7 +110,8 @@ impl Course {
     /// What the event makes, if it is the next.
     fn made(&self, board: &Board, event: &Event) -> Made
         requires { length self.now.gots + 1 < 2 ^ 32 }
-        ensures { result ≡ made_now board.now self.now.origins self.now.kept.lanes (length self.now.gots + 1) event.now }
+        ensures { result ≡ made_now board.now self.now.origins self.now.kept.lanes
+            (length self.now.gots + 1) event.now }
     {
         match *event {
             Event::Act {
@@ -135,7 +139,8 @@ impl Course {
     /// Where an act has its value from: it is a read at a target, or takes what one made.
     fn source(&self, board: &Board, bus: u8, op: OpId, step: Step, place: Place) -> Option<Got>
         requires { length self.now.gots + 1 < 2 ^ 32 }
-        ensures { result ≡ source_now board.now self.now.origins self.now.kept.lanes (length self.now.gots + 1) bus op step place }
+        ensures { result ≡ source_now board.now self.now.origins self.now.kept.lanes
+            (length self.now.gots + 1) bus op step place }
     {
         match step {
             Step::Read(_) => {
@@ -168,7 +173,8 @@ impl Course {
 
     /// The slot of the lane for the request of the operation on the bus, whoever presented it.
     fn own(&self, board: &Board, bus: u8, op: OpId, lane: Lane) -> Option<Slot>
-        ensures { result ≡ find (is_own board.now bus anyone op) (lane_in board.now self.now.kept.lanes lane).held }
+        ensures { result ≡ find (is_own board.now bus anyone op)
+            (lane_in board.now self.now.kept.lanes lane).held }
     {
         match self.kept.lanes_to(board, lane.bus) {
             Some(lanes) => {
@@ -192,7 +198,8 @@ impl Course {
     /// The slot of the oldest item of the operation that stands on the lane, if that is a delayed
     /// request.
     fn asked(&self, board: &Board, lane: Lane, op: OpId) -> Option<Key>
-        ensures { result ≡ asked_slot lane (find (is_of op) (lane_in board.now self.now.kept.lanes lane).standing) }
+        ensures { result ≡ asked_slot lane
+            (find (is_of op) (lane_in board.now self.now.kept.lanes lane).standing) }
     {
         match self.standing(board, lane, op) {
             Some(Carried::Ask { slot, .. }) => Some(key_of(lane, slot)),
@@ -230,7 +237,8 @@ fn read_at(board: &Board, event: u32, bus: u8, op: OpId, place: Place) -> Option
 
 /// Whether the step ends the item of a lane that presented it.
 fn ends_item(step: Step) -> bool
-    ensures { (board : Board) (lane : BridgeLane) (o : OpId) → result ≡ ends_item (lane_outcome board lane o step) }
+    ensures { (board : Board) (lane : BridgeLane) (o : OpId) →
+        result ≡ ends_item (lane_outcome board lane o step) }
 {
     match step {
         Step::Land

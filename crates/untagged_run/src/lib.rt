@@ -1,6 +1,6 @@
 //! Runs on bridges that keep no local master: whether these events are one, and what each read got,
-//! which may be what the request of another master read. PCI-to-PCI Bridge Architecture Specification
-//! 1.1, chapter 5, Delayed Transactions (from memory).
+//! which may be what the request of another master read. PCI-to-PCI Bridge Architecture
+//! Specification 1.1, chapter 5, Delayed Transactions (from memory).
 #![tactic(auto)]
 
 mod course;

@@ -55,7 +55,8 @@ impl Origins {
 
     /// That of the slot is this one.
     pub(crate) fn note(&mut self, key: Key, got: Option<Got>) -> Result<(), NoMemory>
-        ensures { OnOk result ((q : Key) → origin_at self.new q ≡ (if same_key key q then got else origin_at self.old q)) }
+        ensures { OnOk result ((q : Key) →
+            origin_at self.new q ≡ (if same_key key q then got else origin_at self.old q)) }
     {
         self.made.insert(key, got)?;
         Ok(())

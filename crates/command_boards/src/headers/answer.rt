@@ -8,7 +8,8 @@ use program_input::read_tree;
 use program_status::Status;
 use std::alloc::Global;
 
-/// The headers of the board whose text these bytes are. It is refused as the text of no valid board.
+/// The headers of the board whose text these bytes are. It is refused as the text of no valid
+/// board.
 pub fn answer_headers(alloc: Global, input: &[u8]) -> Result<Vec<u8>, Status>
     requires { length input.now < 2 ^ 31 }
     ensures ok { IfOk result (λ text. AnswersHeaders input.now text.items) }

@@ -7,8 +7,8 @@ use program_input::read_protocol;
 use program_status::Status;
 use std::alloc::Global;
 
-/// The outline of the board whose text these bytes are, or the text of devices on one. It is refused
-/// as a text of that kind.
+/// The outline of the board whose text these bytes are, or the text of devices on one. It is
+/// refused as a text of that kind.
 pub fn answer_tree(alloc: Global, input: &[u8]) -> Result<Vec<u8>, Status>
     requires { length input.now < 2 ^ 31 }
     ensures ok { IfOk result (λ text. AnswersTree input.now text.items) }

@@ -5,10 +5,11 @@ use Rattle.board_model.specs.Valid.{IsValid}
 use Rattle.history_model.specs.declared.event.Event.{Event}
 use Rattle.trace_text.specs.Traces.{trace_of}
 use Rattle.trace_reader.specs.Traces.{trace_read}
+use Rattle.judge_state.specs.Refused.{FirstRefused}
 use Rattle.judge_finish.specs.Finishing.{Finishes}
 use Rattle.program_status.specs.declared.status.Status.{Status}
 use Rattle.program_status.specs.declared.status.Status.TheVariants.{NotRun}
-use Rattle.program_input.specs.Traces.{ReadsTrace, RefusesTrace, IsNoRun}
+use Rattle.program_input.specs.Traces.{ReadsTrace, RefusesTrace, IsRefused}
 
 -- the input is the text of a valid board and of a run of it, and what is written is the text of that run going on by
 -- its next events to its end, which is read as this
@@ -24,5 +25,5 @@ pub record AnswersFinish (input text : List ℕ) : Type 0 where
 
 -- refused: as no run, or as no trace text
 abbrev pub RefusesFinish : List ℕ → Status → Type 0
-RefusesFinish input (NotRun event why) = IsNoRun input event why
+RefusesFinish input (NotRun event why) = IsRefused FirstRefused input event why
 RefusesFinish input status = RefusesTrace input status

@@ -12,8 +12,8 @@ use program_status::Status;
 use std::alloc::Global;
 use trace_roundtrip::run_text;
 
-/// The trace of the run of the board whose devices these bytes tell. It is refused as the text of no
-/// devices on a valid board.
+/// The trace of the run of the board whose devices these bytes tell. It is refused as the text of
+/// no devices on a valid board.
 pub fn answer_devices(alloc: Global, input: &[u8]) -> Result<Vec<u8>, Status>
     requires { length input.now < 2 ^ 31 }
     ensures ok { IfOk result (λ trace. AnswersDevices input.now trace.items) }

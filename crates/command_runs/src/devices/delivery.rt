@@ -25,7 +25,8 @@ pub(crate) fn delivered(bytes: &[u8], tree: &Tree, events: &[Event]) -> bool
     requires made { IsMade tree.now (made_read bytes.now) }
     requires run { Run tree.now (history_of events.now) }
     ensures always { IsTrue result }
-    ensures delivered { Delivered tree.now (first_of (made_read bytes.now)) (history_of events.now) }
+    ensures delivered { Delivered tree.now (first_of (made_read bytes.now))
+        (history_of events.now) }
 {
     made_boards_deliver();
     let _valid = tree.board();

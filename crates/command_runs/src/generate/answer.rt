@@ -1,5 +1,6 @@
 ghost use Rattle.std.specs.Prelude.{◌≡◌, IfOk, IfErr, IsTrue};
-ghost use Rattle.command_runs.specs.generate.Answers.{names_rounds, AnswersGenerate, GeneratesTo, RefusesGenerate};
+ghost use Rattle.command_runs.specs.generate.Answers.{names_rounds, AnswersGenerate};
+ghost use Rattle.command_runs.specs.generate.Answers.{GeneratesTo, RefusesGenerate};
 
 use crate::generate::rounds_of;
 use judge_finish::{Unfinished, finish};

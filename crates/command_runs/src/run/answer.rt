@@ -11,9 +11,9 @@ use std::alloc::Global;
 use std::thread::Threads;
 use trace_roundtrip::run_text;
 
-/// The trace of a run of the board whose text these bytes are, in which a thread of its own works each
-/// bus, and the gate is told of the turns of each: which run it is depends on the threads. It is
-/// refused as the text of no valid board.
+/// The trace of a run of the board whose text these bytes are, in which a thread of its own works
+/// each bus, and the gate is told of the turns of each: which run it is depends on the threads. It
+/// is refused as the text of no valid board.
 pub fn answer_run<R: Threads + Sync, G: Gate + Sync>(
     rt: &R,
     alloc: Global,

@@ -1,6 +1,8 @@
 ghost use Rattle.std.specs.Prelude.{◌<◌, ◌^◌, length, IfOk, IfErr, MatchOption};
 ghost use Rattle.judge_adverse.specs.Runs.{IsPair};
-ghost use Rattle.command_safe.specs.adverse.Answers.{AnswersAdverse, RefusesAdverse, NamesPair, IsNoPair, ShowsPair, ShowsAdverse, HidesPair, HidesAs};
+ghost use Rattle.command_safe.specs.adverse.Answers.{AnswersAdverse, RefusesAdverse};
+ghost use Rattle.command_safe.specs.adverse.Answers.{NamesPair, IsNoPair, ShowsPair};
+ghost use Rattle.command_safe.specs.adverse.Answers.{ShowsAdverse, HidesPair, HidesAs};
 
 use crate::adverse::operation::{read_of, write_of};
 use board_tree::Tree;
@@ -10,8 +12,8 @@ use program_status::Status;
 use std::alloc::Global;
 use trace_roundtrip::run_text;
 
-/// The trace of a complete run of a board in which the one operation, a read, reads before the other,
-/// a write, has begun.
+/// The trace of a complete run of a board in which the one operation, a read, reads before the
+/// other, a write, has begun.
 pub fn answer_adverse(
     alloc: Global,
     input: &[u8],

@@ -9,8 +9,8 @@ ghost use Rattle.history_model.specs.Knowledge.{words_named};
 ghost use Rattle.safe_model.specs.Clocks.{is_poll};
 ghost use Rattle.trace_reader.specs.lines.Words.{at_most, number_of, master_in, has_no_zero_before};
 ghost use Rattle.judge_adverse.specs.Runs.{reads_word};
-ghost use Rattle.command_safe.specs.adverse.Operation.{has_word_in, is_index, names_operation, operation_of};
-ghost use Rattle.command_safe.specs.adverse.Operation.{read_of, write_of};
+ghost use Rattle.command_safe.specs.adverse.Operation.{has_word_in, is_index, names_operation};
+ghost use Rattle.command_safe.specs.adverse.Operation.{operation_of, read_of, write_of};
 
 use board_model::{Board, Master, Name, Op, Place, Target, is_in_ranges, op_of, request_on};
 use board_statements::parts;
@@ -19,8 +19,8 @@ use board_tree::{Tree, route_of};
 use machine_steps::{is_write, reads};
 use pci_command::{OpId, Request};
 
-/// Whether a word has the form of an operation: a name, a dot, and a decimal of at most 10 digits as
-/// it is printed.
+/// Whether a word has the form of an operation: a name, a dot, and a decimal of at most 10 digits
+/// as it is printed.
 pub fn names_operation(word: &[u8]) -> bool
     ensures { result ≡ names_operation word.now }
 {

@@ -5,7 +5,7 @@ use Rattle.run_waves.specs.Dump.{dump_of}
 use Rattle.run_waves.specs.Told.{TellsSignals, IsDumped}
 use Rattle.run_waves.specs.Widths.{NumbersFit}
 use Rattle.program_input.specs.declared.trace.TreeTrace.{TreeTrace}
-use Rattle.program_input.specs.Traces.{ReadsRun}
+use Rattle.command_traces.specs.Runs.{ReadsRun}
 use Rattle.command_traces.specs.waves.Answers.{AnswersWaves}
 
 pub dumped : (input : List ℕ) (read : TreeTrace) (events : List Event) (text : List ℕ) → ReadsRun input read → events ≡ read.events → text ≡ dump_of read.tree events

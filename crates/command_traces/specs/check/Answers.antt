@@ -9,7 +9,7 @@ use Rattle.judge_state.specs.Refused.{FirstRefused}
 use Rattle.judge_check.specs.Verdicts.{CompleteRun, IncompleteRun}
 use Rattle.program_status.specs.declared.status.Status.{Status}
 use Rattle.program_status.specs.declared.status.Status.TheVariants.{NoMemory, NotRun, Incomplete}
-use Rattle.program_input.specs.Traces.{ReadsTrace, RefusesTrace, IsNoRun}
+use Rattle.program_input.specs.Traces.{ReadsTrace, RefusesTrace, IsRefused}
 
 -- the line for a complete run: its number of events, and the bound of its board
 abbrev pub check_text : ℕ → ℕ → List ℕ
@@ -36,7 +36,7 @@ pub record IsCut (input : List ℕ) (left : ℕ) : Type 0 where
 
 -- refused: as no run, as one that is not complete, or as no trace text
 abbrev pub RefusesCheck : List ℕ → Status → Type 0
-RefusesCheck input (NotRun event why) = IsNoRun input event why
+RefusesCheck input (NotRun event why) = IsRefused FirstRefused input event why
 RefusesCheck input (Incomplete left) = IsCut input left
 RefusesCheck input status = RefusesTrace input status
 

@@ -1,8 +1,9 @@
 ghost use Rattle.std.specs.Prelude.{◌<◌, ◌^◌, length, IfOk, IfErr};
 ghost use Rattle.history_model.specs.Runs.{Run, history_of};
-ghost use Rattle.program_input.specs.Traces.{RefusesRun};
+ghost use Rattle.command_traces.specs.Runs.{RefusesRun};
 ghost use Rattle.command_traces.specs.audit.Answers.{AnswersAudit, Audits};
 
+use crate::run::read_run;
 use audit_text::audit_text;
 use board_tree::Tree;
 use history_model::Event;
@@ -10,7 +11,7 @@ use law_audit::{findings_are_so, reads_are_found_once, reads_that_knew_are_found
 use law_delivered::reads_return_what_was_left;
 use law_fresh::runs_are_fresh;
 use pci_command::{List, NoMemory};
-use program_input::{TreeTrace, read_run};
+use program_input::TreeTrace;
 use program_status::Status;
 use std::alloc::Global;
 

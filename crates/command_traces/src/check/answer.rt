@@ -1,5 +1,6 @@
 ghost use Rattle.std.specs.Prelude.{◌≡◌, ◌++◌, ◌<◌, ◌^◌, length, IfOk, IfErr, OnOk, string_bytes};
-ghost use Rattle.command_traces.specs.check.Answers.{AnswersCheck, RefusesCheck, Confirms, Objects, check_text};
+ghost use Rattle.command_traces.specs.check.Answers.{AnswersCheck, RefusesCheck};
+ghost use Rattle.command_traces.specs.check.Answers.{Confirms, Objects, check_text};
 
 use board_tree::Tree;
 use history_model::Event;

@@ -2,9 +2,11 @@ ghost use Rattle.std.specs.Prelude.{◌≡◌, ◌<◌, ◌^◌, length, IfOk, I
 ghost use Rattle.history_model.specs.Runs.{Run, history_of};
 ghost use Rattle.draw_told.specs.Closes.{allowed_in};
 ghost use Rattle.draw_page.specs.Pages.{page_of};
-ghost use Rattle.command_traces.specs.draw.Rows.{first_of_all, first_row, last_row, drawn_count, rows_asked};
+ghost use Rattle.command_traces.specs.draw.Rows.{first_of_all, first_row, last_row};
+ghost use Rattle.command_traces.specs.draw.Rows.{drawn_count, rows_asked};
 ghost use Rattle.command_traces.specs.draw.Operations.{operation_asked};
-ghost use Rattle.command_traces.specs.draw.Answers.{AnswersDraw, RefusesDraw, DrawsRows, HidesRows, ending_of};
+ghost use Rattle.command_traces.specs.draw.Answers.{AnswersDraw, RefusesDraw};
+ghost use Rattle.command_traces.specs.draw.Answers.{DrawsRows, HidesRows, ending_of};
 
 use crate::draw::operation::rows_of_operation;
 use crate::draw::rows::Rows;
@@ -24,7 +26,8 @@ const MOST: u32 = 4096;
 /// The page of a trace text: of a run, or up to the first event not allowed; of all or these rows.
 pub fn answer_draw(alloc: Global, input: &[u8], rows: Option<Rows>) -> Result<Answered, Status>
     requires { length input.now < 2 ^ 31 }
-    ensures ok { IfOk result (λ page. AnswersDraw input.now (rows_asked rows) page.text.items page.ending) }
+    ensures ok { IfOk result (λ page.
+        AnswersDraw input.now (rows_asked rows) page.text.items page.ending) }
     ensures err { IfErr result (RefusesDraw input.now (rows_asked rows)) }
 {
     let TreeTrace { tree, events } = read_tree_trace(alloc, input)?;
@@ -35,7 +38,8 @@ pub fn answer_draw(alloc: Global, input: &[u8], rows: Option<Rows>) -> Result<An
 /// The same of the events of one operation.
 pub fn answer_draw_operation(alloc: Global, input: &[u8], word: &[u8]) -> Result<Answered, Status>
     requires { length input.now < 2 ^ 31 }
-    ensures ok { IfOk result (λ page. AnswersDraw input.now (operation_asked word.now) page.text.items page.ending) }
+    ensures ok { IfOk result (λ page.
+        AnswersDraw input.now (operation_asked word.now) page.text.items page.ending) }
     ensures err { IfErr result (RefusesDraw input.now (operation_asked word.now)) }
 {
     let TreeTrace { tree, events } = read_tree_trace(alloc, input)?;
@@ -53,7 +57,8 @@ fn answer_rows(
 ) -> Result<Answered, Status>
     requires run { Run tree.now (history_of (allowed_in close events.now)) }
     requires few { length events.now < 2 ^ 31 }
-    ensures ok { IfOk result (λ page. DrawsRows tree.now events.now close rows page.text.items page.ending) }
+    ensures ok { IfOk result (λ page.
+        DrawsRows tree.now events.now close rows page.text.items page.ending) }
     ensures err { IfErr result (HidesRows events.now close rows) }
 {
     let count = events.len() as u32;

@@ -1,5 +1,6 @@
 ghost use Rattle.std.specs.Prelude.{◌≡◌, ◌<◌, ◌^◌, length, string_bytes, IfOk};
-ghost use Rattle.command_traces.specs.draw.Operations.{operation_word, names_word, with_event, rows_of_operation};
+ghost use Rattle.command_traces.specs.draw.Operations.{operation_word, names_word};
+ghost use Rattle.command_traces.specs.draw.Operations.{with_event, rows_of_operation};
 
 use crate::draw::rows::Rows;
 use board_model::Board;

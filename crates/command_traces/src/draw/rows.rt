@@ -3,7 +3,8 @@ ghost use Rattle.command_traces.specs.draw.Rows.{event_of, names_event, rows_of}
 
 use board_text::{NumberFault, decimal};
 
-/// The numbers, from 1 on, of the first and the last event that is drawn. The last may be above the number of events.
+/// The numbers, from 1 on, of the first and the last event that is drawn. The last may be above the
+/// number of events.
 #[derive(Clone, Copy, Debug, PartialEq, Eq)]
 pub struct Rows {
     pub first: u32,
@@ -14,7 +15,7 @@ pub struct Rows {
 /// above is lowered to the number before, which no event has. There is none exactly where the word
 /// is no such number.
 #[tactic(auto, unfolding(crate::specs::draw::Rows::event_of))]
-pub fn event_of(word: &[u8]) -> Option<u32>
+fn event_of(word: &[u8]) -> Option<u32>
     ensures { result ≡ event_of word.now }
 {
     match decimal(word) {
@@ -32,8 +33,8 @@ pub fn names_event(word: &[u8]) -> bool
     event_of(word).is_some()
 }
 
-/// The events that two words tell, the first and the last. There are none exactly where one of them is
-/// no number of an event, or the last is below the first.
+/// The events that two words tell, the first and the last. There are none exactly where one of them
+/// is no number of an event, or the last is below the first.
 pub fn rows_of(first: &[u8], last: &[u8]) -> Option<Rows>
     ensures { result ≡ rows_of first.now last.now }
 {

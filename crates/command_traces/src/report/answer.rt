@@ -1,15 +1,16 @@
 ghost use Rattle.std.specs.Prelude.{◌<◌, ◌^◌, length, IfOk, IfErr};
 ghost use Rattle.history_model.specs.Runs.{Run, history_of};
-ghost use Rattle.program_input.specs.Traces.{RefusesRun};
+ghost use Rattle.command_traces.specs.Runs.{RefusesRun};
 ghost use Rattle.command_traces.specs.report.Answers.{AnswersReport, Reports};
 
+use crate::run::read_run;
 use board_model::board_fits;
 use board_tree::Tree;
 use history_model::Event;
 use law_delivered::reads_return_what_was_left;
 use law_fresh::runs_are_fresh;
 use pci_command::{List, NoMemory};
-use program_input::{TreeTrace, read_run};
+use program_input::TreeTrace;
 use program_status::Status;
 use run_report::{complete_runs_have_the_way_counts, counts_add_up, whole_report};
 use std::alloc::Global;

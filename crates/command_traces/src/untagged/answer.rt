@@ -1,6 +1,7 @@
 ghost use Rattle.std.specs.Prelude.{◌≡◌, ◌<◌, ◌^◌, ◌↔◌, IsTrue, length, IfOk, IfErr};
 ghost use Rattle.law_untagged.specs.Apart.{Apart};
-ghost use Rattle.command_traces.specs.untagged.Answers.{AnswersUntagged, RefusesUntagged, Tells, RefusesEvents};
+ghost use Rattle.command_traces.specs.untagged.Answers.{AnswersUntagged, RefusesUntagged};
+ghost use Rattle.command_traces.specs.untagged.Answers.{Tells, RefusesEvents};
 
 use crate::untagged::text::untagged_text;
 use board_tree::Tree;
@@ -11,8 +12,8 @@ use std::alloc::Global;
 use untagged_apart::apart;
 use untagged_check::{Untagged, check_untagged};
 
-/// The lines for a trace text of a run on bridges that keep no local master: how many events it has, its
-/// stale reads and how many they are, and whether masters are apart on its board.
+/// The lines for a trace text of a run on bridges that keep no local master: how many events it
+/// has, its stale reads and how many they are, and whether masters are apart on its board.
 pub fn answer_untagged(alloc: Global, input: &[u8]) -> Result<Vec<u8>, Status>
     requires { length input.now < 2 ^ 31 }
     ensures ok { IfOk result (λ text. AnswersUntagged input.now text.items) }

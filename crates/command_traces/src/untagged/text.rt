@@ -1,6 +1,7 @@
 ghost use Rattle.std.specs.Prelude.{◌≡◌, ◌++◌, IfOk, IfErr, OnOk, string_bytes};
 ghost use Rattle.board_printer.specs.Lines.{line_text};
-ghost use Rattle.command_traces.specs.untagged.Lines.{run_line, stale_line, stale_lines, count_line, untagged_text};
+ghost use Rattle.command_traces.specs.untagged.Lines.{run_line, stale_line, stale_lines};
+ghost use Rattle.command_traces.specs.untagged.Lines.{count_line, untagged_text};
 
 use board_model::Board;
 use program_status::Status;

@@ -1,8 +1,9 @@
 ghost use Rattle.std.specs.Prelude.{◌<◌, ◌^◌, length, IfOk, IfErr};
-ghost use Rattle.program_input.specs.Traces.{RefusesRun};
+ghost use Rattle.command_traces.specs.Runs.{RefusesRun};
 ghost use Rattle.command_traces.specs.waves.Answers.{AnswersWaves};
 
-use program_input::{TreeTrace, read_run};
+use crate::run::read_run;
+use program_input::TreeTrace;
 use program_status::Status;
 use run_waves::{dumps_are_lines, dumps_tell, waves, widths_fit};
 use std::alloc::Global;

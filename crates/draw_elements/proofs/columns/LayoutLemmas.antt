@@ -2,11 +2,11 @@
 use Rattle.std.proofs.Common.{◌≡◌, ℕ, ◌≤◌, List, [], length, drop, sym, ap, ◌∙◌}
 use Rattle.std.proofs.lemmas.List.{drop_all}
 use Rattle.board_model.specs.declared.board.Board.{Board}
-use Rattle.draw_items.specs.declared.item.Item.{Item}
+use Rattle.draw_items.specs.declared.journey.Journey.{Journey}
 use Rattle.draw_elements.specs.columns.Order.{middle_of, in_order}
 use Rattle.draw_elements.specs.columns.Places.{Layout, with_buses, layout_of}
 
-pub layout_all : (board : Board) (items : List Item) (start middle i : ℕ) (buses : List ℕ) (columns first : Layout) → length buses ≤ i → with_buses board items middle (drop i buses) columns ≡ with_buses board items middle buses first
+pub layout_all : (board : Board) (items : List Journey) (start middle i : ℕ) (buses : List ℕ) (columns first : Layout) → length buses ≤ i → with_buses board items middle (drop i buses) columns ≡ with_buses board items middle buses first
     → middle ≡ middle_of board → buses ≡ in_order board middle → first ≡ record { bands = []; lines = []; rows = 0; past = start } → columns ≡ layout_of board items start
 unfolding layout_of
 layout_all board items start middle i buses columns first past so middle_is buses_is first_is =

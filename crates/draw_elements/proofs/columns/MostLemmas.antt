@@ -5,7 +5,7 @@ use Rattle.std.proofs.lemmas.Bool.Decides.{nat_tests}
 use Rattle.list_facts.specs.Lists.{greatest}
 use Rattle.board_model.specs.declared.bridge.Lane.{Lane as BridgeLane}
 use Rattle.history_model.specs.World.{same_direction, same_lane}
-use Rattle.draw_items.specs.declared.item.Item.{Item}
+use Rattle.draw_items.specs.declared.journey.Journey.{Journey}
 use Rattle.draw_items.specs.Items.{has_stood}
 use Rattle.draw_elements.specs.columns.Places.{tracks_used, most}
 use Rattle.draw_elements.specs.columns.Kept.{slot_of, with_item, IsMost}
@@ -66,7 +66,7 @@ most_none tracks is = record {
 }
 
 -- at a lane, where the item stood
-stood_more : (items : List Item) (item : Item) (tracks : List ℕ) → item.lane.bus < 256 → IsMost items tracks → has_stood item ≡ true → (lane : BridgeLane) → lane.bus < 256
+stood_more : (items : List Journey) (item : Journey) (tracks : List ℕ) → item.lane.bus < 256 → IsMost items tracks → has_stood item ≡ true → (lane : BridgeLane) → lane.bus < 256
     → slice_index (set tracks (slot_of item.lane) (max (slice_index tracks (slot_of item.lane)) (item.track + 1))) (slot_of lane) ≡ most (items ++ item ∷ []) lane
 stood_more items item tracks on most_is so lane within =
     let s : ℕ = slot_of item.lane in
@@ -86,7 +86,7 @@ stood_more items item tracks on most_is so lane within =
     by_lane ∙ sym pushed
 
 -- one item more
-pub most_more : (items : List Item) (item : Item) (tracks : List ℕ) → item.lane.bus < 256 → IsMost items tracks → IsMost (items ++ item ∷ []) (with_item item tracks)
+pub most_more : (items : List Journey) (item : Journey) (tracks : List ℕ) → item.lane.bus < 256 → IsMost items tracks → IsMost (items ++ item ∷ []) (with_item item tracks)
 most_more items item tracks on most_is =
     let P : Bool → Type 0 = λ b. has_stood item ≡ b → IsMost (items ++ item ∷ []) (cond b (set tracks (slot_of item.lane) (max (slice_index tracks (slot_of item.lane)) (item.track + 1))) tracks) in
     (elim (has_stood item) as P [

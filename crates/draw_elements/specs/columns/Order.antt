@@ -8,8 +8,8 @@ use Rattle.board_model.specs.declared.bridge.Lane.{Lane as BridgeLane}
 use Rattle.board_model.specs.declared.board.Board.{Board}
 use Rattle.board_model.specs.Ways.{primary_of}
 use Rattle.board_model.specs.Valid.{has_bridge_to}
-use Rattle.draw_elements.specs.declared.columns.line.Line.{Line}
-use Rattle.draw_elements.specs.declared.columns.line.Line.TheVariants.{Left, Master, Target, Right}
+use Rattle.draw_elements.specs.declared.columns.line.ColumnLine.{ColumnLine}
+use Rattle.draw_elements.specs.declared.columns.line.ColumnLine.TheVariants.{Left, Master, Target, Right}
 
 -- all buses but bus 0
 unfoldable pub lower_buses : List ℕ
@@ -49,33 +49,33 @@ abbrev pub own_face : ℕ → BridgeLane
 own_face bus = record { bus = bus; up = false }
 
 -- the masters of a bus, in board order
-abbrev pub masters_on : ℕ → ℕ → List MasterAgent → List Line
+abbrev pub masters_on : ℕ → ℕ → List MasterAgent → List ColumnLine
 masters_on bus k [] = []
 masters_on bus k (agent ∷ agents) = (if agent.bus == bus then Master k ∷ [] else []) ++ masters_on bus (k + 1) agents
 
 -- and its targets
-abbrev pub targets_on : ℕ → ℕ → List TargetAgent → List Line
+abbrev pub targets_on : ℕ → ℕ → List TargetAgent → List ColumnLine
 targets_on bus k [] = []
 targets_on bus k (agent ∷ agents) = (if agent.bus == bus then Target k ∷ [] else []) ++ targets_on bus (k + 1) agents
 
 -- the own face of a bus of the right wing is at the left of it, of one of the left wing at the right
-abbrev pub own_left : ℕ → ℕ → List Line
+abbrev pub own_left : ℕ → ℕ → List ColumnLine
 own_left middle bus = if not (bus == 0) && nat_le middle bus then Left (own_face bus) ∷ [] else []
 
 -- the same at its right
-abbrev pub own_right : ℕ → ℕ → List Line
+abbrev pub own_right : ℕ → ℕ → List ColumnLine
 own_right middle bus = if not (bus == 0) && nat_lt bus middle then Right (own_face bus) ∷ [] else []
 
 -- the faces of children in the left wing are at the left, the others at the right
-abbrev pub left_faces : ℕ → List ℕ → List Line
+abbrev pub left_faces : ℕ → List ℕ → List ColumnLine
 left_faces middle children = map (λ child. Left (child_face child)) (reverse (filter (λ child. nat_lt child middle) children))
 
 -- the same of those at the right
-abbrev pub right_faces : ℕ → List ℕ → List Line
+abbrev pub right_faces : ℕ → List ℕ → List ColumnLine
 right_faces middle children = map (λ child. Right (child_face child)) (filter (λ child. nat_le middle child) children)
 
 -- the lines of a bus from left to right: left faces, masters, targets, right faces
-abbrev pub lines_on : Board → ℕ → ℕ → List Line
+abbrev pub lines_on : Board → ℕ → ℕ → List ColumnLine
 lines_on board middle bus =
     own_left middle bus
     ++ (left_faces middle (children_of board bus)

@@ -1,9 +1,10 @@
 ghost use Rattle.std.specs.Prelude.{◌≡◌, ◌++◌, List, length, IfOk, OnOk};
-ghost use Rattle.draw_items.specs.declared.item.Item.{Item};
+ghost use Rattle.draw_items.specs.declared.journey.Journey.{Journey};
 ghost use Rattle.draw_elements.specs.columns.Kept.{IsMost};
-ghost use Rattle.draw_elements.specs.columns.Places.{layout_of, room_before, room_behind, next_x, past_lines, past_names, columns_from};
+ghost use Rattle.draw_elements.specs.columns.Places.{layout_of, room_before, room_behind, next_x};
+ghost use Rattle.draw_elements.specs.columns.Places.{past_lines, past_names, columns_from};
 
-use crate::columns::line::{Line, name_length};
+use crate::columns::line::{ColumnLine, name_length};
 use crate::columns::most::Most;
 use crate::columns::order::{in_order, lines_on, middle_of};
 use crate::columns::sums::{product, sum};
@@ -23,7 +24,7 @@ pub struct Band {
 /// Where a line stands, and the row of its name.
 #[derive(Clone, Copy, Debug, PartialEq, Eq)]
 pub struct Column {
-    pub line: Line,
+    pub line: ColumnLine,
     pub place: u64,
     pub row: u64,
 }
@@ -44,17 +45,19 @@ impl Model for Columns {
 
     ghost Value = { Layout };
 
-    ghost view = { λ k. record { bands = k.bands.items; lines = k.lines.items; rows = k.rows; past = k.past } };
+    ghost view = { λ k.
+        record { bands = k.bands.items; lines = k.lines.items; rows = k.rows; past = k.past } };
 }
 
-/// The columns of a board, from a place on, with room beside the faces for the tracks that are used.
+/// The columns of a board, from a place on, with room beside the faces for the tracks in use.
 pub fn columns_of(
     alloc: Global,
     board: &Board,
     most: &Most,
     start: u64,
 ) -> Result<Columns, NoMemory>
-    ensures { (items : List Item) → IsMost items most.now → IfOk result (λ columns. columns ≡ layout_of board.now items start) }
+    ensures { (items : List Journey) → IsMost items most.now →
+        IfOk result (λ columns. columns ≡ layout_of board.now items start) }
 {
     let mut columns = Columns::new(alloc, start);
     let middle = middle_of(alloc, board)?;
@@ -69,8 +72,9 @@ pub fn columns_of(
 
 impl Columns {
     ghost use Rattle.std.specs.Prelude.{ℕ, ◌∷◌, [], Option};
-    ghost use Rattle.draw_elements.specs.columns.Places.{with_bus, found_place, place_of, is_left, face_place, bar_place, width_of};
-    ghost use Rattle.draw_elements.specs.declared.columns.line.Line.TheVariants as lines;
+    ghost use Rattle.draw_elements.specs.columns.Places.{with_bus, found_place, place_of, is_left};
+    ghost use Rattle.draw_elements.specs.columns.Places.{face_place, bar_place, width_of};
+    ghost use Rattle.draw_elements.specs.declared.columns.line.ColumnLine.TheVariants as lines;
 
     /// No bus, where a column would start there.
     fn new(alloc: Global, start: u64) -> Columns
@@ -91,9 +95,10 @@ impl Columns {
         board: &Board,
         most: &Most,
         bus: u8,
-        lines: &[Line],
+        lines: &[ColumnLine],
     ) -> Result<(), NoMemory>
-        ensures { (items : List Item) → IsMost items most.now → OnOk result (self.new ≡ with_bus board.now items bus lines.now self.old) }
+        ensures { (items : List Journey) → IsMost items most.now →
+            OnOk result (self.new ≡ with_bus board.now items bus lines.now self.old) }
     {
         let start = self.past;
         let first = sum(start, 14)?;
@@ -135,7 +140,7 @@ impl Columns {
         Ok(right / 4 * 4)
     }
 
-    fn found(&self, line: Line) -> Option<u64>
+    fn found(&self, line: ColumnLine) -> Option<u64>
         ensures { result ≡ found_place line self.now }
     {
         self.lines
@@ -144,7 +149,7 @@ impl Columns {
             .map(|column| column.place)
     }
 
-    fn place(&self, line: Line) -> u64
+    fn place(&self, line: ColumnLine) -> u64
         ensures { result ≡ place_of line self.now }
     {
         match self.found(line) {
@@ -157,21 +162,21 @@ impl Columns {
     pub fn master(&self, master: u16) -> u64
         ensures { result ≡ place_of (lines.Master master) self.now }
     {
-        self.place(Line::Master(usize::from(master)))
+        self.place(ColumnLine::Master(usize::from(master)))
     }
 
     /// Where a target stands.
     pub fn target(&self, target: u16) -> u64
         ensures { result ≡ place_of (lines.Target target) self.now }
     {
-        self.place(Line::Target(usize::from(target)))
+        self.place(ColumnLine::Target(usize::from(target)))
     }
 
     /// Whether the face where the lane ends is at the left of its bus.
     pub fn is_left(&self, lane: Lane) -> bool
         ensures { result ≡ is_left lane self.now }
     {
-        self.found(Line::Left(lane)).is_some()
+        self.found(ColumnLine::Left(lane)).is_some()
     }
 
     /// Where the face stands at which the lane ends.
@@ -179,9 +184,9 @@ impl Columns {
         ensures { result ≡ face_place lane self.now }
     {
         if self.is_left(lane) {
-            self.place(Line::Left(lane))
+            self.place(ColumnLine::Left(lane))
         } else {
-            self.place(Line::Right(lane))
+            self.place(ColumnLine::Right(lane))
         }
     }
 
@@ -203,10 +208,12 @@ fn add_columns(
     columns: &mut Vec<Column>,
     most: &Most,
     first: u64,
-    lines: &[Line],
+    lines: &[ColumnLine],
 ) -> Result<u64, NoMemory>
-    ensures columns { (items : List Item) → IsMost items most.now → OnOk result (columns.new.items ≡ columns.old.items ++ columns_from items first 0 lines.now) }
-    ensures past { (items : List Item) → IsMost items most.now → IfOk result (λ past. past ≡ past_lines items first lines.now) }
+    ensures columns { (items : List Journey) → IsMost items most.now → OnOk result
+        (columns.new.items ≡ columns.old.items ++ columns_from items first 0 lines.now) }
+    ensures past { (items : List Journey) → IsMost items most.now →
+        IfOk result (λ past. past ≡ past_lines items first lines.now) }
 {
     let mut x = first;
     for (row, line) in lines.iter().enumerate() {
@@ -227,9 +234,10 @@ fn names_end(
     most: &Most,
     first: u64,
     end: u64,
-    lines: &[Line],
+    lines: &[ColumnLine],
 ) -> Result<u64, NoMemory>
-    ensures { (items : List Item) → IsMost items most.now → IfOk result (λ past. past ≡ past_names board.now items first end lines.now) }
+    ensures { (items : List Journey) → IsMost items most.now →
+        IfOk result (λ past. past ≡ past_names board.now items first end lines.now) }
 {
     let mut x = first;
     let mut end = end;
@@ -243,29 +251,32 @@ fn names_end(
 }
 
 /// The next line stands from here on.
-fn next_x(most: &Most, x: u64, line: Line) -> Result<u64, NoMemory>
-    ensures { (items : List Item) → IsMost items most.now → IfOk result (λ next. next ≡ next_x items x line) }
+fn next_x(most: &Most, x: u64, line: ColumnLine) -> Result<u64, NoMemory>
+    ensures { (items : List Journey) → IsMost items most.now →
+        IfOk result (λ next. next ≡ next_x items x line) }
 {
     let place = sum(x, room_before(most, line)?)?;
     sum(sum(place, 22)?, room_behind(most, line)?)
 }
 
 /// The room for bars before a face at the left.
-fn room_before(most: &Most, line: Line) -> Result<u64, NoMemory>
-    ensures { (items : List Item) → IsMost items most.now → IfOk result (λ room. room ≡ room_before items line) }
+fn room_before(most: &Most, line: ColumnLine) -> Result<u64, NoMemory>
+    ensures { (items : List Journey) → IsMost items most.now →
+        IfOk result (λ room. room ≡ room_before items line) }
 {
     match line {
-        Line::Left(lane) => product(6, most.of(lane) as u64),
-        Line::Master(_) | Line::Target(_) | Line::Right(_) => Ok(0),
+        ColumnLine::Left(lane) => product(6, most.of(lane) as u64),
+        ColumnLine::Master(_) | ColumnLine::Target(_) | ColumnLine::Right(_) => Ok(0),
     }
 }
 
 /// The room for bars behind a face at the right.
-fn room_behind(most: &Most, line: Line) -> Result<u64, NoMemory>
-    ensures { (items : List Item) → IsMost items most.now → IfOk result (λ room. room ≡ room_behind items line) }
+fn room_behind(most: &Most, line: ColumnLine) -> Result<u64, NoMemory>
+    ensures { (items : List Journey) → IsMost items most.now →
+        IfOk result (λ room. room ≡ room_behind items line) }
 {
     match line {
-        Line::Right(lane) => product(6, most.of(lane) as u64),
-        Line::Left(_) | Line::Master(_) | Line::Target(_) => Ok(0),
+        ColumnLine::Right(lane) => product(6, most.of(lane) as u64),
+        ColumnLine::Left(_) | ColumnLine::Master(_) | ColumnLine::Target(_) => Ok(0),
     }
 }

@@ -6,7 +6,7 @@ use std::alloc::{AllocError, Global};
 
 /// What a line of a bus stands for. A face is named by the lane that ends there.
 #[derive(Clone, Copy, Debug, PartialEq, Eq)]
-pub enum Line {
+pub enum ColumnLine {
     /// A face at the left of its bus.
     Left(Lane),
     /// The master at this place of the board.
@@ -18,16 +18,17 @@ pub enum Line {
 }
 
 /// The name of a line, behind a text.
-pub fn print_name(text: &mut String, board: &Board, line: Line) -> Result<(), AllocError>
-    ensures { OnOk result (string_bytes text.new ≡ string_bytes text.old ++ name_of board.now line) }
+pub fn print_name(text: &mut String, board: &Board, line: ColumnLine) -> Result<(), AllocError>
+    ensures { OnOk result (string_bytes text.new ≡ string_bytes text.old ++
+        name_of board.now line) }
 {
     match line {
-        Line::Left(lane) | Line::Right(lane) => write!(text, "bridge {}", lane.bus),
-        Line::Master(master) => match board.masters.as_slice().get(master) {
+        ColumnLine::Left(lane) | ColumnLine::Right(lane) => write!(text, "bridge {}", lane.bus),
+        ColumnLine::Master(master) => match board.masters.as_slice().get(master) {
             Some(agent) => text.push_str(agent.name.as_str()),
             None => Ok(()),
         },
-        Line::Target(target) => match board.targets.as_slice().get(target) {
+        ColumnLine::Target(target) => match board.targets.as_slice().get(target) {
             Some(agent) => text.push_str(agent.name.as_str()),
             None => Ok(()),
         },
@@ -35,7 +36,7 @@ pub fn print_name(text: &mut String, board: &Board, line: Line) -> Result<(), Al
 }
 
 /// How many letters it has.
-pub fn name_length(alloc: Global, board: &Board, line: Line) -> Result<usize, AllocError>
+pub fn name_length(alloc: Global, board: &Board, line: ColumnLine) -> Result<usize, AllocError>
     ensures { IfOk result (λ count. count ≡ length (name_of board.now line)) }
 {
     let mut name = String::new(alloc);

@@ -2,7 +2,7 @@ ghost use Rattle.std.specs.Prelude.{◌≡◌, IfOk};
 ghost use Rattle.draw_elements.specs.columns.Kept.{slot_of, IsMost};
 
 use board_model::Lane;
-use draw_items::Item;
+use draw_items::Journey;
 use pci_command::NoMemory;
 use std::alloc::Global;
 use std::marker::Model;
@@ -23,7 +23,7 @@ impl Model for Most {
 }
 
 /// How many tracks these items use.
-pub fn most_of(alloc: Global, items: &[Item]) -> Result<Most, NoMemory>
+pub fn most_of(alloc: Global, items: &[Journey]) -> Result<Most, NoMemory>
     ensures { IfOk result (IsMost items.now) }
 {
     let mut most = Most::new(alloc)?;
@@ -46,7 +46,7 @@ fn slot_of(lane: Lane) -> usize
 
 impl Most {
     ghost use Rattle.std.specs.Prelude.{List, OnOk, replicate};
-    ghost use Rattle.draw_items.specs.declared.item.Item.{Item};
+    ghost use Rattle.draw_items.specs.declared.journey.Journey.{Journey};
     ghost use Rattle.draw_elements.specs.columns.Kept.{with_item};
     ghost use Rattle.draw_elements.specs.columns.Places.{most};
 
@@ -61,7 +61,7 @@ impl Most {
     }
 
     /// One item more.
-    fn see(&mut self, item: &Item) -> Result<(), NoMemory>
+    fn see(&mut self, item: &Journey) -> Result<(), NoMemory>
         ensures { OnOk result (self.new ≡ with_item item.now self.old) }
     {
         if !item.has_stood() {
@@ -81,7 +81,7 @@ impl Most {
 
     /// How many tracks are used on the lane.
     pub fn of(&self, lane: Lane) -> usize
-        ensures { (items : List Item) → IsMost items self.now → result ≡ most items lane }
+        ensures { (items : List Journey) → IsMost items self.now → result ≡ most items lane }
     {
         match self.tracks.as_slice().get(slot_of(lane)) {
             Some(tracks) => *tracks,

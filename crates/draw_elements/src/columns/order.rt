@@ -1,9 +1,12 @@
 ghost use Rattle.std.specs.Prelude.{◌≡◌, ◌++◌, ◌&&◌, nat_lt, nat_le, IfOk, OnOk};
 ghost use Rattle.std.specs.List.{filter};
 ghost use Rattle.board_model.specs.Valid.{has_bridge_to};
-ghost use Rattle.draw_elements.specs.columns.Order.{lower_buses, children_of, is_child, first_of_right, middle_of, in_order, lines_on, masters_on, targets_on, left_faces, right_faces, own_left, own_right};
+ghost use Rattle.draw_elements.specs.columns.Order.{lower_buses, children_of, is_child};
+ghost use Rattle.draw_elements.specs.columns.Order.{first_of_right, middle_of, in_order, lines_on};
+ghost use Rattle.draw_elements.specs.columns.Order.{masters_on, targets_on, left_faces};
+ghost use Rattle.draw_elements.specs.columns.Order.{right_faces, own_left, own_right};
 
-use crate::columns::line::Line;
+use crate::columns::line::ColumnLine;
 use board_model::{Board, Lane, has_bridge_to, primary_of};
 use std::alloc::{AllocError, Global};
 
@@ -70,7 +73,8 @@ pub(crate) fn in_order(alloc: Global, board: &Board, middle: u16) -> Result<Vec<
 }
 
 fn left_wing(alloc: Global, board: &Board, middle: u16, lower: &[u8]) -> Result<Vec<u8>, AllocError>
-    ensures { IfOk result (λ buses. buses.items ≡ filter (λ bus. nat_lt bus middle && has_bridge_to board.now bus) lower.now) }
+    ensures { IfOk result (λ buses. buses.items ≡ filter (λ bus.
+        nat_lt bus middle && has_bridge_to board.now bus) lower.now) }
 {
     lower
         .iter()
@@ -85,7 +89,8 @@ fn right_wing(
     middle: u16,
     lower: &[u8],
 ) -> Result<Vec<u8>, AllocError>
-    ensures { IfOk result (λ buses. buses.items ≡ filter (λ bus. nat_le middle bus && has_bridge_to board.now bus) lower.now) }
+    ensures { IfOk result (λ buses. buses.items ≡ filter (λ bus.
+        nat_le middle bus && has_bridge_to board.now bus) lower.now) }
 {
     lower
         .iter()
@@ -100,7 +105,7 @@ pub(crate) fn lines_on(
     board: &Board,
     middle: u16,
     bus: u8,
-) -> Result<Vec<Line>, AllocError>
+) -> Result<Vec<ColumnLine>, AllocError>
     ensures { IfOk result (λ lines. lines.items ≡ lines_on board.now middle bus) }
 {
     let children = children_of(alloc, board, bus)?;
@@ -114,27 +119,27 @@ pub(crate) fn lines_on(
     Ok(lines)
 }
 
-fn add_own_left(lines: &mut Vec<Line>, middle: u16, bus: u8) -> Result<(), AllocError>
+fn add_own_left(lines: &mut Vec<ColumnLine>, middle: u16, bus: u8) -> Result<(), AllocError>
     ensures { OnOk result (lines.new.items ≡ lines.old.items ++ own_left middle bus) }
 {
     if bus != 0 && middle <= u16::from(bus) {
-        lines.push(Line::Left(Lane { bus, up: false }))?;
+        lines.push(ColumnLine::Left(Lane { bus, up: false }))?;
     }
     Ok(())
 }
 
-fn add_own_right(lines: &mut Vec<Line>, middle: u16, bus: u8) -> Result<(), AllocError>
+fn add_own_right(lines: &mut Vec<ColumnLine>, middle: u16, bus: u8) -> Result<(), AllocError>
     ensures { OnOk result (lines.new.items ≡ lines.old.items ++ own_right middle bus) }
 {
     if bus != 0 && u16::from(bus) < middle {
-        lines.push(Line::Right(Lane { bus, up: false }))?;
+        lines.push(ColumnLine::Right(Lane { bus, up: false }))?;
     }
     Ok(())
 }
 
 fn add_left_faces(
     alloc: Global,
-    lines: &mut Vec<Line>,
+    lines: &mut Vec<ColumnLine>,
     middle: u16,
     children: &[u8],
 ) -> Result<(), AllocError>
@@ -148,7 +153,7 @@ fn add_left_faces(
     found.reverse();
     let left = found.as_slice();
     for child in left {
-        lines.push(Line::Left(Lane {
+        lines.push(ColumnLine::Left(Lane {
             bus: *child,
             up: true,
         }))?;
@@ -158,7 +163,7 @@ fn add_left_faces(
 
 fn add_right_faces(
     alloc: Global,
-    lines: &mut Vec<Line>,
+    lines: &mut Vec<ColumnLine>,
     middle: u16,
     children: &[u8],
 ) -> Result<(), AllocError>
@@ -171,7 +176,7 @@ fn add_right_faces(
         .collect(alloc)?;
     let right = found.as_slice();
     for child in right {
-        lines.push(Line::Right(Lane {
+        lines.push(ColumnLine::Right(Lane {
             bus: *child,
             up: true,
         }))?;
@@ -179,23 +184,25 @@ fn add_right_faces(
     Ok(())
 }
 
-fn add_masters(lines: &mut Vec<Line>, board: &Board, bus: u8) -> Result<(), AllocError>
-    ensures { OnOk result (lines.new.items ≡ lines.old.items ++ masters_on bus 0 board.now.masters) }
+fn add_masters(lines: &mut Vec<ColumnLine>, board: &Board, bus: u8) -> Result<(), AllocError>
+    ensures { OnOk result (lines.new.items ≡ lines.old.items ++
+        masters_on bus 0 board.now.masters) }
 {
     for (master, agent) in board.masters.as_slice().iter().enumerate() {
         if agent.bus == bus {
-            lines.push(Line::Master(master))?;
+            lines.push(ColumnLine::Master(master))?;
         }
     }
     Ok(())
 }
 
-fn add_targets(lines: &mut Vec<Line>, board: &Board, bus: u8) -> Result<(), AllocError>
-    ensures { OnOk result (lines.new.items ≡ lines.old.items ++ targets_on bus 0 board.now.targets) }
+fn add_targets(lines: &mut Vec<ColumnLine>, board: &Board, bus: u8) -> Result<(), AllocError>
+    ensures { OnOk result (lines.new.items ≡ lines.old.items ++
+        targets_on bus 0 board.now.targets) }
 {
     for (target, agent) in board.targets.as_slice().iter().enumerate() {
         if agent.bus == bus {
-            lines.push(Line::Target(target))?;
+            lines.push(ColumnLine::Target(target))?;
         }
     }
     Ok(())

@@ -3,20 +3,20 @@ use Rattle.std.specs.Prelude.{ℕ, ◌+◌, ◌-◌, Bool, true, false, nat_lt, 
 use Rattle.board_model.specs.declared.board.Board.{Board}
 use Rattle.history_model.specs.declared.event.Event.{Event}
 use Rattle.history_model.specs.declared.event.Event.TheVariants.{Act, Arrive}
-use Rattle.draw_items.specs.declared.item.Item.{Item}
+use Rattle.draw_items.specs.declared.journey.Journey.{Journey}
 use Rattle.draw_items.specs.Items.{Lanes, item_of, taken_by, named_by}
 use Rattle.draw_items.specs.Tries.{is_pale}
 use Rattle.draw_told.specs.Told.{is_loud, is_key}
-use Rattle.draw_sheets.specs.declared.row.Row.{Row}
-use Rattle.draw_sheets.specs.Widths.{width_of}
+use Rattle.draw_shapes.specs.declared.row.Row.{Row}
+use Rattle.draw_shapes.specs.Widths.{width_of}
 
 -- the operation of an act, and of what arrives: whether it is a fruitless try, and whether a line of the audit tells of it
-abbrev pub is_item_pale : List Event → Option Item → Bool
+abbrev pub is_item_pale : List Event → Option Journey → Bool
 is_item_pale events None = false
 is_item_pale events (Some item) = is_pale events item.op
 
 -- an act by its operation, an arrival by its item
-unfoldable pub is_event_pale : List Event → Option Item → Event → Bool
+unfoldable pub is_event_pale : List Event → Option Journey → Event → Bool
 is_event_pale events item (Act on by o step place) = is_pale events o
 is_event_pale events item (Arrive lane mark) = is_item_pale events item
 
@@ -26,7 +26,7 @@ is_event_loud board events (Act on by o step place) = is_loud board events o
 is_event_loud board events (Arrive lane mark) = false
 
 -- event n
-abbrev pub row_with : Board → List Event → ℕ → Event → Option Item → Option Item → Row
+abbrev pub row_with : Board → List Event → ℕ → Event → Option Journey → Option Journey → Row
 row_with board events n e item taken =
     record {
       n = n;
@@ -45,7 +45,7 @@ abbrev pub row_of : Board → List Event → Lanes → ℕ → Event → Row
 row_of board events lanes n e = row_with board events n e (item_of n lanes) (taken_by n lanes)
 
 -- event n, which is not allowed after these
-abbrev pub refused_row : Board → List Event → ℕ → Event → Option Item → Row
+abbrev pub refused_row : Board → List Event → ℕ → Event → Option Journey → Row
 refused_row board events n e item =
     record {
       n = n;

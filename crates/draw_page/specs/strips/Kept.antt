@@ -1,7 +1,7 @@
 -- What the program keeps of the strips: the text of each, to which elements are added one by one.
 use Rattle.std.specs.Prelude.{◌≡◌, ◌<◌, ℕ, Bool, ◌&&◌, nat_le, nat_lt, List, [], ◌++◌, length, slice_index_or, if◌then◌else◌}
 use Rattle.std.specs.List.{flat_map}
-use Rattle.draw_sheets.specs.declared.frame.Frame.{Frame}
+use Rattle.draw_shapes.specs.declared.frame.Frame.{Frame}
 use Rattle.draw_shapes.specs.Shapes.{Shape}
 use Rattle.draw_page.specs.strips.Strips.{strips_count, passing}
 

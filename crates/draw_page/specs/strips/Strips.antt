@@ -3,9 +3,9 @@
 use Rattle.std.specs.Prelude.{ℕ, ◌+◌, ◌-◌, ◌*◌, ◌/◌, ◌&&◌, min, nat_le, List, [], ◌++◌, codes, if◌then◌else◌}
 use Rattle.std.specs.List.{flat_map, range_with_len}
 use Rattle.draw_elements.specs.columns.Places.{Layout}
-use Rattle.draw_sheets.specs.declared.frame.Frame.{Frame}
+use Rattle.draw_shapes.specs.declared.frame.Frame.{Frame}
 use Rattle.draw_shapes.specs.Shapes.{Shape}
-use Rattle.draw_sheets.specs.heads.Sheets.{sheet_text}
+use Rattle.draw_shapes.specs.heads.Sheets.{sheet_text}
 
 -- the first and the last row of strip k
 abbrev pub low_row : Frame → ℕ → ℕ

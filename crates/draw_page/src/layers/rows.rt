@@ -5,11 +5,12 @@ ghost use Rattle.draw_items.specs.Items.{named_by};
 ghost use Rattle.draw_items.specs.Kept.{TellsTries};
 ghost use Rattle.draw_told.specs.Kept.{TellsTold};
 ghost use Rattle.draw_page.specs.layers.Rows.{is_item_pale, is_event_pale, is_event_loud};
-ghost use Rattle.draw_page.specs.layers.Rows.{row_with, row_of, refused_row, row_at, rows_after, drawn, rows_of};
+ghost use Rattle.draw_page.specs.layers.Rows.{row_with, row_of, refused_row, row_at};
+ghost use Rattle.draw_page.specs.layers.Rows.{rows_after, drawn, rows_of};
 
 use crate::known::Known;
-use draw_items::{Item, Tries};
-use draw_sheets::{Row, width_of};
+use draw_items::{Journey, Tries};
+use draw_shapes::{Row, width_of};
 use draw_told::Told;
 use history_model::Event;
 use pci_command::NoMemory;
@@ -27,8 +28,8 @@ pub(crate) fn rows_of(
     requires few { length events.now < 2 ^ 31 }
     requires tries { TellsTries known.now.events.now known.now.tries.now }
     requires told { TellsTold known.now.board.now known.now.events.now known.now.told.now }
-    ensures { IfOk result (λ rows. rows.items
-        ≡ rows_of known.now.board.now known.now.events.now known.now.traffic.now events.now first last) }
+    ensures { IfOk result (λ rows. rows.items ≡ rows_of known.now.board.now known.now.events.now
+        known.now.traffic.now events.now first last) }
 {
     let before = first.saturating_sub(1);
     let shown = drawn(events, before, last);
@@ -84,9 +85,10 @@ fn refused_row(alloc: Global, known: &Known, n: u32, event: &Event) -> Result<Ro
 }
 
 fn row_of(alloc: Global, known: &Known, n: u32, event: &Event) -> Result<Row, NoMemory>
-    ensures { (events : List Event) → TellsTries events known.now.tries.now
-        → TellsTold known.now.board.now events known.now.told.now → 0 < n → n ≤ length events
-        → IfOk result (λ row. row ≡ row_of known.now.board.now events known.now.traffic.now n event.now) }
+    ensures { (events : List Event) → TellsTries events known.now.tries.now →
+        TellsTold known.now.board.now events known.now.told.now →
+        0 < n → n ≤ length events → IfOk result (λ row.
+        row ≡ row_of known.now.board.now events known.now.traffic.now n event.now) }
 {
     let item = known.traffic.item_of(n).copied();
     let taken = known.traffic.taken_by(n).copied();
@@ -115,7 +117,7 @@ fn is_loud(told: &Told, event: &Event) -> bool
 }
 
 #[tactic(auto, unfolding(crate::specs::layers::Rows::is_event_pale))]
-fn is_pale(tries: &Tries, item: Option<Item>, event: &Event) -> bool
+fn is_pale(tries: &Tries, item: Option<Journey>, event: &Event) -> bool
     ensures { (events : List Event) → TellsTries events tries.now
         → result ≡ is_event_pale events item event.now }
 {
@@ -125,7 +127,7 @@ fn is_pale(tries: &Tries, item: Option<Item>, event: &Event) -> bool
     }
 }
 
-fn is_item_pale(tries: &Tries, item: Option<Item>) -> bool
+fn is_item_pale(tries: &Tries, item: Option<Journey>) -> bool
     ensures { (events : List Event) → TellsTries events tries.now
         → result ≡ is_item_pale events item }
 {

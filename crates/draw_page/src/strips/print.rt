@@ -1,13 +1,13 @@
 ghost use Rattle.std.specs.Prelude.{◌≡◌, ◌++◌, List, length, string_bytes, OnOk};
 ghost use Rattle.std.specs.List.{flat_map, range_with_len};
 ghost use Rattle.draw_shapes.specs.Shapes.{Shape};
-ghost use Rattle.draw_page.specs.strips.Strips.{high_row, strips_count, strip_top, strip_foot, strip_around, strip_text, strips_text};
+ghost use Rattle.draw_page.specs.strips.Strips.{high_row, strips_count, strip_top, strip_foot};
+ghost use Rattle.draw_page.specs.strips.Strips.{strip_around, strip_text, strips_text};
 ghost use Rattle.draw_page.specs.strips.Kept.{IsDrawn};
 
 use crate::strips::strip::{Strip, strips_count, strips_of};
 use draw_elements::Columns;
-use draw_shapes::Element;
-use draw_sheets::{Frame, print_sheet};
+use draw_shapes::{Element, Frame, print_sheet};
 use pci_command::NoMemory;
 use std::alloc::Global;
 
@@ -20,7 +20,8 @@ pub(crate) fn print_strips(
     frame: &Frame,
     elements: &[Element],
 ) -> Result<(), NoMemory>
-    ensures { OnOk result (string_bytes text.new ≡ string_bytes text.old ++ strips_text columns.now frame.now elements.now) }
+    ensures { OnOk result (string_bytes text.new ≡
+        string_bytes text.old ++ strips_text columns.now frame.now elements.now) }
 {
     let strips = strips_of(alloc, frame, elements)?;
     print_each(text, columns, frame, strips.as_slice())
@@ -34,7 +35,8 @@ fn print_each(
 ) -> Result<(), NoMemory>
     requires { length strips.now ≡ strips_count frame.now }
     ensures { (shapes : List Shape) → IsDrawn frame.now shapes strips.now →
-        OnOk result (string_bytes text.new ≡ string_bytes text.old ++ flat_map (strip_text columns.now frame.now shapes) (range_with_len 0 (strips_count frame.now))) }
+        OnOk result (string_bytes text.new ≡ string_bytes text.old ++ flat_map
+        (strip_text columns.now frame.now shapes) (range_with_len 0 (strips_count frame.now))) }
 {
     for strip in 0..strips_count(frame) {
         let drawn = &strips[strip as usize];
@@ -51,7 +53,8 @@ fn print_strip(
     strip: u32,
     drawn: &str,
 ) -> Result<(), NoMemory>
-    ensures { OnOk result (string_bytes text.new ≡ string_bytes text.old ++ strip_around columns.now frame.now strip drawn.now) }
+    ensures { OnOk result (string_bytes text.new ≡
+        string_bytes text.old ++ strip_around columns.now frame.now strip drawn.now) }
 {
     text.push_str("<tr><td>")?;
     print_sheet(text, columns, top_of(frame, strip), foot_of(frame, strip))?;

@@ -1,11 +1,11 @@
-ghost use Rattle.std.specs.Prelude.{◌≡◌, ◌++◌, ◌<◌, ◌+◌, ℕ, List, [], length, replicate, IfOk, OnOk};
+ghost use Rattle.std.specs.Prelude.{◌≡◌, ◌++◌, ◌<◌, ◌+◌, ℕ, List, []};
+ghost use Rattle.std.specs.Prelude.{length, replicate, IfOk, OnOk};
 ghost use Rattle.std.proofs.Math.ListN.{set};
 ghost use Rattle.draw_shapes.specs.Shapes.{is_seen};
 ghost use Rattle.draw_page.specs.strips.Strips.{strips_count};
 ghost use Rattle.draw_page.specs.strips.Kept.{text_at, IsDrawn, Draws, AddsTo};
 
-use draw_shapes::Element;
-use draw_sheets::Frame;
+use draw_shapes::{Element, Frame};
 use pci_command::NoMemory;
 use std::alloc::{AllocError, Global};
 use std::marker::Model;
@@ -112,7 +112,8 @@ fn add_to(strips: &mut Vec<Strip>, begin: usize, end: usize, text: &str) -> Resu
 
 fn add_at(strips: &mut Vec<Strip>, strip: usize, text: &str) -> Result<(), AllocError>
     requires { strip < length strips.old.items }
-    ensures { OnOk result (strips.new.items ≡ set strips.old.items strip (text_at strips.old.items strip ++ text.now)) }
+    ensures { OnOk result (strips.new.items ≡
+        set strips.old.items strip (text_at strips.old.items strip ++ text.now)) }
 {
     strips[strip].add(text)
 }

@@ -6,8 +6,12 @@ use std::alloc::AllocError;
 
 /// The colours: light or dark by the reader's setting.
 const COLOURS: &str = "\
-    :root{color-scheme:light dark;--bg:#fff;--ink:#1b1f24;--dim:#5b6470;--band:#f0f2f5;--line:#b9c0c8;--p:#005a9c;--a:#a84300;--d:#00704f;--x:#b3123f;--r:#767e88;--t:#ffe9a8;--b:#7a4fb5}\n\
-    @media screen and (prefers-color-scheme:dark){:root{--bg:#14171b;--ink:#e8eaed;--dim:#a3acb8;--band:#1e2329;--line:#4a525c;--p:#6cb8ff;--a:#ffac66;--d:#4fd6a8;--x:#ff7d9c;--r:#8d96a1;--t:#4d3f10;--b:#c9a6ff}}\n";
+    :root{color-scheme:light dark;--bg:#fff;--ink:#1b1f24;--dim:#5b6470;--band:#f0f2f5;\
+    --line:#b9c0c8;--p:#005a9c;--a:#a84300;--d:#00704f;--x:#b3123f;--r:#767e88;--t:#ffe9a8;\
+    --b:#7a4fb5}\n\
+    @media screen and (prefers-color-scheme:dark){:root{--bg:#14171b;--ink:#e8eaed;--dim:#a3acb8;\
+    --band:#1e2329;--line:#4a525c;--p:#6cb8ff;--a:#ffac66;--d:#4fd6a8;--x:#ff7d9c;--r:#8d96a1;\
+    --t:#4d3f10;--b:#c9a6ff}}\n";
 
 /// What stands on the page.
 const PAGE: &str = "\
@@ -57,22 +61,36 @@ const MARKS: &str = "\
     g .s{stroke-width:4}\n\
     .a .s{stroke-dasharray:2 2}\n\
     g .q{fill:inherit;stroke:none}\n\
-    @media print{body{margin:0}table{width:100%}tr{break-inside:avoid}table svg{width:100%;height:auto}thead th{position:static}*{print-color-adjust:exact;-webkit-print-color-adjust:exact}}\n";
+    @media print{body{margin:0}table{width:100%}tr{break-inside:avoid}table svg{width:100%;\
+    height:auto}thead th{position:static}*{print-color-adjust:exact;\
+    -webkit-print-color-adjust:exact}}\n";
 
 /// The key of signs: lines and bars.
 const LINES: &str = "\
-    <p><span><svg width=\"24\" height=\"16\" aria-hidden=\"true\"><g class=\"p\"><path d=\"M2 8H22\"/></g></svg> posted write</span>\n\
-    <span><svg width=\"24\" height=\"16\" aria-hidden=\"true\"><g class=\"a\"><path d=\"M2 8H22\"/></g></svg> delayed request</span>\n\
-    <span><svg width=\"24\" height=\"16\" aria-hidden=\"true\"><g class=\"d\"><path d=\"M2 8H22\"/></g></svg> completion</span>\n\
-    <span><svg width=\"24\" height=\"16\" aria-hidden=\"true\"><g class=\"r\"><path d=\"M2 8H22\"/></g></svg> credit</span>\n\
-    <span><svg width=\"24\" height=\"16\" aria-hidden=\"true\"><g class=\"p\"><path class=\"s\" d=\"M12 1V15\"/></g></svg> stands and waits</span>\n";
+    <p><span><svg width=\"24\" height=\"16\" aria-hidden=\"true\"><g class=\"p\">\
+    <path d=\"M2 8H22\"/></g></svg> posted write</span>\n\
+    <span><svg width=\"24\" height=\"16\" aria-hidden=\"true\"><g class=\"a\">\
+    <path d=\"M2 8H22\"/></g></svg> delayed request</span>\n\
+    <span><svg width=\"24\" height=\"16\" aria-hidden=\"true\"><g class=\"d\">\
+    <path d=\"M2 8H22\"/></g></svg> completion</span>\n\
+    <span><svg width=\"24\" height=\"16\" aria-hidden=\"true\"><g class=\"r\">\
+    <path d=\"M2 8H22\"/></g></svg> credit</span>\n\
+    <span><svg width=\"24\" height=\"16\" aria-hidden=\"true\"><g class=\"p\">\
+    <path class=\"s\" d=\"M12 1V15\"/></g></svg> stands and waits</span>\n";
 
 /// Circles, crosses and brackets.
 const SIGNS: &str = "\
-    <span><svg width=\"24\" height=\"16\" aria-hidden=\"true\"><g class=\"p\"><path d=\"M2 8H16\"/><circle cx=\"16\" cy=\"8\" r=\"5\"/></g></svg> lands</span>\n\
-    <span><svg width=\"24\" height=\"16\" aria-hidden=\"true\"><g class=\"d\"><path d=\"M8 8H18\"/><circle cx=\"18\" cy=\"8\" r=\"4\"/><path class=\"q\" d=\"M4 8l7 -4v8z\"/></g></svg> is read</span>\n\
-    <span><svg width=\"24\" height=\"16\" aria-hidden=\"true\"><g class=\"x\"><path d=\"M6 4l8 8m0 -8l-8 8\"/></g></svg> stall, abort, nobody, discard, drop</span>\n\
-    <span><svg width=\"24\" height=\"16\" aria-hidden=\"true\"><g class=\"b\"><path d=\"M4 3H14V13H8\"/><circle cx=\"4\" cy=\"3\" r=\"3\"/><path class=\"q\" d=\"M4 13l7 -4v8z\"/></g></svg> landed, then read by one who was told</span>\n\
+    <span><svg width=\"24\" height=\"16\" aria-hidden=\"true\"><g class=\"p\">\
+    <path d=\"M2 8H16\"/><circle cx=\"16\" cy=\"8\" r=\"5\"/></g></svg> lands</span>\n\
+    <span><svg width=\"24\" height=\"16\" aria-hidden=\"true\"><g class=\"d\">\
+    <path d=\"M8 8H18\"/><circle cx=\"18\" cy=\"8\" r=\"4\"/>\
+    <path class=\"q\" d=\"M4 8l7 -4v8z\"/></g></svg> is read</span>\n\
+    <span><svg width=\"24\" height=\"16\" aria-hidden=\"true\"><g class=\"x\">\
+    <path d=\"M6 4l8 8m0 -8l-8 8\"/></g></svg> stall, abort, nobody, discard, drop</span>\n\
+    <span><svg width=\"24\" height=\"16\" aria-hidden=\"true\"><g class=\"b\">\
+    <path d=\"M4 3H14V13H8\"/><circle cx=\"4\" cy=\"3\" r=\"3\"/>\
+    <path class=\"q\" d=\"M4 13l7 -4v8z\"/>\
+    </g></svg> landed, then read by one who was told</span>\n\
     </p>\n";
 
 #[tactic(auto, unfolding(crate::specs::style::Styles::colours))]

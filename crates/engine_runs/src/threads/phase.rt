@@ -44,7 +44,8 @@ fn work<L: LaneEnd + Drop, G: Gate>(gate: &G, board: &Board, worker: &mut Worker
 /// One turn: whether another one follows it.
 fn turn<L: LaneEnd + Drop, G: Gate>(gate: &G, board: &Board, worker: &mut Worker<L>) -> bool
     requires { HasRoom board.now worker.old }
-    ensures { HasTurned L.had L.sent L.got L.kept L.paired board.now (seen worker.old) worker.new result }
+    ensures { HasTurned L.had L.sent L.got L.kept L.paired board.now (seen worker.old)
+        worker.new result }
 {
     let events = worker.turn(board);
     gate.did(worker.bus(), events);

@@ -24,11 +24,11 @@ use std::alloc::Global;
 use std::thread::Threads;
 
 /// Works each bus of the board in a thread of its own, phase by phase: in each phase every bus does
-/// turns until one did nothing, what is sent over a bridge may arrive in the same phase, and then all
-/// lanes are settled. It ends after a phase in which no bus did anything; what all buses did is then
-/// a complete run, no longer than the board's bound. The first event comes first. The gate is told of
-/// each turn. As long as the last phases were so short that threads would be started more than
-/// worked, one thread does the turns of all buses.
+/// turns until one did nothing, what is sent over a bridge may arrive in the same phase, and then
+/// all lanes are settled. It ends after a phase in which no bus did anything; what all buses did is
+/// then a complete run, no longer than the board's bound. The first event comes first. The gate is
+/// told of each turn. As long as the last phases were so short that threads would be started more
+/// than worked, one thread does the turns of all buses.
 pub fn run_rings<R: Threads + Sync, G: Gate + Sync>(
     rt: &R,
     alloc: Global,
@@ -52,7 +52,8 @@ const TOO_MANY_PHASES: u32 = 500_001;
 /// A thread is started in about the time in which so many events are made.
 const EVENTS_A_START: usize = 128;
 
-/// Phase after phase, until one makes no event: what all workers did is a complete run of the board.
+/// Phase after phase, until one makes no event: what all workers did is a complete run of the
+/// board.
 fn run_all<L: LaneEnd + Drop + Send, R: Threads + Sync, G: Gate + Sync>(
     rt: &R,
     alloc: Global,
@@ -62,7 +63,8 @@ fn run_all<L: LaneEnd + Drop + Send, R: Threads + Sync, G: Gate + Sync>(
     above: &[Above],
 ) -> Result<List<Event>, NoMemory>
     requires valid { IsValid board.now }
-    requires rounds { IsInRounds L.had L.sent L.got L.kept L.paired board.now (all_seen workers.items) above.now 0 }
+    requires rounds { IsInRounds L.had L.sent L.got L.kept L.paired board.now
+        (all_seen workers.items) above.now 0 }
     ensures { IfOk result (λ events. IsCompleteRun board.now (history_of events)) }
 {
     rounds_are_few::<L>();
@@ -104,9 +106,12 @@ fn run_phase<L: LaneEnd + Drop + Send, R: Threads + Sync, G: Gate + Sync>(
     phases: u32,
 ) -> Result<usize, NoMemory>
     requires valid { IsValid board.now }
-    requires rounds { IsInRounds L.had L.sent L.got L.kept L.paired board.now (all_seen workers.old) above.now phases }
-    ensures busy { IfOk result (λ events. 0 < events → IsInRounds L.had L.sent L.got L.kept L.paired board.now (all_seen workers.new) above.now (phases + 1)) }
-    ensures idle { IfOk result (λ events. events ≡ 0 → IsCompleteRun board.now (history_of_all (all_seen workers.new))) }
+    requires rounds { IsInRounds L.had L.sent L.got L.kept L.paired board.now
+        (all_seen workers.old) above.now phases }
+    ensures busy { IfOk result (λ events. 0 < events → IsInRounds L.had L.sent L.got L.kept L.paired
+        board.now (all_seen workers.new) above.now (phases + 1)) }
+    ensures idle { IfOk result (λ events. events ≡ 0 →
+        IsCompleteRun board.now (history_of_all (all_seen workers.new))) }
 {
     rounds_are_few::<L>();
     rounds_may_settle::<L>();

@@ -14,11 +14,13 @@ use pci_command::NoMemory;
 use std::alloc::Global;
 
 /// For each bus of the board, by increasing number, an end over rings at each of its ports: the two
-/// ends of a bridge are those of one pair, with nothing in hand and nothing sent. It fails only where
-/// there is no memory for the rings.
+/// ends of a bridge are those of one pair, with nothing in hand and nothing sent. It fails only
+/// where there is no memory for the rings.
 pub fn ring_ends(alloc: Global, tree: &Tree) -> Result<Vec<Vec<RingEnd>>, NoMemory>
     ensures fit { IfOk result (λ ends. AreEndsOf tree.now (map (λ at. at.items) ends.items)) }
-    ensures pairs { IfOk result (λ ends. AreNewPairs ⟦<RingEnd as LaneEnd>⟧.had ⟦<RingEnd as LaneEnd>⟧.sent ⟦<RingEnd as LaneEnd>⟧.got ⟦<RingEnd as LaneEnd>⟧.kept ⟦<RingEnd as LaneEnd>⟧.paired
+    ensures pairs { IfOk result (λ ends.
+        AreNewPairs ⟦<RingEnd as LaneEnd>⟧.had ⟦<RingEnd as LaneEnd>⟧.sent
+        ⟦<RingEnd as LaneEnd>⟧.got ⟦<RingEnd as LaneEnd>⟧.kept ⟦<RingEnd as LaneEnd>⟧.paired
         tree.now (map (λ at. at.items) ends.items)) }
 {
     let board = tree.board();
@@ -45,7 +47,8 @@ fn no_ends(alloc: Global, board: &Board, buses: usize) -> Result<Vec<Vec<RingEnd
     Ok(ends)
 }
 
-/// The two ends of the bridge to the bus: the upper one on its primary bus, the lower one on the bus.
+/// The two ends of the bridge to the bus: the upper one on its primary bus, the lower one on the
+/// bus.
 fn add_pair(
     alloc: Global,
     board: &Board,
@@ -57,7 +60,8 @@ fn add_pair(
     requires buses { buses.now ≡ buses_of board.now }
     requires bridge { has_bridge_to board.now bus ≡ true }
     requires so_far { RingsSoFar board.now bus (map (λ at. at.items) ends.old.items) }
-    ensures { IfOk result (λ _. RingsSoFar board.now (bus + 1) (map (λ at. at.items) ends.new.items)) }
+    ensures { IfOk result (λ _.
+        RingsSoFar board.now (bus + 1) (map (λ at. at.items) ends.new.items)) }
 {
     let (upper, lower) = ring_pair(alloc)?;
     let above = place_of(buses, primary_of(board, bus));
@@ -70,7 +74,8 @@ fn add_pair(
 /// One more end on the bus of this place.
 fn add(ends: &mut Vec<Vec<RingEnd>>, place: usize, end: RingEnd) -> Result<(), NoMemory>
     requires { place < length ends.old.items }
-    ensures { IfOk result (λ _. map (λ at. at.items) ends.new.items ≡ one_more place end (map (λ at. at.items) ends.old.items)) }
+    ensures { IfOk result (λ _. map (λ at. at.items) ends.new.items ≡
+        one_more place end (map (λ at. at.items) ends.old.items)) }
 {
     ends[place].push(end)?;
     Ok(())

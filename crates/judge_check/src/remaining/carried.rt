@@ -2,7 +2,8 @@ ghost use Rattle.std.specs.Prelude.{◌≡◌, ◌+◌, ◌*◌, ◌≤◌, leng
 ghost use Rattle.list_facts.specs.Lists.{total};
 ghost use Rattle.board_model.specs.Requests.{op_of};
 ghost use Rattle.judge_state.specs.State.{lane_in};
-ghost use Rattle.judge_check.specs.remaining.Now.{posted_now, post_now, flying_now, standing_now, lane_now, bridge_now};
+ghost use Rattle.judge_check.specs.remaining.Now.{posted_now, post_now, flying_now};
+ghost use Rattle.judge_check.specs.remaining.Now.{standing_now, lane_now, bridge_now};
 ghost use Rattle.judge_check.specs.remaining.Running.{IsRunning};
 
 use board_model::{Board, Lane, Op, end_of, op_of};
@@ -27,7 +28,8 @@ pub(crate) fn bridges_left(kept: &Kept, board: &Board) -> u64
 /// The same of the bridge to the bus.
 fn bridge_left(kept: &Kept, board: &Board, bus: u8) -> u64
     requires { IsRunning board.now kept.now }
-    ensures value { result ≡ lane_now board.now kept.now (record { bus = bus; up = false }) + lane_now board.now kept.now (record { bus = bus; up = true }) }
+    ensures value { result ≡ lane_now board.now kept.now (record { bus = bus; up = false }) +
+        lane_now board.now kept.now (record { bus = bus; up = true }) }
     ensures fits { result ≤ 20000000 }
 {
     let down = Lane { bus, up: false };

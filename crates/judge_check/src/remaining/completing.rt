@@ -13,7 +13,8 @@ use judge_state::Kept;
 #[tactic(auto, using(board_model::proofs::claims::FewLemmas::few_masters_before, board_model::proofs::claims::FewLemmas::master_more))]
 pub(crate) fn have_ended(kept: &Kept, board: &Board) -> bool
     requires { IsTrue (is_well_formed board.now) }
-    ensures { IsTrue result ↔ ((master : ℕ) → master < length board.now.masters → turn_in kept.now.turns master ≡ None) }
+    ensures { IsTrue result ↔
+        ((master : ℕ) → master < length board.now.masters → turn_in kept.now.turns master ≡ None) }
 {
     for (index, master) in board.masters.as_slice().iter().enumerate() {
         // It is one of 256 buses, with eight masters at most on each.
@@ -38,8 +39,9 @@ pub(crate) fn are_idle(kept: &Kept, board: &Board) -> bool
 }
 
 fn has_idle_lanes(kept: &Kept, board: &Board, bus: u8) -> bool
-    ensures { IsTrue result ↔ (IsIdle (lane_in board.now kept.now.lanes (record { bus = bus; up = false }))
-        × IsIdle (lane_in board.now kept.now.lanes (record { bus = bus; up = true }))) }
+    ensures { IsTrue result ↔
+        (IsIdle (lane_in board.now kept.now.lanes (record { bus = bus; up = false })) ×
+        IsIdle (lane_in board.now kept.now.lanes (record { bus = bus; up = true }))) }
 {
     match kept.lanes_to(board, bus) {
         Some(lanes) => is_idle(lanes.lane(false)) && is_idle(lanes.lane(true)),

@@ -26,7 +26,8 @@ pub(crate) fn stalls_left(kept: &Kept, board: &Board) -> u64
 /// What discards have left: after each an operation goes its way once more.
 pub(crate) fn discards_left(kept: &Kept, board: &Board) -> u64
     requires { IsRunning board.now kept.now }
-    ensures value { result ≡ total (discard_left board.now (world_now board.now kept.now)) board.now.discards }
+    ensures value { result ≡
+        total (discard_left board.now (world_now board.now kept.now)) board.now.discards }
     ensures fits { result ≤ 1020 * 1024 }
 {
     let longest = longest_way(board, board.masters.as_slice());
@@ -52,7 +53,10 @@ fn discard_left(kept: &Kept, board: &Board, longest: u8, planned: Planned) -> u3
 
 /// How many completions came on the lane of a line.
 fn dones_on(kept: &Kept, board: &Board, planned: Planned) -> u64
-    ensures { result ≡ (lane_in board.now kept.now.lanes (record { bus = planned.bus; up = planned.up })).dones }
+    ensures { result ≡ (lane_in board.now kept.now.lanes (record {
+      bus = planned.bus;
+      up = planned.up;
+    })).dones }
 {
     match kept.lanes_to(board, planned.bus) {
         Some(lanes) => lanes.lane(planned.up).dones(),
@@ -87,7 +91,10 @@ fn drop_left(kept: &Kept, board: &Board, planned: Planned) -> u8
 
 /// How many delayed requests came on the lane of a line.
 fn asks_on(kept: &Kept, board: &Board, planned: Planned) -> u64
-    ensures { result ≡ (lane_in board.now kept.now.lanes (record { bus = planned.bus; up = planned.up })).asks }
+    ensures { result ≡ (lane_in board.now kept.now.lanes (record {
+      bus = planned.bus;
+      up = planned.up;
+    })).asks }
 {
     match kept.lanes_to(board, planned.bus) {
         Some(lanes) => lanes.lane(planned.up).asks(),

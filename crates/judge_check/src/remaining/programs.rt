@@ -29,7 +29,8 @@ pub(crate) fn programs_left(kept: &Kept, board: &Board) -> u64
 fn program_left(kept: &Kept, board: &Board, index: u16, master: &Master) -> u64
     requires running { IsRunning board.now kept.now }
     requires short { total (cost_of board.now master.now.bus) master.now.ops ≤ 500000 }
-    ensures value { result ≡ program_now board.now kept.now master.now (turn_in kept.now.turns index) }
+    ensures value { result ≡
+        program_now board.now kept.now master.now (turn_in kept.now.turns index) }
     ensures fits { result ≤ 2 ^ 50 }
     ensures on_a_bus { master.now.bus < 256 }
 {

@@ -15,7 +15,8 @@ use pci_command::OpId;
 /// What a try of a delayed request has left, by the place of the item of its furthest slot.
 pub(crate) fn delayed_left(kept: &Kept, board: &Board, on: u8, op: OpId, found: &Op) -> u32
     requires { IsRunning board.now kept.now }
-    ensures value { result ≡ delayed_left (world_now board.now kept.now) op (way board.now found.now on) }
+    ensures value { result ≡
+        delayed_left (world_now board.now kept.now) op (way board.now found.now on) }
     ensures fits { result ≤ 2000 }
 {
     let long = route_of(board, found, on).lanes;
@@ -27,8 +28,10 @@ pub(crate) fn delayed_left(kept: &Kept, board: &Board, on: u8, op: OpId, found: 
 /// How far the slots of the operation reach on the first so many lanes of its way.
 fn reach_of(kept: &Kept, board: &Board, on: u8, op: OpId, found: &Op, most: u8) -> Reach
     requires { IsRunning board.now kept.now }
-    ensures lanes { result.lanes ≡ (reach_of (world_now board.now kept.now) op (route_within most board.now found.now on).lanes).lanes }
-    ensures last { result.last ≡ (reach_of (world_now board.now kept.now) op (route_within most board.now found.now on).lanes).last }
+    ensures lanes { result.lanes ≡ (reach_of (world_now board.now kept.now) op
+        (route_within most board.now found.now on).lanes).lanes }
+    ensures last { result.last ≡ (reach_of (world_now board.now kept.now) op
+        (route_within most board.now found.now on).lanes).last }
     ensures short { result.lanes ≤ most }
 {
     if most == 0 {
@@ -59,7 +62,8 @@ fn holds_slot(kept: &Kept, board: &Board, lane: Lane, op: OpId) -> bool
 }
 
 fn reach_left(kept: &Kept, board: &Board, op: OpId, long: u8, reach: Reach) -> u32
-    ensures value { result ≡ reach_left (world_now board.now kept.now) op long reach.lanes reach.last }
+    ensures value { result ≡
+        reach_left (world_now board.now kept.now) op long reach.lanes reach.last }
     ensures fits { result ≤ 2000 }
 {
     match reach.last {

@@ -1,5 +1,5 @@
 use crate::event::place_of_piece;
-use crate::form::Form;
+use crate::form::InputForm;
 use crate::refused::TOO_LONG;
 use history_model::{Rule, Why};
 use pci_command::NoMemory;
@@ -13,7 +13,7 @@ const MOST_LEFT: usize = 8;
 
 /// The first event of a trace that is not allowed, by its line, and what tells why; or what is left
 /// where all are allowed.
-pub fn tell_event(teller: &mut Teller, input: &[u8], form: Form) -> Result<(), NoMemory> {
+pub fn tell_event(teller: &mut Teller, input: &[u8], form: InputForm) -> Result<(), NoMemory> {
     if input.len() >= TOO_LONG {
         return Ok(());
     }
@@ -28,13 +28,13 @@ fn tell_read(
     teller: &mut Teller,
     input: &[u8],
     read: &TreeTrace,
-    form: Form,
+    form: InputForm,
 ) -> Result<(), NoMemory> {
     let events = read.events.as_slice();
     let told = match form {
-        Form::Filled => reasons_filled(teller.alloc(), &read.tree, events)?,
-        Form::Trace(rule) => reasons(teller.alloc(), &read.tree, events, rule)?,
-        Form::Board | Form::Protocol => {
+        InputForm::Filled => reasons_filled(teller.alloc(), &read.tree, events)?,
+        InputForm::Trace(rule) => reasons(teller.alloc(), &read.tree, events, rule)?,
+        InputForm::Board | InputForm::Protocol | InputForm::Log => {
             reasons(teller.alloc(), &read.tree, events, Rule::Tagged)?
         }
     };

@@ -1,5 +1,5 @@
-use crate::form::Form;
-use board_statements::has_words;
+use crate::form::InputForm;
+use board_statements::{Words, has_words};
 use board_text::next_line;
 use pci_command::NoMemory;
 use program_pages::find_line;
@@ -14,8 +14,9 @@ pub fn without_lines(
     to: usize,
 ) -> Result<Vec<u8>, NoMemory> {
     let mut other = text.to_vec(alloc)?;
-    for (place, byte) in other.iter_mut().enumerate() {
-        if from <= place && place < to && *byte != b'\n' {
+    let end = to.min(other.len());
+    for byte in other.as_mut_slice()[from.min(end)..end].iter_mut() {
+        if *byte != b'\n' {
             *byte = b' ';
         }
     }
@@ -23,14 +24,15 @@ pub fn without_lines(
 }
 
 /// The board text of an input of this form, each line with the number that it has in the input: of a
-/// trace the part between its first line, which is blank here, and the line `events`, and of a text
-/// of devices that up to the line `devices`.
-pub fn board_part(alloc: Global, input: &[u8], form: Form) -> Result<Vec<u8>, NoMemory> {
+/// trace the part between its first line, which is blank here, and the line `events`, of a log that
+/// up to the line `log`, and of a text of devices that up to the line `devices`.
+pub fn board_part(alloc: Global, input: &[u8], form: InputForm) -> Result<Vec<u8>, NoMemory> {
     match (form, next_line(input, 0)) {
-        (Form::Trace(_) | Form::Filled, Some((b"pcitrace 1", next))) => {
+        (InputForm::Trace(_) | InputForm::Filled, Some((b"pcitrace 1", next))) => {
             board_between(alloc, input, next, b"events")
         }
-        (Form::Protocol, Some((b"pcidevices 1", next))) => {
+        (InputForm::Log, Some((_, next))) => board_between(alloc, input, next, b"log"),
+        (InputForm::Protocol, Some((b"pcidevices 1", next))) => {
             board_between(alloc, input, next, b"devices")
         }
         _ => Ok(input.to_vec(alloc)?),
@@ -50,34 +52,82 @@ fn board_between(
     without_lines(alloc, &input[..end.min(input.len())], 0, from)
 }
 
-/// The lines of a board text that have words, one behind the other, and the number of each.
+/// Some lines of a board text, one behind the other, and the number of each.
 #[derive(Debug, Drop)]
-pub struct WordLines {
+pub struct SomeLines {
     pub text: Vec<u8>,
     pub numbers: Vec<u32>,
 }
 
+impl SomeLines {
+    fn new(alloc: Global) -> SomeLines {
+        SomeLines {
+            text: Vec::new(alloc),
+            numbers: Vec::new(alloc),
+        }
+    }
+
+    /// One line more.
+    pub fn push(&mut self, line: &[u8], number: u32) -> Result<(), NoMemory> {
+        self.text.extend_from_slice(line)?;
+        self.text.push(b'\n')?;
+        self.numbers.push(number)?;
+        Ok(())
+    }
+}
+
 /// The lines of a text that have words. A board has the faults of its tree by these alone.
-pub fn word_lines(alloc: Global, text: &[u8]) -> Result<WordLines, NoMemory> {
-    let mut lines = WordLines {
-        text: Vec::new(alloc),
-        numbers: Vec::new(alloc),
-    };
+pub fn word_lines(alloc: Global, text: &[u8]) -> Result<SomeLines, NoMemory> {
+    let mut lines = SomeLines::new(alloc);
     let mut number: u32 = 1;
     for line in text.split(|byte| *byte == b'\n') {
         if has_words(line) {
-            push_line(&mut lines, line, number)?;
+            lines.push(line, number)?;
         }
         number = number.saturating_add(1);
     }
     Ok(lines)
 }
 
-fn push_line(lines: &mut WordLines, line: &[u8], number: u32) -> Result<(), NoMemory> {
-    lines.text.extend_from_slice(line)?;
-    lines.text.push(b'\n')?;
-    lines.numbers.push(number)?;
-    Ok(())
+/// Of the lines of a board text those that the words of a line behind them may depend on: the first
+/// one that has words, which says how wide numbers may be, and the last that begins a part of the
+/// board, to which the line may belong.
+pub fn owner_lines(alloc: Global, text: &[u8]) -> Result<SomeLines, NoMemory> {
+    let mut first = None;
+    let mut owner = None;
+    let mut number: u32 = 1;
+    for line in text.split(|byte| *byte == b'\n') {
+        if first.is_none() {
+            if has_words(line) {
+                first = Some((line, number));
+            }
+        } else if begins_part(line) {
+            owner = Some((line, number));
+        }
+        number = number.saturating_add(1);
+    }
+    let mut lines = SomeLines::new(alloc);
+    push_found(&mut lines, first)?;
+    push_found(&mut lines, owner)?;
+    Ok(lines)
+}
+
+fn push_found(lines: &mut SomeLines, found: Option<(&[u8], u32)>) -> Result<(), NoMemory> {
+    match found {
+        Some((line, number)) => lines.push(line, number),
+        None => Ok(()),
+    }
+}
+
+/// Whether no line behind this one belongs to what began before it.
+fn begins_part(line: &[u8]) -> bool {
+    let Ok(word) = Words::new(line).take() else {
+        return false;
+    };
+    matches!(
+        word,
+        b"target" | b"master" | b"bridge" | b"header" | b"discard" | b"drop"
+    )
 }
 
 /// What of a text stands from one place to another, as far as it has these.

@@ -1,6 +1,7 @@
 ghost use Rattle.std.specs.Prelude.{◌≡◌, [], ◌++◌, map, take, IfOk, OnOk, IsTrue};
 ghost use Rattle.std.specs.List.{list_all};
-ghost use Rattle.program_pages.specs.shown.Shown.{is_printing, is_shown, shown, shown_line, whole_line};
+ghost use Rattle.program_pages.specs.shown.Shown.{is_printing, is_shown, shown, shown_line};
+ghost use Rattle.program_pages.specs.shown.Shown.{whole_line};
 
 use pci_command::NoMemory;
 use std::alloc::{AllocError, Global};
@@ -9,8 +10,8 @@ use std::marker::Model;
 /// The columns that a line has at most, where it names no file.
 const WIDTH: usize = 120;
 
-/// Lines for a terminal, of printing characters of ASCII: of at most 120 columns, but for those that
-/// name a file.
+/// Lines for a terminal, of printing characters of ASCII: of at most 120 columns, but for those
+/// that name a file.
 #[derive(Debug, Drop)]
 pub struct Message {
     text: Vec<u8>,

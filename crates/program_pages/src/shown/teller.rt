@@ -7,7 +7,8 @@ use crate::shown::Message;
 use pci_command::NoMemory;
 use std::alloc::Global;
 
-/// The columns that are shown of a line of the file: two blanks, and dots where it is cut, make 120.
+/// The columns that are shown of a line of the file: two blanks, and dots where it is cut, make
+/// 120.
 const PART: usize = 112;
 
 /// A place in a long line that has a column below this one is shown from the beginning of its line.
@@ -42,6 +43,14 @@ impl<'a> Teller<'a> {
         self.alloc
     }
 
+    /// The fault as one sentence.
+    pub fn sentence(&self) -> Result<String, NoMemory> {
+        match self.fault {
+            Some(fault) => Ok(fault.to_string(self.alloc)?),
+            None => Ok(String::new(self.alloc)),
+        }
+    }
+
     /// A sentence without a place.
     pub fn note(&mut self, text: &str) -> Result<(), NoMemory> {
         let line = format!(in self.alloc; "note: {text}")?;
@@ -55,8 +64,8 @@ impl<'a> Teller<'a> {
         self.end_error(row, text)
     }
 
-    /// What is wrong at a place of a line of the file; and the line, with a caret below the place. Of
-    /// a line with no bytes nothing is shown.
+    /// What is wrong at a place of a line of the file; and the line, with a caret below the place.
+    /// Of a line with no bytes nothing is shown.
     pub fn point(
         &mut self,
         number: u32,

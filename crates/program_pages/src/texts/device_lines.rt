@@ -7,8 +7,8 @@ use crate::{Spot, line_at};
 use board_statements::{Words, has_words, is_word};
 use board_text::check_line;
 
-/// What is said of the line of this number of a device text, which is none that may stand there, and
-/// what of it is pointed at; if something is said.
+/// What is said of the line of this number of a device text, which is none that may stand there,
+/// and what of it is pointed at; if something is said.
 pub fn text_of_device(input: &[u8], number: u32) -> Option<(Text, Spot)> {
     if let Some(text) = text_of_marks(input, number) {
         return Some((Text::Plain(text), Spot::Word(0)));

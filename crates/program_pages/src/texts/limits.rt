@@ -114,8 +114,8 @@ pub fn bus_not_there(text: &[u8]) -> Option<(u32, u8)> {
     None
 }
 
-/// The bus that a bridge is below or an agent is on, or of a discard or drop that of its bridge, where
-/// it is not there.
+/// The bus that a bridge is below or an agent is on, or of a discard or drop that of its bridge,
+/// where it is not there.
 fn missing_bus(text: &[u8], line: &[u8]) -> Option<u8> {
     match line_word(line)? {
         LineWord::Bridge | LineWord::Header => {

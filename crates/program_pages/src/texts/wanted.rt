@@ -69,8 +69,8 @@ impl Wanted {
         }
     }
 
-    /// What is said of a word that is none of its kind, in a text that may have addresses of 64 bits
-    /// or not.
+    /// What is said of a word that is none of its kind, in a text that may have addresses of 64
+    /// bits or not.
     pub(super) fn ill_formed(self, found: &[u8], wide: bool) -> Option<Text> {
         if self.is_hexadecimal() && has_prefix(found) {
             return Some(Text::Plain("hexadecimal numbers are written without 0x"));
@@ -99,8 +99,8 @@ impl Wanted {
         }
     }
 
-    /// What is said of a word of a device text that is not as it is wanted: of a name nothing, which
-    /// has a fault of its own.
+    /// What is said of a word of a device text that is not as it is wanted: of a name nothing,
+    /// which has a fault of its own.
     pub(super) fn misfit(self, found: &[u8]) -> Option<Text> {
         match self {
             Wanted::Fixed(word) => fixed_misfit(word, found),

@@ -8,7 +8,7 @@ pub struct Topic {
 }
 
 /// These topics.
-pub static TOPICS: [Topic; 4] = [
+pub static TOPICS: [Topic; 5] = [
     Topic {
         word: "board",
         text: BOARD,
@@ -23,6 +23,11 @@ pub static TOPICS: [Topic; 4] = [
         word: "device",
         text: DEVICE,
         behind: Some("devices"),
+    },
+    Topic {
+        word: "log",
+        text: LOG,
+        behind: Some("observe"),
     },
     Topic {
         word: "status",
@@ -158,6 +163,54 @@ const DEVICE: &str = "pcitree help device: the lines of a device text\n\
     look 00120028\n\
     end\n";
 
+const LOG: &str = "pcitree help log: the lines of a log\n\
+    \n\
+    pcilog 1, a board without operations, log, a line for each transaction that was seen on \
+    a bus, end. A simulation prints\n\
+    it by a monitor on each bus (monitors/pci_log.v); docs/rtl.md tells how.\n\
+    \n\
+    \x20 START-END BUS WHO COMMAND ADDRESS WORD.. RESULT\n\
+    \n\
+    \x20 START-END  when the address was on the bus, and when it ended: decimals of 1 to 18 \
+    digits, in any unit; START alone\n\
+    \x20            stands for START-START\n\
+    \x20 BUS WHO    the bus; a master of the board on it, or the lane that ends there: 1d \
+    down through bridge 1, 1u up\n\
+    \x20 COMMAND    mr mrl mrm ior cfr read, mw mwi iow cfw write\n\
+    \x20 ADDRESS    a multiple of 4; of cfr and cfw DEVICE.REG (type 0; - for DEVICE where \
+    no IDSEL was up) or BUS.DEVICE.REG\n\
+    \x20 WORD..     what was transferred, a word for each data phase, WORD/E with its \
+    enables. If nothing was: of iow and cfw\n\
+    \x20            what was offered; of mw and mwi with retry what was offered first, or \
+    none; else none\n\
+    \x20 RESULT     done: data was transferred, whoever ended it; retry; tabort: \
+    Target-Abort; nobody: Master-Abort\n\
+    \n\
+    The lines of one bus stand in its order, and none begins before the one before it \
+    ended. Lines of several buses stand in\n\
+    any order. At the beginning no bridge holds anything, and memory may hold anything; a \
+    log may end anywhere. Interrupt\n\
+    acknowledge, special cycles and reserved commands are left out.\n\
+    \n\
+    The board has no stall and burst lines: the log shows both. Who is not sure how much a \
+    bridge holds writes posted 8\n\
+    delayed 8. Comments, spaces and the length of a line are as in a board. A log has at \
+    most 64 MiB.\n\
+    \n\
+    Example:\n\
+    \n\
+    pcilog 1\n\
+    pciboard 1\n\
+    bridge 1 on 0 dev 1 last 1 mem 80000000 800fffff\n\
+    target card on 1 dev 1\n\
+    range mem 80000000 00001000\n\
+    master cpu on 0\n\
+    log\n\
+    30-90 0 cpu mr 80000040 retry\n\
+    60-120 1 1d mr 80000040 0000002a done\n\
+    150-210 0 cpu mr 80000040 0000002a done\n\
+    end\n";
+
 const STATUS: &str = "pcitree help status: how it ends\n\
     \n\
     0   done\n\
@@ -165,10 +218,10 @@ const STATUS: &str = "pcitree help status: how it ends\n\
     2   the words are of no form\n\
     3   the file was not read\n\
     4   the output was not written\n\
-    5   too long, or too much to draw\n\
-    6   the board or machine has a fault\n\
-    7   the text of the trace has a fault\n\
-    8   an event is not allowed\n\
+    5   too long, too much to draw, or more in the log than a board may have\n\
+    6   the board or machine has a fault, or the board of a log\n\
+    7   the text of the trace or log has a fault\n\
+    8   an event is not allowed, or what a line of the log shows\n\
     9   the run has not ended\n\
     10  not safe: a read, a lost write or a vain poll is listed\n\
     11  no adverse run was found\n";

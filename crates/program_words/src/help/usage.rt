@@ -4,8 +4,8 @@ use std::fmt;
 /// The most letters of a word that are shown.
 const SHOWN: usize = 90;
 
-/// What is said behind the first line where words are of no form: what is wanted in the place of the
-/// word that does not fit, with the help of the first word; of a first word that is none of the
+/// What is said behind the first line where words are of no form: what is wanted in the place of
+/// the word that does not fit, with the help of the first word; of a first word that is none of the
 /// program's that it is none, with the help of all.
 #[derive(Clone, Copy, Debug)]
 pub struct UsageHelp<'a> {

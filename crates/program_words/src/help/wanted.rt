@@ -68,7 +68,7 @@ impl fmt::Display for Wanted {
 /// What is said of a word that is so, behind what it is called.
 fn kind_of(part: Part) -> &'static str {
     match part {
-        Part::Word(_) | Part::File => "",
+        Part::Word(_) | Part::File | Part::Log => "",
         Part::Rounds => " from 1 to 300",
         Part::First => ", the number of an event",
         Part::Last => ", not below FIRST",

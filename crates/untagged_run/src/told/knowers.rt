@@ -32,7 +32,12 @@ impl Model for Knowers {
 
     ghost Value = { KnowerState };
 
-    ghost view = { λ k. record { known = k.known.items; starts = k.starts; told = k.told.items; landings = k.landings } };
+    ghost view = { λ k. record {
+      known = k.known.items;
+      starts = k.starts;
+      told = k.told.items;
+      landings = k.landings;
+    } };
 }
 
 impl Knowers {
@@ -68,7 +73,10 @@ impl Knowers {
         got: Option<Got>,
     ) -> Result<(), NoMemory>
         requires { (h : List Event) × Knows board.now h self.old }
-        ensures { OnOk result ((h : List Event) → Knows board.now h self.old → UntaggedRun board.now (event.now ∷ h) → SameGot got (ending_reading board.now h event.now) → Knows board.now (event.now ∷ h) self.new) }
+        ensures { OnOk result ((h : List Event) →
+            Knows board.now h self.old → UntaggedRun board.now (event.now ∷ h) →
+            SameGot got (ending_reading board.now h event.now) →
+            Knows board.now (event.now ∷ h) self.new) }
     {
         self.go_on(alloc, board, event, got)
     }
@@ -128,10 +136,13 @@ fn read(
     landings: &mut DwordLandings,
     event: &Event,
 ) -> Result<Option<Numbers>, NoMemory>
-    requires { ToldsFor masters landings.old.whole starts.now landings.old.landed landings.old.tolds }
-    ensures told { IfOk result (ToldAt masters landings.old starts.now (word_in board.now event.now)) }
+    requires { ToldsFor masters landings.old.whole starts.now landings.old.landed
+        landings.old.tolds }
+    ensures told { IfOk result (ToldAt masters landings.old starts.now
+        (word_in board.now event.now)) }
     ensures same { OnOk result (SameLandings landings.old landings.new) }
-    ensures tolds { OnOk result (ToldsFor masters landings.new.whole starts.now landings.new.landed landings.new.tolds) }
+    ensures tolds { OnOk result
+        (ToldsFor masters landings.new.whole starts.now landings.new.landed landings.new.tolds) }
 {
     match word_in(board, event) {
         None => Ok(None),

@@ -21,7 +21,8 @@ pub(crate) fn learn(
     event: &Event,
     got: Option<Got>,
 )
-    ensures { LearnsBy (ended_op (ended event.now)) (told_at told.now got) known.old.items known.new.items }
+    ensures { LearnsBy (ended_op (ended event.now)) (told_at told.now got)
+        known.old.items known.new.items }
 {
     match ended_op(event) {
         None => (),
@@ -53,7 +54,8 @@ fn learn_op(known: &mut Vec<Numbers>, alloc: Global, told: Option<&Numbers>, op:
 }
 
 fn raise(numbers: &mut Numbers, alloc: Global, told: Option<&Numbers>, op: OpId)
-    ensures { Raises numbers.old numbers.new (λ author. max (number (list_in (option_copied told.entry)) author) (own op author)) }
+    ensures { Raises numbers.old numbers.new (λ author.
+        max (number (list_in (option_copied told.entry)) author) (own op author)) }
 {
     match told {
         Some(told) => numbers.raise(told, op),

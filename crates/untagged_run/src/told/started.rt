@@ -32,7 +32,8 @@ fn start(
     starts: &mut OpTable<Numbers>,
     op: OpId,
 ) -> Result<(), NoMemory>
-    ensures { OnOk result (StartsBy op (value_of op starts.old) (slice_get known.now op.master) starts.old starts.new) }
+    ensures { OnOk result (StartsBy op (value_of op starts.old) (slice_get known.now op.master)
+        starts.old starts.new) }
 {
     if starts.get(op).is_some() {
         return Ok(());

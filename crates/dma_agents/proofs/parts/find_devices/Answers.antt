@@ -4,8 +4,8 @@ use Rattle.std.proofs.lemmas.Bool.{cases_lt}
 use Rattle.std.proofs.lemmas.List.{length-append}
 use Rattle.board_text.specs.Lines.{lines_of}
 use Rattle.dma_agents.specs.Made.{is_line, until_devices}
-use Rattle.trace_reader.specs.Parts.{behind_lines}
-use Rattle.trace_reader.proofs.CutLemmas.{one_line_more}
+use Rattle.board_roundtrip.specs.Cuts.{behind_lines}
+use Rattle.board_roundtrip.proofs.CutLemmas.{one_line_more}
 use Rattle.dma_agents.proofs.CutLemmas.{later_parts}
 use Rattle.dma_agents.proofs.parts.find_devices.Goals as goal
 

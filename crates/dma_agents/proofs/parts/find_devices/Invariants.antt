@@ -2,7 +2,7 @@ use Rattle.std.proofs.Common.{◌≡◌, ◌+◌, ◌-◌, ◌≤◌, length, dr
 use Rattle.std.specs.List.{slice_range}
 use Rattle.board_text.specs.Lines.{lines_of}
 use Rattle.dma_agents.specs.Made.{until_devices}
-use Rattle.trace_reader.specs.Parts.{behind_lines, IsWholeTo}
+use Rattle.board_roundtrip.specs.Cuts.{behind_lines, IsWholeTo}
 use Rattle.dma_agents.proofs.parts.find_devices.Given as goal
 
 -- the lines so far are none of them `devices`, and are the lines of the text up to here

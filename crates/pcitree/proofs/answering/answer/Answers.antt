@@ -13,6 +13,7 @@ use Rattle.command_traces.specs.draw.Rows.{rows_asked}
 use Rattle.command_traces.specs.draw.Operations.{operation_asked}
 use Rattle.command_traces.specs.draw.Answers.{AnswersDraw}
 use Rattle.command_traces.specs.untagged.Answers.{AnswersUntagged}
+use Rattle.command_observe.specs.Answers.{AnswersObserve}
 use Rattle.command_boards.specs.headers.Answers.{AnswersHeaders}
 use Rattle.command_boards.specs.combine.Answers.{AnswersCombine}
 use Rattle.command_boards.specs.import.Answers.{AnswersImport}
@@ -104,3 +105,11 @@ answer_generate-requires g c = subst (λ (form : Form). IsGiven form c.args.inpu
 -- of `safe` with the status that its text has
 pub returns-in-Safe-clause-ok : goal.returns-in-Safe-clause-ok
 returns-in-Safe-clause-ok g c = subst (λ (form : Form). IfOk c.answer_safe.result (λ answer. AnswersTo form (map string_bytes c.args.words.now) c.args.input.now answer.text.items answer.ending)) (sym c.in-Safe.is) c.answer_safe.ensures.ok
+
+pub returns-in-Observe-clause-ok : goal.returns-in-Observe-clause-ok
+returns-in-Observe-clause-ok g c = subst (λ (form : Form). IfOk c.done-in-Observe.result (λ answer. AnswersTo form (map string_bytes c.args.words.now) c.args.input.now answer.text.items answer.ending)) (sym c.in-Observe.is)
+    (done_answers (AnswersObserve c.args.input.now) _ _ c.done-in-Observe.ensures.ok c.answer_observe.ensures.ok)
+
+-- of `observe --acts` with the status that its text has
+pub returns-in-ObserveActs-clause-ok : goal.returns-in-ObserveActs-clause-ok
+returns-in-ObserveActs-clause-ok g c = subst (λ (form : Form). IfOk c.answer_acts.result (λ answer. AnswersTo form (map string_bytes c.args.words.now) c.args.input.now answer.text.items answer.ending)) (sym c.in-ObserveActs.is) c.answer_acts.ensures.ok

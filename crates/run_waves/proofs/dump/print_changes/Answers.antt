@@ -52,18 +52,18 @@ loop-number-preserved c =
                 ap (λ (l : List Reading). slice_get l k) w.shown-is ∙ set_other shown i k new apart ∙ c.loop-number.invariant.rest k (omega (arith, more));
           }
       | else-may_change w ↦
-          let off : may_change (touch_of board c.args.from c.scene.result) signal ≡ false =
+          let off : may_change (touch_of board c.args.passed.now.from c.scene.result) signal ≡ false =
           ap (λ (t : Touch). may_change t signal) (sym c.of-touch.ensures) ∙ sym c.may_change.ensures ∙ w.if-may_change.false in
           record {
             text = λ before after follows scene was at.
-                let none = untouched_line board before after c.args.from c.scene.result i signal follows scene (c.scene.ensures ∙ at.scene_is) off in
+                let none = untouched_line board before after c.args.passed.now.from c.scene.result i signal follows scene (c.scene.ensures ∙ at.scene_is) off in
                 let same : text ≡ text ++ text_of (change_line board before after i signal) = sym (append-nil text) ∙ ap (λ (l : List Line). text ++ text_of l) (sym none) in
                 ap (λ t. string_bytes t ++ text_of (change_lines board before after (i + 1) (drop (i + 1) signals))) w.text-is
                 ∙ changes_more board before after signals i s text text (string_bytes c.args.text.now ++ text_of (change_lines board before after 0 signals)) within
                 (c.loop-number.invariant.text before after follows scene was at) same;
             reads = λ before after follows scene was at.
                 let old = was i signal reading (omega arith) signal_at reading_at in
-                let still = untouched_reads board before after c.args.from c.scene.result signal reading follows scene (c.scene.ensures ∙ at.scene_is) off old in
+                let still = untouched_reads board before after c.args.passed.now.from c.scene.result signal reading follows scene (c.scene.ensures ∙ at.scene_is) off old in
                 subst (λ (l : List Reading). ReadsBelow board after signals l (i + 1)) (sym w.shown-is)
                 (reads_kept board after signals shown i reading signal (c.loop-number.invariant.reads before after follows scene was at) signal_at reading_here still);
             rest = λ k more. ap (λ (l : List Reading). slice_get l k) w.shown-is ∙ c.loop-number.invariant.rest k (omega (arith, more));

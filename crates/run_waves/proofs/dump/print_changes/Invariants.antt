@@ -9,9 +9,9 @@ use Rattle.run_waves.proofs.dump.print_changes.Given as goal
 abbrev pub invariant-loop-number : goal.invariant-loop-number
 invariant-loop-number l =
     record {
-      text : (before after : Moment) → Follows before after → l.from ≡ scene_of l.board before → ReadsFrom l.board before l.signals l.initial.shown 0 → IsAt l.board after l.watch.kept l.watch.waits.items l.watch.scene
+      text : (before after : Moment) → Follows before after → l.passed.from ≡ scene_of l.board before → ReadsFrom l.board before l.signals l.initial.shown 0 → IsAt l.board after l.passed.watch.now.kept l.passed.watch.now.waits.items l.passed.watch.now.scene
           → string_bytes l.text ++ text_of (change_lines l.board before after l.number (drop l.number l.signals)) ≡ string_bytes l.initial.text ++ text_of (change_lines l.board before after 0 l.signals);
-      reads : (before after : Moment) → Follows before after → l.from ≡ scene_of l.board before → ReadsFrom l.board before l.signals l.initial.shown 0 → IsAt l.board after l.watch.kept l.watch.waits.items l.watch.scene
+      reads : (before after : Moment) → Follows before after → l.passed.from ≡ scene_of l.board before → ReadsFrom l.board before l.signals l.initial.shown 0 → IsAt l.board after l.passed.watch.now.kept l.passed.watch.now.waits.items l.passed.watch.now.scene
           → ReadsBelow l.board after l.signals l.shown l.number;
       rest : (k : ℕ) → l.number ≤ k → slice_get l.shown k ≡ slice_get l.initial.shown k;
     }

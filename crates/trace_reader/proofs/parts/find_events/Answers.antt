@@ -5,8 +5,9 @@ use Rattle.std.proofs.lemmas.Bool.{cases_lt}
 use Rattle.std.proofs.lemmas.List.{length-append}
 use Rattle.board_text.specs.Lines.{lines_of}
 use Rattle.trace_reader.specs.Traces.{until_events}
-use Rattle.trace_reader.specs.Parts.{behind_lines}
-use Rattle.trace_reader.proofs.CutLemmas.{one_line_more, later_parts}
+use Rattle.board_roundtrip.specs.Cuts.{behind_lines}
+use Rattle.board_roundtrip.proofs.CutLemmas.{one_line_more}
+use Rattle.trace_reader.proofs.CutLemmas.{later_parts}
 use Rattle.trace_reader.proofs.parts.find_events.Goals as goal
 
 pub loop-line-preserved : goal.loop-line-preserved

@@ -2,7 +2,7 @@ use Rattle.std.proofs.Common.{◌≡◌, ◌+◌, ◌-◌, ◌≤◌, length, dr
 use Rattle.std.specs.List.{slice_range}
 use Rattle.board_text.specs.Lines.{lines_of}
 use Rattle.trace_reader.specs.Traces.{until_events}
-use Rattle.trace_reader.specs.Parts.{behind_lines, IsWholeTo}
+use Rattle.board_roundtrip.specs.Cuts.{behind_lines, IsWholeTo}
 use Rattle.trace_reader.proofs.parts.find_events.Given as goal
 
 -- the lines so far are none of them `events`, and are the lines of the text up to here

@@ -7,4 +7,4 @@ use Rattle.untagged_check.proofs.stale.list_each.Given as goal
 
 -- those of the events so far, and what is known by then
 abbrev pub invariant-loop-place : goal.invariant-loop-place
-invariant-loop-place l = (reads_of l.stale.items ≡ stale_in l.tree (history_of l.events) (history_of (take l.place l.events))) × Knows l.tree (history_of (take l.place l.events)) l.knowers
+invariant-loop-place l = (reads_of l.stale.items ≡ stale_in l.tree (history_of l.course.events.now) (history_of (take l.place l.course.events.now))) × Knows l.tree (history_of (take l.place l.course.events.now)) l.knowers

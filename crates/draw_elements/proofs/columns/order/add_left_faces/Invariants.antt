@@ -1,5 +1,5 @@
 use Rattle.std.proofs.Common.{◌≡◌, ◌++◌, ℕ, drop, map}
-use Rattle.draw_elements.specs.declared.columns.line.Line.TheVariants.{Left}
+use Rattle.draw_elements.specs.declared.columns.line.ColumnLine.TheVariants.{Left}
 use Rattle.draw_elements.specs.columns.Order.{child_face}
 use Rattle.draw_elements.proofs.columns.order.add_left_faces.Given as goal
 

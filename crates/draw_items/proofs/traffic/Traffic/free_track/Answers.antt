@@ -1,7 +1,7 @@
 use Rattle.std.proofs.Common.{◌≡◌, ℕ, ◌+◌, ◌<◌, ◌≤◌, suc, List, ◌++◌, append_assoc, append-nil, flat_map, length, drop, get_or, slice_get, sym, ap, ◌∙◌, arith}
 use Rattle.std.proofs.lemmas.List.{drop_all}
 use Rattle.std.proofs.Math.Seq.{drop-cons}
-use Rattle.draw_items.specs.declared.item.Item.{Item}
+use Rattle.draw_items.specs.declared.journey.Journey.{Journey}
 use Rattle.draw_items.specs.Items.{Lanes, least_free, track_on}
 use Rattle.draw_items.proofs.traffic.Traffic.free_track.Goals as goal
 
@@ -30,5 +30,5 @@ returns c =
     let tracks = all on c.as_slice-under_way.result.now c.loop-number.number-index c.loop-number.tracks.items _ c.loop-number-test.false c.loop-number.invariant in
     c.least_free.ensures
     ∙ ap least_free (c.as_slice.ensures.value ∙ tracks)
-    ∙ ap (λ (items : List Item). least_free (flat_map (λ number. track_on c.args.lane (slice_get items number)) c.as_slice-under_way.result.now)) (c.as_slice-items.ensures.value ∙ ap (λ (lanes : Lanes). lanes.items) c.self.view_is)
+    ∙ ap (λ (items : List Journey). least_free (flat_map (λ number. track_on c.args.lane (slice_get items number)) c.as_slice-under_way.result.now)) (c.as_slice-items.ensures.value ∙ ap (λ (lanes : Lanes). lanes.items) c.self.view_is)
     ∙ ap (λ (numbers : List ℕ). least_free (flat_map (λ number. track_on c.args.lane (slice_get c.args.self.now.items number)) numbers)) (c.as_slice-under_way.ensures.value ∙ ap (λ (lanes : Lanes). lanes.under_way) c.self.view_is)

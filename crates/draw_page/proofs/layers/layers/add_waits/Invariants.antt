@@ -10,5 +10,5 @@ use Rattle.draw_page.proofs.layers.layers.add_waits.Given as goal
 -- the elements so far, and those to come
 abbrev pub invariant-loop-wait : goal.invariant-loop-wait
 invariant-loop-wait l = (events : List Event) → TellsTries events l.tries →
-    l.elements.items ++ flat_map (λ (wait : Wait). wait_shapes l.columns l.frame (is_pale events wait.op) wait) (drop l.wait-index l.waits)
-    ≡ l.initial.elements.items ++ flat_map (λ (wait : Wait). wait_shapes l.columns l.frame (is_pale events wait.op) wait) l.waits
+    l.elements.items ++ flat_map (λ (wait : Wait). wait_shapes l.canvas.columns.now l.canvas.frame.now (is_pale events wait.op) wait) (drop l.wait-index l.waits)
+    ≡ l.initial.elements.items ++ flat_map (λ (wait : Wait). wait_shapes l.canvas.columns.now l.canvas.frame.now (is_pale events wait.op) wait) l.waits

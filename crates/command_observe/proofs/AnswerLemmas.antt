@@ -1,0 +1,145 @@
+-- What was read of a log, and found out of what was written, is what is told of both.
+use Rattle.std.proofs.Common.{◌≡◌, ℕ, List, Option, Some, None, Result, Ok, Err, refl, sym, ap, subst, ◌∙◌}
+use Rattle.std.specs.Prelude.{IsTrue}
+use Rattle.std.specs.Option.{option_map}
+use Rattle.board_model.specs.declared.board.Board.{Board}
+use Rattle.board_model.specs.WellFormed.{is_well_formed}
+use Rattle.history_model.specs.declared.event.Event.{Event}
+use Rattle.law_early.specs.Early.{acts_of}
+use Rattle.observe_told.specs.Told.{AreToldBy, Tells as IsToldOf}
+use Rattle.observe_told.specs.declared.seen.Log.{Log}
+use Rattle.observe_log.specs.declared.fault.LogFault.{LogFault}
+use Rattle.observe_log.specs.declared.fault.LogFault.TheVariants as faults
+use Rattle.observe_log.specs.Logs.{log_read, Tells}
+use Rattle.program_status.specs.declared.status.Status.{Status}
+use Rattle.program_status.specs.declared.status.Status.TheVariants.{BadBoard, BadLog, NotTold, TooMuch}
+use Rattle.program_status.specs.declared.status.BoardFault.{BoardFault}
+use Rattle.program_status.specs.declared.status.BoardFault.TheVariants.{Line}
+use Rattle.program_status.specs.declared.log.LogRefusal.{LogRefusal}
+use Rattle.program_status.specs.declared.log.LogExcess.{LogExcess}
+use Rattle.program_input.specs.Refusals.{tree_fault, RefusesBy}
+use Rattle.program_input.specs.Boards.{RefusesTree, IsTreeOf}
+use Rattle.program_input.specs.Traces.{ReadsTree}
+use Rattle.program_input.specs.declared.trace.TreeTrace.{TreeTrace}
+use Rattle.command_observe.specs.declared.reading.TreeLog.{TreeLog}
+use Rattle.command_observe.specs.declared.drafting.Untold.{Untold}
+use Rattle.command_observe.specs.declared.drafting.Untold.TheVariants as untolds
+use Rattle.observe_order.specs.declared.judging.ActsVerdict.{ActsVerdict}
+use Rattle.observe_order.specs.declared.judging.ActsVerdict.TheVariants.{IsRun, Refused}
+use Rattle.command_observe.specs.Logs.{log_refusal, log_reading_refusal, RefusesLog, IsLogText, ReadsLog, ReadsLogTree, TellsFault}
+use Rattle.command_observe.specs.Answers.{RefusesObserve, AnswersObserve, AnswersActs, TellsRun, TellsActs}
+use Rattle.command_observe.specs.Judging.{untold_status, ending_of, IsRunOf, IsJudged, AreActsOf, HoldsActs}
+
+-- a fault of the text is told as it is read
+pub fault_refuses : (input : List ℕ) (fault : LogFault) (status : Status) → Tells {Log} (Err fault) (log_read input) → TellsFault fault status → RefusesLog input status
+fault_refuses input (faults.Log line word fault) status reads told =
+    let same : log_refusal input ≡ Some (BadLog line fault) = ap log_reading_refusal reads in
+    subst (λ s. RefusesLog input s) (sym told) same
+fault_refuses input (faults.Board line fault) status reads told =
+    let same : log_refusal input ≡ Some (BadBoard line (Line fault)) = ap log_reading_refusal reads in
+    subst (λ s. RefusesLog input s) (sym told) same
+fault_refuses input faults.NoMemory status reads told = subst (λ s. RefusesLog input s) (sym told) tt
+
+-- a fault of the tree is told with line 0
+pub tree_refuses : (input : List ℕ) (log : Log) (status : Status) → log_read input ≡ Ok log → RefusesTree log.board status → RefusesLog input status
+tree_refuses input log status reads refuses =
+    let same : log_refusal input ≡ Some (BadBoard 0 refuses.fault) = ap log_reading_refusal reads ∙ ap (option_map (BadBoard 0)) refuses.fault_is in
+    subst (λ s. RefusesLog input s) (sym refuses.told) same
+
+-- the tree of a log
+pub reads_log_tree : (input : List ℕ) (log : Log) (tree : Board) → log_read input ≡ Ok log → IsTreeOf log.board tree → ReadsLogTree input tree
+reads_log_tree input log tree reads is = record { log = log; reads = reads; tree_is = is.board_is; faultless = is.faultless }
+
+same_log : (one other : Log) (read : Result Log LogFault) → read ≡ Ok one → read ≡ Ok other → one ≡ other
+same_log one other read is also = cc
+
+-- read twice it is the same
+pub reads_log : (input : List ℕ) (tree : Board) (log : Log) → ReadsLogTree input tree → log_read input ≡ Ok log → IsTrue (is_well_formed log.board)
+    → ReadsLog input (record { tree = tree; log = log })
+reads_log input tree log of_tree reads formed =
+    record {
+      reads = reads;
+      faultless = subst (λ (l : Log). tree_fault l.board ≡ None) (same_log of_tree.log log (log_read input) of_tree.reads reads) of_tree.faultless;
+      formed = formed;
+    }
+
+-- no text is refused by how a log is refused that is read
+
+no_tree_told : (fault : Option BoardFault) (line : ℕ) (refusal : LogRefusal) → option_map (BadBoard 0) fault ≡ Some (NotTold line refusal) → ⊥
+no_tree_told None line refusal is = cc
+no_tree_told (Some fault) line refusal is = cc
+
+no_told : (read : Result Log LogFault) (line : ℕ) (refusal : LogRefusal) → log_reading_refusal read ≡ Some (NotTold line refusal) → ⊥
+no_told (Ok log) line refusal is = no_tree_told (tree_fault log.board) line refusal is
+no_told (Err (faults.Log at word fault)) line refusal is = cc
+no_told (Err (faults.Board at fault)) line refusal is = cc
+no_told (Err faults.NoMemory) line refusal is = cc
+
+no_tree_much : (fault : Option BoardFault) (line : ℕ) (excess : LogExcess) → option_map (BadBoard 0) fault ≡ Some (TooMuch line excess) → ⊥
+no_tree_much None line excess is = cc
+no_tree_much (Some fault) line excess is = cc
+
+no_much : (read : Result Log LogFault) (line : ℕ) (excess : LogExcess) → log_reading_refusal read ≡ Some (TooMuch line excess) → ⊥
+no_much (Ok log) line excess is = no_tree_much (tree_fault log.board) line excess is
+no_much (Err (faults.Log at word fault)) line excess is = cc
+no_much (Err (faults.Board at fault)) line excess is = cc
+no_much (Err faults.NoMemory) line excess is = cc
+
+-- what is no log of a valid board is refused so
+pub read_refuses : (input : List ℕ) (status : Status) → RefusesLog input status → RefusesObserve input status
+read_refuses input (NotTold line refusal) refuses = absurd (no_told (log_read input) line refusal refuses)
+read_refuses input (TooMuch line excess) refuses = absurd (no_much (log_read input) line excess refuses)
+read_refuses input status refuses = refuses
+
+of_log : (input : List ℕ) (untold : Untold) → IsLogText input → RefusesObserve input (untold_status untold)
+of_log input (untolds.NotTold line refusal) is = is
+of_log input (untolds.TooMuch line excess) is = is
+of_log input untolds.NoMemory is = tt
+
+-- what is not written of a log is refused so
+pub untold_refuses : (input : List ℕ) (read : TreeLog) (untold : Untold) (status : Status) → ReadsLog input read → status ≡ untold_status untold → RefusesObserve input status
+untold_refuses input read untold status reads is =
+    let log : IsLogText input = record { log = read.log; reads = reads.reads; tree = reads.faultless } in
+    subst (λ s. RefusesObserve input s) (sym is) (of_log input untold log)
+
+-- what is written of it answers it
+pub observes : (input : List ℕ) (read : TreeLog) (text : List ℕ) → ReadsLog input read → TellsRun read.log text → AnswersObserve input text
+observes input read text reads tells = record { log = read.log; reads = reads.reads; writes = tells }
+
+pub acts_told : (input : List ℕ) (read : TreeLog) (text : List ℕ) (ending : Status) → ReadsLog input read → TellsActs read.log text ending → AnswersActs input text ending
+acts_told input read text ending reads tells = record { log = read.log; reads = reads.reads; writes = tells }
+
+-- what was read again is what was written
+
+pub tells_run : (log : Log) (text : List ℕ) (read : TreeTrace) → ReadsTree text read → IsRunOf log read → TellsRun log text
+tells_run log text read reads is =
+    record {
+      board = read.tree;
+      events = read.events;
+      read_back = reads.reads.read;
+      valid = reads.valid;
+      run = is.still.run;
+      told = is.told;
+      still = is.still.landed;
+    }
+
+verdict_tells : (log : Log) (text : List ℕ) (read : TreeTrace) (verdict : ActsVerdict) → ReadsTree text read → IsJudged log read verdict → (line : ℕ) → TellsActs log text (ending_of line verdict)
+verdict_tells log text read IsRun reads is line =
+    record { board = read.tree; events = read.events; read_back = reads.reads.read; valid = reads.valid; told = is.told; ends = is.judged }
+verdict_tells log text read (Refused event why) reads is line =
+    record { board = read.tree; events = read.events; read_back = reads.reads.read; valid = reads.valid; told = is.told; ends = is.judged }
+
+pub holds_verdict : (log : Log) (text : List ℕ) (read : TreeTrace) (found : Option ActsVerdict) → ReadsTree text read → AreActsOf log read found → HoldsActs log text found
+holds_verdict log text read None reads are = tt
+holds_verdict log text read (Some verdict) reads are = λ line. verdict_tells log text read verdict reads are line
+
+pub holds_none : (log : Log) (text : List ℕ) → HoldsActs log text None
+holds_none log text = tt
+
+-- the ending tells the verdict, of whichever line
+pub ends_by : (log : Log) (text : List ℕ) (verdict : ActsVerdict) (ending : Status) → HoldsActs log text (Some verdict) → ((line : ℕ) × (ending ≡ ending_of line verdict)) → TellsActs log text ending
+ends_by log text verdict ending holds is = subst (λ s. TellsActs log text s) (sym is.1) (holds is.0)
+
+-- acts that are told of lines
+pub told_by : (log : Log) (board : Board) (acts events : List Event) (lines : List ℕ) → acts ≡ acts_of events → AreToldBy log board acts lines → IsToldOf log board (acts_of events)
+told_by log board acts events lines same told = subst (λ (l : List Event). IsToldOf log board l) same (record { lines = lines; told = told })

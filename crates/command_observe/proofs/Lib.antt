@@ -1,0 +1,3 @@
+pub mod ServedLemmas
+pub mod ActLemmas
+pub mod AnswerLemmas

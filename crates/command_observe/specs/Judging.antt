@@ -1,0 +1,53 @@
+-- What is found out of a text that was written: whether it is what a log tells.
+use Rattle.std.specs.Prelude.{◌≡◌, ℕ, Bool, true, false, List, Option, Some, None}
+use Rattle.history_model.specs.declared.event.Event.{Event}
+use Rattle.history_model.specs.declared.event.Event.TheVariants.{Act, Arrive}
+use Rattle.law_early.specs.Early.{acts_of}
+use Rattle.observe_told.specs.Told.{Tells}
+use Rattle.observe_order.specs.Going.{EndsLanded}
+use Rattle.observe_order.specs.Judging.{JudgesActs}
+use Rattle.program_input.specs.declared.trace.TreeTrace.{TreeTrace}
+use Rattle.observe_told.specs.declared.seen.Log.{Log}
+use Rattle.program_status.specs.declared.status.Status.{Status}
+use Rattle.program_status.specs.declared.status.Status.TheVariants as statuses
+use Rattle.observe_order.specs.declared.judging.ActsVerdict.{ActsVerdict}
+use Rattle.observe_order.specs.declared.judging.ActsVerdict.TheVariants.{IsRun, Refused}
+use Rattle.command_observe.specs.declared.drafting.Untold.{Untold}
+use Rattle.command_observe.specs.declared.drafting.Untold.TheVariants as untolds
+use Rattle.command_observe.specs.Answers.{TellsActs}
+
+-- the event is no arrival
+abbrev pub is_act : Event → Bool
+is_act (Act on by o step place) = true
+is_act (Arrive lane mark) = false
+
+-- what was read is a run, at whose end nothing is in flight, that a log tells of
+pub record IsRunOf (log : Log) (read : TreeTrace) : Type 0 where
+  pub still : EndsLanded read.tree read.events
+  pub told : Tells log read.tree (acts_of read.events)
+
+-- what was read are acts that a log tells of, and the verdict says whether some run has them
+pub record IsJudged (log : Log) (read : TreeTrace) (verdict : ActsVerdict) : Type 0 where
+  pub told : Tells log read.tree (acts_of read.events)
+  pub judged : JudgesActs read.tree read.events verdict
+
+-- so it is where there is a verdict
+abbrev pub AreActsOf : Log → TreeTrace → Option ActsVerdict → Type 0
+AreActsOf log read None = Unit {0}
+AreActsOf log read (Some verdict) = IsJudged log read verdict
+
+-- the ending that tells a verdict, of an act of this line
+abbrev pub ending_of : ℕ → ActsVerdict → Status
+ending_of line IsRun = statuses.Done
+ending_of line (Refused event why) = statuses.ToldTo line why
+
+-- a text tells the acts of a log, with the ending that tells the verdict, whatever the line is
+abbrev pub HoldsActs : Log → List ℕ → Option ActsVerdict → Type 0
+HoldsActs log text None = Unit {0}
+HoldsActs log text (Some verdict) = (line : ℕ) → TellsActs log text (ending_of line verdict)
+
+-- how it is told that no text was written
+abbrev pub untold_status : Untold → Status
+untold_status (untolds.NotTold line refusal) = statuses.NotTold line refusal
+untold_status (untolds.TooMuch line excess) = statuses.TooMuch line excess
+untold_status untolds.NoMemory = statuses.NoMemory

@@ -1,0 +1,62 @@
+//! What a log tells, where it is refused: found again from the log alone.
+use crate::reading::{TreeLog, read_tree_log};
+use board_tree::Tree;
+use observe_found::{LogFound, find};
+use observe_order::{Ordered, order};
+use observe_told::{Log, RefusedLog, Retold, Unfound};
+use pci_command::NoMemory;
+use program_status::Status;
+use std::alloc::Global;
+
+/// A log, the tree of the board that was found, or of its own where none was, and what it tells.
+#[derive(Debug, Drop)]
+pub struct Retelling {
+    log: Log,
+    tree: Tree,
+    told: Retold,
+}
+
+impl Retelling {
+    /// The same, lent.
+    pub fn refused(&self) -> RefusedLog<'_> {
+        RefusedLog {
+            log: &self.log,
+            board: self.tree.board(),
+            told: &self.told,
+        }
+    }
+}
+
+/// What a log tells: nothing where the bytes are none.
+pub fn retell(alloc: Global, input: &[u8]) -> Result<Option<Retelling>, NoMemory> {
+    if input.len() >= 0x8000_0000 {
+        return Ok(None);
+    }
+    match read_tree_log(alloc, input) {
+        Ok(read) => Ok(Some(retold(alloc, read)?)),
+        Err(Status::NoMemory) => Err(NoMemory),
+        Err(_) => Ok(None),
+    }
+}
+
+fn retold(alloc: Global, read: TreeLog) -> Result<Retelling, NoMemory> {
+    let TreeLog { tree, log } = read;
+    let lines = log.lines.as_slice();
+    match find(alloc, &tree, lines, log.phases.as_slice()) {
+        Ok(found) => {
+            let Ordered { told, .. } = order(alloc, &found.tree, found.acts.as_slice(), lines)?;
+            let LogFound { tree, .. } = found;
+            Ok(Retelling {
+                tree,
+                told: Retold::Acts(told),
+                log,
+            })
+        }
+        Err(Unfound::NoMemory) => Err(NoMemory),
+        Err(unfound) => Ok(Retelling {
+            tree,
+            told: Retold::Nothing(unfound),
+            log,
+        }),
+    }
+}

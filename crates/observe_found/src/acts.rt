@@ -1,0 +1,168 @@
+use crate::errands::Errands;
+use crate::ground::Ground;
+use crate::latches::outcome;
+use crate::programs::Programs;
+use crate::streams::Streams;
+use board_model::Place;
+use history_model::Step;
+use observe_told::{Ending, Seen, SeenAct, Who};
+use pci_command::{NoMemory, OpId};
+
+/// What the acts are told by.
+#[derive(Clone, Copy, Debug)]
+pub(crate) struct Told<'a> {
+    pub(crate) ground: &'a Ground<'a>,
+    pub(crate) streams: &'a Streams,
+    pub(crate) errands: &'a Errands,
+    pub(crate) programs: &'a Programs,
+}
+
+impl Told<'_> {
+    /// The acts of all lines, bus by bus, and there in the order of the lines.
+    pub(crate) fn acts(&self) -> Result<Vec<SeenAct>, NoMemory> {
+        let latched = self.latched()?;
+        let mut acts = Vec::new(self.ground.alloc);
+        for bus in 0..=255u8 {
+            for line in self.ground.on_bus(bus) {
+                let is_latched = latched.get(*line as usize).copied().unwrap_or(false);
+                self.act(*line, is_latched, &mut acts)?;
+            }
+        }
+        Ok(acts)
+    }
+
+    /// Of each line whether it latched a request.
+    fn latched(&self) -> Result<Vec<bool>, NoMemory> {
+        let mut latched = vec![in self.ground.alloc; false; self.ground.lines.len()]?;
+        for errand in &self.errands.all {
+            if let Some(line) = errand.latch {
+                if let Some(latched) = latched.get_mut(line as usize) {
+                    *latched = true;
+                }
+            }
+        }
+        Ok(latched)
+    }
+
+    fn act(&self, line: u32, is_latched: bool, acts: &mut Vec<SeenAct>) -> Result<(), NoMemory> {
+        let Some(seen) = self.ground.seen(line) else {
+            return Ok(());
+        };
+        match self.errands.of_line(line) {
+            Some(errand) => {
+                let Some(op) = self.errands.op_of(errand) else {
+                    return Ok(());
+                };
+                if is_latched {
+                    self.push(line, op, Step::Latch, acts)?;
+                }
+                self.end(line, seen, op, acts)
+            }
+            None => self.posted(line, seen, acts),
+        }
+    }
+
+    fn push(
+        &self,
+        line: u32,
+        op: OpId,
+        step: Step,
+        acts: &mut Vec<SeenAct>,
+    ) -> Result<(), NoMemory> {
+        let place = match step {
+            Step::MasterAbort => Place::Nobody,
+            _ => self.ground.claimant(line),
+        };
+        acts.push(SeenAct {
+            line,
+            op,
+            step,
+            place,
+        })?;
+        Ok(())
+    }
+
+    /// How a delayed request ended.
+    fn end(
+        &self,
+        line: u32,
+        seen: &Seen,
+        op: OpId,
+        acts: &mut Vec<SeenAct>,
+    ) -> Result<(), NoMemory> {
+        let is_of_lane = matches!(self.ground.claimant(line), Place::Lane(_));
+        match seen.ending {
+            Ending::Retry => Ok(()),
+            Ending::Nobody => self.push(line, op, Step::MasterAbort, acts),
+            _ if is_of_lane => self.push(line, op, Step::Take(outcome(self.ground, seen)), acts),
+            _ if seen.command.is_read() => self.reads(line, seen, op, acts),
+            Ending::Done => self.push(line, op, Step::Land, acts),
+            Ending::TargetAbort => self.push(line, op, Step::TargetAbort, acts),
+        }
+    }
+
+    /// A read that no lane claims: of a master an operation for each data phase, and one for the
+    /// abort behind them; of a lane the first.
+    fn reads(
+        &self,
+        line: u32,
+        seen: &Seen,
+        op: OpId,
+        acts: &mut Vec<SeenAct>,
+    ) -> Result<(), NoMemory> {
+        let is_of_master = matches!(seen.who, Who::Master(_));
+        let mut op = op;
+        for (count, phase) in self.ground.moved(seen).iter().enumerate() {
+            if count == 0 || is_of_master {
+                self.push(line, op, Step::Read(phase.value), acts)?;
+                op.index = op.index.saturating_add(1);
+            }
+        }
+        let has_read = !self.ground.moved(seen).is_empty();
+        if seen.ending == Ending::TargetAbort && (is_of_master || !has_read) {
+            self.push(line, op, Step::TargetAbort, acts)?;
+        }
+        Ok(())
+    }
+
+    fn posted(&self, line: u32, seen: &Seen, acts: &mut Vec<SeenAct>) -> Result<(), NoMemory> {
+        let step = match self.ground.claimant(line) {
+            Place::Lane(_) => Step::Accept,
+            Place::Target(_) | Place::Header(_) | Place::Nobody => Step::Land,
+        };
+        let rest = match seen.ending {
+            Ending::Retry => return Ok(()),
+            Ending::Nobody => Step::MasterAbort,
+            Ending::Done | Ending::TargetAbort => Step::TargetAbort,
+        };
+        let (first, end) = self.ground.span(line);
+        self.push_ops(line, (first, end), step, acts)?;
+        if let Some(lost) = self.streams.lost.get(&line).copied() {
+            let end = lost.first.saturating_add(lost.count);
+            self.push_ops(line, (lost.first, end), rest, acts)?;
+        }
+        match self.programs.alone.get(&line).copied() {
+            Some(op) => self.push(line, op, rest, acts),
+            None => Ok(()),
+        }
+    }
+
+    /// One act for each operation of these data phases.
+    fn push_ops(
+        &self,
+        line: u32,
+        span: (u32, u32),
+        step: Step,
+        acts: &mut Vec<SeenAct>,
+    ) -> Result<(), NoMemory> {
+        let mut before = None;
+        for phase in span.0..span.1 {
+            let op = self.streams.op_of(phase);
+            if let Some(op) = op.filter(|_| op != before) {
+                self.push(line, op, step, acts)?;
+            }
+            before = op;
+        }
+        Ok(())
+    }
+}

@@ -1,0 +1,109 @@
+use crate::ground::Ground;
+use crate::programs::{Draft, Programs};
+use crate::words::{Further, Openings, further_of};
+use board_model::{Board, Bridge, Master, Name, Opening, Planned, Range, Target};
+use board_parser::{ParseFault, parse, read_is_well_formed};
+use board_printer::print_board;
+use board_tree::{Tree, TreeRefusal, validate};
+use observe_told::Unfound;
+use pci_command::{List, NoMemory};
+use std::alloc::Global;
+
+/// The tree of the board that was found. Its text is read again, so that what it may have is judged
+/// in one place.
+pub(crate) fn found_tree(
+    ground: &Ground,
+    bridges: Vec<Bridge>,
+    openings: &Openings,
+    programs: Programs,
+    discards: Vec<Planned>,
+) -> Result<Tree, Unfound> {
+    let Programs { masters, .. } = programs;
+    let board = Board {
+        bridges: List::from_vec(bridges),
+        targets: List::from_vec(targets(ground, openings)?),
+        masters: List::from_vec(all_masters(ground.alloc, masters)?),
+        discards: List::from_vec(discards),
+        drops: List::from_vec(Vec::new(ground.alloc)),
+    };
+    let text = print_board(ground.alloc, &board)?;
+    read_tree(ground.alloc, text.as_slice(), last_line(ground))
+}
+
+fn last_line(ground: &Ground) -> u32 {
+    crate::ground::number(ground.lines.len()).saturating_sub(1)
+}
+
+fn read_tree(alloc: Global, text: &[u8], line: u32) -> Result<Tree, Unfound> {
+    read_is_well_formed();
+    if text.len() >= 1 << 31 {
+        return Err(Unfound::TooManyOperations { line });
+    }
+    match parse(alloc, text) {
+        Ok(board) => match validate(board) {
+            Ok(tree) => Ok(tree),
+            Err(TreeRefusal::Fault { .. }) => Err(Unfound::NoTree),
+            Err(TreeRefusal::AboveBound { bound, .. }) => Err(Unfound::TooManyEvents { bound }),
+        },
+        Err(ParseFault::Fault { .. }) => Err(Unfound::TooManyOperations { line }),
+        Err(ParseFault::NoMemory) => Err(Unfound::NoMemory),
+    }
+}
+
+fn all_masters(alloc: Global, drafts: Vec<Draft>) -> Result<Vec<Master>, NoMemory> {
+    let mut masters = Vec::new(alloc);
+    for draft in drafts {
+        masters.push(draft.into_master())?;
+    }
+    Ok(masters)
+}
+
+fn targets(ground: &Ground, openings: &Openings) -> Result<Vec<Target>, NoMemory> {
+    let further = openings.further(ground.alloc)?;
+    let mut targets = Vec::new(ground.alloc);
+    for (place, target) in ground.board.targets.as_slice().iter().enumerate() {
+        let place = u16::try_from(place).unwrap_or(u16::MAX);
+        if let Some(name) = Name::new(target.name.bytes()) {
+            let own = further_of(further.as_slice(), place);
+            let openings = openings_of(ground.alloc, target, own)?;
+            targets.push(copy_target(ground.alloc, target, name, openings)?)?;
+        }
+    }
+    Ok(targets)
+}
+
+fn openings_of(
+    alloc: Global,
+    target: &Target,
+    further: &[Further],
+) -> Result<Vec<Opening>, NoMemory> {
+    let mut all = Vec::from_slice(alloc, target.openings.as_slice())?;
+    for further in further {
+        all.push(further.opening)?;
+    }
+    Ok(all)
+}
+
+fn copy_target(
+    alloc: Global,
+    target: &Target,
+    name: Name,
+    openings: Vec<Opening>,
+) -> Result<Target, NoMemory> {
+    Ok(Target {
+        name,
+        bus: target.bus,
+        device: target.device,
+        vendor: target.vendor,
+        model: target.model,
+        stalls: 0,
+        burst: 8,
+        ranges: copy_ranges(alloc, &target.ranges)?,
+        aborts: copy_ranges(alloc, &target.aborts)?,
+        openings: List::from_vec(openings),
+    })
+}
+
+fn copy_ranges(alloc: Global, ranges: &List<Range>) -> Result<List<Range>, NoMemory> {
+    Ok(List::from_vec(Vec::from_slice(alloc, ranges.as_slice())?))
+}

@@ -1,0 +1,234 @@
+use crate::ground::{Ground, NO_TIME, Wanted, bump, number};
+use board_model::{Lane, Place};
+use observe_told::{Ending, Seen, Who};
+use pci_command::{NoMemory, OpId};
+use std::collections::HashMap;
+
+/// How many lanes a way has at most.
+const MOST_LANES: u32 = 64;
+
+/// All that one request of one initiator did on a bus: some Retries, and at most one end. An
+/// initiator that has no data must ask again for the same.
+#[derive(Clone, Copy, Debug, Default)]
+pub(crate) struct Errand {
+    /// Its lines among those of all errands.
+    first: u32,
+    count: u32,
+    /// The line that ended it.
+    pub(crate) ended: Option<u32>,
+    /// The line at which it first had an effect: its first latch, or its end.
+    pub(crate) shown: Option<u32>,
+    /// By when that was, seen by all that had to wait for it.
+    pub(crate) deadline: u64,
+    /// Of one that a lane drives: the errand that the lane claimed and for which this was made, the
+    /// one that was made for it before, and the line that latched it.
+    pub(crate) near: Option<u32>,
+    pub(crate) before: Option<u32>,
+    pub(crate) latch: Option<u32>,
+    /// Of one that a lane claims: the last that was made for it.
+    pub(crate) last_far: Option<u32>,
+    /// Whose operation it is.
+    pub(crate) op: Option<OpId>,
+}
+
+/// All errands, by their first lines.
+#[derive(Debug, Drop)]
+pub(crate) struct Errands {
+    pub(crate) all: Vec<Errand>,
+    lines: Vec<u32>,
+    of_lines: Vec<Option<u32>>,
+}
+
+/// By what a line is known as one of an errand.
+#[derive(Clone, Copy, Debug, PartialEq, Eq, Hash)]
+struct Asked {
+    bus: u8,
+    master: Option<u16>,
+    lane: Option<(u8, bool)>,
+    wanted: Wanted,
+}
+
+impl Errands {
+    /// The errands of a log.
+    pub(crate) fn new(ground: &Ground) -> Result<Errands, NoMemory> {
+        let mut errands = Errands {
+            all: Vec::new(ground.alloc),
+            lines: Vec::new(ground.alloc),
+            of_lines: Vec::new(ground.alloc),
+        };
+        let mut open = HashMap::new(ground.alloc);
+        for (line, seen) in ground.lines.iter().enumerate() {
+            let errand = errands.sort_in(ground, &mut open, number(line), seen)?;
+            errands.of_lines.push(errand)?;
+        }
+        errands.list_lines(ground)?;
+        Ok(errands)
+    }
+
+    /// The errand of the line, which none is that is posted.
+    fn sort_in(
+        &mut self,
+        ground: &Ground,
+        open: &mut HashMap<Asked, u32>,
+        line: u32,
+        seen: &Seen,
+    ) -> Result<Option<u32>, NoMemory> {
+        if seen.is_posted() {
+            return Ok(None);
+        }
+        let asked = key_of(ground, seen);
+        let errand = match open.get(&asked).copied() {
+            Some(errand) => errand,
+            None => self.begin(open, asked)?,
+        };
+        if let Some(errand) = self.all.get_mut(errand as usize) {
+            errand.count = errand.count.saturating_add(1);
+            if seen.ending != Ending::Retry {
+                errand.ended = Some(line);
+                errand.shown = Some(line);
+                errand.deadline = seen.end;
+                open.remove(&asked);
+            }
+        }
+        Ok(Some(errand))
+    }
+
+    fn begin(&mut self, open: &mut HashMap<Asked, u32>, asked: Asked) -> Result<u32, NoMemory> {
+        let errand = number(self.all.len());
+        self.all.push(Errand {
+            deadline: NO_TIME,
+            ..Errand::default()
+        })?;
+        open.insert(asked, errand)?;
+        Ok(errand)
+    }
+
+    /// The lines errand by errand.
+    fn list_lines(&mut self, ground: &Ground) -> Result<(), NoMemory> {
+        let mut next = Vec::new(ground.alloc);
+        let mut total = 0u32;
+        for errand in self.all.iter_mut() {
+            errand.first = total;
+            next.push(total)?;
+            total = total.saturating_add(errand.count);
+        }
+        self.lines = vec![in ground.alloc; 0u32; total as usize]?;
+        for (line, errand) in self.of_lines.iter().enumerate() {
+            if let Some(errand) = errand {
+                let slot = bump(&mut next, *errand as usize);
+                if let Some(slot) = self.lines.get_mut(slot as usize) {
+                    *slot = number(line);
+                }
+            }
+        }
+        Ok(())
+    }
+
+    /// The errand of this number.
+    pub(crate) fn get(&self, errand: u32) -> Errand {
+        self.all.get(errand as usize).copied().unwrap_or_default()
+    }
+
+    /// The number of the errand that the line is of.
+    pub(crate) fn of_line(&self, line: u32) -> Option<u32> {
+        self.of_lines.get(line as usize).copied().flatten()
+    }
+
+    /// The lines of an errand, in the order of its bus: one at least.
+    pub(crate) fn lines_of(&self, errand: &Errand) -> &[u32] {
+        let end = errand.first.saturating_add(errand.count);
+        let lines = self.lines.as_slice();
+        lines
+            .get(errand.first as usize..end as usize)
+            .unwrap_or(&[])
+    }
+
+    /// Its first line.
+    pub(crate) fn first_line(&self, errand: &Errand) -> u32 {
+        self.lines_of(errand).first().copied().unwrap_or(0)
+    }
+
+    /// The lane that drives it, if it is none of a master.
+    pub(crate) fn driver(&self, ground: &Ground, errand: &Errand) -> Option<Lane> {
+        match ground.seen(self.first_line(errand))?.who {
+            Who::Lane(lane) => Some(lane),
+            Who::Master(_) => None,
+        }
+    }
+
+    /// The lane that claims it, where one does.
+    pub(crate) fn claiming_lane(&self, ground: &Ground, errand: &Errand) -> Option<Lane> {
+        match ground.claimant(self.first_line(errand)) {
+            Place::Lane(lane) => Some(lane),
+            Place::Target(_) | Place::Header(_) | Place::Nobody => None,
+        }
+    }
+
+    /// When it began.
+    pub(crate) fn start(&self, ground: &Ground, errand: &Errand) -> u64 {
+        ground.start(self.first_line(errand))
+    }
+
+    /// How long it was open: one that did not end is open for ever.
+    pub(crate) fn open_until(&self, ground: &Ground, errand: &Errand) -> u64 {
+        errand.ended.map_or(NO_TIME, |line| ground.end(line))
+    }
+
+    /// Whose operation it is: that of a far errand is that of the near one.
+    pub(crate) fn op_of(&self, errand: u32) -> Option<OpId> {
+        let mut errand = self.get(errand);
+        for _ in 0..MOST_LANES {
+            if errand.op.is_some() {
+                return errand.op;
+            }
+            errand = self.get(errand.near?);
+        }
+        None
+    }
+
+    /// The errand is of this operation.
+    pub(crate) fn name(&mut self, errand: u32, op: OpId) {
+        if let Some(errand) = self.all.get_mut(errand as usize) {
+            errand.op = Some(op);
+        }
+    }
+
+    /// The far errand was made for the near one, last of all so far.
+    pub(crate) fn give(&mut self, far: u32, near: u32) {
+        let before = self.get(near).last_far;
+        if let Some(far) = self.all.get_mut(far as usize) {
+            far.near = Some(near);
+            far.before = before;
+        }
+        if let Some(near) = self.all.get_mut(near as usize) {
+            near.last_far = Some(far);
+        }
+    }
+
+    /// It was not: what was given last is taken back.
+    pub(crate) fn take_back(&mut self, far: u32) {
+        let given = self.get(far);
+        if let Some(near) = given.near {
+            if let Some(near) = self.all.get_mut(near as usize) {
+                near.last_far = given.before;
+            }
+        }
+        if let Some(far) = self.all.get_mut(far as usize) {
+            far.near = None;
+            far.before = None;
+        }
+    }
+}
+
+fn key_of(ground: &Ground, seen: &Seen) -> Asked {
+    let (master, lane) = match seen.who {
+        Who::Master(master) => (Some(master), None),
+        Who::Lane(lane) => (None, Some((lane.bus, lane.up))),
+    };
+    Asked {
+        bus: seen.bus,
+        master,
+        lane,
+        wanted: ground.driven(seen),
+    }
+}

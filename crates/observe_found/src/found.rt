@@ -1,0 +1,173 @@
+use crate::acts::Told;
+use crate::agents::found_tree;
+use crate::depths::{bridges, discards};
+use crate::errands::Errands;
+use crate::ground::{Ground, number};
+use crate::pairing::pair;
+use crate::programs::Programs;
+use crate::streams::Streams;
+use crate::words::Openings;
+use board_model::{Lane, Place};
+use board_tree::Tree;
+use observe_told::{Ending, Seen, SeenAct, Unfound, Who};
+use pci_command::{List, NoMemory, OpId, Phase};
+use std::alloc::Global;
+
+/// What was done that cannot be seen in the acts. Lines are named by their places in the log, from
+/// 0.
+#[derive(Clone, Copy, Debug, PartialEq, Eq)]
+pub enum Note {
+    /// The completion of the operation that this line made was discarded in the bridge to this bus.
+    Discarded {
+        bridge: u8,
+        op: OpId,
+        line: u32,
+    },
+    /// The bridge holds `posted` pieces of posted writes, and was given for `given`.
+    Raised {
+        bridge: u8,
+        posted: u8,
+        given: u8,
+    },
+    /// So many further dwords of a read were not looked at.
+    NotLookedAt {
+        op: OpId,
+        count: u32,
+    },
+    /// A request that a master had begun at this line, and asked for so many times, did not end. It
+    /// has no operation where nothing was done for it.
+    NotEnded {
+        op: Option<OpId>,
+        line: u32,
+        asked: u32,
+    },
+}
+
+/// How many lines there are, acts, and Retries of delayed requests and posted writes that had no
+/// effect.
+#[derive(Clone, Copy, Debug, Default, PartialEq, Eq)]
+pub struct Counts {
+    pub lines: u32,
+    pub acts: u32,
+    pub fruitless: u32,
+}
+
+/// What a log tells: the board with the programs of the masters, and the acts, bus by bus and there
+/// in the order of the lines.
+#[derive(Debug, Drop)]
+pub struct LogFound {
+    pub tree: Tree,
+    pub acts: List<SeenAct>,
+    pub notes: List<Note>,
+    pub counts: Counts,
+}
+
+/// What the lines of a log tell, of the board of this tree: errands, streams and cuts, who was
+/// served by whom and latched where, programs and acts. Where nothing that a bus shows decides
+/// which of several requests was served, the first is taken that the machine allows. The time grows
+/// with the number of lines, and where requests of several initiators are equal with the choices
+/// that are tried.
+pub fn find(
+    alloc: Global,
+    tree: &Tree,
+    lines: &[Seen],
+    phases: &[Phase],
+) -> Result<LogFound, Unfound> {
+    let ground = Ground::new(alloc, tree, lines, phases)?;
+    let lanes = ground.lanes()?;
+    find_on(&ground, lanes.as_slice())
+}
+
+fn find_on(ground: &Ground, lanes: &[Lane]) -> Result<LogFound, Unfound> {
+    let mut errands = Errands::new(ground)?;
+    let mut streams = Streams::new(ground, lanes)?;
+    pair(ground, lanes, &streams, &mut errands)?;
+    let programs = Programs::new(ground, &mut streams, &mut errands)?;
+    let openings = Openings::new(ground)?;
+    let mut notes = Vec::new(ground.alloc);
+    let discards = discards(ground, lanes, &errands, &mut notes)?;
+    let bridges = bridges(ground, &streams, &mut notes)?;
+    let acts = told_acts(ground, &streams, &errands, &programs)?;
+    note_rest(ground, &errands, &mut notes)?;
+    let counts = counts_of(ground, acts.as_slice());
+    let tree = found_tree(ground, bridges, &openings, programs, discards)?;
+    Ok(LogFound {
+        tree,
+        acts: List::from_vec(acts),
+        notes: List::from_vec(notes),
+        counts,
+    })
+}
+
+fn told_acts(
+    ground: &Ground,
+    streams: &Streams,
+    errands: &Errands,
+    programs: &Programs,
+) -> Result<Vec<SeenAct>, NoMemory> {
+    let told = Told {
+        ground,
+        streams,
+        errands,
+        programs,
+    };
+    told.acts()
+}
+
+/// What was not looked at, and what did not end.
+fn note_rest(ground: &Ground, errands: &Errands, notes: &mut Vec<Note>) -> Result<(), NoMemory> {
+    for (place, errand) in errands.all.iter().enumerate() {
+        let op = errands.op_of(number(place));
+        let line = errands.first_line(errand);
+        let Some(seen) = ground.seen(line) else {
+            continue;
+        };
+        match errand.ended {
+            None if matches!(seen.who, Who::Master(_)) => {
+                let asked = number(errands.lines_of(errand).len());
+                notes.push(Note::NotEnded { op, line, asked })?;
+            }
+            None => {}
+            Some(ended) => {
+                let count = not_looked_at(ground, ended);
+                if let Some(op) = op.filter(|_| count > 0) {
+                    notes.push(Note::NotLookedAt { op, count })?;
+                }
+            }
+        }
+    }
+    Ok(())
+}
+
+/// How many dwords of a read no act tells of: at a lane and of a lane all but the first.
+fn not_looked_at(ground: &Ground, line: u32) -> u32 {
+    let Some(seen) = ground.seen(line) else {
+        return 0;
+    };
+    let is_of_lane = matches!(ground.claimant(line), Place::Lane(_));
+    if seen.command.is_read() && (is_of_lane || matches!(seen.who, Who::Lane(_))) {
+        number(ground.moved(seen).len()).saturating_sub(1)
+    } else {
+        0
+    }
+}
+
+/// A Retry with an effect has one act, the latch.
+fn counts_of(ground: &Ground, acts: &[SeenAct]) -> Counts {
+    let retries = ground.lines.iter().filter(|seen| is_retry(seen)).count();
+    let latches = acts.iter().filter(|act| is_latch(ground, act)).count();
+    Counts {
+        lines: number(ground.lines.len()),
+        acts: number(acts.len()),
+        fruitless: number(retries).saturating_sub(number(latches)),
+    }
+}
+
+fn is_retry(seen: &Seen) -> bool {
+    seen.ending == Ending::Retry
+}
+
+/// Whether it is the act of a line that ended with Retry.
+fn is_latch(ground: &Ground, act: &SeenAct) -> bool {
+    ground.seen(act.line).is_some_and(is_retry)
+}

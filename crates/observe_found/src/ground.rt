@@ -1,0 +1,410 @@
+ghost use Rattle.std.specs.Prelude.{IsTrue};
+ghost use Rattle.board_model.specs.WellFormed.{is_well_formed};
+
+use board_model::{Board, Lane, Place, bridge_to, end_of, primary_of};
+use board_tree::Tree;
+use observe_told::{Addressed, Ending, Seen, Who};
+use pci_command::{NoMemory, Phase};
+use std::alloc::Global;
+
+/// Behind each place of a bus.
+pub(crate) const NO_PLACE: u32 = u32::MAX;
+/// Behind each time.
+pub(crate) const NO_TIME: u64 = u64::MAX;
+/// Above each address of configuration space: of a device that is not there.
+const NO_DEVICE: u64 = 1 << 40;
+
+/// A log and its board, with who claims each line and the place of each line on its bus. Lines and
+/// data phases are named by their places in the log, from 0.
+#[derive(Debug, Drop)]
+pub(crate) struct Ground<'a> {
+    pub(crate) alloc: Global,
+    pub(crate) board: &'a Board,
+    pub(crate) lines: &'a [Seen],
+    pub(crate) phases: &'a [Phase],
+    claimants: Vec<Place>,
+    on_buses: OnBuses,
+    /// Of each data phase its line.
+    of_phases: Vec<u32>,
+}
+
+/// The lines bus by bus, and of each line its place on its bus.
+#[derive(Debug, Drop)]
+struct OnBuses {
+    lines: Vec<u32>,
+    firsts: Vec<u32>,
+    places: Vec<u32>,
+}
+
+/// A request as two errands of one request have it: its plain command, its address (in
+/// configuration space of type 1) and of a write its word.
+#[derive(Clone, Copy, Debug, Default, PartialEq, Eq, PartialOrd, Ord, Hash)]
+pub(crate) struct Wanted {
+    pub(crate) code: u8,
+    pub(crate) address: u64,
+    pub(crate) value: u32,
+    pub(crate) enables: u8,
+}
+
+/// A count or a place in 32 bits, of which a log has fewer.
+pub(crate) fn number(count: usize) -> u32 {
+    u32::try_from(count).unwrap_or(u32::MAX)
+}
+
+impl<'a> Ground<'a> {
+    pub(crate) fn new(
+        alloc: Global,
+        tree: &'a Tree,
+        lines: &'a [Seen],
+        phases: &'a [Phase],
+    ) -> Result<Ground<'a>, NoMemory> {
+        let board = tree.board();
+        let claimants = claimants(alloc, board, lines)?;
+        let on_buses = OnBuses::new(alloc, lines)?;
+        let of_phases = lines_of_phases(alloc, lines, phases.len())?;
+        Ok(Ground {
+            alloc,
+            board,
+            lines,
+            phases,
+            claimants,
+            on_buses,
+            of_phases,
+        })
+    }
+
+    /// The line at this place of the log.
+    pub(crate) fn seen(&self, line: u32) -> Option<&Seen> {
+        self.lines.get(line as usize)
+    }
+
+    pub(crate) fn start(&self, line: u32) -> u64 {
+        self.seen(line).map_or(0, |seen| seen.start)
+    }
+
+    pub(crate) fn end(&self, line: u32) -> u64 {
+        self.seen(line).map_or(0, |seen| seen.end)
+    }
+
+    /// The place of the line on its bus.
+    pub(crate) fn place(&self, line: u32) -> u32 {
+        self.on_buses
+            .places
+            .get(line as usize)
+            .copied()
+            .unwrap_or(0)
+    }
+
+    /// Who claims the line.
+    pub(crate) fn claimant(&self, line: u32) -> Place {
+        let claimant = self.claimants.get(line as usize);
+        claimant.copied().unwrap_or(Place::Nobody)
+    }
+
+    /// The lines of the bus, in its order.
+    pub(crate) fn on_bus(&self, bus: u8) -> &[u32] {
+        self.on_buses.of(bus)
+    }
+
+    /// The data phases in which the line transferred data, by the first and how many.
+    pub(crate) fn moved(&self, seen: &Seen) -> &[Phase] {
+        if is_moved(seen) {
+            self.phases_of(seen)
+        } else {
+            &[]
+        }
+    }
+
+    /// The data phases of the line, those that were only offered too.
+    fn phases_of(&self, seen: &Seen) -> &[Phase] {
+        let end = seen.first.saturating_add(seen.count);
+        match self.phases.get(seen.first..end) {
+            Some(phases) => phases,
+            None => &[],
+        }
+    }
+
+    /// The first data phase of the line.
+    pub(crate) fn first_phase(&self, seen: &Seen) -> Phase {
+        self.phases_of(seen).first().copied().unwrap_or_default()
+    }
+
+    /// The data phases of the line in which data was transferred, by the first and the one behind
+    /// the last.
+    pub(crate) fn span(&self, line: u32) -> (u32, u32) {
+        match self.seen(line) {
+            Some(seen) if is_moved(seen) => {
+                let end = seen.first.saturating_add(seen.count);
+                (number(seen.first), number(end))
+            }
+            _ => (0, 0),
+        }
+    }
+
+    /// The line that a data phase is of.
+    pub(crate) fn line_of(&self, phase: u32) -> u32 {
+        self.of_phases.get(phase as usize).copied().unwrap_or(0)
+    }
+
+    /// The number of a data phase on its line.
+    pub(crate) fn number_in_line(&self, phase: u32) -> u32 {
+        match self.seen(self.line_of(phase)) {
+            Some(seen) => phase.saturating_sub(number(seen.first)),
+            None => 0,
+        }
+    }
+
+    /// The address of a data phase in memory.
+    pub(crate) fn address_of(&self, phase: u32) -> u64 {
+        let before = 4 * u64::from(self.number_in_line(phase));
+        self.first_address(self.line_of(phase))
+            .saturating_add(before)
+    }
+
+    /// The byte address of the line; 0 in configuration space.
+    pub(crate) fn first_address(&self, line: u32) -> u64 {
+        match self.seen(line).map(|seen| seen.address) {
+            Some(Addressed::Byte(address)) => address,
+            _ => 0,
+        }
+    }
+
+    /// The address of the next posted line that the lane drives behind this place of its far bus.
+    pub(crate) fn next_posted(&self, lane: Lane, place: u32) -> Option<u64> {
+        let lines = self.on_bus(self.end_of(lane));
+        for line in lines.get(place as usize..)?.iter().skip(1) {
+            let seen = self.seen(*line)?;
+            if seen.is_posted() && seen.who == Who::Lane(lane) {
+                return Some(self.first_address(*line));
+            }
+        }
+        None
+    }
+
+    /// The request of a delayed line as it is driven on its bus.
+    pub(crate) fn driven(&self, seen: &Seen) -> Wanted {
+        self.wanted_at(seen, driven_address(seen.address))
+    }
+
+    /// The request of a delayed line, by which a far errand is known as one of a near one.
+    pub(crate) fn wanted(&self, seen: &Seen) -> Wanted {
+        self.wanted_at(seen, self.common_address(seen))
+    }
+
+    fn wanted_at(&self, seen: &Seen, address: u64) -> Wanted {
+        let code = seen.command.plain().code();
+        let phase = if seen.command.is_read() {
+            Phase::default()
+        } else {
+            self.first_phase(seen)
+        };
+        Wanted {
+            code,
+            address,
+            value: phase.value,
+            enables: phase.enables,
+        }
+    }
+
+    /// In configuration space the address of type 1 with the bus that is meant; all devices that
+    /// are not there are one.
+    fn common_address(&self, seen: &Seen) -> u64 {
+        match seen.address {
+            Addressed::Byte(address) => address,
+            Addressed::Type0 { device, register } => self.register_at(seen.bus, device, register),
+            Addressed::Type1 {
+                bus,
+                device,
+                register,
+            } => self.register_at(bus, Some(device), register),
+        }
+    }
+
+    fn register_at(&self, bus: u8, device: Option<u8>, register: u8) -> u64 {
+        let register = 0x1_0000 * u64::from(bus) + 4 * u64::from(register) + 1;
+        match device {
+            Some(device) if self.has_device(bus, device) => register + 0x800 * u64::from(device),
+            _ => NO_DEVICE + register,
+        }
+    }
+
+    /// Whether the bus has a device of this number.
+    pub(crate) fn has_device(&self, bus: u8, device: u8) -> bool {
+        let targets = self.board.targets.as_slice();
+        let bridges = self.board.bridges.as_slice();
+        targets
+            .iter()
+            .any(|target| target.bus == bus && target.device == device)
+            || bridges
+                .iter()
+                .any(|bridge| bridge.parent == bus && bridge.device == device)
+    }
+
+    /// The first place on the bus of a line that ended at this time or later.
+    pub(crate) fn first_behind(&self, bus: u8, time: u64) -> u32 {
+        number(
+            self.on_bus(bus)
+                .partition_point(|line| self.end(*line) < time),
+        )
+    }
+
+    /// The lanes in the order in which they are settled, far ends first: downward ones from the
+    /// lowest up, upward ones from the highest down.
+    pub(crate) fn lanes(&self) -> Result<Vec<Lane>, NoMemory> {
+        let mut lanes = Vec::new(self.alloc);
+        for below in 0..=255u8 {
+            self.list(&mut lanes, 255 - below, false)?;
+        }
+        for bus in 0..=255u8 {
+            self.list(&mut lanes, bus, true)?;
+        }
+        Ok(lanes)
+    }
+
+    fn list(&self, lanes: &mut Vec<Lane>, bus: u8, up: bool) -> Result<(), NoMemory> {
+        if bridge_to(self.board, bus).is_some() {
+            lanes.push(Lane { bus, up })?;
+        }
+        Ok(())
+    }
+
+    /// The bus on which the lane begins.
+    pub(crate) fn start_of(&self, lane: Lane) -> u8 {
+        if lane.up {
+            lane.bus
+        } else {
+            primary_of(self.board, lane.bus)
+        }
+    }
+
+    /// The bus on which the lane ends.
+    pub(crate) fn end_of(&self, lane: Lane) -> u8 {
+        end_of(self.board, lane)
+    }
+
+    /// Whether the line is a posted write that the lane took.
+    pub(crate) fn brings(&self, line: u32, lane: Lane) -> bool {
+        match self.seen(line) {
+            Some(seen) => {
+                seen.is_posted()
+                    && seen.ending == Ending::Done
+                    && self.claimant(line) == Place::Lane(lane)
+            }
+            None => false,
+        }
+    }
+
+    /// Whether the line is a posted write that the lane drove, and that was not retried.
+    pub(crate) fn takes_away(&self, line: u32, lane: Lane) -> bool {
+        match self.seen(line) {
+            Some(seen) => {
+                seen.is_posted() && seen.ending != Ending::Retry && seen.who == Who::Lane(lane)
+            }
+            None => false,
+        }
+    }
+}
+
+/// Whether the data phases of the line were transferred, and not only offered.
+fn is_moved(seen: &Seen) -> bool {
+    match seen.ending {
+        Ending::Done => true,
+        Ending::TargetAbort => seen.is_posted() || seen.command.is_read(),
+        Ending::Retry | Ending::Nobody => false,
+    }
+}
+
+fn driven_address(address: Addressed) -> u64 {
+    match address {
+        Addressed::Type0 {
+            device: None,
+            register,
+        } => NO_DEVICE + 4 * u64::from(register),
+        _ => address.driven().unwrap_or(NO_DEVICE),
+    }
+}
+
+fn claimants(alloc: Global, board: &Board, lines: &[Seen]) -> Result<Vec<Place>, NoMemory>
+    requires { IsTrue (is_well_formed board.now) }
+{
+    let mut claimants = Vec::new(alloc);
+    for seen in lines {
+        claimants.push(seen.claimant(board))?;
+    }
+    Ok(claimants)
+}
+
+fn lines_of_phases(alloc: Global, lines: &[Seen], count: usize) -> Result<Vec<u32>, NoMemory> {
+    let mut of_phases = vec![in alloc; 0u32; count]?;
+    for (line, seen) in lines.iter().enumerate() {
+        let end = seen.first.saturating_add(seen.count);
+        if let Some(slots) = of_phases.as_mut_slice().get_mut(seen.first..end) {
+            for slot in slots.iter_mut() {
+                *slot = number(line);
+            }
+        }
+    }
+    Ok(of_phases)
+}
+
+impl OnBuses {
+    fn new(alloc: Global, seen: &[Seen]) -> Result<OnBuses, NoMemory> {
+        let mut firsts = vec![in alloc; 0u32; 257]?;
+        count_buses(&mut firsts, seen);
+        let mut on_buses = OnBuses {
+            lines: vec![in alloc; 0u32; seen.len()]?,
+            places: vec![in alloc; 0u32; seen.len()]?,
+            firsts,
+        };
+        let mut next = Vec::from_slice(alloc, on_buses.firsts.as_slice())?;
+        on_buses.fill(&mut next, seen);
+        Ok(on_buses)
+    }
+
+    /// Each line where the next of its bus stands.
+    fn fill(&mut self, next: &mut Vec<u32>, seen: &[Seen]) {
+        for (line, seen) in seen.iter().enumerate() {
+            let bus = usize::from(seen.bus);
+            let first = self.firsts.get(bus).copied().unwrap_or(0);
+            let place = bump(next, bus);
+            if let Some(slot) = self.lines.get_mut(place as usize) {
+                *slot = number(line);
+            }
+            if let Some(slot) = self.places.get_mut(line) {
+                *slot = place.saturating_sub(first);
+            }
+        }
+    }
+
+    fn of(&self, bus: u8) -> &[u32] {
+        let bus = usize::from(bus);
+        let first = self.firsts.get(bus).copied().unwrap_or(0);
+        let end = self.firsts.get(bus + 1).copied().unwrap_or(0);
+        let lines = self.lines.as_slice();
+        lines.get(first as usize..end as usize).unwrap_or(&[])
+    }
+}
+
+/// Of each bus how many lines the buses before it have.
+fn count_buses(firsts: &mut Vec<u32>, seen: &[Seen]) {
+    for seen in seen {
+        bump(firsts, usize::from(seen.bus) + 1);
+    }
+    let mut total = 0u32;
+    for first in firsts.iter_mut() {
+        total = total.saturating_add(*first);
+        *first = total;
+    }
+}
+
+/// One more in the slot: what stood there.
+pub(crate) fn bump(slots: &mut Vec<u32>, slot: usize) -> u32 {
+    match slots.get_mut(slot) {
+        Some(count) => {
+            let before = *count;
+            *count = before.saturating_add(1);
+            before
+        }
+        None => 0,
+    }
+}

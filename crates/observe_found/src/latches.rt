@@ -1,0 +1,277 @@
+use crate::errands::{Errand, Errands};
+use crate::ground::{Ground, NO_PLACE};
+use crate::slots::{Slots, list_changes, slots_of};
+use crate::streams::Stream;
+use observe_told::{Ending, Seen};
+use pci_command::{NoMemory, Outcome};
+
+/// A lane with what is needed to say which line latched a request there: its stream, and that of
+/// the way back.
+#[derive(Clone, Copy, Debug)]
+pub(crate) struct Sides<'a> {
+    pub(crate) ground: &'a Ground<'a>,
+    pub(crate) stream: &'a Stream,
+    pub(crate) back: &'a Stream,
+    /// The master abort mode of the bridge.
+    pub(crate) mode: bool,
+}
+
+/// How much of a choice is asked for.
+#[derive(Clone, Copy, Debug, PartialEq, Eq)]
+pub(crate) enum Strictness {
+    /// All is as the machine has it.
+    Whole,
+    /// The same, but a read's completion may have gone before a posted write.
+    NoOrderBack,
+    /// Only that somebody was asking.
+    Loose,
+}
+
+impl Sides<'_> {
+    /// The place from which on a latch for it may stand, where this far errand was made for the
+    /// near one before: behind its end, since its completion was discarded.
+    pub(crate) fn low_place(&self, errands: &Errands, near: &Errand, before: Option<u32>) -> u32 {
+        let ended = before.and_then(|before| errands.get(before).ended);
+        match (ended, self.ground.seen(errands.first_line(near))) {
+            (Some(ended), Some(seen)) => {
+                self.ground.first_behind(seen.bus, self.ground.start(ended))
+            }
+            _ => 0,
+        }
+    }
+
+    /// The place before which its latch stands: that of the first posted write that had not left.
+    pub(crate) fn high_place(&self, far: &Errand) -> u32 {
+        self.stream
+            .place_of(self.left_before(far))
+            .unwrap_or(NO_PLACE)
+    }
+
+    fn left_before(&self, far: &Errand) -> u32 {
+        match far.shown {
+            Some(line) => self.stream.left_before(self.ground.place(line)),
+            None => 0,
+        }
+    }
+
+    /// The first line of the near errand at this place or behind it.
+    pub(crate) fn first_line(&self, errands: &Errands, near: &Errand, place: u32) -> Option<u32> {
+        let lines = errands.lines_of(near);
+        let at = lines.partition_point(|line| self.ground.place(*line) < place);
+        lines.get(at).copied()
+    }
+
+    /// The last line of the near errand before this place that began by this time.
+    pub(crate) fn last_line(
+        &self,
+        errands: &Errands,
+        near: &Errand,
+        below: u32,
+        time: u64,
+    ) -> Option<u32> {
+        let ground = self.ground;
+        let lines = errands.lines_of(near);
+        let count = lines.partition_point(|line| ground.place(*line) < below
+            && ground.start(*line) <= time);
+        lines.get(count.checked_sub(1)?).copied()
+    }
+
+    /// The latest latches of these far errands, which stand in the order in which they were shown,
+    /// if they suffice: then they are noted down.
+    pub(crate) fn settle(
+        &self,
+        errands: &mut Errands,
+        fars: &[u32],
+        nears: &[u32],
+        strictness: Strictness,
+    ) -> Result<bool, NoMemory> {
+        let Some(latches) = self.latches(errands, fars, strictness)? else {
+            return Ok(false);
+        };
+        for (far, latch) in fars.iter().rev().zip(latches.as_slice()) {
+            if let Some(far) = errands.all.get_mut(*far as usize) {
+                far.latch = Some(*latch);
+            }
+        }
+        if strictness != Strictness::Loose
+            && !(self.suffices(errands, nears, strictness) && self.slots_suffice(errands, fars)?)
+        {
+            return Ok(false);
+        }
+        for far in fars {
+            self.note_shown(errands, *far);
+        }
+        Ok(true)
+    }
+
+    /// Whether at no time more slots are held for these than there are.
+    fn slots_suffice(&self, errands: &Errands, fars: &[u32]) -> Result<bool, NoMemory> {
+        let mut changes = Vec::new(self.ground.alloc);
+        for far in fars {
+            list_changes(self.ground, errands, 0, *far, &mut changes)?;
+        }
+        changes.sort_unstable();
+        let most = slots_of(self.ground, self.stream.lane);
+        let mut slots = Slots::default();
+        for change in &changes {
+            slots = slots.after(change);
+            if slots.held > most {
+                return Ok(false);
+            }
+        }
+        Ok(true)
+    }
+
+    /// The latches, the last one first: there are none where one has no latch.
+    fn latches(
+        &self,
+        errands: &Errands,
+        fars: &[u32],
+        strictness: Strictness,
+    ) -> Result<Option<Vec<u32>>, NoMemory> {
+        let mut latches = Vec::new(self.ground.alloc);
+        let mut bound = NO_PLACE;
+        for far in fars.iter().rev() {
+            let far = errands.get(*far);
+            let Some(latch) = self.latch_below(errands, &far, bound, strictness) else {
+                return Ok(None);
+            };
+            latches.push(latch)?;
+            bound = self.ground.place(latch);
+        }
+        Ok(Some(latches))
+    }
+
+    fn latch_below(
+        &self,
+        errands: &Errands,
+        far: &Errand,
+        bound: u32,
+        strictness: Strictness,
+    ) -> Option<u32> {
+        let near = errands.get(far.near?);
+        let low = self.low_place(errands, &near, far.before);
+        let high = bound.min(self.high_place(far));
+        match self.last_line(errands, &near, high, far.deadline) {
+            Some(line) if low <= self.ground.place(line) => Some(line),
+            _ if strictness != Strictness::Loose => None,
+            _ => Some(self.latch_behind_writes(errands, far, &near, low, bound)),
+        }
+    }
+
+    /// Where the request passed a posted write: the last line before which as few stand that had
+    /// not left as before the first that may have latched it.
+    fn latch_behind_writes(
+        &self,
+        errands: &Errands,
+        far: &Errand,
+        near: &Errand,
+        low: u32,
+        bound: u32,
+    ) -> u32 {
+        let last = self.last_line(errands, near, bound, far.deadline);
+        let first = self.first_line(errands, near, low);
+        let (first, last) = match (first, last) {
+            (Some(first), Some(last)) if first <= last => (first, last),
+            _ => {
+                let first = errands.first_line(near);
+                let last = self.last_line(errands, near, NO_PLACE, far.deadline);
+                (first, last.unwrap_or(first))
+            }
+        };
+        let least = self.left_before(far).max(self.brought_before(first));
+        let lines = errands.lines_of(near);
+        let count = lines.partition_point(|line| *line <= last
+            && self.brought_before(*line) <= least);
+        let found = count.checked_sub(1).and_then(|last| lines.get(last));
+        found.copied().unwrap_or(first)
+    }
+
+    fn brought_before(&self, line: u32) -> u32 {
+        self.stream.brought_before(self.ground.place(line))
+    }
+
+    /// A near errand first had an effect at its first latch.
+    fn note_shown(&self, errands: &mut Errands, far: u32) {
+        let given = errands.get(far);
+        let (Some(near), Some(latch), None) = (given.near, given.latch, given.before) else {
+            return;
+        };
+        if let Some(near) = errands.all.get_mut(near as usize) {
+            near.shown = Some(latch);
+            near.deadline = self.ground.end(latch).min(given.deadline);
+        }
+    }
+
+    /// Whether each near errand that ended has the outcome of its last far one, which was not taken
+    /// before a posted write that it stood behind.
+    fn suffices(&self, errands: &Errands, nears: &[u32], strictness: Strictness) -> bool {
+        nears.iter().all(|near| {
+            let near = errands.get(*near);
+            self.fits(errands, &near)
+                && (strictness == Strictness::NoOrderBack || !self.was_behind(errands, &near))
+        })
+    }
+
+    fn fits(&self, errands: &Errands, near: &Errand) -> bool {
+        match (near.ended, self.made(errands, near)) {
+            (None, _) => true,
+            (Some(_), None) => false,
+            (Some(ended), Some(made)) => self.same_outcome(made, ended),
+        }
+    }
+
+    /// The line of the far bus that made the completion of the near errand.
+    fn made(&self, errands: &Errands, near: &Errand) -> Option<u32> {
+        errands.get(near.last_far?).ended
+    }
+
+    /// Whether it took a read's completion while a posted write that came before that was there.
+    fn was_behind(&self, errands: &Errands, near: &Errand) -> bool {
+        let reads = self
+            .ground
+            .seen(errands.first_line(near))
+            .is_some_and(|seen| seen.command.is_read());
+        match (near.ended, self.made(errands, near)) {
+            (Some(ended), Some(made)) if reads => {
+                let brought = self.back.brought_before(self.ground.place(made));
+                self.back.left_before(self.ground.place(ended)) < brought
+            }
+            _ => false,
+        }
+    }
+
+    /// Whether the end of the near errand is that of the far one.
+    pub(crate) fn same_outcome(&self, far: u32, near: u32) -> bool {
+        match (self.ground.seen(far), self.ground.seen(near)) {
+            (Some(far), Some(near)) => { self.made_outcome(far) == outcome(self.ground, near) }
+            _ => false,
+        }
+    }
+
+    /// What a bridge makes of how its request ended: where nobody claimed it by its master abort
+    /// mode.
+    fn made_outcome(&self, far: &Seen) -> Outcome {
+        match outcome(self.ground, far) {
+            Outcome::Nobody if self.mode => Outcome::Aborted,
+            Outcome::Nobody if far.command.is_read() => Outcome::Value(u32::MAX),
+            Outcome::Nobody => Outcome::Written,
+            told => told,
+        }
+    }
+}
+
+/// How a delayed line ended: a read with its first data phase, whatever came behind it.
+pub(crate) fn outcome(ground: &Ground, seen: &Seen) -> Outcome {
+    if seen.command.is_read() && !ground.moved(seen).is_empty() {
+        return Outcome::Value(ground.first_phase(seen).value);
+    }
+    match seen.ending {
+        Ending::Done | Ending::Retry if seen.command.is_read() => {
+            Outcome::Value(ground.first_phase(seen).value)
+        }
+        Ending::Done | Ending::Retry => Outcome::Written,
+        Ending::TargetAbort => Outcome::Aborted,
+        Ending::Nobody => Outcome::Nobody,
+    }
+}

@@ -1,0 +1,358 @@
+use crate::errands::{Errand, Errands};
+use crate::ground::{Ground, NO_PLACE};
+use crate::pieces::{Piece, pieces};
+use crate::streams::Streams;
+use board_model::{Master, Name, Op, Place};
+use observe_told::{Addressed, Ending, Seen, Unfound, Who};
+use pci_command::{Command, List, OpId, Phase, Phases};
+use std::collections::BTreeMap;
+
+/// How many agents a bus has at most, how many operations a master, and all masters.
+const MOST_AGENTS: usize = 8;
+
+const MOST_OPS: usize = 1024;
+
+const MOST_OPS_IN_ALL: usize = 65_536;
+
+/// A master of the board that is found: of a master of the log, or a further one that does what
+/// that one began while it had something else open.
+#[derive(Debug, Drop)]
+pub(crate) struct Draft {
+    pub(crate) name: Name,
+    pub(crate) bus: u8,
+    pub(crate) ops: Vec<Op>,
+    home: u16,
+    /// From which place of the bus on it has nothing open.
+    free: u32,
+}
+
+/// The programs of the masters.
+#[derive(Debug, Drop)]
+pub(crate) struct Programs {
+    pub(crate) masters: Vec<Draft>,
+    /// The operation of what a posted line of a master did not transfer.
+    pub(crate) alone: BTreeMap<u32, OpId>,
+    total: usize,
+}
+
+impl Draft {
+    /// The master with its program.
+    pub(crate) fn into_master(self) -> Master {
+        let Draft {
+            name,
+            bus,
+            ops,
+            home: _home,
+            free: _free,
+        } = self;
+        Master {
+            name,
+            bus,
+            ops: List::from_vec(ops),
+        }
+    }
+}
+
+impl Programs {
+    /// The programs, and whose operation each errand and each data phase of a master is.
+    pub(crate) fn new(
+        ground: &Ground,
+        streams: &mut Streams,
+        errands: &mut Errands,
+    ) -> Result<Programs, Unfound> {
+        let mut programs = Programs {
+            masters: Vec::new(ground.alloc),
+            alone: BTreeMap::new(ground.alloc),
+            total: 0,
+        };
+        programs.begin(ground)?;
+        for bus in 0..=255u8 {
+            for line in ground.on_bus(bus) {
+                programs.write_line(ground, streams, errands, *line)?;
+            }
+        }
+        Ok(programs)
+    }
+
+    fn begin(&mut self, ground: &Ground) -> Result<(), Unfound> {
+        for (home, master) in ground.board.masters.as_slice().iter().enumerate() {
+            let home = u16::try_from(home).unwrap_or(u16::MAX);
+            self.add_master(master.name.bytes(), master.bus, home, 0)?;
+        }
+        Ok(())
+    }
+
+    fn add_master(&mut self, name: &[u8], bus: u8, home: u16, line: u32) -> Result<(), Unfound> {
+        let ops = Vec::new(*self.masters.allocator());
+        match Name::new(name) {
+            Some(name) => {
+                self.masters.push(Draft {
+                    name,
+                    bus,
+                    ops,
+                    home,
+                    free: 0,
+                })?;
+                Ok(())
+            }
+            None => Err(Unfound::TooManyOperations { line }),
+        }
+    }
+
+    fn write_line(
+        &mut self,
+        ground: &Ground,
+        streams: &mut Streams,
+        errands: &mut Errands,
+        line: u32,
+    ) -> Result<(), Unfound> {
+        let Some(seen) = ground.seen(line) else {
+            return Ok(());
+        };
+        let Who::Master(home) = seen.who else {
+            return Ok(());
+        };
+        match errands.of_line(line) {
+            Some(errand) if errands.get(errand).shown == Some(line) => {
+                self.write_delayed(ground, errands, errand, home)
+            }
+            None if seen.ending != Ending::Retry => {
+                self.write_posted(ground, streams, line, home)
+            }
+            _ => Ok(()),
+        }
+    }
+
+    /// The operations of a burst that was not retried.
+    fn write_posted(
+        &mut self,
+        ground: &Ground,
+        streams: &mut Streams,
+        line: u32,
+        home: u16,
+    ) -> Result<(), Unfound> {
+        let place = ground.place(line);
+        let master = self.thread(ground, line, home, place)?;
+        let pieces = pieces(ground, streams, line)?;
+        for piece in &pieces {
+            let op = self.add(master, line, write_of(ground, line, *piece))?;
+            for phase in piece.first..piece.end {
+                streams.name(phase, Some(op));
+            }
+        }
+        let seen = ground.seen(line);
+        if let Some(seen) = seen.filter(|seen| seen.ending != Ending::Done) {
+            let op = self.add(master, line, rest_of(ground, line, seen))?;
+            self.alone.insert(line, op)?;
+        }
+        Ok(())
+    }
+
+    /// The operation of an errand at its first line with an act. A read of several data phases that
+    /// no lane claims is one for each.
+    fn write_delayed(
+        &mut self,
+        ground: &Ground,
+        errands: &mut Errands,
+        errand: u32,
+        home: u16,
+    ) -> Result<(), Unfound> {
+        let found = errands.get(errand);
+        let line = errands.first_line(&found);
+        let Some(seen) = ground.seen(line) else {
+            return Ok(());
+        };
+        let until = found.ended.map_or(NO_PLACE, |line| ground.place(line));
+        let shown = found.shown.unwrap_or(line);
+        let master = self.thread(ground, shown, home, until)?;
+        let first = self.add(master, line, delayed_of(ground, seen, 0))?;
+        errands.name(errand, first);
+        for phase in 1..dwords(ground, &found, seen) {
+            self.add(master, line, delayed_of(ground, seen, phase))?;
+        }
+        Ok(())
+    }
+
+    /// The master that does what begins at this line and is open to this place of its bus.
+    fn thread(
+        &mut self,
+        ground: &Ground,
+        line: u32,
+        home: u16,
+        until: u32,
+    ) -> Result<u16, Unfound> {
+        let place = ground.place(line);
+        let found = self
+            .masters
+            .iter()
+            .position(|draft| draft.home == home && draft.free <= place);
+        let master = match found {
+            Some(master) => master,
+            None => self.add_thread(ground, line, home)?,
+        };
+        if let Some(draft) = self.masters.get_mut(master) {
+            draft.free = until.saturating_add(1);
+        }
+        Ok(u16::try_from(master).unwrap_or(u16::MAX))
+    }
+
+    /// A further master, NAME-2, NAME-3 and so on.
+    fn add_thread(&mut self, ground: &Ground, line: u32, home: u16) -> Result<usize, Unfound> {
+        let too_many = Unfound::TooManyOperations { line };
+        let Some(master) = ground.board.masters.as_slice().get(usize::from(home)) else {
+            return Err(too_many);
+        };
+        let place = self.masters.len();
+        let threads = self
+            .masters
+            .iter()
+            .filter(|draft| draft.home == home)
+            .count();
+        let on_bus = self
+            .masters
+            .iter()
+            .filter(|draft| draft.bus == master.bus)
+            .count();
+        let targets = ground.board.targets.as_slice().iter();
+        let targets = targets.filter(|target| target.bus == master.bus).count();
+        if on_bus.saturating_add(targets) >= MOST_AGENTS {
+            return Err(too_many);
+        }
+        let next = threads.saturating_add(1);
+        let name = master.name.as_str();
+        let name = format!(in ground.alloc; "{name}-{next}")?;
+        self.add_master(name.as_bytes(), master.bus, home, line)?;
+        Ok(place)
+    }
+
+    /// One more operation of the master.
+    fn add(&mut self, master: u16, line: u32, op: Op) -> Result<OpId, Unfound> {
+        let too_many = Unfound::TooManyOperations { line };
+        let Some(draft) = self.masters.get_mut(usize::from(master)) else {
+            return Err(too_many);
+        };
+        let index = draft.ops.len();
+        if index >= MOST_OPS || self.total >= MOST_OPS_IN_ALL {
+            return Err(too_many);
+        }
+        draft.ops.push(op)?;
+        self.total = self.total.saturating_add(1);
+        Ok(OpId {
+            master,
+            index: u16::try_from(index).unwrap_or(u16::MAX),
+            attempt: 0,
+        })
+    }
+}
+
+/// How many operations a delayed line is: of a read that no lane claims one for each data phase,
+/// and one for the abort behind them.
+fn dwords(ground: &Ground, errand: &Errand, first: &Seen) -> u32 {
+    let Some(line) = errand.ended else {
+        return 1;
+    };
+    let is_of_lane = matches!(ground.claimant(line), Place::Lane(_));
+    if is_of_lane || !first.command.is_read() {
+        return 1;
+    }
+    let (begin, end) = ground.span(line);
+    let moved = end.saturating_sub(begin);
+    match ground.seen(line) {
+        Some(seen) if seen.ending == Ending::TargetAbort => moved.saturating_add(1),
+        _ => moved,
+    }
+}
+
+fn write_of(ground: &Ground, line: u32, piece: Piece) -> Op {
+    let mut phases = Phases::new();
+    for phase in piece.first..piece.end {
+        if let Some(phase) = ground.phases.get(phase as usize) {
+            if phases.len() < 8 {
+                phases.push(*phase);
+            }
+        }
+    }
+    Op::Write {
+        command: ground
+            .seen(line)
+            .map_or(Command::MemWrite, |seen| seen.command),
+        address: ground.address_of(piece.first),
+        phases,
+    }
+}
+
+/// What a posted line did not transfer: one word, 0.
+fn rest_of(ground: &Ground, line: u32, seen: &Seen) -> Op {
+    let (first, end) = ground.span(line);
+    let before = 4 * u64::from(end.saturating_sub(first));
+    Op::Write {
+        command: seen.command,
+        address: ground.first_address(line).saturating_add(before),
+        phases: phases_of_word(0, 15),
+    }
+}
+
+/// One data phase.
+fn phases_of_word(value: u32, enables: u8) -> Phases {
+    let mut phases = Phases::new();
+    phases.push(Phase { value, enables });
+    phases
+}
+
+/// The operation of a delayed line, or of a read that of one of its data phases.
+fn delayed_of(ground: &Ground, seen: &Seen, phase: u32) -> Op {
+    let word = ground.first_phase(seen);
+    match seen.address {
+        Addressed::Byte(address) => {
+            let address = address.saturating_add(4 * u64::from(phase));
+            byte_op(seen.command, address, word)
+        }
+        Addressed::Type0 { device, register } => {
+            let device = device.unwrap_or_else(|| absent_device(ground, seen.bus));
+            register_op(seen.command, (seen.bus, device, register), word)
+        }
+        Addressed::Type1 {
+            bus,
+            device,
+            register,
+        } => register_op(seen.command, (bus, device, register), word),
+    }
+}
+
+fn byte_op(command: Command, address: u64, word: Phase) -> Op {
+    if command.is_read() {
+        Op::Read { command, address }
+    } else {
+        Op::Write {
+            command,
+            address,
+            phases: phases_of_word(word.value, word.enables),
+        }
+    }
+}
+
+fn register_op(command: Command, at: (u8, u8, u8), phase: Phase) -> Op {
+    let (bus, device, register) = at;
+    if command.is_read() {
+        Op::CfgRead {
+            bus,
+            device,
+            register,
+        }
+    } else {
+        Op::CfgWrite {
+            bus,
+            device,
+            register,
+            phase,
+        }
+    }
+}
+
+/// A device number that nobody has on the bus.
+fn absent_device(ground: &Ground, bus: u8) -> u8 {
+    (0..32u8)
+        .rev()
+        .find(|device| !ground.has_device(bus, *device))
+        .unwrap_or(31)
+}

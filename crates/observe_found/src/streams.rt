@@ -1,0 +1,419 @@
+use crate::ground::{Ground, number};
+use board_model::Lane;
+use observe_told::{Ending, HeldPhase, Unfound};
+use pci_command::{NoMemory, OpId, Phase};
+use std::collections::{BTreeMap, VecDeque};
+
+/// Among how many data phases that nothing has taken a match is looked for: a bridge of this
+/// machine holds eight writes of eight.
+const MOST_HELD: usize = 1024;
+/// How many lanes a way has at most.
+const MOST_LANES: u32 = 64;
+
+/// Which line of the far bus took a data phase away, and whether it was lost there.
+#[derive(Clone, Copy, Debug, PartialEq, Eq)]
+pub(crate) struct Taker {
+    pub(crate) line: u32,
+    pub(crate) lost: bool,
+}
+
+/// What is known of a data phase: of one that a lane drove that of the near bus that it is; of one
+/// that a lane took who took it away; whether the burst is cut before it; and which operation it is
+/// of.
+#[derive(Clone, Copy, Debug, Default)]
+pub(crate) struct Track {
+    pub(crate) source: Option<u32>,
+    pub(crate) taker: Option<Taker>,
+    pub(crate) cut: bool,
+    pub(crate) op: Option<OpId>,
+}
+
+/// Data phases of one near line, one behind the other, that an abort of a far line took away.
+#[derive(Clone, Copy, Debug, Default)]
+pub(crate) struct Lost {
+    pub(crate) first: u32,
+    pub(crate) count: u32,
+}
+
+/// A line of the far bus, by its place there, and how many data phases had left with it.
+#[derive(Clone, Copy, Debug)]
+struct Left {
+    place: u32,
+    count: u32,
+}
+
+/// The data phases that a lane took, in order, and how they left.
+#[derive(Debug, Drop)]
+pub(crate) struct Stream {
+    pub(crate) lane: Lane,
+    /// Of each the place of its line on the near bus.
+    places: Vec<u32>,
+    left: Vec<Left>,
+}
+
+/// The streams of all lanes.
+#[derive(Debug, Drop)]
+pub(crate) struct Streams {
+    pub(crate) of_lanes: Vec<Stream>,
+    pub(crate) tracks: Vec<Track>,
+    pub(crate) lost: BTreeMap<u32, Lost>,
+}
+
+/// What stands in a lane while its far bus is gone through.
+#[derive(Debug, Drop)]
+struct Flow {
+    stream: Stream,
+    waiting: VecDeque<u32>,
+    /// How many lines of the near bus were looked at.
+    near: usize,
+    gone: u32,
+}
+
+impl Stream {
+    /// How many data phases had left before this place of the far bus.
+    pub(crate) fn left_before(&self, place: u32) -> u32 {
+        let left = self.left.as_slice();
+        let count = left.partition_point(|left| left.place < place);
+        match count.checked_sub(1).and_then(|last| left.get(last)) {
+            Some(left) => left.count,
+            None => 0,
+        }
+    }
+
+    /// How many data phases lines before this place of the near bus brought.
+    pub(crate) fn brought_before(&self, place: u32) -> u32 {
+        number(
+            self.places
+                .as_slice()
+                .partition_point(|brought| *brought < place),
+        )
+    }
+
+    /// The place on the near bus of the line that brought the data phase of this number, from 0.
+    pub(crate) fn place_of(&self, count: u32) -> Option<u32> {
+        self.places.get(count as usize).copied()
+    }
+}
+
+impl Streams {
+    /// The streams of these lanes, far ends first, and the cuts that they made.
+    pub(crate) fn new(ground: &Ground, lanes: &[Lane]) -> Result<Streams, Unfound> {
+        let mut streams = Streams {
+            of_lanes: Vec::new(ground.alloc),
+            tracks: vec![in ground.alloc; Track::default(); ground.phases.len()]?,
+            lost: BTreeMap::new(ground.alloc),
+        };
+        for lane in lanes {
+            streams.follow(ground, *lane)?;
+        }
+        for lane in lanes {
+            streams.cut(ground, *lane);
+        }
+        Ok(streams)
+    }
+
+    /// The stream of the lane.
+    pub(crate) fn of(&self, lane: Lane) -> Option<&Stream> {
+        self.of_lanes.iter().find(|stream| stream.lane == lane)
+    }
+
+    fn follow(&mut self, ground: &Ground, lane: Lane) -> Result<(), Unfound> {
+        let mut flow = Flow::new(ground, lane);
+        for (at, line) in ground.on_bus(ground.end_of(lane)).iter().enumerate() {
+            if ground.takes_away(*line, lane) {
+                flow.bring(ground, ground.end(*line))?;
+                self.take_away(ground, &mut flow, *line, number(at))?;
+            }
+        }
+        flow.bring(ground, u64::MAX)?;
+        self.of_lanes.push(flow.ended())?;
+        Ok(())
+    }
+
+    /// What the line of the far bus took away.
+    fn take_away(
+        &mut self,
+        ground: &Ground,
+        flow: &mut Flow,
+        line: u32,
+        place: u32,
+    ) -> Result<(), Unfound> {
+        let (first, end) = ground.span(line);
+        for phase in first..end {
+            match flow.take(ground, phase) {
+                Some(source) => self.give(phase, source, line),
+                None => return Err(flow.not_held(ground, line, phase)),
+            }
+        }
+        if ground
+            .seen(line)
+            .is_some_and(|seen| seen.ending != Ending::Done)
+        {
+            self.lose(ground, flow, line, place)?;
+        }
+        flow.note_left(place)?;
+        Ok(())
+    }
+
+    fn give(&mut self, phase: u32, source: u32, line: u32) {
+        if let Some(track) = self.tracks.get_mut(phase as usize) {
+            track.source = Some(source);
+        }
+        self.take(source, Taker { line, lost: false });
+    }
+
+    fn take(&mut self, source: u32, taker: Taker) {
+        if let Some(track) = self.tracks.get_mut(source as usize) {
+            track.taker = Some(taker);
+        }
+    }
+
+    /// What an abort takes away: the rest of one near line, up to where the next posted line of the
+    /// lane goes on.
+    fn lose(
+        &mut self,
+        ground: &Ground,
+        flow: &mut Flow,
+        line: u32,
+        place: u32,
+    ) -> Result<(), Unfound> {
+        let (first, end) = ground.span(line);
+        let moved = end.saturating_sub(first);
+        let before = 4 * u64::from(moved);
+        let address = ground.first_address(line).saturating_add(before);
+        match flow.oldest_at(ground, address) {
+            Some(at) => {
+                let next = flow.next_start(ground, place);
+                let lost = self.lose_from(ground, flow, at, line, next);
+                self.lost.insert(line, lost)?;
+                Ok(())
+            }
+            None if moved == 0 => Err(flow.not_held(ground, line, first)),
+            None => Ok(()),
+        }
+    }
+
+    /// The waiting data phase and those of its line behind it, up to the address of the next line.
+    fn lose_from(
+        &mut self,
+        ground: &Ground,
+        flow: &mut Flow,
+        at: usize,
+        line: u32,
+        next: Option<u64>,
+    ) -> Lost {
+        let first = flow.waiting.get(at).copied().unwrap_or(0);
+        let mut lost = Lost { first, count: 0 };
+        for _ in 0..flow.waiting.len() {
+            let phase = first.saturating_add(lost.count);
+            if !flow.goes_on(ground, at, first, phase) || is_reached(ground, first, phase, next) {
+                break;
+            }
+            flow.remove(at);
+            self.take(phase, Taker { line, lost: true });
+            lost.count = lost.count.saturating_add(1);
+        }
+        lost
+    }
+
+    pub(crate) fn track(&self, phase: u32) -> Track {
+        self.tracks.get(phase as usize).copied().unwrap_or_default()
+    }
+
+    /// The cuts that the far bus of the lane made, or that were made beyond it.
+    fn cut(&mut self, ground: &Ground, lane: Lane) {
+        for line in ground.on_bus(ground.end_of(lane)) {
+            if ground.takes_away(*line, lane) {
+                self.hand_cuts_on(ground, *line);
+            }
+        }
+        for line in ground.on_bus(ground.start_of(lane)) {
+            if ground.brings(*line, lane) {
+                self.cut_between_takers(ground, *line);
+            }
+        }
+    }
+
+    fn hand_cuts_on(&mut self, ground: &Ground, line: u32) {
+        let (first, end) = ground.span(line);
+        for phase in first..end {
+            let track = self.track(phase);
+            if let Some(source) = track.source {
+                if track.cut {
+                    self.mark_cut(source);
+                }
+            }
+        }
+    }
+
+    fn cut_between_takers(&mut self, ground: &Ground, line: u32) {
+        let (first, end) = ground.span(line);
+        let mut before = self.track(first).taker;
+        for phase in first..end {
+            let taker = self.track(phase).taker;
+            if taker != before {
+                self.mark_cut(phase);
+            }
+            before = taker;
+        }
+    }
+
+    fn mark_cut(&mut self, phase: u32) {
+        if let Some(track) = self.tracks.get_mut(phase as usize) {
+            track.cut = true;
+        }
+    }
+
+    /// The operation that the data phase is of, where it is known: that of the one that a lane
+    /// drove is the one that it took.
+    pub(crate) fn op_of(&self, phase: u32) -> Option<OpId> {
+        let mut track = self.track(phase);
+        for _ in 0..MOST_LANES {
+            if track.op.is_some() {
+                return track.op;
+            }
+            track = self.track(track.source?);
+        }
+        None
+    }
+
+    /// The data phase is of this operation.
+    pub(crate) fn name(&mut self, phase: u32, op: Option<OpId>) {
+        if let Some(track) = self.tracks.get_mut(phase as usize) {
+            track.op = op;
+        }
+    }
+}
+
+impl Flow {
+    fn new(ground: &Ground, lane: Lane) -> Flow {
+        let stream = Stream {
+            lane,
+            places: Vec::new(ground.alloc),
+            left: Vec::new(ground.alloc),
+        };
+        Flow {
+            stream,
+            waiting: VecDeque::new(ground.alloc),
+            near: 0,
+            gone: 0,
+        }
+    }
+
+    /// What lines of the near bus brought that began by this time.
+    fn bring(&mut self, ground: &Ground, until: u64) -> Result<(), NoMemory> {
+        let lane = self.stream.lane;
+        let lines = ground.on_bus(ground.start_of(lane));
+        for line in lines.get(self.near..).unwrap_or(&[]) {
+            if ground.start(*line) > until {
+                break;
+            }
+            if ground.brings(*line, lane) {
+                self.bring_line(ground, *line)?;
+            }
+            self.near = self.near.saturating_add(1);
+        }
+        Ok(())
+    }
+
+    fn bring_line(&mut self, ground: &Ground, line: u32) -> Result<(), NoMemory> {
+        let (first, end) = ground.span(line);
+        for phase in first..end {
+            self.stream.places.push(ground.place(line))?;
+            self.waiting.push_back(phase)?;
+        }
+        Ok(())
+    }
+
+    /// The oldest that waits and is this data phase of the far bus, which leaves.
+    fn take(&mut self, ground: &Ground, phase: u32) -> Option<u32> {
+        let wanted = ground.phases.get(phase as usize)?;
+        let address = ground.address_of(phase);
+        let at = self.oldest_where(ground, address, Some(wanted))?;
+        let source = self.waiting.get(at).copied();
+        self.remove(at);
+        source
+    }
+
+    /// Where the oldest stands that waits at this address, with this word, if one is given.
+    fn oldest_where(&self, ground: &Ground, address: u64, word: Option<&Phase>) -> Option<usize> {
+        for (at, source) in self.waiting.iter().enumerate().take(MOST_HELD) {
+            let found = ground.phases.get(*source as usize)?;
+            let is_word = word.is_none_or(|word| word == found);
+            if is_word && ground.address_of(*source) == address {
+                return Some(at);
+            }
+        }
+        None
+    }
+
+    fn oldest_at(&self, ground: &Ground, address: u64) -> Option<usize> {
+        self.oldest_where(ground, address, None)
+    }
+
+    /// Where the next posted line of the lane goes on behind this place of its far bus.
+    fn next_start(&self, ground: &Ground, place: u32) -> Option<u64> {
+        let next = ground.next_posted(self.stream.lane, place)?;
+        if self.begins_at(ground, next) {
+            None
+        } else {
+            Some(next)
+        }
+    }
+
+    /// Whether a write waits that begins at this address: a line that goes on there is that one's,
+    /// and not the rest of another.
+    fn begins_at(&self, ground: &Ground, address: u64) -> bool {
+        self.waiting.iter().take(MOST_HELD).any(|phase| ground.number_in_line(*phase) == 0
+            && ground.address_of(*phase) == address)
+    }
+
+    /// Whether what waits there is this data phase, of the line of the first.
+    fn goes_on(&self, ground: &Ground, at: usize, first: u32, phase: u32) -> bool {
+        self.waiting.get(at).copied() == Some(phase)
+            && ground.line_of(phase) == ground.line_of(first)
+    }
+
+    fn remove(&mut self, at: usize) {
+        if self.waiting.remove(at).is_some() {
+            self.gone = self.gone.saturating_add(1);
+        }
+    }
+
+    fn note_left(&mut self, place: u32) -> Result<(), NoMemory> {
+        let count = self.gone;
+        self.stream.left.push(Left { place, count })?;
+        Ok(())
+    }
+
+    fn not_held(&self, ground: &Ground, line: u32, phase: u32) -> Unfound {
+        let oldest = self.waiting.get(0).copied();
+        Unfound::NotHeld {
+            line,
+            bridge: self.stream.lane.bus,
+            phase: ground.number_in_line(phase),
+            oldest: oldest.map(|phase| HeldPhase {
+                line: ground.line_of(phase),
+                phase: ground.number_in_line(phase),
+            }),
+        }
+    }
+
+    fn ended(self) -> Stream {
+        let Flow {
+            stream,
+            waiting: _waiting,
+            near: _near,
+            gone: _gone,
+        } = self;
+        stream
+    }
+}
+
+/// Whether the next line of the lane goes on at this data phase, or before it, behind the first.
+fn is_reached(ground: &Ground, first: u32, phase: u32, next: Option<u64>) -> bool {
+    match next {
+        Some(next) => ground.address_of(first) < next && next <= ground.address_of(phase),
+        None => false,
+    }
+}

@@ -1,0 +1,355 @@
+use crate::errands::{Errand, Errands};
+use crate::ground::{NO_PLACE, number};
+use crate::latches::{Sides, Strictness};
+use observe_told::Unfound;
+use pci_command::NoMemory;
+
+/// How many steps the trying of pairings takes at most, beside one for each errand.
+const MOST_STEPS: usize = 20_000;
+
+/// How the near errands that a far one may have been made for are tried: one for which nothing was
+/// made yet before one for which something was; one that ended as the far one before another; the
+/// one that ends first; of those that never end the one that may be latched last.
+#[derive(Clone, Copy, Debug, PartialEq, Eq, PartialOrd, Ord)]
+struct Rank {
+    is_served: bool,
+    is_other: bool,
+    until: u64,
+    behind: u32,
+    near: u32,
+}
+
+/// The near errands that are tried for a far one: those from a place of the queue on, the next of
+/// them, and the place from which on a latch may stand.
+#[derive(Clone, Copy, Debug)]
+struct Level {
+    from: usize,
+    next: usize,
+    floor: u32,
+}
+
+/// The errands of one request that are open together, and the trying of who was made for whom.
+#[derive(Debug, Drop)]
+pub(crate) struct Trial<'a> {
+    sides: Sides<'a>,
+    /// The far ones, in the order in which they were shown.
+    fars: &'a [u32],
+    /// The near ones, by when they began.
+    nears: &'a [u32],
+    /// Those that never ended, and those that did, these with when the last of them so far ended,
+    /// and by when they ended.
+    endless: Vec<u32>,
+    ended: Vec<u32>,
+    reaches: Vec<u64>,
+    by_end: Vec<u32>,
+    queue: Vec<u32>,
+    levels: Vec<Level>,
+}
+
+impl<'a> Trial<'a> {
+    pub(crate) fn new(
+        sides: Sides<'a>,
+        errands: &Errands,
+        fars: &'a [u32],
+        nears: &'a [u32],
+    ) -> Result<Trial<'a>, NoMemory> {
+        let alloc = sides.ground.alloc;
+        let mut trial = Trial {
+            sides,
+            fars,
+            nears,
+            endless: Vec::new(alloc),
+            ended: Vec::new(alloc),
+            reaches: Vec::new(alloc),
+            by_end: Vec::new(alloc),
+            queue: Vec::new(alloc),
+            levels: Vec::new(alloc),
+        };
+        trial.sort_in(errands, nears)?;
+        Ok(trial)
+    }
+
+    fn sort_in(&mut self, errands: &Errands, nears: &[u32]) -> Result<(), NoMemory> {
+        let mut reach = 0u64;
+        for near in nears {
+            let until = self.open_until(errands, *near);
+            if errands.get(*near).ended.is_some() {
+                reach = reach.max(until);
+                self.ended.push(*near)?;
+                self.reaches.push(reach)?;
+                self.by_end.push(*near)?;
+            } else {
+                self.endless.push(*near)?;
+            }
+        }
+        let ground = self.sides.ground;
+        self.by_end
+            .sort_unstable_by_key(|near| errands.open_until(ground, &errands.get(*near)));
+        Ok(())
+    }
+
+    fn open_until(&self, errands: &Errands, near: u32) -> u64 {
+        errands.open_until(self.sides.ground, &errands.get(near))
+    }
+
+    /// The first far errand for which nobody was asking.
+    pub(crate) fn unasked(&mut self, errands: &Errands) -> Result<Option<u32>, NoMemory> {
+        let fars = self.fars;
+        for far in fars {
+            self.queue.clear();
+            let far = errands.get(*far);
+            self.list(errands, &far, Strictness::Loose, 0)?;
+            if self.queue.is_empty() {
+                return Ok(far.shown);
+            }
+        }
+        Ok(None)
+    }
+
+    /// The first choice, in the order of trying, that suffices: then it is made.
+    pub(crate) fn run(
+        &mut self,
+        errands: &mut Errands,
+        strictness: Strictness,
+    ) -> Result<bool, Unfound> {
+        let (sides, fars, nears) = (self.sides, self.fars, self.nears);
+        self.queue.clear();
+        self.levels.clear();
+        self.open(errands, strictness, 0)?;
+        let mut steps = 0usize;
+        let most = MOST_STEPS.saturating_add(fars.len().saturating_mul(2));
+        for _ in 0..most.saturating_mul(2) {
+            let Some(far) = self.current() else {
+                return Ok(false);
+            };
+            errands.take_back(far);
+            let Some(near) = self.choose() else {
+                continue;
+            };
+            errands.give(far, near);
+            steps = steps.saturating_add(1);
+            if self.levels.len() < fars.len() {
+                let floor = self.floor_behind(errands, far);
+                self.open(errands, strictness, floor)?;
+            } else if sides.settle(errands, fars, nears, strictness)? {
+                return Ok(true);
+            } else {
+                steps = steps.saturating_add(fars.len() / 64);
+            }
+            if steps > most {
+                break;
+            }
+        }
+        Err(self.too_many(errands))
+    }
+
+    fn too_many(&self, errands: &Errands) -> Unfound {
+        let line = self.fars.first().and_then(|far| errands.get(*far).shown);
+        Unfound::TooManyPairings {
+            line: line.unwrap_or(0),
+        }
+    }
+
+    /// The far errand for which a near one is looked for.
+    fn current(&self) -> Option<u32> {
+        let at = self.levels.len().checked_sub(1)?;
+        self.fars.get(at).copied()
+    }
+
+    /// The next near errand that is tried for it; where there is none more, the one before is tried
+    /// otherwise.
+    fn choose(&mut self) -> Option<u32> {
+        let level = self.levels.last().copied()?;
+        let near = self.queue.get(level.next).copied();
+        if near.is_some() {
+            self.pass_on();
+        } else {
+            self.queue.truncate(level.from);
+            self.levels.pop();
+        }
+        near
+    }
+
+    /// What is tried next for the last far errand is the one behind.
+    fn pass_on(&mut self) {
+        if let Some(level) = self.levels.as_mut_slice().last_mut() {
+            level.next = level.next.saturating_add(1);
+        }
+    }
+
+    /// The next far errand, with the near ones that may be tried for it.
+    fn open(
+        &mut self,
+        errands: &Errands,
+        strictness: Strictness,
+        floor: u32,
+    ) -> Result<(), NoMemory> {
+        let from = self.queue.len();
+        let at = self.levels.len();
+        if let Some(far) = self.fars.get(at).copied() {
+            let far = errands.get(far);
+            if strictness == Strictness::Loose || self.can_go_on(errands, at) {
+                self.list(errands, &far, strictness, floor)?;
+            }
+        }
+        self.levels.push(Level {
+            from,
+            next: from,
+            floor,
+        })?;
+        Ok(())
+    }
+
+    /// From which place on the latch of the next far errand may stand: behind the first that this
+    /// one may have.
+    fn floor_behind(&self, errands: &Errands, far: u32) -> u32 {
+        let floor = self.levels.last().map_or(0, |level| level.floor);
+        let far = errands.get(far);
+        let Some(near) = far.near else {
+            return floor;
+        };
+        let near = errands.get(near);
+        let low = floor.max(self.sides.low_place(errands, &near, far.before));
+        match self.sides.first_line(errands, &near, low) {
+            Some(line) => self.sides.ground.place(line).saturating_add(1),
+            None => floor,
+        }
+    }
+
+    /// Whether each near errand that ended before this far one did was served.
+    fn can_go_on(&self, errands: &Errands, at: usize) -> bool {
+        let from = match at.checked_sub(1) {
+            Some(before) => self.ended_before(errands, before),
+            None => 0,
+        };
+        let to = self.ended_before(errands, at);
+        let between = self.by_end.as_slice().get(from..to).unwrap_or(&[]);
+        between
+            .iter()
+            .all(|near| errands.get(*near).last_far.is_some())
+    }
+
+    /// How many near errands ended before the far one began to end.
+    fn ended_before(&self, errands: &Errands, at: usize) -> usize {
+        let ended = self.fars.get(at).and_then(|far| errands.get(*far).ended);
+        match ended {
+            Some(line) => {
+                let time = self.sides.ground.start(line);
+                self.by_end
+                    .as_slice()
+                    .partition_point(|near| self.open_until(errands, *near) < time)
+            }
+            None => 0,
+        }
+    }
+
+    /// The near errands that the far one may have been made for, in the order of trying, behind the
+    /// queue.
+    fn list(
+        &mut self,
+        errands: &Errands,
+        far: &Errand,
+        strictness: Strictness,
+        floor: u32,
+    ) -> Result<(), NoMemory> {
+        let ranks = self.ranks(errands, far, strictness, floor)?;
+        for rank in &ranks {
+            self.queue.push(rank.near)?;
+        }
+        Ok(())
+    }
+
+    fn ranks(
+        &self,
+        errands: &Errands,
+        far: &Errand,
+        strictness: Strictness,
+        floor: u32,
+    ) -> Result<Vec<Rank>, NoMemory> {
+        let ground = self.sides.ground;
+        let mut ranks = Vec::new(ground.alloc);
+        let start = errands.start(ground, far);
+        let reaches = self.reaches.as_slice();
+        let first = reaches.partition_point(|reach| *reach < start);
+        for near in self.ended.iter().skip(first) {
+            let errand = errands.get(*near);
+            if errands.start(ground, &errand) > far.deadline {
+                break;
+            }
+            self.rank_in(errands, far, *near, (strictness, floor), &mut ranks)?;
+        }
+        for near in &self.endless {
+            self.rank_in(errands, far, *near, (strictness, floor), &mut ranks)?;
+        }
+        ranks.sort_unstable();
+        Ok(ranks)
+    }
+
+    fn rank_in(
+        &self,
+        errands: &Errands,
+        far: &Errand,
+        near: u32,
+        asked: (Strictness, u32),
+        ranks: &mut Vec<Rank>,
+    ) -> Result<(), NoMemory> {
+        let (strictness, floor) = asked;
+        let errand = errands.get(near);
+        let was_open = self.was_open(errands, far, &errand);
+        let serves = strictness == Strictness::Loose || self.serves(errands, far, &errand, floor);
+        if was_open && serves {
+            ranks.push(self.rank(errands, far, near))?;
+        }
+        Ok(())
+    }
+
+    /// Whether the near errand was open at some time of the far one.
+    fn was_open(&self, errands: &Errands, far: &Errand, near: &Errand) -> bool {
+        let ground = self.sides.ground;
+        errands.start(ground, near) <= far.deadline
+            && errands.start(ground, far) <= errands.open_until(ground, near)
+    }
+
+    /// Whether the far errand can have been made for the near one, with a latch from this place on.
+    fn serves(&self, errands: &Errands, far: &Errand, near: &Errand, floor: u32) -> bool {
+        let ground = self.sides.ground;
+        let in_time = match (near.ended, far.ended) {
+            (None, _) => true,
+            (Some(_), None) => false,
+            (Some(taken), Some(made)) => ground.start(made) <= ground.end(taken),
+        };
+        let is_free = match near.last_far {
+            Some(before) => errands.get(before).ended.is_some(),
+            None => true,
+        };
+        let low = floor.max(self.sides.low_place(errands, near, near.last_far));
+        in_time
+            && is_free
+            && match self.sides.first_line(errands, near, low) {
+                Some(line) => {
+                    ground.place(line) < self.sides.high_place(far)
+                        && ground.start(line) <= far.deadline
+                }
+                None => false,
+            }
+    }
+
+    fn rank(&self, errands: &Errands, far: &Errand, near: u32) -> Rank {
+        let sides = &self.sides;
+        let errand = errands.get(near);
+        let is_other = match (far.ended, errand.ended) {
+            (Some(made), Some(taken)) => !sides.same_outcome(made, taken),
+            _ => true,
+        };
+        let high = sides.high_place(far);
+        let latest = sides.last_line(errands, &errand, high, far.deadline);
+        let place = latest.map_or(0, |line| sides.ground.place(line));
+        Rank {
+            is_served: errand.last_far.is_some(),
+            is_other,
+            until: self.open_until(errands, near),
+            behind: NO_PLACE - place,
+            near,
+        }
+    }
+}

@@ -1,0 +1,5 @@
+pub mod WordLemmas
+pub mod DataLemmas
+pub mod EndLemmas
+pub mod PartLemmas
+pub mod LineLemmas

@@ -1,0 +1,150 @@
+ghost use Rattle.std.specs.Prelude.{◌≡◌, ◌≤◌, [], length};
+ghost use Rattle.observe_log.specs.Lines.{ending_of, data_read, data_fault, is_single};
+ghost use Rattle.observe_log.specs.Lines.{is_single_write, needs_data, most_offered, past_offered};
+ghost use Rattle.observe_log.specs.Lines.{past_space, room_from};
+ghost use Rattle.observe_log.specs.Data.{TellsData, ending_at_front, behind_ending};
+
+use crate::fault::{AtWord, LineStop, misread};
+use board_statements::Words;
+use observe_told::{Addressed, Ending};
+use pci_command::{Command, Phase, Space};
+use text_faults::LogLineFault;
+
+/// `WORD.. RESULT`, up to the end of the line: how many data words stand there, and how the
+/// transaction ended. The data words are put behind the phases.
+pub(crate) fn read_data(
+    words: &mut Words,
+    phases: &mut Vec<Phase>,
+) -> Result<(usize, Ending), LineStop>
+    requires { length words.old ≤ 1000 }
+    ensures { TellsData result phases.old.items phases.new.items (data_read 5 [] words.old) }
+{
+    let mut count = 0;
+    loop {
+        if let Some(ending) = take_ending(words) {
+            if words.is_done() {
+                return Ok((count, ending));
+            }
+            return Err(LineStop::Fault(misread(count + 6)));
+        }
+        match words.data_word() {
+            Ok(phase) => phases.push(phase)?,
+            Err(_other) => return Err(LineStop::Fault(misread(count + 5))),
+        }
+        count += 1;
+    }
+}
+
+/// RESULT, if it is the next word, which is then taken.
+fn take_ending(words: &mut Words) -> Option<Ending>
+    ensures tells { result ≡ ending_at_front words.old }
+    ensures takes { words.new ≡ behind_ending words.old }
+{
+    if words.skips(b"done") {
+        Some(Ending::Done)
+    } else if words.skips(b"retry") {
+        Some(Ending::Retry)
+    } else if words.skips(b"tabort") {
+        Some(Ending::TargetAbort)
+    } else if words.skips(b"nobody") {
+        Some(Ending::Nobody)
+    } else {
+        None
+    }
+}
+
+/// What is wrong with so many data words.
+pub(crate) fn data_fault(
+    command: Command,
+    address: Addressed,
+    count: usize,
+    ending: Ending,
+) -> Option<AtWord>
+    ensures { result ≡ data_fault command address count ending }
+{
+    if needs_data(command, ending) && count == 0 {
+        return Some(no_such_data(5));
+    }
+    if is_single(command) && 1 < count {
+        return Some(no_such_data(6));
+    }
+    match past_offered(count, most_offered(command, ending)) {
+        Some(fault) => Some(fault),
+        None => past_space(address, count),
+    }
+}
+
+fn no_such_data(word: usize) -> AtWord
+    ensures { result ≡ record { word = word; fault = LogLineFault.NoSuchData } }
+{
+    AtWord {
+        word,
+        fault: LogLineFault::NoSuchData,
+    }
+}
+
+/// One dword a transaction: in I/O and configuration space.
+fn is_single(command: Command) -> bool
+    ensures { result ≡ is_single command }
+{
+    match command.space() {
+        Space::Mem => false,
+        Space::Io | Space::Cfg => true,
+    }
+}
+
+fn is_single_write(command: Command) -> bool
+    ensures { result ≡ is_single_write command }
+{
+    is_single(command) && !command.is_read()
+}
+
+fn needs_data(command: Command, ending: Ending) -> bool
+    ensures { result ≡ needs_data command ending }
+{
+    match ending {
+        Ending::Done => true,
+        Ending::Retry | Ending::TargetAbort | Ending::Nobody => is_single_write(command),
+    }
+}
+
+fn most_offered(command: Command, ending: Ending) -> Option<u8>
+    ensures { result ≡ most_offered command ending }
+{
+    match ending {
+        Ending::Done | Ending::TargetAbort => None,
+        Ending::Retry => { if command.is_read() { Some(0) } else { Some(1) } }
+        Ending::Nobody => {
+            if is_single_write(command) {
+                Some(1)
+            } else {
+                Some(0)
+            }
+        }
+    }
+}
+
+fn past_offered(count: usize, most: Option<u8>) -> Option<AtWord>
+    ensures { result ≡ past_offered count most }
+{
+    match most {
+        Some(most) if usize::from(most) < count => Some(misread(5 + usize::from(most))),
+        _ => None,
+    }
+}
+
+fn past_space(address: Addressed, count: usize) -> Option<AtWord>
+    ensures { result ≡ past_space address count }
+{
+    match address {
+        Addressed::Byte(address) => {
+            let room = ((u64::MAX - address) / 4 + 1) as usize;
+            if room < count {
+                Some(no_such_data(5 + room))
+            } else {
+                None
+            }
+        }
+        Addressed::Type0 { .. } | Addressed::Type1 { .. } => None,
+    }
+}

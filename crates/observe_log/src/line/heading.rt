@@ -1,0 +1,132 @@
+ghost use Rattle.std.specs.Prelude.{◌≡◌, true, [], ◌∷◌, MatchResult};
+ghost use Rattle.board_statements.specs.Words.{hex, long};
+ghost use Rattle.observe_log.specs.Readers.{Gives, misread, one_word, as_in_boards};
+ghost use Rattle.observe_log.specs.Words.{of_kind, times_of, bus_by, bus_form, who_in, command_of};
+ghost use Rattle.observe_log.specs.Words.{register_of, dword_by, address_in, heading_form};
+
+use crate::fault::{AtWord, misread};
+use crate::line::words::{command_of, register_of, times_of, who_in};
+use board_model::{Board, is_bus};
+use board_statements::Words;
+use observe_told::{Addressed, Who};
+use pci_command::{Command, Space};
+use text_faults::LogLineFault;
+
+/// What the first five words of a line say.
+#[derive(Clone, Copy, Debug, PartialEq, Eq)]
+pub(crate) struct Heading {
+    pub(crate) start: u64,
+    pub(crate) end: u64,
+    pub(crate) bus: u8,
+    pub(crate) who: Who,
+    pub(crate) command: Command,
+    pub(crate) address: Addressed,
+}
+
+/// `START-END BUS WHO COMMAND ADDRESS`
+#[tactic(auto, unfolding(crate::specs::Words::heading_form))]
+pub(crate) fn read_heading(board: &Board, words: &mut Words) -> Result<Heading, AtWord>
+    ensures { Gives result words.new (heading_form board.now words.old) }
+{
+    let (start, end) = take_times(words)?;
+    let bus = take_bus(board, words)?;
+    let who = take_who(board, bus, words)?;
+    let command = take_command(words)?;
+    let address = take_address(command.space(), words)?;
+    Ok(Heading {
+        start,
+        end,
+        bus,
+        who,
+        command,
+        address,
+    })
+}
+
+/// The next word, which is at this place.
+fn next<'a>(words: &mut Words<'a>, place: usize) -> Result<&'a [u8], AtWord>
+    ensures { MatchResult result (λ word. words.old ≡ word.now ∷ words.new)
+        (λ fault. (fault ≡ misread place) × (words.old ≡ [])) }
+{
+    match words.take() {
+        Ok(word) => Ok(word),
+        Err(_missing) => Err(misread(place)),
+    }
+}
+
+fn take_times(words: &mut Words) -> Result<(u64, u64), AtWord>
+    ensures { Gives result words.new (one_word 0 (λ word. of_kind (times_of word)) words.old) }
+{
+    let word = next(words, 0)?;
+    times_of(word).ok_or(misread(0))
+}
+
+fn take_bus(board: &Board, words: &mut Words) -> Result<u8, AtWord>
+    ensures { Gives result words.new (bus_form board.now words.old) }
+{
+    let Ok(number) = words.decimal(0, u32::MAX) else {
+        return Err(misread(1));
+    };
+    match u8::try_from(number) {
+        Ok(bus) if is_bus(board, bus) => Ok(bus),
+        _ => Err(AtWord {
+            word: 1,
+            fault: LogLineFault::NotThere,
+        }),
+    }
+}
+
+fn take_who(board: &Board, bus: u8, words: &mut Words) -> Result<Who, AtWord>
+    ensures { Gives result words.new (one_word 2 (who_in board.now bus) words.old) }
+{
+    let word = next(words, 2)?;
+    match who_in(board, bus, word) {
+        Some(who) => Ok(who),
+        None => Err(AtWord {
+            word: 2,
+            fault: LogLineFault::NotThere,
+        }),
+    }
+}
+
+fn take_command(words: &mut Words) -> Result<Command, AtWord>
+    ensures { Gives result words.new (one_word 3 (λ word. of_kind (command_of word)) words.old) }
+{
+    let word = next(words, 3)?;
+    command_of(word).ok_or(misread(3))
+}
+
+fn take_address(space: Space, words: &mut Words) -> Result<Addressed, AtWord>
+    ensures { Gives result words.new (address_in space words.old) }
+{
+    match space {
+        Space::Mem => take_memory_address(words),
+        Space::Io => take_port_address(words),
+        Space::Cfg => take_register(words),
+    }
+}
+
+fn take_memory_address(words: &mut Words) -> Result<Addressed, AtWord>
+    ensures { Gives result words.new (dword_by (as_in_boards 4 (long true words.old))) }
+{
+    match words.long(true) {
+        Ok(address) if address % 4 == 0 => Ok(Addressed::Byte(address)),
+        _ => Err(misread(4)),
+    }
+}
+
+fn take_port_address(words: &mut Words) -> Result<Addressed, AtWord>
+    ensures { Gives result words.new (dword_by (as_in_boards 4 (hex 8 words.old))) }
+{
+    match words.hex() {
+        Ok(address) if address % 4 == 0 => Ok(Addressed::Byte(u64::from(address))),
+        _ => Err(misread(4)),
+    }
+}
+
+fn take_register(words: &mut Words) -> Result<Addressed, AtWord>
+    ensures { Gives result words.new (one_word 4 (λ word. of_kind (register_of word)) words.old) }
+{
+    let word = next(words, 4)?;
+    register_of(word).ok_or(misread(4))
+}

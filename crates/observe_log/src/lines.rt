@@ -1,0 +1,107 @@
+ghost use Rattle.std.specs.Prelude.{◌≡◌, ◌+◌, ◌<◌, ◌≤◌, ◌^◌, length, drop};
+ghost use Rattle.std.specs.List.{list_any};
+ghost use Rattle.board_text.specs.Lines.{lines_of};
+ghost use Rattle.observe_log.specs.Logs.{has_words, is_last, behind_end, one_line, lines_read};
+ghost use Rattle.observe_log.specs.Lines.{Read};
+ghost use Rattle.observe_log.specs.Reading.{AddsAll};
+
+use crate::LogFault;
+use crate::fault::LineStop;
+use crate::parts::{is_readable, is_word_alone, of_line};
+use crate::reading::Reading;
+use board_model::Board;
+use board_statements::has_words;
+use board_text::next_line;
+use text_faults::LogLineFault;
+
+/// Reads the lines from `from` on, where the first line has this number, up to the `end` line.
+pub(crate) fn read_lines(
+    board: &Board,
+    bytes: &[u8],
+    from: usize,
+    first: u32,
+    reading: &mut Reading,
+) -> Result<(), LogFault>
+    requires short { length bytes.now < 2 ^ 31 }
+    requires within { from ≤ length bytes.now + 1 }
+    requires small { first ≤ from + 1 }
+    ensures { AddsAll result reading.new
+        (lines_read board.now first reading.old (lines_of (drop from bytes.now))) }
+{
+    let mut number = first;
+    let mut at = from;
+    while let Some((line, next)) = next_line(bytes, at) {
+        if !is_readable(line) {
+            return Err(of_line(number, LogLineFault::Misread));
+        }
+        if is_last(line, bytes, next) {
+            return behind_end(bytes, next, number + 1);
+        }
+        match read_line(board, line, number, reading) {
+            Ok(()) => {}
+            Err(fault) => return Err(fault),
+        }
+        number += 1;
+        at = next;
+    }
+    Err(of_line(number, LogLineFault::NoEndLine))
+}
+
+/// Reads a line that is not the last one with words.
+fn read_line(board: &Board, line: &[u8], number: u32, reading: &mut Reading) -> Result<(), LogFault>
+    requires { length line.now ≤ 256 }
+    ensures { AddsAll result reading.new (one_line board.now number reading.old line.now) }
+{
+    if !has_words(line) {
+        return Ok(());
+    }
+    match reading.read(board, number, line) {
+        Ok(()) => Ok(()),
+        Err(LineStop::Fault(at)) => Err(LogFault::Log {
+            line: number,
+            word: at.word,
+            fault: at.fault,
+        }),
+        Err(LineStop::NoMemory) => Err(LogFault::NoMemory),
+    }
+}
+
+/// Whether the line is `end`, and the lines from `next` on have no words.
+fn is_last(line: &[u8], bytes: &[u8], next: usize) -> bool
+    ensures { result ≡ is_last line.now (lines_of (drop next bytes.now)) }
+{
+    is_word_alone(line, b"end") && !have_words(bytes, next)
+}
+
+fn have_words(bytes: &[u8], from: usize) -> bool
+    ensures { result ≡ list_any has_words (lines_of (drop from bytes.now)) }
+{
+    let mut at = from;
+    while let Some((line, next)) = next_line(bytes, at) {
+        if has_words(line) {
+            return true;
+        }
+        at = next;
+    }
+    false
+}
+
+/// Looks whether the lines from `from` on, where the first has this number, can be read.
+fn behind_end(bytes: &[u8], from: usize, first: u32) -> Result<(), LogFault>
+    requires short { length bytes.now < 2 ^ 31 }
+    requires within { from ≤ length bytes.now + 1 }
+    requires small { first ≤ from + 1 }
+    ensures { (read : Read) →
+        AddsAll result read (behind_end first read (lines_of (drop from bytes.now))) }
+{
+    let mut number = first;
+    let mut at = from;
+    while let Some((line, next)) = next_line(bytes, at) {
+        if !is_readable(line) {
+            return Err(of_line(number, LogLineFault::Misread));
+        }
+        number += 1;
+        at = next;
+    }
+    Ok(())
+}

@@ -1,0 +1,112 @@
+ghost use Rattle.std.specs.Prelude.{[]};
+ghost use Rattle.observe_log.specs.Reading.{KnowsEnds, TellsEnd};
+
+use crate::fault::{AtWord, LineStop};
+use crate::line::{data_fault, read_data, read_heading};
+use board_model::Board;
+use board_statements::Words;
+use observe_told::Seen;
+use pci_command::{List, Phase};
+use std::alloc::Global;
+use std::marker::Model;
+use text_faults::LogLineFault;
+
+/// What was read of a log so far. Clauses see its lines and the data phases of them all.
+#[derive(Debug, Drop)]
+pub(crate) struct Reading {
+    lines: Vec<Seen>,
+    phases: Vec<Phase>,
+    // When the last line of each bus ended.
+    ends: [u64; 256],
+}
+
+impl Model for Reading {
+    ghost use Rattle.observe_log.specs.Lines.{Read};
+    ghost use Rattle.observe_log.specs.Reading.{KnowsEnds};
+
+    ghost Value = { Read };
+
+    ghost view = { λ reading.
+        record { lines = reading.lines.items; phases = reading.phases.items } };
+
+    ghost invariant = { λ reading. KnowsEnds reading.ends reading.lines.items };
+}
+
+impl Reading {
+    ghost use Rattle.std.specs.Prelude.{◌≡◌, ◌≤◌, length};
+    ghost use Rattle.board_text.specs.Tokens.{words_of};
+    ghost use Rattle.observe_log.specs.Lines.{nothing_read, line_read};
+    ghost use Rattle.observe_log.specs.Reading.{Adds};
+
+    /// Nothing yet.
+    pub(crate) fn new(alloc: Global) -> Reading
+        ensures { result ≡ nothing_read }
+    {
+        Reading {
+            lines: Vec::new(alloc),
+            phases: Vec::new(alloc),
+            ends: no_ends(),
+        }
+    }
+
+    /// The lines, and their data phases.
+    pub(crate) fn into_lists(self) -> (List<Seen>, List<Phase>)
+        ensures lines { result.0 ≡ self.lines }
+        ensures phases { result.1 ≡ self.phases }
+    {
+        let Reading { lines, phases, .. } = self;
+        (List::from_vec(lines), List::from_vec(phases))
+    }
+
+    /// Reads the line of this number.
+    pub(crate) fn read(&mut self, board: &Board, number: u32, line: &[u8]) -> Result<(), LineStop>
+        requires { length line.now ≤ 256 }
+        ensures { Adds result self.new (line_read board.now number self.old (words_of line.now)) }
+    {
+        let mut words = Words::new(line);
+        let heading = read_heading(board, &mut words)?;
+        let first = self.phases.len();
+        let (count, ending) = read_data(&mut words, &mut self.phases)?;
+        if let Some(fault) = data_fault(heading.command, heading.address, count, ending) {
+            return Err(LineStop::Fault(fault));
+        }
+        let seen = Seen {
+            line: number,
+            start: heading.start,
+            end: heading.end,
+            bus: heading.bus,
+            who: heading.who,
+            command: heading.command,
+            address: heading.address,
+            first,
+            count,
+            ending,
+        };
+        add(&mut self.lines, &mut self.ends, seen)
+    }
+}
+
+/// That no line of any bus ended.
+fn no_ends() -> [u64; 256]
+    ensures { KnowsEnds result [] }
+{
+    [0; 256]
+}
+
+/// Puts a line behind the others, unless it begins before the last one of its bus ended.
+fn add(lines: &mut Vec<Seen>, ends: &mut [u64; 256], seen: Seen) -> Result<(), LineStop>
+    requires { KnowsEnds ends.old lines.old.items }
+    ensures told { TellsEnd result lines.old.items lines.new.items seen }
+    ensures ends { KnowsEnds ends.new lines.new.items }
+{
+    let bus = usize::from(seen.bus);
+    if seen.start < ends[bus] {
+        return Err(LineStop::Fault(AtWord {
+            word: 0,
+            fault: LogLineFault::TooEarly,
+        }));
+    }
+    lines.push(seen)?;
+    ends[bus] = seen.end;
+    Ok(())
+}

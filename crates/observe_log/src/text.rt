@@ -1,0 +1,31 @@
+ghost use Rattle.std.specs.Prelude.{◌<◌, ◌^◌, length, IfOk, IsTrue};
+ghost use Rattle.board_model.specs.WellFormed.{is_well_formed};
+ghost use Rattle.observe_log.specs.Logs.{log_read, Tells};
+
+use crate::LogFault;
+use crate::board::read_board;
+use crate::lines::read_lines;
+use crate::parts::{behind_first_line, find_log};
+use crate::reading::Reading;
+use observe_told::Log;
+use std::alloc::Global;
+
+/// The log of a text, or its first fault: of the first line, then no line `log`, then of the board,
+/// then line by line behind `log`, then no `end` line. A text has fewer than 2^31 bytes.
+pub fn read_log(alloc: Global, bytes: &[u8]) -> Result<Log, LogFault>
+    requires { length bytes.now < 2 ^ 31 }
+    ensures read { Tells result (log_read bytes.now) }
+    ensures formed { IfOk result (λ log. IsTrue (is_well_formed log.board)) }
+{
+    let at = behind_first_line(bytes)?;
+    let found = find_log(bytes, at)?;
+    let board = read_board(alloc, &bytes[at..found.start])?;
+    let mut reading = Reading::new(alloc);
+    read_lines(&board, bytes, found.behind, found.number, &mut reading)?;
+    let (lines, phases) = reading.into_lists();
+    Ok(Log {
+        board,
+        lines,
+        phases,
+    })
+}

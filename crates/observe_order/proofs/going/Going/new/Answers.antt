@@ -1,0 +1,8 @@
+use Rattle.std.proofs.Common.{[]}
+use Rattle.observe_order.proofs.GoingLemmas.{begins}
+use Rattle.observe_order.proofs.going.Going.new.Goals as goal
+
+-- what is kept stands for no event
+pub returns : goal.returns
+returns c =
+    begins c.args.tree.now c.new-events.result.items c.in_ok-course.course c.new-events.ensures.items (c.in_ok-course.ensures [] c.in_ok-kept.ensures)

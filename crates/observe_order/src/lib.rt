@@ -1,0 +1,13 @@
+//! The acts that a log tells, in an order in which the machine allows them, with all arrivals as
+//! early as can be; or the first that it does not allow, and why.
+#![tactic(auto)]
+
+mod blame;
+mod going;
+mod heads;
+mod judging;
+mod ordering;
+mod reasons;
+
+pub use judging::{ActsVerdict, is_still_run, verdict_of};
+pub use ordering::{Ordered, order};

@@ -1,0 +1,5 @@
+pub mod SameLemmas
+pub mod ActLemmas
+pub mod FollowLemmas
+pub mod BegunLemmas
+pub mod ToldLemmas

@@ -1,0 +1,12 @@
+use pci_command::OpId;
+
+/// What the acts of a line have shown of it so far.
+#[derive(Clone, Copy, Debug, PartialEq, Eq)]
+pub(crate) enum Shown {
+    /// So many dwords, from the one on that it addressed.
+    Dwords(u64),
+    /// That this operation was latched.
+    Latched(OpId),
+    /// All that it shows.
+    Whole,
+}
