@@ -31,7 +31,7 @@ use Rattle.command_observe.specs.Answers.{RefusesObserve, AnswersObserve, Answer
 use Rattle.command_observe.specs.Judging.{untold_status, ending_of, IsRunOf, IsJudged, AreActsOf, HoldsActs}
 
 -- a fault of the text is told as it is read
-pub fault_refuses : (input : List ℕ) (fault : LogFault) (status : Status) → Tells {Log} (Err fault) (log_read input) → TellsFault fault status → RefusesLog input status
+pub fault_refuses : (input : List ℕ) (fault : LogFault) (status : Status) → Tells {A = Log} (Err fault) (log_read input) → TellsFault fault status → RefusesLog input status
 fault_refuses input (faults.Log line word fault) status reads told =
     let same : log_refusal input ≡ Some (BadLog line fault) = ap log_reading_refusal reads in
     subst (λ s. RefusesLog input s) (sym told) same

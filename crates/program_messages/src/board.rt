@@ -1,9 +1,7 @@
 ghost use Rattle.std.specs.Prelude.{◌<◌, ◌^◌, length};
 
 use crate::form::InputForm;
-use crate::refused::{
-    TOO_LONG, board_part, owner_lines, smallest, word_at_fault, word_lines,
-};
+use crate::refused::{TOO_LONG, board_part, owner_lines, smallest, word_at_fault, word_lines};
 use crate::unclear::tell_unclear;
 use board_parser::{ParseFault, parse};
 use pci_command::NoMemory;

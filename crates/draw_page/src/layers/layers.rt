@@ -64,7 +64,7 @@ fn add_behind(
         known.now.traffic.now.items ahead (waits_of known.now.events.now)) }
 {
     add_keys(alloc, elements, canvas, rows)?;
-    add_rims_of_items(alloc, elements, known, canvas)?;
+    add_item_rims(alloc, elements, canvas, known.told, known.traffic.items())?;
     add_act_rims(alloc, elements, canvas, rows)?;
     add_ahead_rim(alloc, elements, canvas, ahead)?;
     add_waiting(alloc, elements, known, canvas)
@@ -85,9 +85,9 @@ fn add_in_front(
         in_front canvas.now.board.now events canvas.now.columns.now canvas.now.frame.now rows.now
         known.now.traffic.now.items known.now.told.now.spans tracks.now) }
 {
-    add_all_items(alloc, elements, known, canvas)?;
+    add_items(alloc, elements, canvas, known.tries, known.traffic.items())?;
     add_acts(alloc, elements, canvas, rows)?;
-    add_all_brackets(alloc, elements, known, canvas, tracks)?;
+    add_brackets(alloc, elements, canvas.frame, known.told.spans(), tracks)?;
     add_rows(alloc, elements, canvas, rows)
 }
 
@@ -104,20 +104,6 @@ fn add_keys(
         add_key(alloc, elements, canvas, row)?;
     }
     Ok(())
-}
-
-fn add_rims_of_items(
-    alloc: Global,
-    elements: &mut Vec<Element>,
-    known: &Known,
-    canvas: &Canvas,
-) -> Result<(), NoMemory>
-    ensures { (board : Board) (events : List Event) → TellsTold board events known.now.told.now →
-        OnOk result (elements.new.items ≡ elements.old.items ++ flat_map (λ item.
-        item_rims canvas.now.columns.now canvas.now.frame.now (is_loud board events item.op) item)
-        known.now.traffic.now.items) }
-{
-    add_item_rims(alloc, elements, canvas, known.told, known.traffic.items())
 }
 
 fn add_item_rims(
@@ -189,20 +175,6 @@ fn add_waits(
     Ok(())
 }
 
-fn add_all_items(
-    alloc: Global,
-    elements: &mut Vec<Element>,
-    known: &Known,
-    canvas: &Canvas,
-) -> Result<(), NoMemory>
-    ensures { (events : List Event) → TellsTries events known.now.tries.now →
-        OnOk result (elements.new.items ≡ elements.old.items ++ flat_map (λ item.
-        item_shapes canvas.now.board.now canvas.now.columns.now canvas.now.frame.now
-        (is_pale events item.op) item) known.now.traffic.now.items) }
-{
-    add_items(alloc, elements, canvas, known.tries, known.traffic.items())
-}
-
 fn add_items(
     alloc: Global,
     elements: &mut Vec<Element>,
@@ -235,19 +207,6 @@ fn add_acts(
         add_act(alloc, elements, canvas, row)?;
     }
     Ok(())
-}
-
-fn add_all_brackets(
-    alloc: Global,
-    elements: &mut Vec<Element>,
-    known: &Known,
-    canvas: &Canvas,
-    tracks: &[Option<usize>],
-) -> Result<(), NoMemory>
-    ensures { OnOk result (elements.new.items ≡ elements.old.items ++ flat_map
-        (span_shapes canvas.now.frame.now) (zip known.now.told.now.spans tracks.now)) }
-{
-    add_brackets(alloc, elements, canvas.frame, known.told.spans(), tracks)
 }
 
 fn add_brackets(
