@@ -294,9 +294,19 @@ fn tell_first_use(teller: &mut Teller, case: &Case, fault: LineFault) -> Result<
     let Some(left) = smallest(teller.alloc(), lines.text.as_slice(), &status)? else {
         return Ok(());
     };
-    for (place, line) in left.as_slice().split(|byte| *byte == b'\n').enumerate() {
-        let number = lines.numbers.get(place).copied().unwrap_or(case.number);
-        if number != case.number && says_more(line) {
+    tell_other(
+        teller,
+        left.as_slice(),
+        lines.numbers.as_slice(),
+        case.number,
+    )
+}
+
+/// The first of these lines that says more and has another number.
+fn tell_other(teller: &mut Teller, left: &[u8], numbers: &[u32], own: u32) -> Result<(), NoMemory> {
+    for (place, line) in left.split(|byte| *byte == b'\n').enumerate() {
+        let number = numbers.get(place).copied().unwrap_or(own);
+        if number != own && says_more(line) {
             return teller.also(number, line, 0, "it is used here first");
         }
     }
