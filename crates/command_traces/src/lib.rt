@@ -6,7 +6,7 @@ pub mod check;
 pub mod draw;
 pub mod fill;
 mod report;
-mod run;
+pub mod run;
 pub mod untagged;
 mod waves;
 
