@@ -3,16 +3,16 @@ _pcitree() {
   local word=${COMP_WORDS[COMP_CWORD]} first=${COMP_WORDS[1]} options= endings= ending
   COMPREPLY=()
   if [ "$COMP_CWORD" = 1 ]; then
-    mapfile -t COMPREPLY < <(compgen -W "safe adverse run devices check fill finish audit report draw waves untagged tree headers combine import generate help explain --version --help" -- "$word")
+    mapfile -t COMPREPLY < <(compgen -W "safe adverse run devices check fill observe finish audit report draw waves untagged tree headers combine import generate help explain --version --help" -- "$word")
     return
   fi
   case $first in
     explain)
-      mapfile -t COMPREPLY < <(compgen -W "L1 L2 L3 P1 P2 P3 P4 P5 P6 P7 P8 P9 P10 P11 P12 H1 H2 H3 H4 V1 V2 V3 V4 V5 V6 V7 V8 V9 Q1 Q2 Q3 Q4 Q5 Q6 X1 X2 X3 X4 X5 X6 X7 X8 N1 N2 N3 N4 N5 I1 I2 I3 I4 I5" -- "${word^^}")
+      mapfile -t COMPREPLY < <(compgen -W "L1 L2 L3 P1 P2 P3 P4 P5 P6 P7 P8 P9 P10 P11 P12 H1 H2 H3 H4 V1 V2 V3 V4 V5 V6 V7 V8 V9 Q1 Q2 Q3 Q4 Q5 Q6 X1 X2 X3 X4 X5 X6 X7 X8 N1 N2 N3 N4 N5 I1 I2 I3 I4 I5 G1 G2 G3 G4 G5 O1 O2 O3 O4 O5" -- "${word^^}")
       return
       ;;
     help | --help)
-      mapfile -t COMPREPLY < <(compgen -W "safe adverse run devices check fill finish audit report draw waves untagged tree headers combine import generate help explain --version board trace device status codes" -- "$word")
+      mapfile -t COMPREPLY < <(compgen -W "safe adverse run devices check fill observe finish audit report draw waves untagged tree headers combine import generate help explain --version board trace device log status codes" -- "$word")
       return
       ;;
     safe) options="" endings="board devices" ;;
@@ -21,6 +21,7 @@ _pcitree() {
     devices) options="" endings="devices" ;;
     check) options="" endings="trace" ;;
     fill) options="" endings="trace" ;;
+    observe) options="--acts" endings="log" ;;
     finish) options="" endings="trace" ;;
     audit) options="" endings="trace" ;;
     report) options="" endings="trace" ;;
