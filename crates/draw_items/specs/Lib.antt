@@ -1,4 +1,5 @@
-pub mod Items
+pub mod Journeys
+pub mod Touched
 pub mod Tries
 pub mod Waits
 pub mod Kept

@@ -4,14 +4,14 @@
 
 mod columns;
 mod journey;
-mod traffic;
+mod touched;
 mod tries;
 mod waits;
 
 pub use columns::{
     Band, Column, ColumnLine, Columns, Most, columns_of, most_of, print_name, product, sum,
 };
-pub use journey::{Journey, JourneyKind, lane_back};
-pub use traffic::{Touched, Traffic, traffic_of};
+pub use journey::{Journey, can_stand, is_of, lane_back};
+pub use touched::{completion_at, item_of, named_by, near_of, taken_by};
 pub use tries::{Tries, tries_of};
 pub use waits::{Wait, waits_of};
