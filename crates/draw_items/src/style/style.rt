@@ -1,6 +1,6 @@
 ghost use Rattle.std.specs.Prelude.{◌≡◌, ◌++◌, string_bytes, OnOk};
-ghost use Rattle.draw_told.specs.style.Styles.{colours, page, classes, marks, style, lines, signs};
-ghost use Rattle.draw_told.specs.style.Styles.{key};
+ghost use Rattle.draw_items.specs.style.Styles.{colours, page, classes, marks, style, lines, signs};
+ghost use Rattle.draw_items.specs.style.Styles.{key};
 
 use std::alloc::AllocError;
 

@@ -1,6 +1,6 @@
 -- The fixed texts of a page, which stand in the program as they are written.
 use Rattle.std.specs.Prelude.{ℕ, List, ◌++◌}
-use Rattle.draw_told.specs.declared.style.style.TheConstants.{COLOURS, PAGE, CLASSES, MARKS, LINES, SIGNS}
+use Rattle.draw_items.specs.declared.style.style.TheConstants.{COLOURS, PAGE, CLASSES, MARKS, LINES, SIGNS}
 
 -- the colours
 unfoldable pub colours : List ℕ
