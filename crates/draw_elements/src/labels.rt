@@ -156,7 +156,10 @@ fn print_item_note(
         item_note board.now item op) }
 {
     match item {
-        Carried::Post { .. } | Carried::Ask { .. } | Carried::Done { .. } | Carried::Gone { .. } => {
+        Carried::Post { .. }
+        | Carried::Ask { .. }
+        | Carried::Done { .. }
+        | Carried::Gone { .. } => {
             write!(text, "{} ", kind_word(item))?;
             print_operation(text, board, &op)
         }

@@ -1,5 +1,5 @@
--- Where a journey is, behind the first events and behind all. Events are numbered from 1 on; number 0 says that an item did
--- not come, or did not leave.
+-- Where a journey is, behind the first events and behind all. Events are numbered from 1 on; number 0 says that an item
+-- did not come, or did not leave.
 use Rattle.std.specs.Prelude.{ℕ, Bool, true, false, not, ◌&&◌, ◌==◌, nat_lt, nat_le}
 use Rattle.board_model.specs.declared.bridge.Lane.{Lane as BridgeLane}
 use Rattle.history_model.specs.declared.item.Carried.{Carried}

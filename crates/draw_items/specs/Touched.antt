@@ -1,5 +1,5 @@
--- The journeys that an event has to do with: what arrives, or what a lane presents, and the completion that is taken; and what
--- an event would have to do with that did not happen.
+-- The journeys that an event has to do with: what arrives, or what a lane presents, and the completion that is taken; and
+-- what an event would have to do with that did not happen.
 use Rattle.std.specs.Prelude.{◌≡◌, ◌<◌, ◌≤◌, ℕ, ◌-◌, Bool, true, false, not, ◌&&◌, ◌||◌, ◌==◌, nat_lt, nat_le, List, Option, None, if◌then◌else◌}
 use Rattle.std.specs.List.{find}
 use Rattle.pci_command.specs.declared.op_id.OpId.{OpId}

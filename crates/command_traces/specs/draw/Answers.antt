@@ -47,8 +47,8 @@ ending_of count Ended = Done
 ending_of count NotEnded = Done
 ending_of count (Refused why sentence) = DrawnTo count why
 
--- at most 4,096 events are drawn, and the page of them is written, in which each lane has at each moment of the run what it has in
--- the machine
+-- at most 4,096 events are drawn, and the page of them is written, in which each lane has at each moment of the run what it
+-- has in the machine
 pub record DrawsRows (board : Board) (shown : List Event) (close : Close) (rows : Option Rows) (text : List ℕ) (ending : Status) : Type 0 where
   pub few : drawn_count close rows (length shown) ≤ 4096
   pub written : text ≡ page_of board shown close (first_row close rows (length shown)) (last_row rows (length shown))
