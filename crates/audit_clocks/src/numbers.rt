@@ -67,7 +67,8 @@ impl Numbers {
 
     /// What is known rises by an operation, by those before it in its program, and by what it knew.
     pub fn raise(&mut self, start: &Numbers, op: OpId)
-        ensures { Raises self.old self.new (λ author. max (number start.now author) (own op author)) }
+        ensures { Raises self.old self.new (λ author.
+            max (number start.now author) (own op author)) }
     {
         raise_all(&mut self.counts, start, op);
     }
@@ -75,7 +76,8 @@ impl Numbers {
 
 #[tactic(auto, using(crate::proofs::RowLemmas::raised_none, crate::proofs::RowLemmas::raised_next, crate::proofs::RowLemmas::raised_all))]
 fn raise_all(counts: &mut Vec<usize>, start: &Numbers, op: OpId)
-    ensures { Raises counts.old.items counts.new.items (λ author. max (number start.now author) (own op author)) }
+    ensures { Raises counts.old.items counts.new.items (λ author.
+        max (number start.now author) (own op author)) }
 {
     for author in 0..counts.len() {
         raise_at(counts, start, op, author);
@@ -84,7 +86,8 @@ fn raise_all(counts: &mut Vec<usize>, start: &Numbers, op: OpId)
 
 fn raise_at(counts: &mut Vec<usize>, start: &Numbers, op: OpId, author: usize)
     requires { author < length counts.old.items }
-    ensures { counts.new.items ≡ set counts.old.items author (max (number counts.old.items author) (max (number start.now author) (own op author))) }
+    ensures { counts.new.items ≡ set counts.old.items author
+        (max (number counts.old.items author) (max (number start.now author) (own op author))) }
 {
     let more = start.of(author).max(own(op, author));
     counts[author] = counts[author].max(more);

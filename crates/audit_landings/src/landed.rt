@@ -4,7 +4,8 @@ ghost use Rattle.history_model.specs.Knowledge.{is_land_step};
 ghost use Rattle.history_model.specs.Runs.{history_of};
 ghost use Rattle.pci_command.specs.declared.op_id.OpId.{OpId};
 ghost use Rattle.audit_clocks.specs.Tables.{value_of, Lands, Puts};
-ghost use Rattle.audit_landings.specs.Hits.{few_of, hits, request_hits, place_hits, event_hits, lands, whole_at, Landed, Parted};
+ghost use Rattle.audit_landings.specs.Hits.{few_of, hits, request_hits, place_hits};
+ghost use Rattle.audit_landings.specs.Hits.{event_hits, lands, whole_at, Landed, Parted};
 
 use audit_clocks::{Landings, OpTable};
 use board_model::{Board, Place, Word, request_of};
@@ -56,7 +57,8 @@ fn record_step(
     target: u16,
 ) -> Result<(), NoMemory>
     requires { gone ≤ 2 ^ 100 }
-    ensures { OnOk result (Lands landed.old landed.new (place_hits board.now gone bus op step (Target target))) }
+    ensures { OnOk result (Lands landed.old landed.new
+        (place_hits board.now gone bus op step (Target target))) }
 {
     if !lands(step) {
         return Ok(());
@@ -104,7 +106,8 @@ fn record_request(
     target: u16,
 ) -> Result<(), NoMemory>
     requires { gone ≤ 2 ^ 100 }
-    ensures { OnOk result (Lands landed.old landed.new (request_hits gone op step target request.now)) }
+    ensures { OnOk result (Lands landed.old landed.new
+        (request_hits gone op step target request.now)) }
 {
     let space = request.command.space();
     let address = dword_address(space, u128::from(request.address) + 4 * gone);
@@ -131,7 +134,8 @@ fn record_phases(
     phases: &[Phase],
 ) -> Result<(), NoMemory>
     requires { first.address ≤ 2 ^ 120 }
-    ensures { OnOk result (Lands landed.old landed.new (λ word. hits word op first.target first.space first.address (length phases.now))) }
+    ensures { OnOk result (Lands landed.old landed.new (λ word.
+        hits word op first.target first.space first.address (length phases.now))) }
 {
     let mut address = first.address;
     for phase in phases {
@@ -188,9 +192,11 @@ pub(crate) fn record_whole(
     }
 }
 
-/// Of each write that landed whole in these events, the first event first, how many there were before.
+/// Of each write that landed whole in these events, the first event first, how many there were
+/// before.
 pub fn whole_landings(alloc: Global, events: &[Event]) -> Result<OpTable<usize>, NoMemory>
-    ensures { IfOk result (λ whole. (op : OpId) → value_of op whole ≡ whole_at (history_of events.now) op) }
+    ensures { IfOk result (λ whole. (op : OpId) →
+        value_of op whole ≡ whole_at (history_of events.now) op) }
 {
     let mut whole = OpTable::new(alloc);
     record_each(&mut whole, events)?;
@@ -200,7 +206,8 @@ pub fn whole_landings(alloc: Global, events: &[Event]) -> Result<OpTable<usize>,
 #[tactic(auto, using(crate::proofs::StandLemmas::whole_more))]
 fn record_each(whole: &mut OpTable<usize>, events: &[Event]) -> Result<(), NoMemory>
     requires { whole.old ≡ [] }
-    ensures { OnOk result ((op : OpId) → value_of op whole.new ≡ whole_at (history_of events.now) op) }
+    ensures { OnOk result ((op : OpId) →
+        value_of op whole.new ≡ whole_at (history_of events.now) op) }
 {
     for (index, event) in events.iter().enumerate() {
         record_whole(whole, index, event)?;

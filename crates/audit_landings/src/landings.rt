@@ -27,7 +27,8 @@ impl Model for DwordLandings {
 
     ghost Value = { LandingNotes };
 
-    ghost view = { λ k. record { gone = k.gone; landed = k.landed; whole = k.whole; tolds = k.tolds } };
+    ghost view = { λ k.
+        record { gone = k.gone; landed = k.landed; whole = k.whole; tolds = k.tolds } };
 }
 
 impl DwordLandings {
@@ -76,8 +77,10 @@ impl DwordLandings {
         word: Word,
     ) -> Result<Numbers, NoMemory>
         requires { ToldsFor masters self.old.whole starts.now self.old.landed self.old.tolds }
-        ensures tells { IfOk result (Tells masters self.old.whole starts.now (writes_in word self.old.landed)) }
-        ensures stand { OnOk result (ToldsFor masters self.new.whole starts.now self.new.landed self.new.tolds) }
+        ensures tells { IfOk result (Tells masters self.old.whole starts.now
+            (writes_in word self.old.landed)) }
+        ensures stand { OnOk result
+            (ToldsFor masters self.new.whole starts.now self.new.landed self.new.tolds) }
         ensures same { SameLandings self.old self.new }
     {
         told_in(

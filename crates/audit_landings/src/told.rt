@@ -1,4 +1,5 @@
-ghost use Rattle.std.specs.Prelude.{◌≡◌, ◌++◌, ◌∷◌, [], length, filter, max, if◌then◌else◌, IfOk, OnOk};
+ghost use Rattle.std.specs.Prelude.{◌≡◌, ◌++◌, ◌∷◌, [], length, filter};
+ghost use Rattle.std.specs.Prelude.{max, if◌then◌else◌, IfOk, OnOk};
 ghost use Rattle.list_facts.specs.Lists.{greatest};
 ghost use Rattle.audit_clocks.specs.Rows.{number, own, Raises};
 ghost use Rattle.audit_clocks.specs.Tables.{numbers_of, writes_in};
@@ -9,8 +10,8 @@ use board_model::Word;
 use pci_command::{NoMemory, OpId};
 use std::alloc::Global;
 
-/// What the landings of one dword tell that were looked at: what a write tells stays as it is once it
-/// landed whole.
+/// What the landings of one dword tell that were looked at: what a write tells stays as it is once
+/// it landed whole.
 #[derive(Debug, Drop)]
 pub(crate) struct Told {
     /// How many landings were looked at, from the first on.
@@ -67,7 +68,8 @@ fn told_further(
 ) -> Result<Told, NoMemory>
     requires { ToldOf whole.now starts.now writes.now told }
     ensures stands { IfOk result (ToldOf whole.now starts.now writes.now) }
-    ensures tells { IfOk result (λ next. Tells (length told.numbers) whole.now starts.now writes.now next.numbers) }
+    ensures tells { IfOk result (λ next.
+        Tells (length told.numbers) whole.now starts.now writes.now next.numbers) }
 {
     let mut numbers = told.numbers;
     let mut waiting = Vec::new(alloc);
@@ -98,8 +100,10 @@ fn tell_all(
     numbers: &mut Numbers,
     waiting: &mut Vec<OpId>,
 ) -> Result<(), NoMemory>
-    ensures told { OnOk result (Raises numbers.old numbers.new (λ author. greatest (told_by whole.now starts.now author) writes.now)) }
-    ensures waiting { OnOk result (waiting.new.items ≡ waiting.old.items ++ filter (is_waiting whole.now) writes.now) }
+    ensures told { OnOk result (Raises numbers.old numbers.new (λ author.
+        greatest (told_by whole.now starts.now author) writes.now)) }
+    ensures waiting { OnOk result (waiting.new.items ≡
+        waiting.old.items ++ filter (is_waiting whole.now) writes.now) }
 {
     for op in writes {
         tell(alloc, starts, whole, *op, numbers, waiting)?;
@@ -115,8 +119,10 @@ fn tell(
     numbers: &mut Numbers,
     waiting: &mut Vec<OpId>,
 ) -> Result<(), NoMemory>
-    ensures told { OnOk result (Raises numbers.old numbers.new (λ author. told_by whole.now starts.now author op)) }
-    ensures waiting { OnOk result (waiting.new.items ≡ waiting.old.items ++ (if is_waiting whole.now op then op ∷ [] else [])) }
+    ensures told { OnOk result (Raises numbers.old numbers.new
+        (λ author. told_by whole.now starts.now author op)) }
+    ensures waiting { OnOk result (waiting.new.items ≡
+        waiting.old.items ++ (if is_waiting whole.now op then op ∷ [] else [])) }
 {
     if whole.get(op).is_some() {
         raise(alloc, starts, numbers, op);
@@ -128,7 +134,8 @@ fn tell(
 
 /// What a write tells that landed whole: what it knew as its master last presented it, and itself.
 fn raise(alloc: Global, starts: &OpTable<Numbers>, numbers: &mut Numbers, op: OpId)
-    ensures { Raises numbers.old numbers.new (λ author. max (number (numbers_of op starts.now) author) (own op author)) }
+    ensures { Raises numbers.old numbers.new (λ author.
+        max (number (numbers_of op starts.now) author) (own op author)) }
 {
     match starts.get(op) {
         Some(start) => numbers.raise(start, op),

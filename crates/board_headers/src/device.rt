@@ -1,6 +1,10 @@
-//! The configuration registers of a target: PCI Local Bus Specification 2.2, chapter 6 (from memory).
-ghost use Rattle.std.specs.Prelude.{◌≡◌, ◌<◌, ◌≤◌, ◌+◌, ◌*◌, ◌^◌, length, slice_index, if◌then◌else◌};
-ghost use Rattle.board_headers.specs.device.Registers.{opening_of, write_mask_of, byte_enabled, enabled_bits, merge_of, base_registers, all_base_registers, io_bit};
+//! The configuration registers of a target: PCI Local Bus Specification 2.2, chapter 6 (from
+//! memory).
+ghost use Rattle.std.specs.Prelude.{◌≡◌, ◌<◌, ◌≤◌, ◌+◌, ◌*◌, ◌^◌};
+ghost use Rattle.std.specs.Prelude.{length, slice_index, if◌then◌else◌};
+ghost use Rattle.board_headers.specs.device.Registers.{opening_of, write_mask_of, byte_enabled};
+ghost use Rattle.board_headers.specs.device.Registers.{enabled_bits, merge_of, base_registers};
+ghost use Rattle.board_headers.specs.device.Registers.{all_base_registers, io_bit};
 
 use board_model::{Range, Target};
 use pci_command::{Phase, Space};

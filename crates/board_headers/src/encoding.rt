@@ -1,6 +1,10 @@
 ghost use Rattle.std.specs.Prelude.{◌≡◌, ◌+◌, ◌/◌, ◌%◌, ◌^◌, ◌<◌, slice_set, if◌then◌else◌};
-ghost use Rattle.board_headers.specs.HeaderBytes.{header_bytes, bits, io_base, io_limit, io_base_upper, io_limit_upper, memory_base, memory_limit, is_wide};
-ghost use Rattle.board_headers.specs.HeaderBytes.{wide_bit, prefetchable_base, prefetchable_limit, prefetchable_base_upper, prefetchable_limit_upper, control_of};
+ghost use Rattle.board_headers.specs.HeaderBytes.{header_bytes, bits, io_base, io_limit};
+ghost use Rattle.board_headers.specs.HeaderBytes.{io_base_upper, io_limit_upper, memory_base};
+ghost use Rattle.board_headers.specs.HeaderBytes.{memory_limit, is_wide, wide_bit};
+ghost use Rattle.board_headers.specs.HeaderBytes.{prefetchable_base, prefetchable_limit};
+ghost use Rattle.board_headers.specs.HeaderBytes.{prefetchable_base_upper};
+ghost use Rattle.board_headers.specs.HeaderBytes.{prefetchable_limit_upper, control_of};
 
 use crate::control::{BridgeControl, CommandBits};
 use bitflags::Flags;
@@ -44,8 +48,8 @@ pub fn encode(bridge: &Bridge) -> [u8; 64]
 
 fn put_2(bytes: &mut [u8; 64], offset: usize, register: u16)
     requires { offset + 1 < 64 }
-    ensures { bytes.new
-        ≡ slice_set (slice_set bytes.old offset (register % 2 ^ 8)) (offset + 1) (register / 2 ^ 8 % 2 ^ 8) }
+    ensures { bytes.new ≡ slice_set (slice_set bytes.old offset (register % 2 ^ 8)) (offset + 1)
+        (register / 2 ^ 8 % 2 ^ 8) }
 {
     bytes[offset] = (register & 0xff) as u8;
     bytes[offset + 1] = (register >> 8) as u8;

@@ -1,4 +1,5 @@
-ghost use Rattle.std.specs.Prelude.{◌≡◌, ◌+◌, ◌<◌, ℕ, length, None, IfSome, IfNone, IsTrue, slice_get};
+ghost use Rattle.std.specs.Prelude.{◌≡◌, ◌+◌, ◌<◌, ℕ, length, None};
+ghost use Rattle.std.specs.Prelude.{IfSome, IfNone, IsTrue, slice_get};
 ghost use Rattle.pci_command.specs.declared.request.Request.{Request as RequestOf};
 ghost use Rattle.board_model.specs.declared.board.Board.{Board as BoardTree};
 ghost use Rattle.board_model.specs.declared.bridge.Place.TheVariants.{Target, Lane as LaneOf};
@@ -36,7 +37,13 @@ impl Model for Bus {
 
     ghost Value = { BusView };
 
-    ghost view = { λ b. record { bus = b.bus; ports = b.ports.items; masters = b.masters.items; targets = b.targets.items; through = b.through } };
+    ghost view = { λ b. record {
+      bus = b.bus;
+      ports = b.ports.items;
+      masters = b.masters.items;
+      targets = b.targets.items;
+      through = b.through;
+    } };
 }
 
 impl Bus {
@@ -57,7 +64,13 @@ impl Bus {
         targets: Vec<TargetState>,
         through: Through,
     ) -> Bus
-        ensures kept { result ≡ record { bus = bus; ports = ports.items; masters = masters.items; targets = targets.items; through = through } }
+        ensures kept { result ≡ record {
+          bus = bus;
+          ports = ports.items;
+          masters = masters.items;
+          targets = targets.items;
+          through = through;
+        } }
         ensures first { StandsAtFirst result }
     {
         Bus::of(bus, ports, masters, targets, through)
@@ -70,7 +83,13 @@ impl Bus {
         targets: Vec<TargetState>,
         through: Through,
     ) -> Bus
-        ensures { result ≡ record { bus = bus; ports = ports.items; masters = masters.items; targets = targets.items; through = through } }
+        ensures { result ≡ record {
+          bus = bus;
+          ports = ports.items;
+          masters = masters.items;
+          targets = targets.items;
+          through = through;
+        } }
     {
         Bus {
             bus,
@@ -105,7 +124,8 @@ impl Bus {
     /// The items that the lane of the port at this place presents, in the order in which they came.
     pub fn offers(&self, place: usize) -> ArrayVec<Offer, 16>
         requires { place < length self.now.ports }
-        ensures kept { IfSome (slice_get self.now.ports place) (λ port. result.items ≡ offers_of port.face) }
+        ensures kept { IfSome (slice_get self.now.ports place) (λ port. result.items ≡
+            offers_of port.face) }
         ensures offers { BusOffers place self.now result.items }
     {
         offers_at(self.ports.as_slice(), place)
@@ -120,8 +140,8 @@ impl Bus {
     }
 
     /// What the operation is answered that the initiator of this line presents, with what that does
-    /// at whoever claims it. What goes over a bridge has the stamp. None, and nothing is done, where
-    /// a lane presents it and its lane back claims it.
+    /// at whoever claims it. What goes over a bridge has the stamp. None, and nothing is done,
+    /// where a lane presents it and its lane back claims it.
     pub fn answer(&mut self, board: &Board, line: u8, op: OpId, stamp: u32) -> Option<Given>
         requires { IsTrue (is_well_formed board.now) }
         ensures shape { shape_of self.new ≡ shape_of self.old }
@@ -130,7 +150,8 @@ impl Bus {
         ensures presenter { slice_get self.new.ports line ≡ slice_get self.old.ports line }
         ensures stamped { IfSome result (λ given. IsStamped stamp given.over) }
         ensures apart { IfSome result (λ given. IsElsewhere line given.over) }
-        ensures answers { IfSome result (λ given. BusAnswers board.now self.old line op given.answer given.over self.new) }
+        ensures answers { IfSome result (λ given.
+            BusAnswers board.now self.old line op given.answer given.over self.new) }
         ensures turns { IfNone result (TurnsBack board.now self.old line op) }
     {
         match request_of(board, op, self.bus) {
@@ -155,7 +176,8 @@ impl Bus {
         ensures presenter { slice_get self.new.ports line ≡ slice_get self.old.ports line }
         ensures stamped { IfSome result (λ given. IsStamped stamp given.over) }
         ensures apart { IfSome result (λ given. IsElsewhere line given.over) }
-        ensures answers { IfSome result (λ given. RequestAnswers board.now self.old line op request.now given.answer given.over self.new) }
+        ensures answers { IfSome result (λ given. RequestAnswers board.now self.old line op
+            request.now given.answer given.over self.new) }
         ensures turns { IfNone result (RequestTurns board.now self.old line op request.now) }
     {
         let rest = rest_of(request, self.through.of(op));
@@ -175,7 +197,8 @@ impl Bus {
         ensures masters { self.new.masters ≡ self.old.masters }
         ensures ports { self.new.ports ≡ self.old.ports }
         ensures none { result.over ≡ None }
-        ensures answers { (line : ℕ) (request : RequestOf) → PlaceAnswers board.now self.old (Target target) line op request rest.now result.answer result.over self.new }
+        ensures answers { (line : ℕ) (request : RequestOf) → PlaceAnswers board.now self.old
+            (Target target) line op request rest.now result.answer result.over self.new }
     {
         match target_place(self.targets.as_slice(), target) {
             None => nobody(),
@@ -208,8 +231,11 @@ impl Bus {
         ensures presenter { slice_get self.new.ports line ≡ slice_get self.old.ports line }
         ensures stamped { IfSome result (λ given. IsStamped stamp given.over) }
         ensures apart { IfSome result (λ given. IsElsewhere line given.over) }
-        ensures answers { (board : BoardTree) (rest : RequestOf) → IfSome result (λ given. PlaceAnswers board self.old (LaneOf lane) line op request.now rest given.answer given.over self.new) }
-        ensures turns { (board : BoardTree) (rest : RequestOf) → IfNone result (PlaceTurns board self.old (LaneOf lane) line op request.now rest) }
+        ensures answers { (board : BoardTree) (rest : RequestOf) →
+            IfSome result (λ given. PlaceAnswers board self.old (LaneOf lane)
+            line op request.now rest given.answer given.over self.new) }
+        ensures turns { (board : BoardTree) (rest : RequestOf) →
+            IfNone result (PlaceTurns board self.old (LaneOf lane) line op request.now rest) }
     {
         match port_back(self.ports.as_slice(), lane) {
             None => Some(nobody()),

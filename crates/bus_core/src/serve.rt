@@ -45,7 +45,8 @@ impl Bus {
         ensures arrivals { arrivals_at self.new ≡ arrivals_at self.old }
         ensures stamped { SendsStamped stamp result }
         ensures apart { SendsApart result }
-        ensures serves { (master : MasterView) → slice_get self.old.masters place ≡ Some master → master.turn ≡ Some op → Serves board.now Master op self.old result self.new }
+        ensures serves { (master : MasterView) → slice_get self.old.masters place ≡ Some master →
+            master.turn ≡ Some op → Serves board.now Master op self.old result self.new }
     {
         match self.answer(board, 9 + place, op, stamp) {
             None => Served::TurnsBack,
@@ -74,12 +75,14 @@ impl Bus {
     pub fn serve_offer(&mut self, board: &Board, place: u8, offer: &Offer, stamp: u32) -> Served
         requires formed { IsTrue (is_well_formed board.now) }
         requires place { place < length self.old.ports }
-        requires offered { IfSome (slice_get self.old.ports place) (λ port. Contains (offers_of port.face) offer.now) }
+        requires offered { IfSome (slice_get self.old.ports place)
+            (λ port. Contains (offers_of port.face) offer.now) }
         ensures shape { shape_of self.new ≡ shape_of self.old }
         ensures arrivals { arrivals_at self.new ≡ arrivals_at self.old }
         ensures stamped { SendsStamped stamp result }
         ensures apart { SendsApart result }
-        ensures serves { (port : PortView) → slice_get self.old.ports place ≡ Some port → Serves board.now (ByLane port.lane) offer.now.op self.old result self.new }
+        ensures serves { (port : PortView) → slice_get self.old.ports place ≡ Some port →
+            Serves board.now (ByLane port.lane) offer.now.op self.old result self.new }
     {
         match self.answer(board, place, offer.op, stamp) {
             None => Served::TurnsBack,
@@ -113,8 +116,8 @@ impl Bus {
         self.ports[place].lane()
     }
 
-    /// What the port at this place offered was answered with this step: it leaves where that ends it, and its
-    /// answer goes back.
+    /// What the port at this place offered was answered with this step: it leaves where that ends
+    /// it, and its answer goes back.
     fn tell_lane(
         &mut self,
         board: &Board,
@@ -124,7 +127,8 @@ impl Bus {
         stamp: u32,
     ) -> Option<Sent>
         requires place { place < length self.old.ports }
-        requires offered { IfSome (slice_get self.old.ports place) (λ port. Contains (offers_of port.face) offer.now) }
+        requires offered { IfSome (slice_get self.old.ports place)
+            (λ port. Contains (offers_of port.face) offer.now) }
         ensures shape { shape_of self.new ≡ shape_of self.old }
         ensures arrivals { arrivals_at self.new ≡ arrivals_at self.old }
         ensures stamped { IsStamped stamp result }

@@ -35,7 +35,11 @@ pub fn word_read(request: &Request, target: u16) -> Word
 
 /// What the dword of the target at the address opens as.
 pub fn opens_as(board: &Board, target: u16, space: Space, address: u128) -> u32
-    ensures { result ≡ opens_as board.now (record { target = target; space = space; address = address }) }
+    ensures { result ≡ opens_as board.now (record {
+      target = target;
+      space = space;
+      address = address;
+    }) }
 {
     match board.targets.as_slice().get(target as usize) {
         None => 0,
@@ -148,7 +152,8 @@ pub fn value_at(values: &[u32], place: usize) -> u32
 
 /// The data phase lands in the value at the place, in the bits of the mask.
 pub fn merge_at(values: &mut [u32], place: usize, phase: &Phase, mask: u32)
-    ensures { values.new ≡ changed_at (λ value. merge_of value phase.now mask) values.old (Some place) }
+    ensures { values.new ≡
+        changed_at (λ value. merge_of value phase.now mask) values.old (Some place) }
 {
     if place < values.len() {
         values[place] = merge(values[place], phase, mask);

@@ -1,4 +1,5 @@
-ghost use Rattle.std.specs.Prelude.{◌≡◌, ◌+◌, ◌<◌, ◌≤◌, ◌↔◌, None, Some, [], ◌∷◌, ◌++◌, length, position, IsSome, ◌==◌};
+ghost use Rattle.std.specs.Prelude.{◌≡◌, ◌+◌, ◌<◌, ◌≤◌, ◌↔◌, None, Some, []};
+ghost use Rattle.std.specs.Prelude.{◌∷◌, ◌++◌, length, position, IsSome, ◌==◌};
 ghost use Rattle.std.specs.Option.{option_map};
 
 use arrayvec::ArrayVec;
@@ -35,7 +36,8 @@ impl Model for DoneTable {
 }
 
 impl DoneTable {
-    ghost use Rattle.bus_face.specs.completions.Completions.{IsTable, IsStanding, KeepsOthers, done_at, without};
+    ghost use Rattle.bus_face.specs.completions.Completions.{IsTable, IsStanding};
+    ghost use Rattle.bus_face.specs.completions.Completions.{KeepsOthers, done_at, without};
 
     /// A table without completions that has room for `depth` of them.
     pub fn new(depth: u8) -> DoneTable

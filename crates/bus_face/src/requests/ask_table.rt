@@ -1,4 +1,5 @@
-ghost use Rattle.std.specs.Prelude.{◌≡◌, ◌+◌, ◌<◌, ◌≤◌, ◌==◌, ◌↔◌, Some, [], ◌∷◌, ◌++◌, length, slice_get, remove, IsTrue};
+ghost use Rattle.std.specs.Prelude.{◌≡◌, ◌+◌, ◌<◌, ◌≤◌, ◌==◌, ◌↔◌, Some, [], ◌∷◌};
+ghost use Rattle.std.specs.Prelude.{◌++◌, length, slice_get, remove, IsTrue};
 ghost use Rattle.std.specs.Option.{option_map};
 ghost use Rattle.std.specs.List.{Any, list_any};
 ghost use Rattle.pci_command.specs.Command.{is_read};
@@ -18,7 +19,8 @@ pub struct Ask {
 }
 
 /// The delayed requests that stand, in the order in which they came, at places from 0: at most
-/// `depth`, which is from 1 to 8 (PCI Local Bus 2.2, section 3.3.3.3.5, from memory). It takes no memory.
+/// `depth`, which is from 1 to 8 (PCI Local Bus 2.2, section 3.3.3.3.5, from memory). It takes no
+/// memory.
 #[derive(Debug, Drop)]
 pub struct AskTable {
     limit: u8,

@@ -1,4 +1,5 @@
-ghost use Rattle.std.specs.Prelude.{◌≡◌, ◌+◌, ◌<◌, ◌≤◌, ◌==◌, ◌↔◌, None, Some, [], ◌∷◌, ◌++◌, length, position, IsNone, IsSome, IfSome};
+ghost use Rattle.std.specs.Prelude.{◌≡◌, ◌+◌, ◌<◌, ◌≤◌, ◌==◌, ◌↔◌, None, Some, [], ◌∷◌};
+ghost use Rattle.std.specs.Prelude.{◌++◌, length, position, IsNone, IsSome, IfSome};
 ghost use Rattle.std.specs.Option.{option_map};
 
 use arrayvec::ArrayVec;
@@ -16,7 +17,8 @@ pub struct SlotEntry {
 }
 
 /// The held slots, in the order in which their requests were latched: at most `depth`, which is
-/// from 1 to 8, with numbers below it (PCI Local Bus 2.2, section 3.3.3.3.5, from memory). It takes no memory.
+/// from 1 to 8, with numbers below it (PCI Local Bus 2.2, section 3.3.3.3.5, from memory). It takes
+/// no memory.
 #[derive(Debug, Drop)]
 pub struct SlotTable {
     limit: u8,
@@ -34,7 +36,8 @@ impl Model for SlotTable {
 }
 
 impl SlotTable {
-    ghost use Rattle.bus_face.specs.requests.Slots.{IsSlotTable, IsHeld, IsLowestFree, IsOwnNumber, HasNoOwn, KeepsOthers, slot_at, without};
+    ghost use Rattle.bus_face.specs.requests.Slots.{IsSlotTable, IsHeld, IsLowestFree, IsOwnNumber};
+    ghost use Rattle.bus_face.specs.requests.Slots.{HasNoOwn, KeepsOthers, slot_at, without};
 
     /// A table with no slot held, of which `depth` can be held.
     pub fn new(depth: u8) -> SlotTable
