@@ -23,7 +23,7 @@ use Rattle.board_parser.specs.declared.draft.draft.Draft.{Draft}
 use Rattle.board_parser.specs.draft.Drafts.{first_draft}
 use Rattle.board_parser.specs.OneLine.{begin, read_words, read_more, read_unless, read_line}
 use Rattle.board_parser.specs.Boards.{then_lines, read_lines, ended, board_read}
-use Rattle.board_roundtrip.specs.lines.Fits.{BoardFits}
+use Rattle.board_model.specs.Fits.{BoardFits}
 use Rattle.board_roundtrip.proofs.LeadLemmas.{Leads, leads-append, leads-each, leads-map, behind_first}
 use Rattle.board_roundtrip.proofs.StateLemmas.{so_far, Of}
 use Rattle.board_roundtrip.proofs.BridgeSteps.{bridge_step}

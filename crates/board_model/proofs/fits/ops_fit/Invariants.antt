@@ -1,7 +1,7 @@
 use Rattle.std.proofs.Common.{take}
 use Rattle.std.specs.List.{AllByRecursion}
-use Rattle.board_roundtrip.specs.lines.Ranges.{OpFits}
-use Rattle.board_roundtrip.proofs.fits.ops_fit.Given as goal
+use Rattle.board_model.specs.Fits.{OpFits}
+use Rattle.board_model.proofs.fits.ops_fit.Given as goal
 
 -- the operations so far
 abbrev pub invariant-loop-op : goal.invariant-loop-op

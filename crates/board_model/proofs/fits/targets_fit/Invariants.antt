@@ -1,7 +1,7 @@
 use Rattle.std.proofs.Common.{take}
 use Rattle.std.specs.List.{AllByRecursion}
-use Rattle.board_roundtrip.specs.lines.Fits.{DetailsFit}
-use Rattle.board_roundtrip.proofs.fits.targets_fit.Given as goal
+use Rattle.board_model.specs.Fits.{DetailsFit}
+use Rattle.board_model.proofs.fits.targets_fit.Given as goal
 
 -- the targets so far
 abbrev pub invariant-loop-target : goal.invariant-loop-target

@@ -1,7 +1,7 @@
 use Rattle.std.proofs.Common.{take}
 use Rattle.std.specs.List.{AllByRecursion}
-use Rattle.board_roundtrip.specs.lines.Ranges.{RangeFits}
-use Rattle.board_roundtrip.proofs.fits.ranges_fit.Given as goal
+use Rattle.board_model.specs.Fits.{RangeFits}
+use Rattle.board_model.proofs.fits.ranges_fit.Given as goal
 
 -- the ranges so far
 abbrev pub invariant-loop-range : goal.invariant-loop-range
