@@ -3,14 +3,11 @@ ghost use Rattle.std.specs.Prelude.{not, true, false, None, Some, nat_lt};
 ghost use Rattle.bus_face.specs.State.{FaceState};
 ghost use Rattle.bus_face.specs.Offers.{answered_with};
 
-use crate::completions::DoneTable;
-use crate::posts::PostedTable;
-use crate::requests::{AskTable, SlotTable};
 use crate::{Offer, Reply};
 use arrayvec::ArrayVec;
 use board_model::is_posted;
 use history_model::{Cause, Mark};
-use lane_items::Item;
+use lane_items::{AskTable, DoneTable, Item, PostedTable, SlotTable};
 use machine_steps::{completion_kind, request_kind};
 use order_table::may_pass;
 use pci_command::{Kind, OpId, Outcome, Request, same_op};
@@ -52,8 +49,8 @@ impl Face {
     ghost use Rattle.list_facts.specs.Lists.{less};
     ghost use Rattle.std.specs.Option.{option_map};
     ghost use Rattle.std.specs.List.{find};
-    ghost use Rattle.bus_face.specs.requests.Slots.{IsHeld, slot_at};
-    ghost use Rattle.bus_face.specs.completions.Completions.{done_at, IsStanding};
+    ghost use Rattle.lane_items.specs.requests.Slots.{IsHeld, slot_at};
+    ghost use Rattle.lane_items.specs.completions.Completions.{done_at, IsStanding};
     ghost use Rattle.std.specs.List.{list_any};
     ghost use Rattle.bus_face.specs.Arrivals.{carried, is_taken, is_for, has_slot};
     ghost use Rattle.bus_face.specs.Arrivals.{counted, arrived, ask_marked, done_marked};

@@ -5,16 +5,10 @@
 //! items carry operations of their kind (`CanStandThere`).
 #![tactic(auto)]
 
-mod completions;
 mod face;
 mod offer;
-mod posts;
 mod reply;
-mod requests;
 
-pub use completions::{Done, DoneTable};
 pub use face::Face;
 pub use offer::Offer;
-pub use posts::{Post, PostedTable};
 pub use reply::Reply;
-pub use requests::{Ask, AskTable, SlotEntry, SlotTable};

@@ -20,9 +20,9 @@ use Rattle.history_model.specs.Answers.{lane_answer, presents}
 use Rattle.history_model.proofs.facts.BridgeLemmas.{lane_back_back}
 use Rattle.law_local.proofs.Laws.{moved_here, moved_back}
 use Rattle.lane_items.specs.declared.item.Item.{Item}
-use Rattle.bus_face.specs.declared.requests.slot_table.SlotEntry.{SlotEntry}
-use Rattle.bus_face.specs.declared.completions.done_table.Done.{Done}
-use Rattle.bus_face.specs.completions.Completions.{done_at}
+use Rattle.lane_items.specs.declared.requests.slot_table.SlotEntry.{SlotEntry}
+use Rattle.lane_items.specs.declared.completions.done_table.Done.{Done}
+use Rattle.lane_items.specs.completions.Completions.{done_at}
 use Rattle.bus_face.specs.declared.reply.Reply.{Reply}
 use Rattle.bus_face.specs.declared.reply.Reply.TheVariants.{Accepted, Latched, Taken, Retry as Retried}
 use Rattle.bus_face.specs.declared.offer.Offer.{Offer}
