@@ -32,40 +32,46 @@ pub(crate) fn record_landed(
             step,
             place: Place::Target(target),
             ..
-        } => record_step(
-            alloc,
-            landed,
-            board,
-            gone_of(gone, op),
-            bus,
-            op,
-            step,
-            target,
-        ),
+        } => {
+            let gone = gone_of(gone, op);
+            let at = TargetStep {
+                gone,
+                op,
+                step,
+                target,
+            };
+            record_step(alloc, landed, board, bus, at)
+        }
         Event::Act { .. } | Event::Arrive { .. } => Ok(()),
     }
+}
+
+/// A step of an operation at a target, before which so many of its data phases went through.
+#[derive(Clone, Copy)]
+struct TargetStep {
+    gone: u128,
+    op: OpId,
+    step: Step,
+    target: u16,
 }
 
 fn record_step(
     alloc: Global,
     landed: &mut Landings,
     board: &Board,
-    gone: u128,
     bus: u8,
-    op: OpId,
-    step: Step,
-    target: u16,
+    at: TargetStep,
 ) -> Result<(), NoMemory>
-    requires { gone ≤ 2 ^ 100 }
+    requires { at.gone ≤ 2 ^ 100 }
     ensures { OnOk result (Lands landed.old landed.new
-        (place_hits board.now gone bus op step (Target target))) }
+        (place_hits board.now at.gone bus at.op at.step (Target at.target))) }
 {
-    if !lands(step) {
+    if !lands(at.step) {
         return Ok(());
     }
-    match request_of(board, op, bus) {
+    match request_of(board, at.op, bus) {
         None => Ok(()),
-        Some(request) => record_request(alloc, landed, &request, gone, op, step, target),
+        Some(request) => record_request(alloc, landed, &request, at),
     }
 }
 
@@ -100,29 +106,20 @@ fn record_request(
     alloc: Global,
     landed: &mut Landings,
     request: &Request,
-    gone: u128,
-    op: OpId,
-    step: Step,
-    target: u16,
+    at: TargetStep,
 ) -> Result<(), NoMemory>
-    requires { gone ≤ 2 ^ 100 }
+    requires { at.gone ≤ 2 ^ 100 }
     ensures { OnOk result (Lands landed.old landed.new
-        (request_hits gone op step target request.now)) }
+        (request_hits at.gone at.op at.step at.target request.now)) }
 {
     let space = request.command.space();
-    let address = dword_address(space, u128::from(request.address) + 4 * gone);
     let first = Word {
-        target,
+        target: at.target,
         space,
-        address,
+        address: dword_address(space, u128::from(request.address) + 4 * at.gone),
     };
-    record_phases(
-        alloc,
-        landed,
-        first,
-        op,
-        brought_by(step, left_of(request.phases.as_slice(), gone)),
-    )
+    let left = left_of(request.phases.as_slice(), at.gone);
+    record_phases(alloc, landed, first, at.op, brought_by(at.step, left))
 }
 
 #[tactic(auto, using(crate::proofs::HitLemmas::hits_none, crate::proofs::HitLemmas::hits_more))]

@@ -2,11 +2,10 @@ ghost use Rattle.std.specs.Prelude.{◌≡◌, ◌++◌, ◌∷◌, [], length, 
 ghost use Rattle.std.specs.Prelude.{max, if◌then◌else◌, IfOk, OnOk};
 ghost use Rattle.list_facts.specs.Lists.{greatest};
 ghost use Rattle.audit_clocks.specs.Rows.{number, own, Raises};
-ghost use Rattle.audit_clocks.specs.Tables.{numbers_of, writes_in};
-ghost use Rattle.audit_landings.specs.Told.{told_by, is_waiting, Tells, ToldOf, ToldsFor, ToldFrom};
+ghost use Rattle.audit_clocks.specs.Tables.{numbers_of};
+ghost use Rattle.audit_landings.specs.Told.{told_by, is_waiting, Tells, ToldOf, ToldFrom};
 
-use audit_clocks::{Landings, Numbers, OpTable, WordTable};
-use board_model::Word;
+use audit_clocks::{Numbers, OpTable};
 use pci_command::{NoMemory, OpId};
 use std::alloc::Global;
 
@@ -22,30 +21,12 @@ pub(crate) struct Told {
     pub(crate) waiting: Vec<OpId>,
 }
 
-/// What those writes tell that landed whole in the dword. Each landing is looked at once as it is
-/// new, and then at each call as long as the rest of its write did not land.
-pub(crate) fn told_in(
+/// What is kept of a dword, or else that none of its landings was looked at.
+pub(crate) fn told_or_nothing(
     alloc: Global,
     masters: usize,
-    starts: &OpTable<Numbers>,
-    whole: &OpTable<usize>,
-    landed: &Landings,
-    tolds: &mut WordTable<Told>,
-    word: Word,
-) -> Result<Numbers, NoMemory>
-    requires { ToldsFor masters whole.now starts.now landed.now tolds.old }
-    ensures tells { IfOk result (Tells masters whole.now starts.now (writes_in word landed.now)) }
-    ensures stand { OnOk result (ToldsFor masters whole.now starts.now landed.now tolds.new) }
-{
-    let found = tolds.take(word);
-    let old = told_or_nothing(alloc, masters, found)?;
-    let next = told_further(alloc, starts, whole, landed.of(word), old)?;
-    let numbers = next.numbers.copied(alloc)?;
-    tolds.put(word, next)?;
-    Ok(numbers)
-}
-
-fn told_or_nothing(alloc: Global, masters: usize, found: Option<Told>) -> Result<Told, NoMemory>
+    found: Option<Told>,
+) -> Result<Told, NoMemory>
     ensures { IfOk result (ToldFrom masters found) }
 {
     match found {
@@ -59,7 +40,7 @@ fn told_or_nothing(alloc: Global, masters: usize, found: Option<Told>) -> Result
 }
 
 /// The landings behind those that were looked at are looked at too, and those that waited again.
-fn told_further(
+pub(crate) fn told_further(
     alloc: Global,
     starts: &OpTable<Numbers>,
     whole: &OpTable<usize>,
@@ -91,7 +72,7 @@ fn told_further(
 }
 
 /// What those of the writes tell that landed whole; the others wait.
-#[tactic(auto, using(crate::proofs::TellLemmas::telling_none, crate::proofs::TellLemmas::telling_next, crate::proofs::TellLemmas::telling_raises, crate::proofs::TellLemmas::telling_waits))]
+#[tactic(auto, using(crate::proofs::TellLemmas::of_writes))]
 fn tell_all(
     alloc: Global,
     starts: &OpTable<Numbers>,
