@@ -17,6 +17,7 @@ use Rattle.history_model.specs.declared.event.Event.{Event}
 use Rattle.history_model.specs.declared.event.Event.TheVariants.{Act, Arrive}
 use Rattle.history_model.specs.declared.item.Carried.{Carried}
 use Rattle.history_model.specs.declared.item.Carried.TheVariants.{Post, Ask, Done, Room, Gone}
+use Rattle.history_model.specs.declared.rule.Rule.TheVariants.{Tagged}
 use Rattle.history_model.specs.Lanes.{is_of}
 use Rattle.history_model.specs.World.{lane_outcome, world_of}
 use Rattle.history_model.specs.Words.{Landing, landings_by, brought, landed}
@@ -88,8 +89,8 @@ module _ (board : Board) (h : List Event) (P Q : OpId → Type 0) (kept : (q : O
   pub items_after : (e : Event) → Run board (e ∷ h) → Entry Q e → WorldHas (Names Q) (world_of board (e ∷ h))
   items_after (Act on by o step place) run entry =
       let has : Q o = presents_named on by o step place run entry in
-      act_has (Names Q) tt (λ slot. tt) board on by o step place (world_of board h) (enters_names Q o step has) (replies_by_names Q board o step by has) all_kept
-  items_after (Arrive lane mark) run entry = arrival_has (Names Q) tt (λ slot. tt) board lane mark (world_of board h) all_kept
+      act_has (Names Q) tt (λ slot. tt) Tagged board on by o step place (world_of board h) (enters_names Q o step has) (replies_by_names Q board o step by has) all_kept
+  items_after (Arrive lane mark) run entry = arrival_has (Names Q) tt (λ slot. tt) Tagged board lane mark (world_of board h) all_kept
 
   pub landings_after : (e : Event) (word : Dword) → Run board (e ∷ h) → Entry Q e → AllByRecursion (λ (l : Landing). P l.op) (landed board h word) → AllByRecursion (λ (l : Landing). Q l.op) (landed board (e ∷ h) word)
   landings_after e word run entry landings =

@@ -25,6 +25,7 @@ use Rattle.history_model.specs.declared.event.Event.{Event}
 use Rattle.history_model.specs.declared.event.Event.TheVariants.{Act, Arrive}
 use Rattle.history_model.specs.declared.item.Carried.{Carried}
 use Rattle.history_model.specs.declared.item.Carried.TheVariants.{Post, Ask, Done, Room, Gone}
+use Rattle.history_model.specs.declared.rule.Rule.TheVariants.{Tagged}
 use Rattle.history_model.specs.Lanes.{is_of}
 use Rattle.history_model.specs.World.{lane_outcome, world_of}
 use Rattle.history_model.specs.Words.{through, without, brings, Landing, landings_at, landings_in, landings_of, landings_by, brought, landed}
@@ -111,11 +112,11 @@ event_begun : (board : Board) (e : Event) (h : List Event) → Run board (e ∷ 
 event_begun board (Act on by o step place) h run old =
     let e : Event = Act on by o step place in
     let begun : Begun board (e ∷ h) o = Begun-kept board e h o run (begun_by board h on by o old run.0.0) in
-    act_has (ItemBegun board (e ∷ h)) tt (λ slot. tt) board on by o step place (world_of board h)
+    act_has (ItemBegun board (e ∷ h)) tt (λ slot. tt) Tagged board on by o step place (world_of board h)
     (enters_begun board (e ∷ h) o step begun) (replies_by_begun board (e ∷ h) o step by begun) (world_kept board e h run old)
 event_begun board (Arrive lane mark) h run old =
     let e : Event = Arrive lane mark in
-    arrival_has (ItemBegun board (e ∷ h)) tt (λ slot. tt) board lane mark (world_of board h) (world_kept board e h run old)
+    arrival_has (ItemBegun board (e ∷ h)) tt (λ slot. tt) Tagged board lane mark (world_of board h) (world_kept board e h run old)
 
 -- every item on a lane names an operation that began
 pub ItemsBegun-run : (board : Board) (h : List Event) → Run board h → WorldHas (ItemBegun board h) (world_of board h)

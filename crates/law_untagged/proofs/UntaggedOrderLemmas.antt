@@ -46,7 +46,7 @@ use Rattle.law_untagged.specs.Untagged.{untagged_presents, untagged_world, untag
 use Rattle.law_untagged.specs.Orderly.{Begun, InOrder, Orderly}
 use Rattle.law_untagged.proofs.OrderLemmas.{Begun-kept, Begun-turn}
 use Rattle.law_untagged.proofs.ToldLemmas.{IsOf, of_of}
-use Rattle.law_untagged.proofs.MoveLemmas.{WorldHas, Enters, Replies, RepliesBy, act_has, arrival_has}
+use Rattle.law_fresh.proofs.Laws.{WorldHas, Enters, Replies, RepliesBy, act_has, arrival_has}
 
 -- Who presents.
 
@@ -259,11 +259,11 @@ event_begun : (board : Board) (e : Event) (h : List Event) → InOrder board e h
 event_begun board (Act on by o step place) h order allowed old =
     let e : Event = Act on by o step place in
     let begun : Begun board (e ∷ h) o = Begun-kept board e h o order (begun_by board h on by o old allowed.0) in
-    act_has (ItemBegun board (e ∷ h)) tt (λ slot. tt) board on by o step place (untagged_world board h)
+    act_has (ItemBegun board (e ∷ h)) tt (λ slot. tt) Untagged board on by o step place (untagged_world board h)
     (enters_begun board (e ∷ h) o step begun) (replies_by_begun board (e ∷ h) o step by) (world_kept board e h order old)
 event_begun board (Arrive lane mark) h order allowed old =
     let e : Event = Arrive lane mark in
-    arrival_has (ItemBegun board (e ∷ h)) tt (λ slot. tt) board lane mark (untagged_world board h) (world_kept board e h order old)
+    arrival_has (ItemBegun board (e ∷ h)) tt (λ slot. tt) Untagged board lane mark (untagged_world board h) (world_kept board e h order old)
 
 -- in every run
 pub untagged_in_order : (board : Board) (h : List Event) → UntaggedRun board h → Orderly board h × WorldHas (ItemBegun board h) (untagged_world board h)

@@ -26,12 +26,12 @@ use Rattle.history_model.specs.World.{lane_outcome}
 use Rattle.history_model.specs.Words.{Landing, landings_by, brought, landed}
 use Rattle.history_model.proofs.facts.RequestLemmas.{same_op_true, same_op_self}
 use Rattle.law_untagged.specs.Untagged.{untagged_presents, untagged_world, untagged_wants, UntaggedRun}
-use Rattle.law_untagged.proofs.MoveLemmas.{WorldHas, Enters, Replies, RepliesBy, act_has, arrival_has}
 use Rattle.law_untagged.proofs.OrderLemmas.{or_either}
 use Rattle.law_untagged.proofs.ToldLemmas.{IsOf}
 use Rattle.law_untagged.proofs.UntaggedOrderLemmas.{brought_of}
 use Rattle.law_audit.proofs.NamedLemmas.{Names, names_of, names_weaker}
 use Rattle.law_untagged.specs.clocks.Clocks.{Clocks, first_start, clocks_of}
+use Rattle.law_fresh.proofs.Laws.{WorldHas, Enters, Replies, RepliesBy, act_has, arrival_has}
 
 enters_names : (P : OpId → Type 0) (o : OpId) (step : Step) → P o → Enters (Names P) o step
 enters_names P o Land has = tt
@@ -100,10 +100,10 @@ module _ (board : Board) (h : List Event) (has : WorldHas (Names (Started board 
       let e : Event = Act on by o step place in
       let Q : OpId → Type 0 = Started board (e ∷ h) in
       let now : Q o = started_by on by o step place run.0.0 in
-      act_has (Names Q) tt (λ slot. tt) board on by o step place (untagged_world board h) (enters_names Q o step now) (replies_by_names Q board o step by now) (all_kept e)
+      act_has (Names Q) tt (λ slot. tt) Untagged board on by o step place (untagged_world board h) (enters_names Q o step now) (replies_by_names Q board o step by now) (all_kept e)
   items_after (Arrive lane mark) run =
       let e : Event = Arrive lane mark in
-      arrival_has (Names (Started board (e ∷ h))) tt (λ slot. tt) board lane mark (untagged_world board h) (all_kept e)
+      arrival_has (Names (Started board (e ∷ h))) tt (λ slot. tt) Untagged board lane mark (untagged_world board h) (all_kept e)
 
   brought_started : (e : Event) (word : Dword) → UntaggedRun board (e ∷ h) → AllByRecursion (λ (l : Landing). Started board (e ∷ h) l.op) (brought board h word e)
   brought_started (Act on by o step place) word run =
