@@ -88,6 +88,6 @@ fn learn_at(
     ensures { OnOk result (rows.new.items ≡ set rows.old.items author
         (reached op (max (number told.now author) (own op author)) (row rows.old.items author))) }
 {
-    let count = told.of(author).max(own(op, author));
+    let count = told.count_of(author).max(own(op, author));
     rows[author].reach(op, count)
 }

@@ -49,6 +49,7 @@ impl Model for Bus {
 impl Bus {
     ghost use Rattle.bus_core.specs.Bus.{shape_of, arrivals_at, StandsAtFirst};
     ghost use Rattle.bus_core.specs.Calls.{IsStamped, IsElsewhere, BusAnswers, TurnsBack};
+    ghost use Rattle.bus_core.specs.Calls.{BusStaysAtRetry};
     ghost use Rattle.bus_face.specs.Offers.{offers_of};
     ghost use Rattle.bus_core.specs.Places.{WantsAt};
     ghost use Rattle.bus_core.specs.Serves.{BusOffers};
@@ -140,8 +141,8 @@ impl Bus {
     }
 
     /// What the operation is answered that the initiator of this line presents, with what that does
-    /// at whoever claims it. What goes over a bridge has the stamp. None, and nothing is done,
-    /// where a lane presents it and its lane back claims it.
+    /// at whoever claims it; a Retry changes nothing. What goes over a bridge has the stamp. None, and
+    /// nothing is done, where a lane presents it and its lane back claims it.
     pub fn answer(&mut self, board: &Board, line: u8, op: OpId, stamp: u32) -> Option<Given>
         requires { IsTrue (is_well_formed board.now) }
         ensures shape { shape_of self.new ≡ shape_of self.old }
@@ -150,8 +151,8 @@ impl Bus {
         ensures presenter { slice_get self.new.ports line ≡ slice_get self.old.ports line }
         ensures stamped { IfSome result (λ given. IsStamped stamp given.over) }
         ensures apart { IfSome result (λ given. IsElsewhere line given.over) }
-        ensures answers { IfSome result (λ given.
-            BusAnswers board.now self.old line op given.answer given.over self.new) }
+        ensures answers { IfSome result (λ given. BusAnswers board.now self.old line op given.answer given.over self.new) }
+        ensures retried { IfSome result (λ given. BusStaysAtRetry self.old given.answer self.new) }
         ensures turns { IfNone result (TurnsBack board.now self.old line op) }
     {
         match request_of(board, op, self.bus) {
@@ -176,8 +177,8 @@ impl Bus {
         ensures presenter { slice_get self.new.ports line ≡ slice_get self.old.ports line }
         ensures stamped { IfSome result (λ given. IsStamped stamp given.over) }
         ensures apart { IfSome result (λ given. IsElsewhere line given.over) }
-        ensures answers { IfSome result (λ given. RequestAnswers board.now self.old line op
-            request.now given.answer given.over self.new) }
+        ensures answers { IfSome result (λ given. RequestAnswers board.now self.old line op request.now given.answer given.over self.new) }
+        ensures retried { IfSome result (λ given. BusStaysAtRetry self.old given.answer self.new) }
         ensures turns { IfNone result (RequestTurns board.now self.old line op request.now) }
     {
         let rest = rest_of(request, self.through.of(op));
@@ -197,8 +198,8 @@ impl Bus {
         ensures masters { self.new.masters ≡ self.old.masters }
         ensures ports { self.new.ports ≡ self.old.ports }
         ensures none { result.over ≡ None }
-        ensures answers { (line : ℕ) (request : RequestOf) → PlaceAnswers board.now self.old
-            (Target target) line op request rest.now result.answer result.over self.new }
+        ensures answers { (line : ℕ) (request : RequestOf) → PlaceAnswers board.now self.old (Target target) line op request rest.now result.answer result.over self.new }
+        ensures retried { BusStaysAtRetry self.old result.answer self.new }
     {
         match target_place(self.targets.as_slice(), target) {
             None => nobody(),
@@ -231,11 +232,9 @@ impl Bus {
         ensures presenter { slice_get self.new.ports line ≡ slice_get self.old.ports line }
         ensures stamped { IfSome result (λ given. IsStamped stamp given.over) }
         ensures apart { IfSome result (λ given. IsElsewhere line given.over) }
-        ensures answers { (board : BoardTree) (rest : RequestOf) →
-            IfSome result (λ given. PlaceAnswers board self.old (LaneOf lane)
-            line op request.now rest given.answer given.over self.new) }
-        ensures turns { (board : BoardTree) (rest : RequestOf) →
-            IfNone result (PlaceTurns board self.old (LaneOf lane) line op request.now rest) }
+        ensures answers { (board : BoardTree) (rest : RequestOf) → IfSome result (λ given. PlaceAnswers board self.old (LaneOf lane) line op request.now rest given.answer given.over self.new) }
+        ensures retried { IfSome result (λ given. BusStaysAtRetry self.old given.answer self.new) }
+        ensures turns { (board : BoardTree) (rest : RequestOf) → IfNone result (PlaceTurns board self.old (LaneOf lane) line op request.now rest) }
     {
         match port_back(self.ports.as_slice(), lane) {
             None => Some(nobody()),

@@ -1,12 +1,11 @@
-ghost use Rattle.std.specs.Prelude.{◌≡◌, ◌+◌, ◌-◌, ◌<◌, ◌≤◌, false, length};
-ghost use Rattle.std.specs.Prelude.{max, slice_get, vec_len, IfOk, IfSome};
+ghost use Rattle.std.specs.Prelude.{◌≡◌, ◌+◌, ◌-◌, ◌<◌, ◌≤◌, true, false, length, max, slice_get, vec_len, IfOk, IfSome};
 ghost use Rattle.std.specs.Vec.{vec_capacity};
 ghost use Rattle.board_model.specs.Valid.{IsValid};
 ghost use Rattle.bus_core.specs.Bus.{shape_of};
 ghost use Rattle.bus_segment.specs.Settle.{MaySettle, SettlesAt};
 ghost use Rattle.bus_segment.specs.Steps.{StampsRise, ArrivedUpTo};
 ghost use Rattle.bus_segment.specs.Turn.{Does, HasNothingToDo, IsQuietAtZero};
-ghost use Rattle.bus_segment.specs.turns.Works.{seen, Works};
+ghost use Rattle.bus_segment.specs.turns.Works.{seen, Works, GivesOnlyRetries};
 
 use crate::Segment;
 use crate::turns::receiving::receive_all;
@@ -156,8 +155,45 @@ impl<L: LaneEnd + Drop> Worker<L> {
         ensures stamps { StampsRise L.sent L.got self.old.segment.stamp self.new.segment.stamp
             self.old.segment.ends.items self.new.segment.ends.items }
     {
+        self.turn_again(board, false)
+    }
+
+    /// The same, where the bus may be known to be idle: whoever presents something there gets a Retry,
+    /// as after a turn that made no event. So if nothing is received then, nobody is served.
+    pub fn turn_again(&mut self, board: &Board, idle: bool) -> u32
+        requires valid { IsValid board.now }
+        requires going { self.old.segment.stopped ≡ false }
+        requires ends { length self.old.segment.ends.items ≡ length self.old.segment.bus.ports }
+        requires few { (length self.old.segment.bus.ports ≤ 9) ×
+            (length self.old.segment.bus.masters ≤ 8) }
+        requires counts { ArrivedUpTo (length self.old.segment.events.items)
+            self.old.segment.bus }
+        requires spare { 512 ≤
+            vec_capacity self.old.segment.events - vec_len self.old.segment.events }
+        requires idle { idle ≡ true → GivesOnlyRetries board.now self.old.segment.bus }
+        ensures does { Does L.had L.sent L.got L.kept L.paired board.now
+            (seen self.old.segment.bus self.old.segment.stamp self.old.segment.stopped)
+            (seen self.new.segment.bus self.new.segment.stamp self.new.segment.stopped)
+            self.old.segment.ends.items self.new.segment.ends.items
+            self.old.segment.events.items self.new.segment.events.items }
+        ensures shape { shape_of self.new.segment.bus ≡ shape_of self.old.segment.bus }
+        ensures ends { length self.new.segment.ends.items ≡ length self.old.segment.ends.items }
+        ensures counts { self.new.segment.stopped ≡ false →
+            ArrivedUpTo (length self.new.segment.events.items) self.new.segment.bus }
+        ensures many { length self.new.segment.events.items ≡
+            length self.old.segment.events.items + result }
+        ensures few { result ≤ 440 }
+        ensures quiet { IsQuietAtZero L.had L.got board.now
+            (seen self.old.segment.bus self.old.segment.stamp self.old.segment.stopped)
+            (seen self.new.segment.bus self.new.segment.stamp self.new.segment.stopped)
+            self.new.segment.ends.items result }
+        ensures idle { result ≡ 0 → self.new.segment.stopped ≡ false →
+            GivesOnlyRetries board.now self.new.segment.bus }
+        ensures stamps { StampsRise L.sent L.got self.old.segment.stamp self.new.segment.stamp
+            self.old.segment.ends.items self.new.segment.ends.items }
+    {
         let before = self.segment.recorded();
-        work(&mut self.segment, &mut self.arbiter, board);
+        work(&mut self.segment, &mut self.arbiter, board, idle);
         (self.segment.recorded() - before) as u32
     }
 
@@ -196,9 +232,14 @@ impl<L: LaneEnd + Drop> Worker<L> {
     }
 }
 
-/// What came over the bridges is received, and then all that present something are served, as long
-/// as the segment does not stop.
-fn work<L: LaneEnd + Drop>(segment: &mut Segment<L>, arbiter: &mut Arbiter, board: &Board)
+/// What came over the bridges is received, and then all that present something are served, as long as
+/// the segment does not stop; or nobody is, where the bus is known to be idle and nothing came.
+fn work<L: LaneEnd + Drop>(
+    segment: &mut Segment<L>,
+    arbiter: &mut Arbiter,
+    board: &Board,
+    idle: bool,
+)
     requires valid { IsValid board.now }
     requires going { segment.old.stopped ≡ false }
     requires ends { length segment.old.ends.items ≡ length segment.old.bus.ports }
@@ -206,17 +247,22 @@ fn work<L: LaneEnd + Drop>(segment: &mut Segment<L>, arbiter: &mut Arbiter, boar
     requires masters { length segment.old.bus.masters ≤ 8 }
     requires counts { ArrivedUpTo (length segment.old.events.items) segment.old.bus }
     requires spare { vec_len segment.old.events + 440 ≤ vec_capacity segment.old.events }
+    requires idle { idle ≡ true → GivesOnlyRetries board.now segment.old.bus }
     ensures works { Works L.had L.sent L.got L.kept L.paired board.now 440
-        (seen segment.old.bus segment.old.stamp segment.old.stopped)
-        (seen segment.new.bus segment.new.stamp segment.new.stopped)
-        segment.old.ends.items segment.new.ends.items segment.old.events.items
-        segment.new.events.items }
-    ensures quiet { length segment.new.events.items ≡ length segment.old.events.items →
-        segment.new.stopped ≡ false → HasNothingToDo L.had L.got board.now
-        (seen segment.old.bus segment.old.stamp segment.old.stopped) segment.new.ends.items }
+        (seen segment.old.bus segment.old.stamp segment.old.stopped) (seen segment.new.bus segment.new.stamp segment.new.stopped)
+        segment.old.ends.items segment.new.ends.items segment.old.events.items segment.new.events.items }
+    ensures quiet { length segment.new.events.items ≡ length segment.old.events.items → segment.new.stopped ≡ false →
+        HasNothingToDo L.had L.got board.now (seen segment.old.bus segment.old.stamp segment.old.stopped) segment.new.ends.items }
+    ensures idle { length segment.new.events.items ≡ length segment.old.events.items →
+        segment.new.stopped ≡ false → GivesOnlyRetries board.now segment.new.bus }
 {
+    let before = segment.recorded();
     receive_all(segment, board);
     if segment.stopped() {
+        return;
+    }
+    let rests = idle && segment.recorded() == before;
+    if rests {
         return;
     }
     serve_all(segment, arbiter, board);
