@@ -42,7 +42,7 @@ pub(crate) fn read_events(
             Err(fault) => {
                 return Err(TraceFault::Trace {
                     line: number,
-                    fault: fault.into(),
+                    fault,
                 });
             }
         }

@@ -9,5 +9,5 @@ mod operation;
 mod words;
 
 pub use kind::EventWord;
-pub use line::{LineFault, TraceLine, read_line};
+pub use line::{TraceLine, read_line};
 pub use names::Names;
