@@ -38,7 +38,8 @@ pub fn read_line(names: &Names, line: &[u8]) -> Result<TraceLine, TraceLineFault
     }
 }
 
-fn read_words(names: &Names, words: &[&[u8]]) -> Result<TraceLine, TraceLineFault>
+/// The same of a line by its words, between which single spaces alone stand.
+pub(crate) fn read_words(names: &Names, words: &[&[u8]]) -> Result<TraceLine, TraceLineFault>
     requires { is_regular (map (λ word. word.now) words.now) ≡ true }
     ensures { result ≡ pieces_line names.now (map (λ word. word.now) words.now) }
 {
