@@ -1,3 +1,5 @@
 mod CutLemmas
 mod ShapeLemmas
 mod NameLemmas
+mod ScanLemmas
+mod ReadLemmas

@@ -1,9 +1,11 @@
-ghost use Rattle.std.specs.Prelude.{◌+◌, ◌-◌, ◌<◌, ◌≤◌, ◌^◌, [], length, drop, IfOk};
+ghost use Rattle.std.specs.Prelude.{◌≡◌, ◌+◌, ◌-◌, ◌<◌, ◌≤◌, ◌^◌, ◌↔◌, [], ◌∷◌, length, drop};
+ghost use Rattle.std.specs.Prelude.{IfOk, IfSome, IsNone};
 ghost use Rattle.board_text.specs.Lines.{lines_of};
+ghost use Rattle.trace_reader.specs.lines.Lines.{line_of};
 ghost use Rattle.trace_reader.specs.Traces.{nothing_behind, at_end, events_read, Tells};
 
 use crate::TraceFault;
-use crate::lines::{Names, TraceLine, read_line};
+use crate::lines::{Names, TraceLine, read_line, read_words, scan_line};
 use board_model::Board;
 use board_text::next_line;
 use history_model::Event;
@@ -32,8 +34,8 @@ pub(crate) fn read_events(
     let mut events = Vec::new(alloc);
     let mut number = first;
     let mut at = from;
-    while let Some((line, next)) = next_line(bytes, at) {
-        match read_line(&names, line) {
+    while let Some((_line, next, read)) = read_line_at(&names, bytes, at) {
+        match read {
             Ok(TraceLine::Happens(event)) => events.push(event)?,
             Ok(TraceLine::Ends(count)) => {
                 let read = List::from_vec(events);
@@ -42,7 +44,7 @@ pub(crate) fn read_events(
             Err(fault) => {
                 return Err(TraceFault::Trace {
                     line: number,
-                    fault: fault.into(),
+                    fault,
                 });
             }
         }
@@ -53,6 +55,50 @@ pub(crate) fn read_events(
         line: number,
         fault: TraceLineFault::WrongCount,
     })
+}
+
+/// The line that begins at `at`, without its newline, the place behind that, and what the line is
+/// read as. There is none exactly from the end of the text on.
+fn read_line_at<'a>(
+    names: &Names,
+    bytes: &'a [u8],
+    at: usize,
+) -> Option<(&'a [u8], usize, Result<TraceLine, TraceLineFault>)>
+    ensures end { IsNone result ↔ (length bytes.now ≤ at) }
+    ensures line { IfSome result
+        (λ found. lines_of (drop at bytes.now) ≡ found.0.now ∷ lines_of (drop found.1 bytes.now)) }
+    ensures next { IfSome result (λ found. found.1 ≡ at + length found.0.now + 1) }
+    ensures within { IfSome result (λ found. at + length found.0.now ≤ length bytes.now) }
+    ensures read { IfSome result (λ found. found.2 ≡ line_of names.now found.0.now) }
+{
+    if at >= bytes.len() {
+        return None;
+    }
+    let (_before, rest) = bytes.split_at(at);
+    match scan_line(rest) {
+        Some((words, line)) => {
+            let read = read_words(names, words.as_slice());
+            Some((line, at + line.len() + 1, read))
+        }
+        None => cut_line_at(names, bytes, at),
+    }
+}
+
+/// The same, where the line is found first and then cut, as each is that has a fault.
+fn cut_line_at<'a>(
+    names: &Names,
+    bytes: &'a [u8],
+    at: usize,
+) -> Option<(&'a [u8], usize, Result<TraceLine, TraceLineFault>)>
+    ensures end { IsNone result ↔ (length bytes.now ≤ at) }
+    ensures line { IfSome result
+        (λ found. lines_of (drop at bytes.now) ≡ found.0.now ∷ lines_of (drop found.1 bytes.now)) }
+    ensures next { IfSome result (λ found. found.1 ≡ at + length found.0.now + 1) }
+    ensures within { IfSome result (λ found. at + length found.0.now ≤ length bytes.now) }
+    ensures read { IfSome result (λ found. found.2 ≡ line_of names.now found.0.now) }
+{
+    let (line, next) = next_line(bytes, at)?;
+    Some((line, next, read_line(names, line)))
 }
 
 /// The events at the `end` line of this number, where it counts them right and nothing stands

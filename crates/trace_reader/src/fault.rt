@@ -1,22 +1,6 @@
 use text_faults::{LineFault, TraceLineFault};
 use thiserror::Error;
 
-impl From<crate::lines::LineFault> for TraceLineFault {
-    ghost use Rattle.std.specs.Prelude.{◌≡◌};
-    ghost use Rattle.trace_reader.specs.Faults.{fault_of_line};
-
-    ghost from_gives = { λ fault given. given ≡ fault_of_line fault };
-
-    fn from(fault: crate::lines::LineFault) -> TraceLineFault {
-        match fault {
-            crate::lines::LineFault::Unreadable => TraceLineFault::Unreadable,
-            crate::lines::LineFault::NoKind => TraceLineFault::NoKind,
-            crate::lines::LineFault::Misshapen => TraceLineFault::Misshapen,
-            crate::lines::LineFault::Unknown => TraceLineFault::Unknown,
-        }
-    }
-}
-
 /// Why a text is not read as a trace. Lines are numbered from 1, in the whole text.
 #[derive(Clone, Copy, Debug, PartialEq, Eq, Error)]
 pub enum TraceFault {

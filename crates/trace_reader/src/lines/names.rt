@@ -106,7 +106,9 @@ fn note<'a>(
     name: &'a [u8],
     place: usize,
 ) -> Result<(), NoMemory>
-    ensures { OnOk result ((word : List ℕ) → place_of places.new word ≡ also_at (place_of places.old word) (bytes_eq name.now word) place) }
+    ensures { OnOk result ((word : List ℕ) →
+        place_of places.new word ≡
+        also_at (place_of places.old word) (bytes_eq name.now word) place) }
 {
     if place_of(places, name).is_some() {
         return Ok(());
@@ -116,7 +118,8 @@ fn note<'a>(
 }
 
 fn masters_of<'a>(alloc: Global, board: &'a Board) -> Result<BTreeMap<&'a [u8], usize>, NoMemory>
-    ensures { IfOk result (λ places. (word : List ℕ) → place_of places word ≡ position (is_master_named word) board.now.masters) }
+    ensures { IfOk result (λ places. (word : List ℕ) →
+        place_of places word ≡ position (is_master_named word) board.now.masters) }
 {
     let mut places = BTreeMap::new(alloc);
     let masters = board.masters.as_slice();
@@ -127,7 +130,8 @@ fn masters_of<'a>(alloc: Global, board: &'a Board) -> Result<BTreeMap<&'a [u8], 
 }
 
 fn targets_of<'a>(alloc: Global, board: &'a Board) -> Result<BTreeMap<&'a [u8], usize>, NoMemory>
-    ensures { IfOk result (λ places. (word : List ℕ) → place_of places word ≡ position (is_target_named word) board.now.targets) }
+    ensures { IfOk result (λ places. (word : List ℕ) →
+        place_of places word ≡ position (is_target_named word) board.now.targets) }
 {
     let mut places = BTreeMap::new(alloc);
     let targets = board.targets.as_slice();
