@@ -18,8 +18,8 @@ use Rattle.history_model.specs.declared.event.Event.TheVariants.{Act as ActEvent
 use Rattle.history_model.specs.declared.event.Step.{Step}
 use Rattle.history_model.specs.declared.event.Step.TheVariants.{Land, Part, Read, Accept, Latch, Take, Stall, MasterAbort, TargetAbort}
 use Rattle.draw_items.specs.declared.journey.Journey.{Journey}
-use Rattle.draw_elements.specs.declared.columns.line.ColumnLine.TheVariants as lines
-use Rattle.draw_elements.specs.columns.Places.{Layout, place_of, face_place, bar_place, is_left}
+use Rattle.draw_items.specs.declared.columns.line.ColumnLine.TheVariants as lines
+use Rattle.draw_items.specs.columns.Places.{Layout, place_of, face_place, bar_place, is_left}
 use Rattle.draw_elements.specs.Heights.{height_text, y, circle_element}
 use Rattle.draw_elements.specs.Items.{faint}
 use Rattle.draw_elements.specs.declared.acts.Act.{Act}

@@ -9,7 +9,7 @@ use Rattle.draw_items.specs.declared.journey.JourneyKind.{JourneyKind}
 use Rattle.draw_items.specs.declared.journey.JourneyKind.TheVariants.{Post, Request, Completion, Credit, Gone}
 use Rattle.draw_items.specs.declared.journey.Journey.{Journey}
 use Rattle.draw_items.specs.Items.{has_stood}
-use Rattle.draw_elements.specs.columns.Places.{Layout, face_place, bar_place}
+use Rattle.draw_items.specs.columns.Places.{Layout, face_place, bar_place}
 use Rattle.draw_elements.specs.Heights.{y, height_text, circle_element}
 use Rattle.draw_elements.specs.Labels.{kind_word}
 use Rattle.draw_elements.specs.declared.items.DrawnRoute.{DrawnRoute}

@@ -2,4 +2,3 @@ pub mod Heights
 pub mod Labels
 pub mod Items
 pub mod Acts
-pub mod columns

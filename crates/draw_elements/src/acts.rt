@@ -5,11 +5,10 @@ ghost use Rattle.draw_elements.specs.Acts.{line_path, line_element, round_elemen
 ghost use Rattle.draw_elements.specs.Acts.{cross_element, aside, nobody_element, writes_memory};
 ghost use Rattle.draw_elements.specs.Acts.{act_class, act_body, act_text, act_rim};
 
-use crate::columns::Columns;
 use crate::height::{print_circle, row_middle};
 use crate::words::faint;
 use board_model::{Board, Lane, Place, request_of};
-use draw_items::{Journey, lane_back};
+use draw_items::{Columns, Journey, lane_back};
 use history_model::{By, Step};
 use pci_command::{Command, NoMemory, OpId};
 use std::alloc::AllocError;

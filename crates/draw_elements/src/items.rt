@@ -4,11 +4,10 @@ ghost use Rattle.draw_elements.specs.Items.{item_rim, title_of, title_text, came
 ghost use Rattle.draw_elements.specs.Items.{bar_text, cross_sign, sign_text, slant_text};
 ghost use Rattle.draw_elements.specs.Items.{group_text, item_text};
 
-use crate::columns::Columns;
 use crate::height::{Height, print_circle, row_middle};
 use crate::words::{faint, kind_class, kind_word};
 use board_model::Board;
-use draw_items::{Journey, JourneyKind, lane_back};
+use draw_items::{Columns, Journey, JourneyKind, lane_back};
 use pci_command::NoMemory;
 use std::alloc::AllocError;
 use trace_text::{LaneWord, print_operation};

@@ -3,7 +3,6 @@
 #![tactic(auto)]
 
 mod acts;
-mod columns;
 mod height;
 mod items;
 mod labels;
@@ -11,9 +10,6 @@ mod refused;
 mod words;
 
 pub use acts::{Act, ActLine, ActRow, print_act, print_act_rim, print_head};
-pub use columns::{
-    Band, Column, ColumnLine, Columns, Most, columns_of, most_of, print_name, product, sum,
-};
 pub use height::{Height, print_circle, row_middle};
 pub use items::{DrawnRoute, print_item, print_item_rim};
 pub use labels::{print_event, print_note};

@@ -2,10 +2,9 @@ ghost use Rattle.std.specs.Prelude.{◌≡◌, ◌++◌, string_bytes, IfOk, OnO
 ghost use Rattle.draw_elements.specs.Acts.{bar_or_face, initiator_place, refused_place};
 ghost use Rattle.draw_elements.specs.Acts.{refused_path, refused_text};
 
-use crate::columns::Columns;
 use crate::height::Height;
 use board_model::Lane;
-use draw_items::Journey;
+use draw_items::{Columns, Journey};
 use history_model::{By, Event};
 use pci_command::{NoMemory, OpId};
 use std::alloc::AllocError;

@@ -10,7 +10,7 @@ use Rattle.draw_items.specs.Waits.{waits_of}
 use Rattle.draw_told.specs.declared.told.Span.{Span}
 use Rattle.draw_told.specs.Told.{spans_of}
 use Rattle.draw_told.specs.Brackets.{brackets_of}
-use Rattle.draw_elements.specs.columns.Places.{Layout, layout_of}
+use Rattle.draw_items.specs.columns.Places.{Layout, layout_of}
 use Rattle.draw_shapes.specs.declared.row.Row.{Row}
 use Rattle.draw_shapes.specs.declared.frame.Frame.{Frame}
 use Rattle.draw_shapes.specs.Frames.{frame_of}

@@ -4,7 +4,7 @@ ghost use Rattle.history_model.specs.Runs.{Run, history_of};
 ghost use Rattle.draw_items.specs.Items.{traffic_of};
 ghost use Rattle.draw_items.specs.Kept.{TellsTries};
 ghost use Rattle.draw_told.specs.Kept.{TellsTold};
-ghost use Rattle.draw_elements.specs.columns.Places.{layout_of};
+ghost use Rattle.draw_items.specs.columns.Places.{layout_of};
 ghost use Rattle.draw_told.specs.Closes.{allowed_in};
 ghost use Rattle.draw_page.specs.Pages.{table_open, names_part, table_text};
 ghost use Rattle.draw_page.specs.Pages.{page_with, page_in, page_from, page_of};
@@ -14,8 +14,9 @@ use crate::layers::{layers_of, rows_of};
 use crate::strips::print_strips;
 use board_model::Board;
 use board_tree::Tree;
-use draw_elements::{Columns, columns_of, most_of, product, sum};
-use draw_items::{Journey, Traffic, traffic_of, tries_of};
+use draw_items::{
+    Columns, Journey, Traffic, columns_of, most_of, product, sum, traffic_of, tries_of,
+};
 use draw_shapes::{Canvas, Element, Frame, Row, frame_of, print_names};
 use draw_told::{
     Brackets, Close, Title, Told, ahead_in, allowed_in, brackets_of, print_told, print_top, told_of,

@@ -9,8 +9,8 @@ use Rattle.draw_items.specs.declared.journey.JourneyKind.{JourneyKind}
 use Rattle.draw_items.specs.declared.journey.JourneyKind.TheVariants.{Post, Request, Completion, Credit, Gone}
 use Rattle.draw_items.specs.declared.journey.Journey.{Journey}
 use Rattle.draw_items.specs.declared.waits.Wait.{Wait}
-use Rattle.draw_elements.specs.declared.columns.line.ColumnLine.TheVariants as lines
-use Rattle.draw_elements.specs.columns.Places.{Layout, place_of}
+use Rattle.draw_items.specs.declared.columns.line.ColumnLine.TheVariants as lines
+use Rattle.draw_items.specs.columns.Places.{Layout, place_of}
 use Rattle.draw_elements.specs.declared.acts.Act.{Act as Ends}
 use Rattle.draw_elements.specs.declared.items.DrawnRoute.{DrawnRoute}
 use Rattle.draw_elements.specs.Items.{route_of, item_text, item_rim}

@@ -1,6 +1,6 @@
 use crate::frame::Frame;
 use board_model::Board;
-use draw_elements::Columns;
+use draw_items::Columns;
 
 /// What a picture is drawn on: the board, where its lines stand, and which rows are drawn.
 #[derive(Clone, Copy)]

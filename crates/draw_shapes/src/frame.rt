@@ -4,7 +4,7 @@ ghost use Rattle.list_facts.specs.Lists.{greatest};
 ghost use Rattle.draw_shapes.specs.Frames.{row_width, number_x, frame_of};
 
 use crate::row::Row;
-use draw_elements::{product, sum};
+use draw_items::{product, sum};
 use pci_command::NoMemory;
 use std::alloc::{AllocError, Global};
 

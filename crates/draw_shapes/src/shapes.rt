@@ -14,9 +14,9 @@ use crate::lists::print_row;
 use crate::row::Row;
 use draw_elements::{
     Act, ActLine, ActRow, DrawnRoute, print_act, print_act_rim, print_item, print_item_rim,
-    print_refused, product, refused_place, sum,
+    print_refused, refused_place,
 };
-use draw_items::{Journey, JourneyKind, Wait};
+use draw_items::{Journey, JourneyKind, Wait, product, sum};
 use history_model::{Event, Step};
 use pci_command::NoMemory;
 use std::alloc::Global;

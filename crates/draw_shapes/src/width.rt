@@ -3,8 +3,8 @@ ghost use Rattle.draw_elements.specs.Labels.{event_text, note_of};
 ghost use Rattle.draw_shapes.specs.Widths.{noted_length, width_of};
 
 use board_model::Board;
-use draw_elements::{print_event, print_note, product, sum};
-use draw_items::Journey;
+use draw_elements::{print_event, print_note};
+use draw_items::{Journey, product, sum};
 use history_model::Event;
 use pci_command::NoMemory;
 use std::alloc::{AllocError, Global};

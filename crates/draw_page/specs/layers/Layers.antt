@@ -8,7 +8,7 @@ use Rattle.draw_items.specs.declared.waits.Wait.{Wait}
 use Rattle.draw_items.specs.Tries.{is_pale}
 use Rattle.draw_told.specs.declared.told.Span.{Span}
 use Rattle.draw_told.specs.Told.{is_loud}
-use Rattle.draw_elements.specs.columns.Places.{Layout}
+use Rattle.draw_items.specs.columns.Places.{Layout}
 use Rattle.draw_shapes.specs.declared.row.Row.{Row}
 use Rattle.draw_shapes.specs.declared.frame.Frame.{Frame}
 use Rattle.draw_shapes.specs.Shapes.{Shape}

@@ -2,7 +2,7 @@
 -- written once in each strip that it passes.
 use Rattle.std.specs.Prelude.{ℕ, ◌+◌, ◌-◌, ◌*◌, ◌/◌, ◌&&◌, min, nat_le, List, [], ◌++◌, codes, if◌then◌else◌}
 use Rattle.std.specs.List.{flat_map, range_with_len}
-use Rattle.draw_elements.specs.columns.Places.{Layout}
+use Rattle.draw_items.specs.columns.Places.{Layout}
 use Rattle.draw_shapes.specs.declared.frame.Frame.{Frame}
 use Rattle.draw_shapes.specs.Shapes.{Shape}
 use Rattle.draw_shapes.specs.heads.Sheets.{sheet_text}

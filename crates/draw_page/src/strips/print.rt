@@ -6,7 +6,7 @@ ghost use Rattle.draw_page.specs.strips.Strips.{strip_around, strip_text, strips
 ghost use Rattle.draw_page.specs.strips.Kept.{IsDrawn};
 
 use crate::strips::strip::{Strip, strips_count, strips_of};
-use draw_elements::Columns;
+use draw_items::Columns;
 use draw_shapes::{Element, Frame, print_sheet};
 use pci_command::NoMemory;
 use std::alloc::Global;

@@ -3,11 +3,11 @@ use Rattle.std.specs.Prelude.{ℕ, ◌+◌, ◌-◌, ◌*◌, List, [], ◌++◌
 use Rattle.std.specs.Fmt.{decimal}
 use Rattle.std.specs.List.{flat_map}
 use Rattle.board_model.specs.declared.board.Board.{Board}
-use Rattle.draw_elements.specs.declared.columns.line.ColumnLine.{ColumnLine}
-use Rattle.draw_elements.specs.declared.columns.line.ColumnLine.TheVariants.{Left, Master, Target, Right}
-use Rattle.draw_elements.specs.declared.columns.columns.Band.{Band}
-use Rattle.draw_elements.specs.declared.columns.columns.Column.{Column}
-use Rattle.draw_elements.specs.columns.Places.{Layout, width_of, name_of}
+use Rattle.draw_items.specs.declared.columns.line.ColumnLine.{ColumnLine}
+use Rattle.draw_items.specs.declared.columns.line.ColumnLine.TheVariants.{Left, Master, Target, Right}
+use Rattle.draw_items.specs.declared.columns.columns.Band.{Band}
+use Rattle.draw_items.specs.declared.columns.columns.Column.{Column}
+use Rattle.draw_items.specs.columns.Places.{Layout, width_of, name_of}
 use Rattle.draw_shapes.specs.heads.Sheets.{svg_open, band_path, line_path}
 
 -- a bus

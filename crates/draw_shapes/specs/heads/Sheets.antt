@@ -2,9 +2,9 @@
 use Rattle.std.specs.Prelude.{ℕ, ◌-◌, ◌*◌, ◌/◌, List, ◌∷◌, ◌++◌, codes}
 use Rattle.std.specs.Fmt.{decimal}
 use Rattle.std.specs.List.{flat_map}
-use Rattle.draw_elements.specs.declared.columns.columns.Band.{Band}
-use Rattle.draw_elements.specs.declared.columns.columns.Column.{Column}
-use Rattle.draw_elements.specs.columns.Places.{Layout, width_of}
+use Rattle.draw_items.specs.declared.columns.columns.Band.{Band}
+use Rattle.draw_items.specs.declared.columns.columns.Column.{Column}
+use Rattle.draw_items.specs.columns.Places.{Layout, width_of}
 
 -- a picture from a height on, with its width and height in units; drawn size is 5/4 of that
 abbrev pub drawn_size : ℕ → ℕ

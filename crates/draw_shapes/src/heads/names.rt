@@ -4,7 +4,7 @@ ghost use Rattle.draw_shapes.specs.heads.Names.{bus_text, bus_band, name_line, n
 
 use crate::heads::sheet::{print_band, print_line, print_open};
 use board_model::Board;
-use draw_elements::{Band, Column, ColumnLine, Columns, print_name, product, sum};
+use draw_items::{Band, Column, ColumnLine, Columns, print_name, product, sum};
 use pci_command::NoMemory;
 use std::alloc::AllocError;
 

@@ -2,7 +2,7 @@ ghost use Rattle.std.specs.Prelude.{◌≡◌, ◌++◌, string_bytes, IfOk, OnO
 ghost use Rattle.std.specs.List.{flat_map};
 ghost use Rattle.draw_shapes.specs.heads.Sheets.{drawn_size, box_text, size_text, svg_open, band_path, line_path, bands_text, lines_text, sheet_text};
 
-use draw_elements::{Band, Column, Columns, product};
+use draw_items::{Band, Column, Columns, product};
 use pci_command::NoMemory;
 use std::alloc::AllocError;
 

@@ -1,8 +1,0 @@
-use Rattle.std.proofs.Common.{◌≡◌, ◌++◌, drop}
-use Rattle.draw_elements.specs.columns.Order.{masters_on}
-use Rattle.draw_elements.proofs.columns.order.add_masters.Given as goal
-
--- the masters so far, and those to come
-abbrev pub invariant-loop-master : goal.invariant-loop-master
-invariant-loop-master l =
-    l.lines.items ++ masters_on l.bus l.master (drop l.master l.board.masters) ≡ l.initial.lines.items ++ masters_on l.bus 0 l.board.masters
