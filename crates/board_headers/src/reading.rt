@@ -1,6 +1,6 @@
 ghost use Rattle.std.specs.Prelude.{◌≡◌, ◌+◌, ◌^◌, ◌<◌, IsTrue, IfOk};
 ghost use Rattle.board_model.specs.WellFormed.{is_window};
-ghost use Rattle.board_headers.specs.HeaderBytes.{register_2, register_4};
+ghost use Rattle.board_model.specs.HeaderBytes.{register_2, register_4};
 ghost use Rattle.board_headers.specs.Windows.{reading_of, windows_of, is_type_1, is_enabled};
 ghost use Rattle.board_headers.specs.Windows.{has_refused_control, memory_window};
 ghost use Rattle.board_headers.specs.Windows.{prefetchable_window, prefetchable_upper};

@@ -4,14 +4,13 @@ ghost use Rattle.std.specs.Prelude.{map, codes, IfOk, OnOk, string_bytes};
 ghost use Rattle.std.specs.List.{flat_map};
 ghost use Rattle.std.specs.Fmt.{decimal};
 ghost use Rattle.board_printer.specs.Lines.{spaced, line_text, text_of};
-ghost use Rattle.board_headers.specs.HeaderBytes.{header_bytes};
+ghost use Rattle.board_model.specs.HeaderBytes.{header_bytes};
 ghost use Rattle.board_printer.specs.headers.Headers.{byte_text, sixteen, row_line};
 ghost use Rattle.board_printer.specs.headers.Headers.{rows_of, header_lines, headers_text};
 
 mod byte;
 
-use board_headers::encode;
-use board_model::{Board, Bridge};
+use board_model::{Board, Bridge, encode};
 use byte::HexByte;
 use pci_command::{List, NoMemory};
 use std::alloc::{AllocError, Global};

@@ -4,8 +4,8 @@ ghost use Rattle.std.specs.Option.{option_copied};
 ghost use Rattle.std.specs.List.{find, list_all};
 ghost use Rattle.list_facts.specs.Lists.{before};
 ghost use Rattle.pci_command.specs.declared.request.Request.{Request};
-ghost use Rattle.board_headers.specs.HeaderBytes.{header_word, header_bytes};
-ghost use Rattle.board_headers.specs.HeaderBytes.{register_2, register_4};
+ghost use Rattle.board_model.specs.HeaderBytes.{header_word, header_bytes};
+ghost use Rattle.board_model.specs.HeaderBytes.{register_2, register_4};
 ghost use Rattle.history_model.specs.Lanes.{is_done_for};
 ghost use Rattle.history_model.specs.Words.{without};
 ghost use Rattle.history_model.specs.Answers.{header_answer, posted_answer, completion_answer};
@@ -14,8 +14,7 @@ ghost use Rattle.machine_steps.specs.Verdicts.{cause_in, HoldsOfAct, HoldsOfArri
 
 use crate::order::completion_passes;
 use crate::standing::{before_completion, standing_completion};
-use board_headers::encode;
-use board_model::{Board, Bridge, Lane, Place, bridge_to};
+use board_model::{Board, Bridge, Lane, Place, bridge_to, encode};
 use history_model::{Answer, Carried, Cause, Mark, Step, Why};
 use pci_command::Request;
 

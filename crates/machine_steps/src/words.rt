@@ -1,13 +1,12 @@
 ghost use Rattle.std.specs.Prelude.{◌≡◌, ◌/◌, ◌%◌, [], ◌∷◌, slice_get, take, drop, Some};
 ghost use Rattle.list_facts.specs.Lists.{changed_at};
 ghost use Rattle.board_model.specs.Ways.{address_in};
-ghost use Rattle.board_headers.specs.device.Registers.{opening_of, write_mask_of, merge_of};
+ghost use Rattle.board_model.specs.device.Registers.{opening_of, write_mask_of, merge_of};
 ghost use Rattle.history_model.specs.Words.{brings, mask_in, opening_word, opens_in, opens_as};
 ghost use Rattle.machine_steps.specs.Counts.{or_zero};
 ghost use Rattle.machine_steps.specs.Words.{word_at};
 
-use board_headers::{merge, opening, write_mask};
-use board_model::{Board, Opening, Target, Word};
+use board_model::{Board, Opening, Target, Word, merge, opening, write_mask};
 use history_model::Step;
 use pci_command::{Phase, Request, Space};
 

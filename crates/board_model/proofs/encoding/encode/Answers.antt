@@ -1,5 +1,5 @@
 use Rattle.std.proofs.Common.{refl}
-use Rattle.board_headers.proofs.encoding.encode.Goals as goal
+use Rattle.board_model.proofs.encoding.encode.Goals as goal
 
 pub returns : goal.returns
 returns c =

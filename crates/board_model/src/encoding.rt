@@ -1,20 +1,24 @@
 ghost use Rattle.std.specs.Prelude.{◌≡◌, ◌+◌, ◌/◌, ◌%◌, ◌^◌, ◌<◌, slice_set, if◌then◌else◌};
-ghost use Rattle.board_headers.specs.HeaderBytes.{header_bytes, bits, io_base, io_limit};
-ghost use Rattle.board_headers.specs.HeaderBytes.{io_base_upper, io_limit_upper, memory_base};
-ghost use Rattle.board_headers.specs.HeaderBytes.{memory_limit, is_wide, wide_bit};
-ghost use Rattle.board_headers.specs.HeaderBytes.{prefetchable_base, prefetchable_limit};
-ghost use Rattle.board_headers.specs.HeaderBytes.{prefetchable_base_upper};
-ghost use Rattle.board_headers.specs.HeaderBytes.{prefetchable_limit_upper, control_of};
+ghost use Rattle.board_model.specs.HeaderBytes.{header_bytes, bits, io_base, io_limit};
+ghost use Rattle.board_model.specs.HeaderBytes.{io_base_upper, io_limit_upper, memory_base};
+ghost use Rattle.board_model.specs.HeaderBytes.{memory_limit, is_wide, wide_bit};
+ghost use Rattle.board_model.specs.HeaderBytes.{prefetchable_base, prefetchable_limit};
+ghost use Rattle.board_model.specs.HeaderBytes.{prefetchable_base_upper};
+ghost use Rattle.board_model.specs.HeaderBytes.{prefetchable_limit_upper, control_of};
 
-use crate::control::{BridgeControl, CommandBits};
-use bitflags::Flags;
-use board_model::{Bridge, Window};
+use crate::{Bridge, Window};
 
 /// The vendor that every bridge names.
 const VENDOR: u16 = 0x1234;
 
 /// The device that every bridge names.
 const MODEL: u16 = 0x0100;
+
+/// The command register: I/O space, memory space and bus master are enabled.
+const ENABLED: u16 = 0x0007;
+
+/// The bit of the bridge control register that says the master abort mode.
+const MASTER_ABORT_MODE: u16 = 0x0020;
 
 /// The 64 bytes of the header of a bridge: its buses, windows and master abort mode, with I/O
 /// space, memory space and bus master enabled. A window shows in the bits that its registers have.
@@ -69,18 +73,13 @@ fn put_4(bytes: &mut [u8; 64], offset: usize, register: u32)
 fn command() -> u16
     ensures { result ≡ 0x0007 }
 {
-    let memory = CommandBits::IO_SPACE.union(CommandBits::MEMORY_SPACE);
-    memory.union(CommandBits::BUS_MASTER).bits()
+    ENABLED
 }
 
 fn control(mode: bool) -> u16
     ensures { result ≡ control_of mode }
 {
-    if mode {
-        BridgeControl::MASTER_ABORT_MODE.bits()
-    } else {
-        0
-    }
+    if mode { MASTER_ABORT_MODE } else { 0 }
 }
 
 /// Bits 15 to 12 of an address: its 4 KiB within 64 KiB.

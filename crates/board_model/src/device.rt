@@ -2,11 +2,11 @@
 //! memory).
 ghost use Rattle.std.specs.Prelude.{◌≡◌, ◌<◌, ◌≤◌, ◌+◌, ◌*◌, ◌^◌};
 ghost use Rattle.std.specs.Prelude.{length, slice_index, if◌then◌else◌};
-ghost use Rattle.board_headers.specs.device.Registers.{opening_of, write_mask_of, byte_enabled};
-ghost use Rattle.board_headers.specs.device.Registers.{enabled_bits, merge_of, base_registers};
-ghost use Rattle.board_headers.specs.device.Registers.{all_base_registers, io_bit};
+ghost use Rattle.board_model.specs.device.Registers.{opening_of, write_mask_of, byte_enabled};
+ghost use Rattle.board_model.specs.device.Registers.{enabled_bits, merge_of, base_registers};
+ghost use Rattle.board_model.specs.device.Registers.{all_base_registers, io_bit};
 
-use board_model::{Range, Target};
+use crate::{Range, Target};
 use pci_command::{Phase, Space};
 
 /// What the register with that number (a dword each, from 0) of the target opens as.
