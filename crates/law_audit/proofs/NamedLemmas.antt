@@ -82,7 +82,7 @@ module _ (board : Board) (h : List Event) (P Q : OpId → Type 0) (kept : (q : O
   pub presents_named : (on : ℕ) (by : By) (o : OpId) (step : Step) (place : Place) → Run board (Act on by o step place ∷ h) → Entry Q (Act on by o step place) → Q o
   presents_named on Master o step place run entry = entry
   presents_named on (ByLane k) o step place run entry =
-      let here = (presented_at board h on k o run.0.0).1 in
+      let here = (presented_at Tagged board h on k o run.0.0).1 in
       let standing : List Carried = (world_of board h k).standing in
       kept o (names_of P o here.item (find_passes (is_of o) standing here.item here.found) (Each-find (Names P) (is_of o) standing here.item (old k).1 here.found))
 

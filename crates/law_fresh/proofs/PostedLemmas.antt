@@ -31,6 +31,7 @@ use Rattle.history_model.specs.declared.item.Carried.{Carried}
 use Rattle.history_model.specs.declared.item.Answer.{Answer}
 use Rattle.history_model.specs.declared.item.Answer.TheVariants.{Gives, Retry}
 use Rattle.history_model.specs.declared.item.Cause.TheVariants.{Full}
+use Rattle.history_model.specs.declared.rule.Rule.TheVariants.{Tagged}
 use Rattle.history_model.specs.Lanes.{is_of}
 use Rattle.history_model.specs.World.{same_lane, is_own, at_place, lane_outcome, world_of}
 use Rattle.history_model.specs.Program.{master_outcome}
@@ -106,7 +107,7 @@ module _ (board : Board) (valid : IsValid board) (w : OpId) (op : Op) (is_op : o
       let one_op : way_of.op ≡ op = cc in
       let on_op : list_any (same_lane k) (way board op way_of.master.bus) ≡ true = subst (λ p. list_any (same_lane k) (way board p way_of.master.bus) ≡ true) one_op way_of.on_way in
       let on_way : list_any (same_lane k) (way board op master.bus) ≡ true = subst (λ (m : MasterAgent). list_any (same_lane k) (way board op m.bus) ≡ true) one_master on_op in
-      let ends : end_of board k ≡ on = (presented_at board h on k w wanted).0 in
+      let ends : end_of board k ≡ on = (presented_at Tagged board h on k w wanted).0 in
       sym (word_on board op tree k (way board op master.bus) master.bus refl on_way ∙ ap (word_of board op) ends) ∙ word
 
   module _ (h : List Event) (on : ℕ) (by : By) (step : Step) (place : Place) (run : Run board (Act on by w step place ∷ h)) where

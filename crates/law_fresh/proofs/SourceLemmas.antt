@@ -21,6 +21,7 @@ use Rattle.history_model.specs.declared.event.Event.{Event}
 use Rattle.history_model.specs.declared.event.Event.TheVariants.{Act}
 use Rattle.history_model.specs.declared.item.Carried.{Carried}
 use Rattle.history_model.specs.declared.item.Carried.TheVariants.{Post, Ask, Done, Room, Gone}
+use Rattle.history_model.specs.declared.rule.Rule.TheVariants.{Tagged}
 use Rattle.history_model.specs.Lanes.{is_of, is_post}
 use Rattle.history_model.specs.World.{world_of}
 use Rattle.history_model.specs.Program.{master_outcome, turn_of}
@@ -108,7 +109,7 @@ source board w op h on Master o informed wanted other known =
 source board w op h on (ByLane k) o informed wanted other known =
     let standing : List Carried = (world_of board h k).standing in
     let aware : Aware = aware_of board w h in
-    let at = presented_at board h on k o wanted in
+    let at = presented_at Tagged board h on k o wanted in
     let here = at.1 in
     let presented : presents board on o standing ≡ true = (and_parts (end_of board k == on) (presents board on o standing) wanted).1 in
     let F : Option Carried → Type 0 = λ item. presents_item board on (before (is_of o) standing) item ≡ true in

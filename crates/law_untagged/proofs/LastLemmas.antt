@@ -1,6 +1,7 @@
 -- On boards on which masters are apart the origin of a completion is the last reading of its operation, so that what a
 -- read got is the same by either rule.
 use Rattle.std.proofs.Common.{◌≡◌, ℕ, Bool, true, false, ◌&&◌, ◌||◌, cond, List, [], ◌∷◌, ◌++◌, map, Option, Some, None, is_some, refl, sym, ap, subst, ◌∙◌, option_map}
+use Rattle.std.proofs.lemmas.Bool.{or_left, or_right}
 use Rattle.std.specs.List.{find, AllByRecursion}
 use Rattle.pci_command.specs.declared.op_id.OpId.{OpId}
 use Rattle.pci_command.specs.declared.op_id.Outcome.{Outcome}
@@ -37,11 +38,12 @@ use Rattle.law_lanes.proofs.WellFormedLemmas.{WellFormed-numbers, WellFormed-sin
 use Rattle.board_model.proofs.Laws.{op_formed}
 use Rattle.law_fresh.specs.Cover.{items}
 use Rattle.law_fresh.proofs.StillLemmas.{Still, event_still}
+use Rattle.law_fresh.proofs.Laws.{or_either}
 use Rattle.law_untagged.specs.Untagged.{untagged_world, UntaggedAllowed, UntaggedRun}
 use Rattle.law_untagged.specs.Apart.{Apart}
 use Rattle.law_untagged.specs.Forgets.{unnamed, forget}
 use Rattle.law_untagged.specs.Origins.{Origins, origin_in, taken_from, source_of, origins_of, ending_reading, untagged_got, untagged_saw, untagged_tells, UntaggedChain, UntaggedTold, UntaggedFresh}
-use Rattle.law_untagged.proofs.OrderLemmas.{or_left, or_right, or_either, Ends, ends_some}
+use Rattle.law_untagged.proofs.OrderLemmas.{Ends, ends_some}
 use Rattle.law_untagged.proofs.ForgetLemmas.{Alike, own_unnamed, Forgets}
 use Rattle.law_untagged.proofs.ApartLemmas.{presented_alike}
 use Rattle.law_untagged.proofs.RunLemmas.{runs_alike}

@@ -26,12 +26,9 @@ use Rattle.history_model.specs.World.{lane_outcome}
 use Rattle.history_model.specs.Words.{Landing, landings_by, brought, landed}
 use Rattle.history_model.proofs.facts.RequestLemmas.{same_op_true, same_op_self}
 use Rattle.law_untagged.specs.Untagged.{untagged_presents, untagged_world, untagged_wants, UntaggedRun}
-use Rattle.law_untagged.proofs.OrderLemmas.{or_either}
-use Rattle.law_untagged.proofs.ToldLemmas.{IsOf}
-use Rattle.law_untagged.proofs.UntaggedOrderLemmas.{brought_of}
 use Rattle.law_audit.proofs.NamedLemmas.{Names, names_of, names_weaker}
 use Rattle.law_untagged.specs.clocks.Clocks.{Clocks, first_start, clocks_of}
-use Rattle.law_fresh.proofs.Laws.{WorldHas, Enters, Replies, RepliesBy, act_has, arrival_has}
+use Rattle.law_fresh.proofs.Laws.{WorldHas, Enters, Replies, RepliesBy, act_has, arrival_has, IsOf, brought_of, or_either}
 
 enters_names : (P : OpId → Type 0) (o : OpId) (step : Step) → P o → Enters (Names P) o step
 enters_names P o Land has = tt

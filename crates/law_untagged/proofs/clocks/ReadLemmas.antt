@@ -18,11 +18,9 @@ use Rattle.history_model.specs.declared.item.Slot.{Slot}
 use Rattle.history_model.specs.World.{anyone, World, same_lane, is_own}
 use Rattle.history_model.specs.Knowledge.{Reading, reading_by, reading_in, reading_or}
 use Rattle.history_model.proofs.facts.RequestLemmas.{same_op_self}
-use Rattle.law_fresh.proofs.Laws.{before_in}
+use Rattle.law_fresh.proofs.Laws.{before_in, Front, front_self, front_more}
 use Rattle.law_untagged.specs.Untagged.{untagged_world}
 use Rattle.law_untagged.specs.Origins.{Origins, origin_in, taken_from, taken_in, source_of, answers, origins_of, ending_reading}
-use Rattle.law_untagged.specs.Orderly.{Front}
-use Rattle.law_untagged.proofs.OrderLemmas.{front_self, front_more}
 use Rattle.law_untagged.specs.clocks.Clocks.{reads_at}
 
 -- an event of the run read it
