@@ -19,12 +19,12 @@ use Rattle.history_model.specs.declared.event.Event.{Event}
 use Rattle.history_model.specs.declared.event.Event.TheVariants.{Act, Arrive}
 use Rattle.history_model.specs.declared.item.Slot.{Slot}
 use Rattle.history_model.specs.declared.rule.Rule.TheVariants.{Untagged}
-use Rattle.history_model.specs.World.{anyone, World, same_lane, is_own}
+use Rattle.history_model.specs.World.{anyone, World, same_lane, is_own, world_by}
 use Rattle.history_model.specs.Program.{Ending, ending_of, ended, master_outcome, turn_of}
 use Rattle.history_model.specs.Words.{Landing, landed}
 use Rattle.history_model.specs.Knowledge.{ends_as, Reading, reading_by, reading_or, has_landed, stands_after}
 use Rattle.std.proofs.lemmas.Bool.{and_parts, or_left, or_right}
-use Rattle.law_untagged.specs.Untagged.{untagged_world, UntaggedRun}
+use Rattle.law_untagged.specs.Untagged.{UntaggedRun}
 use Rattle.law_untagged.specs.Origins.{Origins, origin_in, taken_from, taken_in, source_of, answers, origins_of, ending_reading, untagged_got}
 use Rattle.law_untagged.specs.Heard.{Since, is_behind, knows, speaks, heard, first_known, untagged_since}
 use Rattle.law_untagged.proofs.OrderLemmas.{ends_some, run_front, front_begun}
@@ -78,7 +78,7 @@ event_fronts : (board : Board) (e : Event) (h : List Event) → AreFronts h (ori
 event_fronts board (Act on Master o step place) h old lane number reading is = more_fronts h (Act on Master o step place) (origins_of board h) old lane number reading is
 event_fronts board (Act on (ByLane k) o step place) h old lane number reading is =
     let e : Event = Act on (ByLane k) o step place in
-    let world : World = untagged_world board h in
+    let world : World = world_by Untagged board h in
     let origins : Origins = origins_of board h in
     let P : Bool → Type 0 = λ b. cond b (source_of board h world origins on o step place) (origins lane number) ≡ Some reading → Front reading.before (e ∷ h) in
     (elim (same_lane k lane && answers board world k o step number) as P [
@@ -93,9 +93,9 @@ origins_fronts board (e ∷ h) = event_fronts board e h (origins_fronts board h)
 
 pub ending_front : (board : Board) (h : List Event) (e : Event) (reading : Reading) → ending_reading board h e ≡ Some reading → Front reading.before h
 ending_front board h (Act on Master o step place) reading is =
-    let source : Option Reading = source_of board h (untagged_world board h) (origins_of board h) on o step place in
+    let source : Option Reading = source_of board h (world_by Untagged board h) (origins_of board h) on o step place in
     let P : Bool → Type 0 = λ b. cond b source None ≡ Some reading → Front reading.before h in
-    (elim (reads board o) as P [ true ↦ λ f. source_front board h (untagged_world board h) (origins_of board h) (origins_fronts board h) on o step place reading f | false ↦ λ f. cc ]) is
+    (elim (reads board o) as P [ true ↦ λ f. source_front board h (world_by Untagged board h) (origins_of board h) (origins_fronts board h) on o step place reading f | false ↦ λ f. cc ]) is
 ending_front board h (Act on (ByLane lane) o step place) reading is = cc
 ending_front board h (Arrive lane mark) reading is = cc
 
@@ -111,7 +111,7 @@ got_front board (e ∷ h) r reading is =
 -- what got a reading reads
 ending_reads : (board : Board) (h : List Event) (e : Event) (ending : Ending) (reading : Reading) → ended e ≡ Some ending → ending_reading board h e ≡ Some reading → reads board ending.op ≡ true
 ending_reads board h (Act on Master o step place) ending reading ends is =
-    let source : Option Reading = source_of board h (untagged_world board h) (origins_of board h) on o step place in
+    let source : Option Reading = source_of board h (world_by Untagged board h) (origins_of board h) on o step place in
     let P : Bool → Type 0 = λ b. reads board o ≡ b → cond b source None ≡ Some reading → reads board o ≡ true in
     let there : reads board o ≡ true = (elim (reads board o) as P [ true ↦ λ yes_it _. yes_it | false ↦ λ _ f. cc ]) refl is in
     let Q : Option Outcome → Type 0 = λ given. ending_of o given ≡ Some ending → o ≡ ending.op in

@@ -19,13 +19,13 @@ use Rattle.history_model.specs.declared.event.Event.{Event}
 use Rattle.history_model.specs.declared.event.Event.TheVariants.{Act, Arrive}
 use Rattle.history_model.specs.declared.item.Carried.{Carried}
 use Rattle.history_model.specs.declared.rule.Rule.TheVariants.{Untagged}
-use Rattle.history_model.specs.Answers.{presents_item_by}
+use Rattle.history_model.specs.Answers.{presents_item_by, presents_by, wants_by}
 use Rattle.history_model.specs.Knowledge.{is_land_of, is_land_step, has_landed}
 use Rattle.history_model.specs.Lanes.{is_of}
-use Rattle.history_model.specs.World.{lane_outcome}
+use Rattle.history_model.specs.World.{lane_outcome, world_by}
 use Rattle.history_model.specs.Words.{Landing, landings_by, brought, landed}
 use Rattle.history_model.proofs.facts.RequestLemmas.{same_op_true, same_op_self}
-use Rattle.law_untagged.specs.Untagged.{untagged_presents, untagged_world, untagged_wants, UntaggedRun}
+use Rattle.law_untagged.specs.Untagged.{UntaggedRun}
 use Rattle.law_audit.proofs.NamedLemmas.{Names, names_of, names_weaker}
 use Rattle.law_untagged.specs.clocks.Clocks.{Clocks, first_start, clocks_of}
 use Rattle.law_fresh.proofs.Laws.{WorldHas, Enters, Replies, RepliesBy, act_has, arrival_has, IsOf, brought_of, or_either}
@@ -68,8 +68,8 @@ pub started_stays : (board : Board) (e : Event) (h : List Event) (q : OpId) → 
 started_stays board e h q started = ap is_some (start_stays board e h q started) ∙ started
 
 -- who presents
-module _ (board : Board) (h : List Event) (has : WorldHas (Names (Started board h)) (untagged_world board h)) where
-  started_by : (on : ℕ) (by : By) (o : OpId) (step : Step) (place : Place) → untagged_wants board h on by o ≡ true → Started board (Act on by o step place ∷ h) o
+module _ (board : Board) (h : List Event) (has : WorldHas (Names (Started board h)) (world_by Untagged board h)) where
+  started_by : (on : ℕ) (by : By) (o : OpId) (step : Step) (place : Place) → wants_by Untagged board h on by o ≡ true → Started board (Act on by o step place ∷ h) o
   started_by on Master o step place wanted =
       let clocks : Clocks = clocks_of board h in
       let self : same_op o o ≡ true = same_op_self o in
@@ -77,30 +77,30 @@ module _ (board : Board) (h : List Event) (has : WorldHas (Names (Started board 
       let there : is_some (first_start (clocks.start o) (clocks.known o.master)) ≡ true = elim (clocks.start o) as S [ None ↦ refl | Some start ↦ refl ] in
       rw self there
   started_by on (ByLane k) o step place wanted =
-      let standing : List Carried = (untagged_world board h k).standing in
-      let presented : untagged_presents board on o standing ≡ true = (and_parts (end_of board k == on) (untagged_presents board on o standing) wanted).1 in
+      let standing : List Carried = (world_by Untagged board h k).standing in
+      let presented : presents_by Untagged board on o standing ≡ true = (and_parts (end_of board k == on) (presents_by Untagged board on o standing) wanted).1 in
       let P : Option Carried → Type 0 = λ found. find (is_of o) standing ≡ found → presents_item_by Untagged board on (before (is_of o) standing) found ≡ true → Started board h o in
       (elim (find (is_of o) standing) as P [
         | None ↦ λ _ f. cc
         | Some item ↦ λ found _. names_of (Started board h) o item (find_passes (is_of o) standing item found) (Each-find (Names (Started board h)) (is_of o) standing item (has k).1 found)
       ]) refl presented
 
-  all_kept : (e : Event) → WorldHas (Names (Started board (e ∷ h))) (untagged_world board h)
+  all_kept : (e : Event) → WorldHas (Names (Started board (e ∷ h))) (world_by Untagged board h)
   all_kept e lane =
       let kept : (item : Carried) → Names (Started board h) item → Names (Started board (e ∷ h)) item = names_weaker (Started board h) (Started board (e ∷ h)) (started_stays board e h) in (
-        Each-weaker (Names (Started board h)) (Names (Started board (e ∷ h))) kept (untagged_world board h lane).flight (has lane).0,
-        Each-weaker (Names (Started board h)) (Names (Started board (e ∷ h))) kept (untagged_world board h lane).standing (has lane).1,
+        Each-weaker (Names (Started board h)) (Names (Started board (e ∷ h))) kept (world_by Untagged board h lane).flight (has lane).0,
+        Each-weaker (Names (Started board h)) (Names (Started board (e ∷ h))) kept (world_by Untagged board h lane).standing (has lane).1,
       )
 
-  items_after : (e : Event) → UntaggedRun board (e ∷ h) → WorldHas (Names (Started board (e ∷ h))) (untagged_world board (e ∷ h))
+  items_after : (e : Event) → UntaggedRun board (e ∷ h) → WorldHas (Names (Started board (e ∷ h))) (world_by Untagged board (e ∷ h))
   items_after (Act on by o step place) run =
       let e : Event = Act on by o step place in
       let Q : OpId → Type 0 = Started board (e ∷ h) in
       let now : Q o = started_by on by o step place run.0.0 in
-      act_has (Names Q) tt (λ slot. tt) Untagged board on by o step place (untagged_world board h) (enters_names Q o step now) (replies_by_names Q board o step by now) (all_kept e)
+      act_has (Names Q) tt (λ slot. tt) Untagged board on by o step place (world_by Untagged board h) (enters_names Q o step now) (replies_by_names Q board o step by now) (all_kept e)
   items_after (Arrive lane mark) run =
       let e : Event = Arrive lane mark in
-      arrival_has (Names (Started board (e ∷ h))) tt (λ slot. tt) Untagged board lane mark (untagged_world board h) (all_kept e)
+      arrival_has (Names (Started board (e ∷ h))) tt (λ slot. tt) Untagged board lane mark (world_by Untagged board h) (all_kept e)
 
   brought_started : (e : Event) (word : Dword) → UntaggedRun board (e ∷ h) → AllByRecursion (λ (l : Landing). Started board (e ∷ h) l.op) (brought board h word e)
   brought_started (Act on by o step place) word run =
@@ -115,7 +115,7 @@ module _ (board : Board) (h : List Event) (has : WorldHas (Names (Started board 
       subst (Started board (e ∷ h)) (same_op_true o w (and_parts (same_op o w) (is_land_step step) is).0) (started_by on by o step place run.0.0)
   land_started (Arrive lane mark) w run is = cc
 
-pub items_started : (board : Board) (h : List Event) → UntaggedRun board h → WorldHas (Names (Started board h)) (untagged_world board h)
+pub items_started : (board : Board) (h : List Event) → UntaggedRun board h → WorldHas (Names (Started board h)) (world_by Untagged board h)
 items_started board [] run = λ lane. (tt, tt)
 items_started board (e ∷ h) run = items_after board h (items_started board h run.1) e run
 
