@@ -26,10 +26,9 @@ use Rattle.history_model.proofs.facts.RequestLemmas.{same_op_true, same_op_self}
 use Rattle.law_fresh.specs.Aware.{Aware, is_behind, knows, brings, first_known, shows, aware_of}
 use Rattle.std.proofs.lemmas.Bool.{or_left, or_right}
 use Rattle.std.proofs.Math.Bool.{or-false}
-use Rattle.law_fresh.proofs.Laws.{IsBehind, Begun, Begun-turn, Begun-kept, WorldHas, ends_turn, knew, knows_kept, write_since, since_behind, before_in, or_either}
+use Rattle.law_fresh.proofs.Laws.{IsBehind, Begun, Begun-turn, Begun-kept, WorldHas, ends_turn, knew, knows_kept, write_since, since_behind, before_in, or_either, Names, Entry, items_after, landings_after}
 use Rattle.law_audit.specs.Clocks.{Clocks, own, landing_tells, value_tells, known_after, clocks_of, reaches, taught_by}
 use Rattle.law_fresh.proofs.Laws.{WriteOp, write_op, own_ended}
-use Rattle.law_audit.proofs.NamedLemmas.{Names, Entry, items_after, landings_after}
 
 pub bool_same : (a b : Bool) → (a ≡ true → b ≡ true) → (b ≡ true → a ≡ true) → a ≡ b
 bool_same true true f g = refl
@@ -274,8 +273,8 @@ module _ (board : Board) (valid : IsValid board) (w : OpId) (write : WriteOp boa
       record {
         known = λ master. known_law e h master run old;
         taught = λ o. taught_law e h o old;
-        items = items_after board h (Starts h) (Starts (e ∷ h)) (starts_kept e h run old) old.items e run (entry e h run old);
-        landings = λ word. landings_after board h (Starts h) (Starts (e ∷ h)) (starts_kept e h run old) old.items e word run (entry e h run old) (old.landings word);
+        items = items_after Tagged board h (Starts h) (Starts (e ∷ h)) (starts_kept e h run old) old.items e run (entry e h run old);
+        landings = λ word. landings_after Tagged board h (Starts h) (Starts (e ∷ h)) (starts_kept e h run old) old.items e word run (entry e h run old) (old.landings word);
       }
 
 -- a master knows of a write where its number for the write's author is above the write's

@@ -22,9 +22,8 @@ use Rattle.history_model.specs.Runs.{Run}
 use Rattle.history_model.proofs.facts.WantsLemmas.{wants-turn}
 use Rattle.history_model.proofs.facts.RequestLemmas.{same_op_true, same_op_self}
 use Rattle.std.proofs.lemmas.Bool.{and_parts}
-use Rattle.law_fresh.proofs.Laws.{Begun, Begun-turn, Begun-kept, WorldHas, or_either}
+use Rattle.law_fresh.proofs.Laws.{Begun, Begun-turn, Begun-kept, WorldHas, or_either, Names, Entry, items_after, presents_named}
 use Rattle.law_audit.specs.Clocks.{Clocks, known_after, taught_after, clocks_of}
-use Rattle.law_audit.proofs.NamedLemmas.{Names, Entry, items_after, presents_named}
 
 -- What follows an operation stands behind it.
 
@@ -120,12 +119,12 @@ module _ (board : Board) where
 
   items_settled : (h : List Event) → Run board h → WorldHas (Names (Settled h)) (world_of board h)
   items_settled [] run = λ lane. (tt, tt)
-  items_settled (e ∷ h) run = items_after board h (Settled h) (Settled (e ∷ h)) (kept e h run) (items_settled h run.1) e run (entry e h run)
+  items_settled (e ∷ h) run = items_after Tagged board h (Settled h) (Settled (e ∷ h)) (kept e h run) (items_settled h run.1) e run (entry e h run)
 
   lands_settled : (e : Event) (h : List Event) (w : OpId) → Run board (e ∷ h) → is_land_of w e ≡ true → Settled (e ∷ h) w
   lands_settled (Act on by o step place) h w run is =
       let e : Event = Act on by o step place in
-      let named : Settled (e ∷ h) o = presents_named board h (Settled h) (Settled (e ∷ h)) (kept e h run) (items_settled h run.1) on by o step place run (entry e h run) in
+      let named : Settled (e ∷ h) o = presents_named Tagged board h (Settled h) (Settled (e ∷ h)) (kept e h run) (items_settled h run.1) on by o step place run (entry e h run) in
       let same : same_op o w ≡ true = (and_parts (same_op o w) (is_land_step step) is).0 in
       subst (Settled (e ∷ h)) (same_op_true o w same) named
   lands_settled (Arrive lane mark) h w run is = cc

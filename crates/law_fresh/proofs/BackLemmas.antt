@@ -27,7 +27,6 @@ use Rattle.std.proofs.lemmas.Bool.{and_parts, or_left, or_right}
 use Rattle.law_fresh.specs.Aware.{Aware, is_behind, knows, shows, shown, first_known, taught_by, taught_after, aware_of}
 use Rattle.law_fresh.specs.Told.{was_told}
 use Rattle.law_fresh.proofs.ListLemmas.{or_either}
-use Rattle.law_fresh.proofs.BegunLemmas.{IsOf, of_of}
 use Rattle.law_fresh.proofs.AwareLemmas.{first_brought}
 use Rattle.law_fresh.proofs.SinceLemmas.{ends_as_ended}
 use Rattle.law_fresh.proofs.ToldLemmas.{Front, front_run, front_end, before_in, told_knows}
@@ -36,6 +35,7 @@ use Rattle.law_lanes.proofs.order.Laws.{turn_not_ended}
 use Rattle.list_facts.proofs.AnyLemmas.{any_some, found_any}
 use Rattle.law_fresh.proofs.reads.Laws.{no_reading}
 use Rattle.law_fresh.proofs.BehindLemmas.{ends_turn}
+use Rattle.law_fresh.proofs.NamedLemmas.{IsOf, of_of}
 
 -- An operation of which a data phase landed is there.
 

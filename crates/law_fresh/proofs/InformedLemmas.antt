@@ -41,7 +41,7 @@ use Rattle.law_fresh.specs.Cover.{items, is_on_lane, covered, Informed}
 use Rattle.law_fresh.proofs.ListLemmas.{or_either}
 use Rattle.law_fresh.proofs.SafeLemmas.{Safe-weaker}
 use Rattle.law_fresh.proofs.BehindLemmas.{Begun}
-use Rattle.law_fresh.proofs.BegunLemmas.{ItemBegun, ItemsBegun-run, Begun-wanted, IsOf, LandingBegun, LandingsBegun-run, brought_of, presented_at}
+use Rattle.law_fresh.proofs.BegunLemmas.{ItemBegun, ItemsBegun-run, Begun-wanted, LandingBegun, LandingsBegun-run}
 use Rattle.law_fresh.proofs.AwareLemmas.{first_brought, knew}
 use Rattle.law_fresh.proofs.LaneLemmas.{WorldSafe, EntersSafe, enters_safe, leaves_safe, arrives_safe}
 use Rattle.law_fresh.proofs.OnLaneLemmas.{place_on}
@@ -49,6 +49,7 @@ use Rattle.law_fresh.proofs.SourceLemmas.{Covers, agent_of, source}
 use Rattle.law_fresh.proofs.TargetLemmas.{answers_on}
 use Rattle.law_fresh.proofs.TaughtLemmas.{back_ends, taught_source}
 use Rattle.law_fresh.proofs.StillLemmas.{Still, event_still}
+use Rattle.law_fresh.proofs.NamedLemmas.{IsOf, brought_of, presented_at}
 use Rattle.history_model.proofs.facts.AnswerLemmas.{AtLane, answered_at}
 use Rattle.history_model.proofs.facts.BridgeLemmas.{lane_back_back}
 use Rattle.law_lanes.proofs.Laws.{claim_starts, Quiet-empty, run_no_bridge, WellFormed-numbers}

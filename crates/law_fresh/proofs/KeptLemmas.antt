@@ -23,9 +23,9 @@ use Rattle.history_model.specs.Knowledge.{is_land_of, has_landed}
 use Rattle.history_model.specs.Runs.{Run}
 use Rattle.law_fresh.specs.Cover.{is_on_lane, covered_by, covered}
 use Rattle.law_fresh.proofs.ListLemmas.{or_either}
-use Rattle.law_fresh.proofs.BegunLemmas.{presented_at}
 use Rattle.law_fresh.proofs.OnLaneLemmas.{place_on, leaves_on, arrives_on}
 use Rattle.law_fresh.proofs.InformedLemmas.{step_ends}
+use Rattle.law_fresh.proofs.NamedLemmas.{presented_at}
 use Rattle.history_model.proofs.facts.RequestLemmas.{same_op_true}
 use Rattle.history_model.proofs.facts.PathLemmas.{way_cons}
 

@@ -11,8 +11,10 @@ pub use Rattle.law_fresh.proofs.BackLemmas.{known_told, told_known}
 pub use Rattle.law_fresh.proofs.BehindLemmas.{behind_self, behind_next, IsBehind, Begun, Begun-turn, ends_turn, Begun-kept, event_behind, ended_behind}
 -- a fact of each item on the lanes, after an event that brings only items of which it holds
 pub use Rattle.law_fresh.proofs.MoveLemmas.{WorldHas, Enters, Replies, RepliesBy, act_has, arrival_has}
--- who presents an operation names it, and so does what lands
-pub use Rattle.law_fresh.proofs.BegunLemmas.{Presented, presented_at, IsOf, of_of, brought_of, Begun-wanted, LandingBegun, LandingsBegun-run}
+-- who presents an operation names it, and so does what lands; and a fact of all that is named
+pub use Rattle.law_fresh.proofs.NamedLemmas.{presented_at, IsOf, brought_of, Names, Entry, presents_named, items_after, landings_after}
+-- what is on a lane or landed names an operation that began
+pub use Rattle.law_fresh.proofs.BegunLemmas.{LandingBegun, LandingsBegun-run}
 -- what lands is a write
 pub use Rattle.law_fresh.proofs.LandLemmas.{landed_writes}
 -- an operation of which a data phase landed is there, and one that ended has ended ever after

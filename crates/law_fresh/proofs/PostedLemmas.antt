@@ -45,7 +45,6 @@ use Rattle.law_lanes.specs.order.Parts.{HasWord}
 use Rattle.std.proofs.lemmas.Bool.{and_parts, or_left, or_right}
 use Rattle.std.proofs.lemmas.List.Folds.{list_any-append}
 use Rattle.law_fresh.specs.Cover.{is_post_of, is_on_lane, covered}
-use Rattle.law_fresh.proofs.BegunLemmas.{presented_at}
 use Rattle.law_fresh.proofs.OnLaneLemmas.{leaves_flies, accept_flies}
 use Rattle.law_fresh.proofs.SourceLemmas.{Covers, agent_of}
 use Rattle.law_fresh.proofs.KeptLemmas.{EndsCovered, kept_covered}
@@ -56,6 +55,7 @@ use Rattle.history_model.proofs.facts.RequestLemmas.{same_op_self}
 use Rattle.law_lanes.proofs.order.Laws.{OneClaimant-formed, AbortWhole-formed, rest_claimed, OnWay-stands, posts-less_first, OnlyTakes, takes_only}
 use Rattle.history_model.proofs.facts.PathLemmas.{way_goes}
 use Rattle.law_fresh.proofs.reads.Laws.{word_at, word_by, word_of, word_on, word_here}
+use Rattle.law_fresh.proofs.NamedLemmas.{presented_at}
 
 -- a target that takes it has its word
 word_at_has : (board : Board) (on place : ℕ) (request : Request) (found : Option TargetAgent) → claim board on request ≡ Target place → slice_get board.targets place ≡ found → word_at request found ≡ true → HasWord board on request

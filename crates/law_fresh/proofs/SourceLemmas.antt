@@ -34,7 +34,7 @@ use Rattle.law_fresh.specs.Aware.{Aware, knows, bears, aware_of}
 use Rattle.law_fresh.specs.Cover.{is_on_lane, covered, Informed}
 use Rattle.law_fresh.proofs.SafeLemmas.{Safe-find}
 use Rattle.law_fresh.proofs.AwareLemmas.{master_knows}
-use Rattle.law_fresh.proofs.BegunLemmas.{presented_at}
+use Rattle.law_fresh.proofs.NamedLemmas.{presented_at}
 use Rattle.history_model.proofs.facts.RequestLemmas.{same_op_true}
 
 -- How a write is covered, whether it is posted or delayed: what its proof needs of it, and nothing else.
