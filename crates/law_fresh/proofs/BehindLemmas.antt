@@ -91,7 +91,7 @@ ends_turn rule board (Act on (ByLane lane) o step place) h ending run is = cc
 ends_turn rule board (Arrive lane mark) h ending run is = cc
 
 -- the turn of a master whose turn was ended, and of any other
-pub ending_begun : (board : Board) (turn : ℕ → Option OpId) (found : Option Ending) (q : OpId) → ((ending : Ending) → found ≡ Some ending → turn ending.op.master ≡ Some ending.op)
+ending_begun : (board : Board) (turn : ℕ → Option OpId) (found : Option Ending) (q : OpId) → ((ending : Ending) → found ≡ Some ending → turn ending.op.master ≡ Some ending.op)
     → ((t : OpId) → turn q.master ≡ Some t → stands_after t q ≡ false) → (t : OpId) → turn_after board q.master (turn q.master) found ≡ Some t → stands_after t q ≡ false
 ending_begun board turn None q ends old t is = old t is
 ending_begun board turn (Some ending) q ends old t is =
@@ -116,7 +116,7 @@ behind_more p q None first behind = tt
 behind_more p q (Some t) first behind = behind_next p q t first behind
 
 -- what stands before a turn stands before what comes behind it
-pub ending_behind : (board : Board) (p : OpId) (master : ℕ) (found : Option Ending) (turn : ℕ → Option OpId) → ((ending : Ending) → found ≡ Some ending → turn ending.op.master ≡ Some ending.op)
+ending_behind : (board : Board) (p : OpId) (master : ℕ) (found : Option Ending) (turn : ℕ → Option OpId) → ((ending : Ending) → found ≡ Some ending → turn ending.op.master ≡ Some ending.op)
     → IsBehind p (turn master) → IsBehind p (turn_after board master (turn master) found)
 ending_behind board p master None turn ends old = old
 ending_behind board p master (Some ending) turn ends old =
