@@ -70,7 +70,7 @@ module _ (board : Board) (w : OpId) where
   presented_other h on Master o step place has wanted none = own_other on o step place none
   presented_other h on (ByLane k) o step place has wanted none =
       let standing : List Carried = (world_of board h k).standing in
-      let here = (presented_at board h on k o wanted).1 in
+      let here = (presented_at Tagged board h on k o wanted).1 in
       of_item o here.item (find_passes (is_of o) standing here.item here.found) (Each-find OtherItem (is_of o) standing here.item (has k).1 here.found)
 
   enters_other : (o : OpId) (step : Step) → Other o → Enters OtherItem o step

@@ -64,7 +64,7 @@ module _ (board : Board) (F : List Event → OpId → Type 0) (kept : (e : Event
   presented h on Master o held wanted = held.turns o (wants-turn board h on o wanted)
   presented h on (ByLane k) o held wanted =
       let standing : List Carried = (world_of board h k).standing in
-      let here = (presented_at board h on k o wanted).1 in
+      let here = (presented_at Tagged board h on k o wanted).1 in
       of_item h o here.item (find_passes (is_of o) standing here.item here.found) (Each-find (OfItem h) (is_of o) standing here.item (held.items k).1 here.found)
 
   enters_held : (h : List Event) (o : OpId) (step : Step) → F h o → Enters (OfItem h) o step
