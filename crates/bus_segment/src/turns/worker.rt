@@ -1,4 +1,4 @@
-ghost use Rattle.std.specs.Prelude.{◌≡◌, ◌+◌, ◌-◌, ◌<◌, ◌≤◌, true, false, length, max, slice_get, vec_len, IfOk, IfSome};
+ghost use Rattle.std.specs.Prelude.{◌≡◌, ◌+◌, ◌-◌, ◌<◌, ◌≤◌, true, false, length, max, vec_len, IfOk};
 ghost use Rattle.std.specs.Vec.{vec_capacity};
 ghost use Rattle.board_model.specs.Valid.{IsValid};
 ghost use Rattle.bus_core.specs.Bus.{shape_of};
@@ -6,11 +6,12 @@ ghost use Rattle.bus_segment.specs.Settle.{MaySettle, SettlesAt};
 ghost use Rattle.bus_segment.specs.Steps.{StampsRise, ArrivedUpTo};
 ghost use Rattle.bus_segment.specs.Turn.{Does, HasNothingToDo, IsQuietAtZero};
 ghost use Rattle.bus_segment.specs.turns.Works.{seen, Works, GivesOnlyRetries};
+ghost use Rattle.bus_segment.specs.turns.Again.{MayTurn, DoesTurn};
 
 use crate::Segment;
 use crate::turns::receiving::receive_all;
 use crate::turns::serving::serve_all;
-use board_model::{Board, Lane};
+use board_model::Board;
 use bus_agents::Arbiter;
 use history_model::Stamped;
 use lane_items::LaneEnd;
@@ -39,21 +40,6 @@ impl<L: LaneEnd + Drop> Worker<L> {
         ensures { result ≡ self.now.segment.bus.bus }
     {
         self.segment.bus().number()
-    }
-
-    /// How many bridges are on it.
-    pub fn ports(&self) -> usize
-        ensures { result ≡ length self.now.segment.bus.ports }
-    {
-        self.segment.bus().ports()
-    }
-
-    /// The lane that ends at the port of this place.
-    pub fn lane_of(&self, place: usize) -> Lane
-        requires { place < length self.now.segment.bus.ports }
-        ensures { IfSome (slice_get self.now.segment.bus.ports place) (λ port. result ≡ port.lane) }
-    {
-        self.segment.bus().lane_of(place)
     }
 
     /// The stamp of its last event, or the one with which it began.
@@ -161,36 +147,11 @@ impl<L: LaneEnd + Drop> Worker<L> {
     /// The same, where the bus may be known to be idle: whoever presents something there gets a Retry,
     /// as after a turn that made no event. So if nothing is received then, nobody is served.
     pub fn turn_again(&mut self, board: &Board, idle: bool) -> u32
-        requires valid { IsValid board.now }
-        requires going { self.old.segment.stopped ≡ false }
-        requires ends { length self.old.segment.ends.items ≡ length self.old.segment.bus.ports }
-        requires few { (length self.old.segment.bus.ports ≤ 9) ×
-            (length self.old.segment.bus.masters ≤ 8) }
-        requires counts { ArrivedUpTo (length self.old.segment.events.items)
-            self.old.segment.bus }
-        requires spare { 512 ≤
-            vec_capacity self.old.segment.events - vec_len self.old.segment.events }
+        requires may { MayTurn board.now self.old }
         requires idle { idle ≡ true → GivesOnlyRetries board.now self.old.segment.bus }
-        ensures does { Does L.had L.sent L.got L.kept L.paired board.now
-            (seen self.old.segment.bus self.old.segment.stamp self.old.segment.stopped)
-            (seen self.new.segment.bus self.new.segment.stamp self.new.segment.stopped)
-            self.old.segment.ends.items self.new.segment.ends.items
-            self.old.segment.events.items self.new.segment.events.items }
-        ensures shape { shape_of self.new.segment.bus ≡ shape_of self.old.segment.bus }
-        ensures ends { length self.new.segment.ends.items ≡ length self.old.segment.ends.items }
-        ensures counts { self.new.segment.stopped ≡ false →
-            ArrivedUpTo (length self.new.segment.events.items) self.new.segment.bus }
-        ensures many { length self.new.segment.events.items ≡
-            length self.old.segment.events.items + result }
-        ensures few { result ≤ 440 }
-        ensures quiet { IsQuietAtZero L.had L.got board.now
-            (seen self.old.segment.bus self.old.segment.stamp self.old.segment.stopped)
-            (seen self.new.segment.bus self.new.segment.stamp self.new.segment.stopped)
-            self.new.segment.ends.items result }
+        ensures turn { DoesTurn L.had L.sent L.got L.kept L.paired board.now self.old self.new result }
         ensures idle { result ≡ 0 → self.new.segment.stopped ≡ false →
             GivesOnlyRetries board.now self.new.segment.bus }
-        ensures stamps { StampsRise L.sent L.got self.old.segment.stamp self.new.segment.stamp
-            self.old.segment.ends.items self.new.segment.ends.items }
     {
         let before = self.segment.recorded();
         work(&mut self.segment, &mut self.arbiter, board, idle);
@@ -258,11 +219,8 @@ fn work<L: LaneEnd + Drop>(
 {
     let before = segment.recorded();
     receive_all(segment, board);
-    if segment.stopped() {
-        return;
-    }
     let rests = idle && segment.recorded() == before;
-    if rests {
+    if segment.stopped() || rests {
         return;
     }
     serve_all(segment, arbiter, board);

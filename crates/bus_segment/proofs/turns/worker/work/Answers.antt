@@ -1,5 +1,5 @@
-use Rattle.std.proofs.Common.{◌≡◌, ◌+◌, ◌*◌, ◌==◌, ◌≤◌, true, false, length, sym, subst, ◌∙◌, arith}
-use Rattle.std.proofs.lemmas.Bool.{and_parts, eqb-true}
+use Rattle.std.proofs.Common.{◌≡◌, ◌+◌, ◌*◌, ◌==◌, ◌≤◌, Bool, true, false, ◌||◌, length, sym, subst, ◌∙◌, arith}
+use Rattle.std.proofs.lemmas.Bool.{and_parts}
 use Rattle.bus_core.specs.Bus.{BusView, shape_of}
 use Rattle.bus_segment.specs.turns.Works.{seen, AllRetried, GivesOnlyRetries}
 use Rattle.bus_segment.proofs.turns.WorkLemmas.{works_further, works_within}
@@ -34,16 +34,23 @@ returns-clause-quiet g c = λ same still.
 pub returns-clause-idle : goal.returns-clause-idle
 returns-clause-idle g c = λ same still.
     let End : Type 0 = g.row.L.Denot in
-    let s = c.serve_all.ensures in
+    let on : c.receive_all.new.segment.stopped ≡ false = sym c.stopped.ensures ∙ c.if-stopped.false in
     let r = c.receive_all.ensures in
+    let s = c.serve_all.ensures in
     only_retries {End = End} c.args.board.now c.receive_all.new.segment.bus c.serve_all.new.segment.bus c.receive_all.new.segment.ends.items c.serve_all.new.segment.ends.items (s.quiet (omega (arith, r.works.grows, s.works.grows, same)) still)
+
+-- nothing came to a bus that is known to be idle
+or_second : (a b : Bool) → (a || b) ≡ true → a ≡ false → b ≡ true
+or_second true b is off = cc
+or_second false b is off = is
 
 pub returns-then-rests-clause-quiet : goal.returns-then-rests-clause-quiet
 returns-then-rests-clause-quiet g c = λ same still.
     let E = g.L.LaneEnd in
     let End : Type 0 = g.row.L.Denot in
     let r = c.receive_all.ensures in
-    let idle = and_parts c.args.idle (c.recorded.result == c.recorded-before.result) c.if-rests.true in
+    let rests = or_second c.stopped.result (c.args.idle && (c.recorded.result == c.recorded-before.result)) c.if-rests.true (c.stopped.ensures ∙ still) in
+    let idle = and_parts c.args.idle (c.recorded.result == c.recorded-before.result) rests in
     let all = retried_again {End = End} c.args.board.now c.args.segment.now.bus c.receive_all.new.segment.ends.items (c.requires.idle idle.0) in
     let few : length (shape_of c.args.segment.now.bus).lanes ≤ 9 = omega (arith, lanes_many c.args.segment.now.bus, c.requires.ports) in
     let agents : length (shape_of c.args.segment.now.bus).masters ≤ 8 = omega (arith, masters_many c.args.segment.now.bus, c.requires.masters) in
@@ -51,5 +58,6 @@ returns-then-rests-clause-quiet g c = λ same still.
 
 pub returns-then-rests-clause-idle : goal.returns-then-rests-clause-idle
 returns-then-rests-clause-idle g c = λ same still.
-    let idle = and_parts c.args.idle (c.recorded.result == c.recorded-before.result) c.if-rests.true in
+    let rests = or_second c.stopped.result (c.args.idle && (c.recorded.result == c.recorded-before.result)) c.if-rests.true (c.stopped.ensures ∙ still) in
+    let idle = and_parts c.args.idle (c.recorded.result == c.recorded-before.result) rests in
     subst (λ (s : BusView). GivesOnlyRetries c.args.board.now s) (sym (c.receive_all.ensures.same same still)) (c.requires.idle idle.0)
