@@ -1,5 +1,6 @@
 mod CutLemmas
 mod ShapeLemmas
 mod NameLemmas
+mod GuessLemmas
 mod ScanLemmas
 mod ReadLemmas
