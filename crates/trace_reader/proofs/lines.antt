@@ -2,5 +2,6 @@ mod CutLemmas
 mod ShapeLemmas
 mod NameLemmas
 mod GuessLemmas
+mod DigitLemmas
 mod ScanLemmas
 mod ReadLemmas
