@@ -1,5 +1,7 @@
 mod CutLemmas
 mod ShapeLemmas
 mod NameLemmas
+mod GuessLemmas
+mod DigitLemmas
 mod ScanLemmas
 mod ReadLemmas

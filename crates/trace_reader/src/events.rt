@@ -84,7 +84,7 @@ fn read_line_at<'a>(
     }
 }
 
-/// The same, where the line is found first and then cut, as each is that has a fault.
+/// The same of a line that is found first and then cut.
 fn cut_line_at<'a>(
     names: &Names,
     bytes: &'a [u8],
