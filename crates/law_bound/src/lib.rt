@@ -34,8 +34,7 @@ pub fn left_at_first()
         left_of board [] ≡ bound_of board }
 {}
 
-/// Each event of a run of a valid board lowers what is left by at least one. No word of the program
-/// calls it.
+/// Each event of a run of a valid board lowers what is left by at least one.
 pub fn left_falls()
     ensures { (board : Board) (h : List Event) (e : Event) → IsValid board → Run board (e ∷ h) →
         left_of board (e ∷ h) + 1 ≤ left_of board h }
