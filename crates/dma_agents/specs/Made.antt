@@ -3,7 +3,6 @@ use Rattle.std.specs.Prelude.{◌≡◌, ℕ, Bool, true, false, ◌+◌, List, 
 use Rattle.std.specs.List.{list_all, find}
 use Rattle.std.specs.Str.{bytes_eq}
 use Rattle.board_model.specs.declared.board.Board.{Board}
-use Rattle.board_text.specs.declared.reader.BadLine.{BadLine}
 use Rattle.board_text.specs.Lines.{lines_of, line_fault}
 use Rattle.board_text.specs.Tokens.{words_of}
 use Rattle.text_faults.specs.declared.board_line.LineFault.{LineFault}
@@ -30,7 +29,7 @@ use Rattle.dma_agents.specs.Unclear.{why_unclear}
 -- The marks of a text.
 
 -- the line has no fault of the text
-abbrev pub is_faultless : Option BadLine → Bool
+abbrev pub is_faultless : Option LineFault → Bool
 is_faultless None = true
 is_faultless (Some fault) = false
 

@@ -3,9 +3,10 @@ ghost use Rattle.board_text.specs.Lines.{lines_of};
 ghost use Rattle.plain_board.specs.Text.{token_lines, word_lines, slices_of, first_fault};
 ghost use Rattle.plain_board.specs.Text.{IsFirstFault};
 
-use board_text::{BadLine, Token, check_line, next_line, tokens_of};
+use board_text::{Token, check_line, next_line, tokens_of};
 use pci_command::{List, NoMemory};
 use std::alloc::{AllocFailed, Global};
+use text_faults::LineFault;
 use thiserror::Error;
 
 /// A line that has tokens: its number, from 1, and all its tokens in order.
@@ -20,7 +21,7 @@ pub struct Line {
 pub enum TextFault {
     /// A line may not be read. Lines are numbered from 1.
     #[error("line {line}: {fault}")]
-    Fault { line: u32, fault: BadLine },
+    Fault { line: u32, fault: LineFault },
     #[error("no memory")]
     NoMemory,
 }
