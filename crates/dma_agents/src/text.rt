@@ -59,9 +59,9 @@ fn read_sheet(alloc: Global, part: &[u8]) -> Result<Sheet, MakeFault>
 {
     match parse_sheet(alloc, part) {
         Ok(sheet) => Ok(sheet),
-        Err(ParseFault::Fault { line, fault }) => Err(MakeFault::Board {
-            line: line + 1,
-            fault,
+        Err(ParseFault::Fault(at)) => Err(MakeFault::Board {
+            line: at.line + 1,
+            fault: at.fault,
         }),
         Err(ParseFault::NoMemory) => Err(MakeFault::NoMemory),
     }

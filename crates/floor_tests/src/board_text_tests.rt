@@ -4,7 +4,7 @@ use board_text::{NumberFault, check_line, decimal, hex, next_line};
 use plain_board::{TextFault, lines};
 use std::alloc::Global;
 use std::test::Fail;
-use text_faults::LineFault;
+use text_faults::{AtLine, LineFault};
 
 #[test]
 fn numbers_of_both_kinds(rt: HostRuntime) {
@@ -46,10 +46,10 @@ fn the_first_fault_and_its_line(rt: HostRuntime) -> Result<(), Fail> {
     long[200] = b'\r';
     assert_eq!(rt; check_line(&long), Err(LineFault::TooLong));
     assert_eq!(rt; check_line(&long[1..]), Err(LineFault::BadByte));
-    let fault = TextFault::Fault {
+    let fault = TextFault::Fault(AtLine {
         line: 3,
         fault: LineFault::BadByte,
-    };
+    });
     assert_eq!(rt; places(rt.alloc(), b"a\n\n\x7f\n\x80").err(), Some(fault));
     Ok(())
 }

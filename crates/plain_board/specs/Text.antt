@@ -2,9 +2,10 @@
 use Rattle.std.specs.Prelude.{◌≡◌, ℕ, ◌+◌, List, [], ◌∷◌, length, map, Option, Some, None, ◌==◌, if◌then◌else◌}
 use Rattle.std.specs.List.{slice_range}
 use Rattle.plain_board.specs.declared.text.Line.{Line}
-use Rattle.plain_board.specs.declared.text.TextFault.{TextFault}
-use Rattle.plain_board.specs.declared.text.TextFault.TheVariants.{Fault, NoMemory}
 use Rattle.text_faults.specs.declared.board_line.LineFault.{LineFault}
+use Rattle.text_faults.specs.declared.at_line.AtLine.{AtLine}
+use Rattle.text_faults.specs.declared.or_no_memory.OrNoMemory.{OrNoMemory}
+use Rattle.text_faults.specs.declared.or_no_memory.OrNoMemory.TheVariants.{Fault, NoMemory}
 use Rattle.board_text.specs.declared.tokens.Token.{Token}
 use Rattle.board_text.specs.Lines.{line_fault}
 use Rattle.board_text.specs.Tokens.{tokens_of, words_of}
@@ -44,6 +45,6 @@ first_fault number [] = None
 first_fault number (line ∷ lines) = fault_or number (line_fault line) (first_fault (number + 1) lines)
 
 -- a refusal is the first fault of the lines, or is for want of memory
-abbrev pub IsFirstFault : List (List ℕ) → TextFault → Type 0
-IsFirstFault lines (Fault line fault) = first_fault 1 lines ≡ Some (line, fault)
+abbrev pub IsFirstFault : List (List ℕ) → OrNoMemory (AtLine LineFault) → Type 0
+IsFirstFault lines (Fault found) = first_fault 1 lines ≡ Some (found.line, found.fault)
 IsFirstFault lines NoMemory = Unit {0}

@@ -38,9 +38,9 @@ fn read_board(alloc: Global, part: &[u8]) -> Result<Board, TraceFault>
     read_is_well_formed();
     match parse(alloc, part) {
         Ok(board) => Ok(board),
-        Err(ParseFault::Fault { line, fault }) => Err(TraceFault::Board {
-            line: line + 1,
-            fault,
+        Err(ParseFault::Fault(at)) => Err(TraceFault::Board {
+            line: at.line + 1,
+            fault: at.fault,
         }),
         Err(ParseFault::NoMemory) => Err(TraceFault::NoMemory),
     }
