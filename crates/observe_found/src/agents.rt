@@ -45,7 +45,7 @@ fn read_tree(alloc: Global, text: &[u8], line: u32) -> Result<Tree, Unfound> {
             Err(TreeRefusal::Fault { .. }) => Err(Unfound::NoTree),
             Err(TreeRefusal::AboveBound { bound, .. }) => Err(Unfound::TooManyEvents { bound }),
         },
-        Err(ParseFault::Fault { .. }) => Err(Unfound::TooManyOperations { line }),
+        Err(ParseFault::Fault(_)) => Err(Unfound::TooManyOperations { line }),
         Err(ParseFault::NoMemory) => Err(Unfound::NoMemory),
     }
 }

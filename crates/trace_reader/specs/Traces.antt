@@ -12,7 +12,9 @@ use Rattle.trace_reader.specs.lines.Lines.{line_of}
 use Rattle.text_faults.specs.declared.trace_line.TraceLineFault.{TraceLineFault}
 use Rattle.text_faults.specs.declared.trace_line.TraceLineFault.TheVariants.{NoFirstLine, NoEventsLine, WrongCount, BehindEnd}
 use Rattle.trace_reader.specs.declared.fault.TraceFault.{TraceFault}
-use Rattle.trace_reader.specs.declared.fault.TraceFault.TheVariants.{Trace, Board as OfBoard, NoMemory}
+use Rattle.trace_reader.specs.declared.fault.TraceFault.TheVariants.{Trace, Board as OfBoard}
+use Rattle.text_faults.specs.declared.or_no_memory.OrNoMemory.{OrNoMemory}
+use Rattle.text_faults.specs.declared.or_no_memory.OrNoMemory.TheVariants.{Fault, NoMemory}
 
 -- Events, up to the `end` line.
 
@@ -78,8 +80,7 @@ abbrev pub trace_read : List ℕ → Result (Board × List Event) TraceFault
 trace_read text = by_first (lines_of text)
 
 -- an answer is what the text reads as, unless there was no memory
-abbrev pub Tells : {A : Type 0} → Result A TraceFault → Result A TraceFault → Type 0
+abbrev pub Tells : {A : Type 0} → Result A (OrNoMemory TraceFault) → Result A TraceFault → Type 0
 Tells (Ok value) reading = reading ≡ Ok value
-Tells (Err (Trace line fault)) reading = reading ≡ Err (Trace line fault)
-Tells (Err (OfBoard line fault)) reading = reading ≡ Err (OfBoard line fault)
+Tells (Err (Fault fault)) reading = reading ≡ Err fault
 Tells (Err NoMemory) reading = Unit {0}

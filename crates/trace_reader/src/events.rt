@@ -11,7 +11,7 @@ use board_text::next_line;
 use history_model::Event;
 use pci_command::List;
 use std::alloc::Global;
-use text_faults::TraceLineFault;
+use text_faults::{OrNoMemory, TraceLineFault};
 
 /// The events of the lines from `from` on, where the first line has this number, up to the `end`
 /// line, behind which nothing stands.
@@ -21,7 +21,7 @@ pub(crate) fn read_events(
     bytes: &[u8],
     from: usize,
     first: u32,
-) -> Result<List<Event>, TraceFault>
+) -> Result<List<Event>, OrNoMemory<TraceFault>>
     requires short { length bytes.now < 2 ^ 31 }
     requires within { from ≤ length bytes.now + 1 }
     requires small { first ≤ from + 1 }
@@ -29,7 +29,7 @@ pub(crate) fn read_events(
     ensures few { IfOk result (λ events. length events < 2 ^ 32) }
 {
     let Ok(names) = Names::new(alloc, board) else {
-        return Err(TraceFault::NoMemory);
+        return Err(OrNoMemory::NoMemory);
     };
     let mut events = Vec::new(alloc);
     let mut number = first;
@@ -42,19 +42,19 @@ pub(crate) fn read_events(
                 return ended(bytes, next, number, count, read);
             }
             Err(fault) => {
-                return Err(TraceFault::Trace {
+                return Err(OrNoMemory::Fault(TraceFault::Trace {
                     line: number,
-                    fault,
-                });
+                    fault: fault.into(),
+                }));
             }
         }
         number += 1;
         at = next;
     }
-    Err(TraceFault::Trace {
+    Err(OrNoMemory::Fault(TraceFault::Trace {
         line: number,
         fault: TraceLineFault::WrongCount,
-    })
+    }))
 }
 
 /// The line that begins at `at`, without its newline, the place behind that, and what the line is
@@ -109,22 +109,22 @@ fn ended(
     number: u32,
     count: u32,
     events: List<Event>,
-) -> Result<List<Event>, TraceFault>
+) -> Result<List<Event>, OrNoMemory<TraceFault>>
     requires { number < 2 ^ 32 - 1 }
     ensures read { Tells result (at_end number events count (lines_of (drop behind bytes.now))) }
     ensures few { IfOk result (λ events. length events < 2 ^ 32) }
 {
     if count as usize != events.as_slice().len() {
-        return Err(TraceFault::Trace {
+        return Err(OrNoMemory::Fault(TraceFault::Trace {
             line: number,
             fault: TraceLineFault::WrongCount,
-        });
+        }));
     }
     if next_line(bytes, behind).is_some() {
-        return Err(TraceFault::Trace {
+        return Err(OrNoMemory::Fault(TraceFault::Trace {
             line: number + 1,
             fault: TraceLineFault::BehindEnd,
-        });
+        }));
     }
     Ok(events)
 }
