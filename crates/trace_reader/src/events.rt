@@ -44,7 +44,7 @@ pub(crate) fn read_events(
             Err(fault) => {
                 return Err(OrNoMemory::Fault(TraceFault::Trace {
                     line: number,
-                    fault: fault.into(),
+                    fault,
                 }));
             }
         }
