@@ -42,6 +42,7 @@ impl Model for Bus {
 impl Bus {
     ghost use Rattle.bus_core.specs.Bus.{shape_of, arrivals_at, StandsAtFirst};
     ghost use Rattle.bus_core.specs.Calls.{IsStamped, IsElsewhere, BusAnswers, TurnsBack};
+    ghost use Rattle.bus_core.specs.Calls.{BusStaysAtRetry};
     ghost use Rattle.bus_face.specs.Offers.{offers_of};
     ghost use Rattle.bus_core.specs.Places.{WantsAt};
     ghost use Rattle.bus_core.specs.Serves.{BusOffers};
@@ -59,18 +60,6 @@ impl Bus {
     ) -> Bus
         ensures kept { result ≡ record { bus = bus; ports = ports.items; masters = masters.items; targets = targets.items; through = through } }
         ensures first { StandsAtFirst result }
-    {
-        Bus::of(bus, ports, masters, targets, through)
-    }
-
-    fn of(
-        bus: u8,
-        ports: Vec<Port>,
-        masters: Vec<MasterState>,
-        targets: Vec<TargetState>,
-        through: Through,
-    ) -> Bus
-        ensures { result ≡ record { bus = bus; ports = ports.items; masters = masters.items; targets = targets.items; through = through } }
     {
         Bus {
             bus,
@@ -120,8 +109,8 @@ impl Bus {
     }
 
     /// What the operation is answered that the initiator of this line presents, with what that does
-    /// at whoever claims it. What goes over a bridge has the stamp. None, and nothing is done, where
-    /// a lane presents it and its lane back claims it.
+    /// at whoever claims it; a Retry changes nothing. What goes over a bridge has the stamp. None, and
+    /// nothing is done, where a lane presents it and its lane back claims it.
     pub fn answer(&mut self, board: &Board, line: u8, op: OpId, stamp: u32) -> Option<Given>
         requires { IsTrue (is_well_formed board.now) }
         ensures shape { shape_of self.new ≡ shape_of self.old }
@@ -131,6 +120,7 @@ impl Bus {
         ensures stamped { IfSome result (λ given. IsStamped stamp given.over) }
         ensures apart { IfSome result (λ given. IsElsewhere line given.over) }
         ensures answers { IfSome result (λ given. BusAnswers board.now self.old line op given.answer given.over self.new) }
+        ensures retried { IfSome result (λ given. BusStaysAtRetry self.old given.answer self.new) }
         ensures turns { IfNone result (TurnsBack board.now self.old line op) }
     {
         match request_of(board, op, self.bus) {
@@ -156,6 +146,7 @@ impl Bus {
         ensures stamped { IfSome result (λ given. IsStamped stamp given.over) }
         ensures apart { IfSome result (λ given. IsElsewhere line given.over) }
         ensures answers { IfSome result (λ given. RequestAnswers board.now self.old line op request.now given.answer given.over self.new) }
+        ensures retried { IfSome result (λ given. BusStaysAtRetry self.old given.answer self.new) }
         ensures turns { IfNone result (RequestTurns board.now self.old line op request.now) }
     {
         let rest = rest_of(request, self.through.of(op));
@@ -176,6 +167,7 @@ impl Bus {
         ensures ports { self.new.ports ≡ self.old.ports }
         ensures none { result.over ≡ None }
         ensures answers { (line : ℕ) (request : RequestOf) → PlaceAnswers board.now self.old (Target target) line op request rest.now result.answer result.over self.new }
+        ensures retried { BusStaysAtRetry self.old result.answer self.new }
     {
         match target_place(self.targets.as_slice(), target) {
             None => nobody(),
@@ -209,6 +201,7 @@ impl Bus {
         ensures stamped { IfSome result (λ given. IsStamped stamp given.over) }
         ensures apart { IfSome result (λ given. IsElsewhere line given.over) }
         ensures answers { (board : BoardTree) (rest : RequestOf) → IfSome result (λ given. PlaceAnswers board self.old (LaneOf lane) line op request.now rest given.answer given.over self.new) }
+        ensures retried { IfSome result (λ given. BusStaysAtRetry self.old given.answer self.new) }
         ensures turns { (board : BoardTree) (rest : RequestOf) → IfNone result (PlaceTurns board self.old (LaneOf lane) line op request.now rest) }
     {
         match port_back(self.ports.as_slice(), lane) {

@@ -49,7 +49,7 @@ impl Port {
     ghost use Rattle.std.specs.List.{Contains};
     ghost use Rattle.bus_face.specs.Arrivals.{is_taken, HasRequest, sent_back};
     ghost use Rattle.bus_face.specs.Offers.{offers_of, answered_with};
-    ghost use Rattle.bus_core.specs.port.Calls.{PortStandsAtFirst, PortTests, PortArrives, PortReplies, PortOffers, PortEnds};
+    ghost use Rattle.bus_core.specs.port.Calls.{PortStandsAtFirst, PortTests, PortArrives, PortReplies, PortStaysAtRetry, PortOffers, PortEnds};
 
     /// The bridge where this lane of it ends, before the first event.
     pub fn new(alloc: Global, board: &Board, bridge: &Bridge, lane: Lane) -> Result<Port, NoMemory>
@@ -105,6 +105,7 @@ impl Port {
         ensures lane { self.new.lane ≡ self.old.lane }
         ensures arrivals { self.new.face.arrivals ≡ self.old.face.arrivals }
         ensures replies { PortReplies self.old tag op request.now result self.new }
+        ensures retried { PortStaysAtRetry self.old result self.new }
     {
         self.face.respond(tag, op, request)
     }
