@@ -1,16 +1,17 @@
-ghost use Rattle.std.specs.Prelude.{◌≡◌, ◌+◌, ◌-◌, ◌<◌, ◌≤◌, false, length, max, slice_get, vec_len, IfOk, IfSome};
+ghost use Rattle.std.specs.Prelude.{◌≡◌, ◌+◌, ◌-◌, ◌<◌, ◌≤◌, true, false, length, max, vec_len, IfOk};
 ghost use Rattle.std.specs.Vec.{vec_capacity};
 ghost use Rattle.board_model.specs.Valid.{IsValid};
 ghost use Rattle.bus_core.specs.Bus.{shape_of};
 ghost use Rattle.bus_segment.specs.Settle.{MaySettle, SettlesAt};
 ghost use Rattle.bus_segment.specs.Steps.{StampsRise, ArrivedUpTo};
-ghost use Rattle.bus_segment.specs.Turn.{Does, HasNothingToDo, IsQuietAtZero};
-ghost use Rattle.bus_segment.specs.turns.Works.{seen, Works};
+ghost use Rattle.bus_segment.specs.Turn.{Does, IsQuietAtZero};
+ghost use Rattle.bus_segment.specs.turns.Works.{GivesOnlyRetries};
+ghost use Rattle.bus_segment.specs.turns.Again.{MayTurn, DoesTurn};
 
 use crate::Segment;
 use crate::turns::receiving::receive_all;
 use crate::turns::serving::serve_all;
-use board_model::{Board, Lane};
+use board_model::Board;
 use bus_agents::Arbiter;
 use history_model::Stamped;
 use lane_items::LaneEnd;
@@ -39,21 +40,6 @@ impl<L: LaneEnd + Drop> Worker<L> {
         ensures { result ≡ self.now.segment.bus.bus }
     {
         self.segment.bus().number()
-    }
-
-    /// How many bridges are on it.
-    pub fn ports(&self) -> usize
-        ensures { result ≡ length self.now.segment.bus.ports }
-    {
-        self.segment.bus().ports()
-    }
-
-    /// The lane that ends at the port of this place.
-    pub fn lane_of(&self, place: usize) -> Lane
-        requires { place < length self.now.segment.bus.ports }
-        ensures { IfSome (slice_get self.now.segment.bus.ports place) (λ port. result ≡ port.lane) }
-    {
-        self.segment.bus().lane_of(place)
     }
 
     /// The stamp of its last event, or the one with which it began.
@@ -135,8 +121,26 @@ impl<L: LaneEnd + Drop> Worker<L> {
             self.new.segment.ends.items result }
         ensures stamps { StampsRise L.sent L.got self.old.segment.stamp self.new.segment.stamp self.old.segment.ends.items self.new.segment.ends.items }
     {
+        self.turn_again(board, false)
+    }
+
+    /// The same, where the bus may be known to be idle: whoever presents something there gets a Retry,
+    /// as after a turn that made no event. So if nothing is received then, nobody is served.
+    pub fn turn_again(&mut self, board: &Board, idle: bool) -> u32
+        requires may { MayTurn board.now self.old }
+        requires idle { idle ≡ true → GivesOnlyRetries board.now self.old.segment.bus }
+        ensures turn { DoesTurn L.had L.sent L.got L.kept L.paired board.now self.old self.new result }
+        ensures idle { result ≡ 0 → self.new.segment.stopped ≡ false →
+            GivesOnlyRetries board.now self.new.segment.bus }
+    {
         let before = self.segment.recorded();
-        work(&mut self.segment, &mut self.arbiter, board);
+        receive_all(&mut self.segment, board);
+        let came = (self.segment.recorded() - before) as u32;
+        let rests = self.segment.stopped() || (idle && came == 0);
+        if rests {
+            return came;
+        }
+        serve_all(&mut self.segment, &mut self.arbiter, board);
         (self.segment.recorded() - before) as u32
     }
 
@@ -172,27 +176,4 @@ impl<L: LaneEnd + Drop> Worker<L> {
         } = self;
         segment.take_events()
     }
-}
-
-/// What came over the bridges is received, and then all that present something are served, as long as
-/// the segment does not stop.
-fn work<L: LaneEnd + Drop>(segment: &mut Segment<L>, arbiter: &mut Arbiter, board: &Board)
-    requires valid { IsValid board.now }
-    requires going { segment.old.stopped ≡ false }
-    requires ends { length segment.old.ends.items ≡ length segment.old.bus.ports }
-    requires ports { length segment.old.bus.ports ≤ 9 }
-    requires masters { length segment.old.bus.masters ≤ 8 }
-    requires counts { ArrivedUpTo (length segment.old.events.items) segment.old.bus }
-    requires spare { vec_len segment.old.events + 440 ≤ vec_capacity segment.old.events }
-    ensures works { Works L.had L.sent L.got L.kept L.paired board.now 440
-        (seen segment.old.bus segment.old.stamp segment.old.stopped) (seen segment.new.bus segment.new.stamp segment.new.stopped)
-        segment.old.ends.items segment.new.ends.items segment.old.events.items segment.new.events.items }
-    ensures quiet { length segment.new.events.items ≡ length segment.old.events.items → segment.new.stopped ≡ false →
-        HasNothingToDo L.had L.got board.now (seen segment.old.bus segment.old.stamp segment.old.stopped) segment.new.ends.items }
-{
-    receive_all(segment, board);
-    if segment.stopped() {
-        return;
-    }
-    serve_all(segment, arbiter, board);
 }
