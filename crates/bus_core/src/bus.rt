@@ -74,24 +74,6 @@ impl Bus {
         } }
         ensures first { StandsAtFirst result }
     {
-        Bus::of(bus, ports, masters, targets, through)
-    }
-
-    fn of(
-        bus: u8,
-        ports: Vec<Port>,
-        masters: Vec<MasterState>,
-        targets: Vec<TargetState>,
-        through: Through,
-    ) -> Bus
-        ensures { result ≡ record {
-          bus = bus;
-          ports = ports.items;
-          masters = masters.items;
-          targets = targets.items;
-          through = through;
-        } }
-    {
         Bus {
             bus,
             ports,

@@ -4,8 +4,8 @@ ghost use Rattle.board_model.specs.Valid.{IsValid};
 ghost use Rattle.bus_core.specs.Bus.{shape_of};
 ghost use Rattle.bus_segment.specs.Settle.{MaySettle, SettlesAt};
 ghost use Rattle.bus_segment.specs.Steps.{StampsRise, ArrivedUpTo};
-ghost use Rattle.bus_segment.specs.Turn.{Does, HasNothingToDo, IsQuietAtZero};
-ghost use Rattle.bus_segment.specs.turns.Works.{seen, Works, GivesOnlyRetries};
+ghost use Rattle.bus_segment.specs.Turn.{Does, IsQuietAtZero};
+ghost use Rattle.bus_segment.specs.turns.Works.{GivesOnlyRetries};
 ghost use Rattle.bus_segment.specs.turns.Again.{MayTurn, DoesTurn};
 
 use crate::Segment;
@@ -153,8 +153,26 @@ impl<L: LaneEnd + Drop> Worker<L> {
         ensures idle { result ≡ 0 → self.new.segment.stopped ≡ false →
             GivesOnlyRetries board.now self.new.segment.bus }
     {
+        self.turn_again(board, false)
+    }
+
+    /// The same, where the bus may be known to be idle: whoever presents something there gets a Retry,
+    /// as after a turn that made no event. So if nothing is received then, nobody is served.
+    pub fn turn_again(&mut self, board: &Board, idle: bool) -> u32
+        requires may { MayTurn board.now self.old }
+        requires idle { idle ≡ true → GivesOnlyRetries board.now self.old.segment.bus }
+        ensures turn { DoesTurn L.had L.sent L.got L.kept L.paired board.now self.old self.new result }
+        ensures idle { result ≡ 0 → self.new.segment.stopped ≡ false →
+            GivesOnlyRetries board.now self.new.segment.bus }
+    {
         let before = self.segment.recorded();
-        work(&mut self.segment, &mut self.arbiter, board, idle);
+        receive_all(&mut self.segment, board);
+        let came = (self.segment.recorded() - before) as u32;
+        let rests = self.segment.stopped() || (idle && came == 0);
+        if rests {
+            return came;
+        }
+        serve_all(&mut self.segment, &mut self.arbiter, board);
         (self.segment.recorded() - before) as u32
     }
 
@@ -191,37 +209,4 @@ impl<L: LaneEnd + Drop> Worker<L> {
         } = self;
         segment.take_events()
     }
-}
-
-/// What came over the bridges is received, and then all that present something are served, as long as
-/// the segment does not stop; or nobody is, where the bus is known to be idle and nothing came.
-fn work<L: LaneEnd + Drop>(
-    segment: &mut Segment<L>,
-    arbiter: &mut Arbiter,
-    board: &Board,
-    idle: bool,
-)
-    requires valid { IsValid board.now }
-    requires going { segment.old.stopped ≡ false }
-    requires ends { length segment.old.ends.items ≡ length segment.old.bus.ports }
-    requires ports { length segment.old.bus.ports ≤ 9 }
-    requires masters { length segment.old.bus.masters ≤ 8 }
-    requires counts { ArrivedUpTo (length segment.old.events.items) segment.old.bus }
-    requires spare { vec_len segment.old.events + 440 ≤ vec_capacity segment.old.events }
-    requires idle { idle ≡ true → GivesOnlyRetries board.now segment.old.bus }
-    ensures works { Works L.had L.sent L.got L.kept L.paired board.now 440
-        (seen segment.old.bus segment.old.stamp segment.old.stopped) (seen segment.new.bus segment.new.stamp segment.new.stopped)
-        segment.old.ends.items segment.new.ends.items segment.old.events.items segment.new.events.items }
-    ensures quiet { length segment.new.events.items ≡ length segment.old.events.items → segment.new.stopped ≡ false →
-        HasNothingToDo L.had L.got board.now (seen segment.old.bus segment.old.stamp segment.old.stopped) segment.new.ends.items }
-    ensures idle { length segment.new.events.items ≡ length segment.old.events.items →
-        segment.new.stopped ≡ false → GivesOnlyRetries board.now segment.new.bus }
-{
-    let before = segment.recorded();
-    receive_all(segment, board);
-    let rests = idle && segment.recorded() == before;
-    if segment.stopped() || rests {
-        return;
-    }
-    serve_all(segment, arbiter, board);
 }
