@@ -5,22 +5,22 @@ use Rattle.std.specs.Fmt.{decimal}
 use Rattle.board_model.specs.declared.board.Board.{Board}
 use Rattle.board_model.specs.Ways.{lane_back}
 use Rattle.trace_text.specs.Words.{lane_word, op_word}
-use Rattle.draw_items.specs.declared.journey.JourneyKind.{JourneyKind}
-use Rattle.draw_items.specs.declared.journey.JourneyKind.TheVariants.{Post, Request, Completion, Credit, Gone}
+use Rattle.history_model.specs.declared.item.Carried.{Carried}
+use Rattle.history_model.specs.declared.item.Carried.TheVariants.{Post, Ask, Done, Room, Gone}
 use Rattle.draw_items.specs.declared.journey.Journey.{Journey}
-use Rattle.draw_items.specs.Items.{has_stood}
+use Rattle.draw_items.specs.Journeys.{has_stood}
 use Rattle.draw_items.specs.columns.Places.{Layout, face_place, bar_place}
 use Rattle.draw_elements.specs.Heights.{y, height_text, circle_element}
 use Rattle.draw_elements.specs.Labels.{kind_word}
 use Rattle.draw_elements.specs.declared.items.DrawnRoute.{DrawnRoute}
 
 -- the class of an item: posted, asked, done, a credit, or in vain
-abbrev pub kind_class : JourneyKind → List ℕ
-kind_class Post = codes "p"
-kind_class Request = codes "a"
-kind_class Completion = codes "d"
-kind_class Credit = codes "r"
-kind_class Gone = codes "x"
+abbrev pub kind_class : Carried → List ℕ
+kind_class (Post op) = codes "p"
+kind_class (Ask op slot) = codes "a"
+kind_class (Done op slot outcome) = codes "d"
+kind_class Room = codes "r"
+kind_class (Gone slot) = codes "x"
 
 -- fruitless tries of a poll are pale
 abbrev pub faint : Bool → List ℕ
@@ -70,15 +70,15 @@ left_text item = if nat_lt 0 item.left then codes ", left " ++ decimal item.left
 -- the title of an item
 unfoldable pub title_text : Board → Journey → List ℕ
 title_text board item =
-    codes "<title>" ++ (kind_word item.kind ++ (32 ∷ (op_word board item.op ++ (codes " on " ++ (lane_word item.lane ++ (codes ": sent " ++ (decimal item.sent ++ (came_text item ++ (left_text item ++ codes "</title>")))))))))
+    codes "<title>" ++ (kind_word item.carried ++ (32 ∷ (op_word board item.op ++ (codes " on " ++ (lane_word item.lane ++ (codes ": sent " ++ (decimal item.sent ++ (came_text item ++ (left_text item ++ codes "</title>")))))))))
 
 -- a credit has none
-unfoldable pub title_of : Board → JourneyKind → Journey → List ℕ
-title_of board Post item = title_text board item
-title_of board Request item = title_text board item
-title_of board Completion item = title_text board item
-title_of board Credit item = []
-title_of board Gone item = title_text board item
+unfoldable pub title_of : Board → Carried → Journey → List ℕ
+title_of board (Post op) item = title_text board item
+title_of board (Ask op slot) item = title_text board item
+title_of board (Done op slot outcome) item = title_text board item
+title_of board Room item = []
+title_of board (Gone slot) item = title_text board item
 
 -- the bar
 unfoldable pub bar_text : ℕ → DrawnRoute → List ℕ
@@ -101,14 +101,14 @@ unfoldable pub slant_text : ℕ → DrawnRoute → List ℕ
 slant_text first route = codes "<path d=\"" ++ (route_text first route ++ codes "\"/>")
 
 -- the group of its class
-unfoldable pub group_text : JourneyKind → Bool → List ℕ
-group_text kind pale = codes "<g class=\"" ++ (kind_class kind ++ (faint pale ++ codes "\">"))
+unfoldable pub group_text : Carried → Bool → List ℕ
+group_text item pale = codes "<g class=\"" ++ (kind_class item ++ (faint pale ++ codes "\">"))
 
 -- an item: its title, its line, its bar, its sign
 abbrev pub item_text : Board → ℕ → Bool → Journey → DrawnRoute → List ℕ
 item_text board first pale item route =
-    group_text item.kind pale
-    ++ (title_of board item.kind item
+    group_text item.carried pale
+    ++ (title_of board item.carried item
     ++ (slant_text first route
     ++ (bar_text first route
     ++ (sign_text first item route ++ codes "</g>\n"))))

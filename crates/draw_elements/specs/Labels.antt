@@ -20,17 +20,17 @@ use Rattle.board_printer.specs.Lines.{Line, spaced}
 use Rattle.board_printer.specs.Numbers.{address_text, phase_text}
 use Rattle.trace_text.specs.Words.{op_word}
 use Rattle.trace_text.specs.Events.{event_line}
-use Rattle.draw_items.specs.declared.journey.JourneyKind.{JourneyKind}
-use Rattle.draw_items.specs.declared.journey.JourneyKind.TheVariants.{Post, Request as RequestItem, Completion, Credit, Gone}
+use Rattle.history_model.specs.declared.item.Carried.{Carried}
+use Rattle.history_model.specs.declared.item.Carried.TheVariants.{Post, Ask, Done, Room, Gone}
 use Rattle.draw_items.specs.declared.journey.Journey.{Journey}
 
 -- what an item is called
-abbrev pub kind_word : JourneyKind → List ℕ
-kind_word Post = codes "post"
-kind_word RequestItem = codes "request"
-kind_word Completion = codes "completion"
-kind_word Credit = codes "credit"
-kind_word Gone = codes "gone"
+abbrev pub kind_word : Carried → List ℕ
+kind_word (Post op) = codes "post"
+kind_word (Ask op slot) = codes "request"
+kind_word (Done op slot outcome) = codes "completion"
+kind_word Room = codes "credit"
+kind_word (Gone slot) = codes "gone"
 
 -- the words of a line with single spaces between them
 abbrev pub words_text : Line → List ℕ
@@ -42,17 +42,17 @@ abbrev pub event_text : Board → Event → List ℕ
 event_text board e = words_text (event_line board e)
 
 -- The note of an arrival: what arrives, and its operation; of a credit there is none.
-abbrev pub item_note : Board → JourneyKind → OpId → List ℕ
-item_note board Post o = codes "post " ++ op_word board o
-item_note board RequestItem o = codes "request " ++ op_word board o
-item_note board Completion o = codes "completion " ++ op_word board o
-item_note board Credit o = codes "credit"
-item_note board Gone o = codes "gone " ++ op_word board o
+abbrev pub item_note : Board → Carried → OpId → List ℕ
+item_note board (Post op) o = codes "post " ++ op_word board o
+item_note board (Ask op slot) o = codes "request " ++ op_word board o
+item_note board (Done op slot outcome) o = codes "completion " ++ op_word board o
+item_note board Room o = codes "credit"
+item_note board (Gone slot) o = codes "gone " ++ op_word board o
 
 -- the note of what arrives
 abbrev pub arrival_note : Board → Option Journey → List ℕ
 arrival_note board None = []
-arrival_note board (Some item) = item_note board item.kind item.op
+arrival_note board (Some item) = item_note board item.carried item.op
 
 -- The note of a request: the address as driven on that bus, in configuration space the register.
 abbrev pub space_note : Space → ℕ → List ℕ

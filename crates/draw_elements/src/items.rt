@@ -7,7 +7,8 @@ ghost use Rattle.draw_elements.specs.Items.{group_text, item_text};
 use crate::height::{Height, print_circle, row_middle};
 use crate::words::{faint, kind_class, kind_word};
 use board_model::Board;
-use draw_items::{Columns, Journey, JourneyKind, lane_back};
+use draw_items::{Columns, Journey, lane_back};
+use history_model::Carried;
 use pci_command::NoMemory;
 use std::alloc::AllocError;
 use trace_text::{LaneWord, print_operation};
@@ -118,7 +119,7 @@ pub fn print_item(
     ensures { OnOk result (string_bytes text.new ≡ string_bytes text.old ++
         item_text board.now first pale item.now route.now) }
 {
-    print_group(text, item.kind, pale)?;
+    print_group(text, item.carried, pale)?;
     print_title_of(text, board, item)?;
     print_slant(text, first, route)?;
     print_bar(text, first, route)?;
@@ -129,13 +130,16 @@ pub fn print_item(
 #[tactic(auto, unfolding(crate::specs::Items::title_of))]
 fn print_title_of(text: &mut String, board: &Board, item: &Journey) -> Result<(), AllocError>
     ensures { OnOk result (string_bytes text.new ≡ string_bytes text.old ++
-        title_of board.now item.now.kind item.now) }
+        title_of board.now item.now.carried item.now) }
 {
-    match item.kind {
-        JourneyKind::Post | JourneyKind::Request | JourneyKind::Completion | JourneyKind::Gone => {
+    match item.carried {
+        Carried::Post { .. }
+        | Carried::Ask { .. }
+        | Carried::Done { .. }
+        | Carried::Gone { .. } => {
             print_title(text, board, item)
         }
-        JourneyKind::Credit => Ok(()),
+        Carried::Room => Ok(()),
     }
 }
 
@@ -144,7 +148,7 @@ fn print_title(text: &mut String, board: &Board, item: &Journey) -> Result<(), A
     ensures { OnOk result (string_bytes text.new ≡ string_bytes text.old ++
         title_text board.now item.now) }
 {
-    write!(text, "<title>{} ", kind_word(item.kind))?;
+    write!(text, "<title>{} ", kind_word(item.carried))?;
     print_operation(text, board, &item.op)?;
     write!(text, " on {}: sent {}", LaneWord(item.lane), item.sent)?;
     print_came(text, item)?;
@@ -191,10 +195,10 @@ fn print_bar(text: &mut String, first: u32, route: &DrawnRoute) -> Result<(), Al
 }
 
 #[tactic(auto, unfolding(crate::specs::Items::group_text))]
-fn print_group(text: &mut String, kind: JourneyKind, pale: bool) -> Result<(), AllocError>
-    ensures { OnOk result (string_bytes text.new ≡ string_bytes text.old ++ group_text kind pale) }
+fn print_group(text: &mut String, item: Carried, pale: bool) -> Result<(), AllocError>
+    ensures { OnOk result (string_bytes text.new ≡ string_bytes text.old ++ group_text item pale) }
 {
-    write!(text, "<g class=\"{}{}\">", kind_class(kind), faint(pale))
+    write!(text, "<g class=\"{}{}\">", kind_class(item), faint(pale))
 }
 
 #[tactic(auto, unfolding(crate::specs::Items::slant_text))]

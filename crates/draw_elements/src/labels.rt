@@ -12,8 +12,8 @@ use crate::acts::ActLine;
 use crate::words::kind_word;
 use board_model::{Board, Lane, Place, end_of, request_of};
 use board_printer::{Address, DataWord, HexWord};
-use draw_items::{Journey, JourneyKind};
-use history_model::{By, Event, Mark, Step};
+use draw_items::Journey;
+use history_model::{By, Carried, Event, Mark, Step};
 use pci_command::{OpId, Outcome, Phase, Request, Space};
 use std::alloc::AllocError;
 use trace_text::{ByWord, LaneWord, print_operation, step_word, target_name};
@@ -141,7 +141,7 @@ fn print_arriving(text: &mut String, board: &Board, item: Option<Journey>) -> Re
         arrival_note board.now item) }
 {
     match item {
-        Some(item) => print_item_note(text, board, item.kind, item.op),
+        Some(item) => print_item_note(text, board, item.carried, item.op),
         None => Ok(()),
     }
 }
@@ -149,18 +149,21 @@ fn print_arriving(text: &mut String, board: &Board, item: Option<Journey>) -> Re
 fn print_item_note(
     text: &mut String,
     board: &Board,
-    kind: JourneyKind,
+    item: Carried,
     op: OpId,
 ) -> Result<(), AllocError>
     ensures { OnOk result (string_bytes text.new ≡ string_bytes text.old ++
-        item_note board.now kind op) }
+        item_note board.now item op) }
 {
-    match kind {
-        JourneyKind::Post | JourneyKind::Request | JourneyKind::Completion | JourneyKind::Gone => {
-            write!(text, "{} ", kind_word(kind))?;
+    match item {
+        Carried::Post { .. }
+        | Carried::Ask { .. }
+        | Carried::Done { .. }
+        | Carried::Gone { .. } => {
+            write!(text, "{} ", kind_word(item))?;
             print_operation(text, board, &op)
         }
-        JourneyKind::Credit => text.push_str("credit"),
+        Carried::Room => text.push_str("credit"),
     }
 }
 

@@ -2,31 +2,31 @@ ghost use Rattle.std.specs.Prelude.{◌≡◌};
 ghost use Rattle.draw_elements.specs.Labels.{kind_word};
 ghost use Rattle.draw_elements.specs.Items.{kind_class, faint};
 
-use draw_items::JourneyKind;
+use history_model::Carried;
 
 /// What an item is called.
-pub fn kind_word(kind: JourneyKind) -> &'static str
-    ensures { result.now ≡ kind_word kind }
+pub fn kind_word(item: Carried) -> &'static str
+    ensures { result.now ≡ kind_word item }
 {
-    match kind {
-        JourneyKind::Post => "post",
-        JourneyKind::Request => "request",
-        JourneyKind::Completion => "completion",
-        JourneyKind::Credit => "credit",
-        JourneyKind::Gone => "gone",
+    match item {
+        Carried::Post { .. } => "post",
+        Carried::Ask { .. } => "request",
+        Carried::Done { .. } => "completion",
+        Carried::Room => "credit",
+        Carried::Gone { .. } => "gone",
     }
 }
 
 /// The class of an item.
-pub fn kind_class(kind: JourneyKind) -> &'static str
-    ensures { result.now ≡ kind_class kind }
+pub fn kind_class(item: Carried) -> &'static str
+    ensures { result.now ≡ kind_class item }
 {
-    match kind {
-        JourneyKind::Post => "p",
-        JourneyKind::Request => "a",
-        JourneyKind::Completion => "d",
-        JourneyKind::Credit => "r",
-        JourneyKind::Gone => "x",
+    match item {
+        Carried::Post { .. } => "p",
+        Carried::Ask { .. } => "a",
+        Carried::Done { .. } => "d",
+        Carried::Room => "r",
+        Carried::Gone { .. } => "x",
     }
 }
 

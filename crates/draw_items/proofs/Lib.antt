@@ -1,3 +1,3 @@
-pub mod TrafficLemmas
+pub mod TouchedLemmas
 pub mod WaitLemmas
 pub mod TryLemmas

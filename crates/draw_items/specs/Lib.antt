@@ -1,5 +1,7 @@
-pub mod Items
+pub mod Journeys
+pub mod Touched
 pub mod Tries
 pub mod Waits
 pub mod Kept
 pub mod columns
+pub mod style

@@ -5,8 +5,9 @@ use Rattle.history_model.specs.declared.event.Event.{Event}
 use Rattle.history_model.specs.Runs.{history_of}
 use Rattle.law_audit.specs.Audit.{Finding, findings}
 use Rattle.draw_items.specs.declared.journey.Journey.{Journey}
-use Rattle.draw_items.specs.Items.{traffic_of}
 use Rattle.draw_items.specs.Waits.{waits_of}
+use Rattle.draw_journeys.specs.Journeys.{ShowsRun}
+use Rattle.draw_journeys.specs.Steps.{journeys_in}
 use Rattle.draw_told.specs.declared.told.Span.{Span}
 use Rattle.draw_told.specs.Told.{spans_of}
 use Rattle.draw_told.specs.Brackets.{brackets_of}
@@ -55,12 +56,12 @@ brackets_end board events frame = frame.told_x + (10 * length (brackets_of (span
 
 -- the columns of a board, as far apart as these events need
 unfoldable pub layout_in : Board → List Event → Frame → Layout
-layout_in board events frame = layout_of board (traffic_of events).items (brackets_end board events frame)
+layout_in board events frame = layout_of board (journeys_in board events) (brackets_end board events frame)
 
 -- all elements of the picture, with what the events tell of items, waits and lines of the audit
 unfoldable pub shapes_in : Board → List Event → Layout → Frame → List Row → Option Journey → List Shape
 shapes_in board events layout frame rows ahead =
-    layers board events layout frame rows (traffic_of events).items ahead (waits_of events) (spans_of board events) (brackets_of (spans_of board events)).tracks
+    layers board events layout frame rows (journeys_in board events) ahead (waits_of events) (spans_of board events) (brackets_of (spans_of board events)).tracks
 
 -- the page of these columns, rows and elements
 abbrev pub page_on : Board → List Event → Close → Layout → Frame → List Row → Option Journey → List ℕ
@@ -74,12 +75,12 @@ page_in board events close frame rows ahead = page_on board events close (layout
 -- the page of these rows
 abbrev pub page_of_rows : Board → List Event → List Event → Close → ℕ → ℕ → List Row → List ℕ
 page_of_rows board allowed events close first last rows =
-    page_in board allowed close (frame_of (length events) first last rows) rows (ahead_in board (traffic_of allowed) close events)
+    page_in board allowed close (frame_of (length events) first last rows) rows (ahead_in board (journeys_in board allowed) close events)
 
 -- the page from event FIRST to event LAST, which is there, of events of which the first are allowed
 abbrev pub page_after : Board → List Event → List Event → Close → ℕ → ℕ → List ℕ
 page_after board allowed events close first last =
-    page_of_rows board allowed events close first last (rows_of board allowed (traffic_of allowed) events first last)
+    page_of_rows board allowed events close first last (rows_of board allowed (journeys_in board allowed) events first last)
 
 -- the same, by how they end
 unfoldable pub page_from : Board → List Event → Close → ℕ → ℕ → List ℕ
@@ -88,3 +89,8 @@ page_from board events close first last = page_after board (allowed_in close eve
 -- the page of these events, which end so; a LAST above their number is lowered to it
 unfoldable pub page_of : Board → List Event → Close → ℕ → ℕ → List ℕ
 page_of board events close first last = page_from board events close first (min last (length events))
+
+-- at each moment of the run that is drawn, each lane has in the picture what it has in the machine: by the journeys that the
+-- page of these events is made of
+abbrev pub ShowsLanes : Board → List Event → Close → Type 0
+ShowsLanes board events close = ShowsRun board (allowed_in close events) (journeys_in board (allowed_in close events))

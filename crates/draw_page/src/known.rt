@@ -1,5 +1,5 @@
 use board_model::Board;
-use draw_items::{Traffic, Tries};
+use draw_items::{Journey, Tries};
 use draw_told::Told;
 use history_model::Event;
 
@@ -9,7 +9,7 @@ use history_model::Event;
 pub(crate) struct Known<'a> {
     pub(crate) board: &'a Board,
     pub(crate) events: &'a [Event],
-    pub(crate) traffic: &'a Traffic,
+    pub(crate) journeys: &'a [Journey],
     pub(crate) tries: &'a Tries,
     pub(crate) told: &'a Told,
 }

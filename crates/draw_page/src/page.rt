@@ -1,22 +1,21 @@
 ghost use Rattle.std.specs.Prelude.{◌≡◌, ◌++◌, ◌+◌, ◌*◌, ◌<◌, ◌^◌};
 ghost use Rattle.std.specs.Prelude.{length, string_bytes, IfOk, OnOk};
 ghost use Rattle.history_model.specs.Runs.{Run, history_of};
-ghost use Rattle.draw_items.specs.Items.{traffic_of};
+ghost use Rattle.draw_journeys.specs.Steps.{journeys_in};
 ghost use Rattle.draw_items.specs.Kept.{TellsTries};
 ghost use Rattle.draw_told.specs.Kept.{TellsTold};
 ghost use Rattle.draw_items.specs.columns.Places.{layout_of};
 ghost use Rattle.draw_told.specs.Closes.{allowed_in};
 ghost use Rattle.draw_page.specs.Pages.{table_open, names_part, table_text};
-ghost use Rattle.draw_page.specs.Pages.{page_with, page_in, page_from, page_of};
+ghost use Rattle.draw_page.specs.Pages.{page_with, page_in, page_from, page_of, ShowsLanes};
 
 use crate::known::Known;
 use crate::layers::{layers_of, rows_of};
 use crate::strips::print_strips;
 use board_model::Board;
 use board_tree::Tree;
-use draw_items::{
-    Columns, Journey, Traffic, columns_of, most_of, product, sum, traffic_of, tries_of,
-};
+use draw_items::{Columns, Journey, columns_of, most_of, product, sum, tries_of};
+use draw_journeys::{journeys_of, journeys_show_runs};
 use draw_shapes::{Canvas, Element, Frame, Row, frame_of, print_names};
 use draw_told::{
     Brackets, Close, Title, Told, ahead_in, allowed_in, brackets_of, print_told, print_top, told_of,
@@ -26,7 +25,8 @@ use pci_command::{List, NoMemory};
 use std::alloc::{AllocError, Global};
 
 /// The page of a run, complete or not, or of one and an event behind it that is not allowed, the
-/// oldest first; drawn are the events from number `first` to number `last`.
+/// oldest first; drawn are the events from number `first` to number `last`. Its items are what the
+/// lanes of the machine have in that run, at each moment of it.
 #[tactic(auto, unfolding(crate::specs::Pages::page_of))]
 pub fn page_of(
     alloc: Global,
@@ -38,13 +38,23 @@ pub fn page_of(
 ) -> Result<List<u8>, NoMemory>
     requires run { Run tree.now (history_of (allowed_in close events.now)) }
     requires few { length events.now < 2 ^ 31 }
-    ensures { IfOk result (λ page. page ≡ page_of tree.now events.now close first last) }
+    ensures page { IfOk result (λ page. page ≡ page_of tree.now events.now close first last) }
+    ensures lanes { ShowsLanes tree.now events.now close }
 {
+    journeys_show_runs();
     let allowed = allowed_in(close, events);
     let told = told_of(alloc, tree, allowed)?;
+    let journeys = journeys_of(alloc, tree, allowed)?;
+    let tries = tries_of(alloc, allowed)?;
+    let known = Known {
+        board: tree.board(),
+        events: allowed,
+        journeys: journeys.as_slice(),
+        tries: &tries,
+        told: &told,
+    };
     let last = last.min(events.len() as u32);
-    let shown = Shown { first, last };
-    page_from(alloc, tree.board(), events, close, &told, shown)
+    page_from(alloc, &known, events, close, Shown { first, last })
 }
 
 /// The first and the last event that are drawn.
@@ -57,32 +67,26 @@ struct Shown {
 #[tactic(auto, unfolding(crate::specs::Pages::page_from))]
 fn page_from(
     alloc: Global,
-    board: &Board,
+    known: &Known,
     events: &[Event],
     close: Close,
-    told: &Told,
     shown: Shown,
 ) -> Result<List<u8>, NoMemory>
     requires few { length events.now < 2 ^ 31 }
-    requires told { TellsTold board.now (allowed_in close events.now) told.now }
+    requires fewer { length known.now.events.now < 2 ^ 31 }
+    requires allowed { known.now.events.now ≡ allowed_in close events.now }
+    requires told { TellsTold known.now.board.now known.now.events.now known.now.told.now }
+    requires tries { TellsTries known.now.events.now known.now.tries.now }
+    requires journeys { known.now.journeys.now
+        ≡ journeys_in known.now.board.now known.now.events.now }
     ensures { IfOk result (λ page. page
-        ≡ page_from board.now events.now close shown.first shown.last) }
+        ≡ page_from known.now.board.now events.now close shown.first shown.last) }
 {
-    let allowed = allowed_in(close, events);
-    let traffic = traffic_of(alloc, allowed)?;
-    let tries = tries_of(alloc, allowed)?;
-    let known = Known {
-        board,
-        events: allowed,
-        traffic: &traffic,
-        tries: &tries,
-        told,
-    };
-    let rows = rows_of(alloc, &known, events, shown.first, shown.last)?;
+    let rows = rows_of(alloc, known, events, shown.first, shown.last)?;
     let rows = rows.as_slice();
     let frame = frame_of(alloc, events.len() as u32, shown.first, shown.last, rows)?;
-    let ahead = ahead_in(board, &traffic, close, events);
-    page_in(alloc, &known, close, &frame, rows, ahead)
+    let ahead = ahead_in(known.board, known.journeys, close, events);
+    page_in(alloc, known, close, &frame, rows, ahead)
 }
 
 #[tactic(auto, unfolding(crate::specs::Pages::page_in, crate::specs::Pages::layout_in, crate::specs::Pages::shapes_in))]
@@ -96,13 +100,14 @@ fn page_in(
 ) -> Result<List<u8>, NoMemory>
     requires few { length known.now.events.now < 2 ^ 31 }
     requires told { TellsTold known.now.board.now known.now.events.now known.now.told.now }
-    requires traffic { known.now.traffic.now ≡ traffic_of known.now.events.now }
+    requires journeys { known.now.journeys.now
+        ≡ journeys_in known.now.board.now known.now.events.now }
     requires tries { TellsTries known.now.events.now known.now.tries.now }
     ensures { IfOk result (λ page. page
         ≡ page_in known.now.board.now known.now.events.now close frame.now rows.now ahead) }
 {
     let brackets = brackets_of(alloc, known.told.spans())?;
-    let columns = columns_in(alloc, known.board, known.traffic, &brackets, frame)?;
+    let columns = columns_in(alloc, known.board, known.journeys, &brackets, frame)?;
     let canvas = Canvas {
         board: known.board,
         columns: &columns,
@@ -119,16 +124,16 @@ fn page_in(
 fn columns_in(
     alloc: Global,
     board: &Board,
-    traffic: &Traffic,
+    journeys: &[Journey],
     brackets: &Brackets,
     frame: &Frame,
 ) -> Result<Columns, NoMemory>
-    ensures { IfOk result (λ columns. columns ≡ layout_of board.now traffic.now.items
+    ensures { IfOk result (λ columns. columns ≡ layout_of board.now journeys.now
         (frame.now.told_x + (10 * length brackets.now.ends + 10))) }
 {
     let wide = sum(product(10, brackets.count() as u64)?, 10)?;
     let start = sum(frame.told_x, wide)?;
-    let most = most_of(alloc, traffic.items())?;
+    let most = most_of(alloc, journeys)?;
     columns_of(alloc, board, &most, start)
 }
 

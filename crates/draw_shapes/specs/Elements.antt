@@ -5,8 +5,8 @@ use Rattle.history_model.specs.declared.event.Step.{Step}
 use Rattle.history_model.specs.declared.event.Step.TheVariants.{Land, Part, Read, Accept, Latch, Take, Stall, MasterAbort, TargetAbort}
 use Rattle.history_model.specs.declared.event.Event.{Event}
 use Rattle.history_model.specs.declared.event.Event.TheVariants.{Act, Arrive}
-use Rattle.draw_items.specs.declared.journey.JourneyKind.{JourneyKind}
-use Rattle.draw_items.specs.declared.journey.JourneyKind.TheVariants.{Post, Request, Completion, Credit, Gone}
+use Rattle.history_model.specs.declared.item.Carried.{Carried}
+use Rattle.history_model.specs.declared.item.Carried.TheVariants.{Post, Ask, Done, Room, Gone}
 use Rattle.draw_items.specs.declared.journey.Journey.{Journey}
 use Rattle.draw_items.specs.declared.waits.Wait.{Wait}
 use Rattle.draw_items.specs.declared.columns.line.ColumnLine.TheVariants as lines
@@ -62,12 +62,12 @@ key_shapes layout frame row =
 -- Layer 2: rims of what belongs to an operation in the chain of a line.
 
 -- a post, a request and a completion belong to an operation
-abbrev pub can_have_rim : JourneyKind → Bool
-can_have_rim Post = true
-can_have_rim Request = true
-can_have_rim Completion = true
-can_have_rim Credit = false
-can_have_rim Gone = false
+abbrev pub can_have_rim : Carried → Bool
+can_have_rim (Post op) = true
+can_have_rim (Ask op slot) = true
+can_have_rim (Done op slot outcome) = true
+can_have_rim Room = false
+can_have_rim (Gone slot) = false
 
 -- the rim along the way of an item
 abbrev pub route_rim : List ℕ → Frame → DrawnRoute → List Shape
@@ -75,7 +75,7 @@ route_rim class frame route = seen frame route.sent route.left (item_rim class f
 
 -- the rim of an item, where its operation is in a chain
 unfoldable pub item_rims : Layout → Frame → Bool → Journey → List Shape
-item_rims layout frame loud item = if can_have_rim item.kind && loud then route_rim (codes "g") frame (route_of layout frame.end item) else []
+item_rims layout frame loud item = if can_have_rim item.carried && loud then route_rim (codes "g") frame (route_of layout frame.end item) else []
 
 -- the rim along an act, in its row
 abbrev pub rim_in : Frame → ℕ → Ends → List Shape

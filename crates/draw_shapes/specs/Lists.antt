@@ -2,8 +2,8 @@
 use Rattle.std.specs.Prelude.{ℕ, Bool, true, false, ◌||◌, ◌==◌, List, [], ◌++◌, length, codes, Option, Some, None, if◌then◌else◌}
 use Rattle.std.specs.Fmt.{decimal}
 use Rattle.board_model.specs.declared.board.Board.{Board}
-use Rattle.draw_items.specs.declared.journey.JourneyKind.{JourneyKind}
-use Rattle.draw_items.specs.declared.journey.JourneyKind.TheVariants.{Post, Request, Completion, Credit, Gone}
+use Rattle.history_model.specs.declared.item.Carried.{Carried}
+use Rattle.history_model.specs.declared.item.Carried.TheVariants.{Post, Ask, Done, Room, Gone}
 use Rattle.draw_items.specs.declared.journey.Journey.{Journey}
 use Rattle.history_model.specs.declared.event.Event.{Event}
 use Rattle.history_model.specs.declared.event.Event.TheVariants.{Act, Arrive}
@@ -13,17 +13,17 @@ use Rattle.draw_shapes.specs.declared.row.Row.{Row}
 use Rattle.draw_shapes.specs.declared.frame.Frame.{Frame}
 
 -- a credit
-abbrev pub is_credit : JourneyKind → Bool
-is_credit Post = false
-is_credit Request = false
-is_credit Completion = false
-is_credit Credit = true
-is_credit Gone = false
+abbrev pub is_credit : Carried → Bool
+is_credit (Post op) = false
+is_credit (Ask op slot) = false
+is_credit (Done op slot outcome) = false
+is_credit Room = true
+is_credit (Gone slot) = false
 
 -- what arrives is a credit
 abbrev pub brings_credit : Option Journey → Bool
 brings_credit None = false
-brings_credit (Some item) = is_credit item.kind
+brings_credit (Some item) = is_credit item.carried
 
 -- a credit arrives in the event
 abbrev pub is_credit_event : Option Journey → Event → Bool

@@ -7,8 +7,8 @@ use crate::frame::Frame;
 use crate::row::Row;
 use board_model::Board;
 use draw_elements::{Height, print_event, print_note};
-use draw_items::{Journey, JourneyKind};
-use history_model::Event;
+use draw_items::Journey;
+use history_model::{Carried, Event};
 use std::alloc::{AllocError, Global};
 
 /// An event in the list: its number, its line and what is noted behind it.
@@ -106,13 +106,13 @@ fn brings_credit(item: Option<Journey>) -> bool
     ensures { result ≡ brings_credit item }
 {
     match item {
-        Some(item) => is_credit(item.kind),
+        Some(item) => is_credit(item.carried),
         None => false,
     }
 }
 
-fn is_credit(kind: JourneyKind) -> bool
-    ensures { result ≡ is_credit kind }
+fn is_credit(item: Carried) -> bool
+    ensures { result ≡ is_credit item }
 {
-    matches!(kind, JourneyKind::Credit)
+    matches!(item, Carried::Room)
 }

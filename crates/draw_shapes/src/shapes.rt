@@ -16,8 +16,8 @@ use draw_elements::{
     Act, ActLine, ActRow, DrawnRoute, print_act, print_act_rim, print_item, print_item_rim,
     print_refused, refused_place,
 };
-use draw_items::{Journey, JourneyKind, Wait, product, sum};
-use history_model::{Event, Step};
+use draw_items::{Journey, Wait, product, sum};
+use history_model::{Carried, Event, Step};
 use pci_command::NoMemory;
 use std::alloc::Global;
 
@@ -144,7 +144,7 @@ pub fn add_item_rim(
     ensures { OnOk result (elements.new.items ≡ elements.old.items ++
         item_rims canvas.now.columns.now canvas.now.frame.now loud item.now) }
 {
-    if can_have_rim(item.kind) && loud {
+    if can_have_rim(item.carried) && loud {
         let route = DrawnRoute::of(canvas.columns, canvas.frame.end, item)?;
         add_route_rim(alloc, elements, "g", canvas.frame, &route)
     } else {
@@ -171,10 +171,10 @@ fn add_route_rim(
     }
 }
 
-fn can_have_rim(kind: JourneyKind) -> bool
-    ensures { result ≡ can_have_rim kind }
+fn can_have_rim(item: Carried) -> bool
+    ensures { result ≡ can_have_rim item }
 {
-    !matches!(kind, JourneyKind::Credit | JourneyKind::Gone)
+    !matches!(item, Carried::Room | Carried::Gone { .. })
 }
 
 /// The rim of an act whose operation is in the chain of a line.

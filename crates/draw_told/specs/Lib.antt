@@ -4,4 +4,3 @@ pub mod Kept
 pub mod Closes
 pub mod Ahead
 pub mod Tops
-pub mod style

@@ -10,7 +10,7 @@ use Rattle.audit_text.specs.Lines.{finding_words}
 use Rattle.draw_told.specs.declared.told.Span.{Span}
 use Rattle.draw_told.specs.declared.close.Close.{Close}
 use Rattle.draw_told.specs.declared.close.Close.TheVariants.{Ended, NotEnded, Refused}
-use Rattle.draw_told.specs.style.Styles.{style, key}
+use Rattle.draw_items.specs.style.Styles.{style, key}
 
 -- `events N, buses B`, and `, drawn FIRST to LAST` where these are not all
 unfoldable pub drawn_words : ℕ → ℕ → ℕ → List ℕ

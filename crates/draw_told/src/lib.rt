@@ -8,7 +8,6 @@ mod ahead;
 mod brackets;
 mod close;
 mod ends;
-mod style;
 mod told;
 mod top;
 mod touches;

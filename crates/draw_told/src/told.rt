@@ -54,10 +54,10 @@ pub fn told_of(alloc: Global, tree: &Tree, events: &[Event]) -> Result<Told, NoM
     requires few { length events.now < 2 ^ 31 }
     ensures { IfOk result (TellsTold tree.now events.now) }
 {
+    let found = findings_of(alloc, tree, events)?;
     let mut ends = Ends::new(alloc);
     let mut landed = Landed::new(alloc);
     note_all(alloc, tree.board(), &mut ends, &mut landed, events)?;
-    let found = findings_of(alloc, tree, events)?;
     told_by(alloc, &ends, &landed, events.len() + 1, found)
 }
 

@@ -7,10 +7,10 @@ ghost use Rattle.draw_told.specs.Tops.{link_text, landed_word, landed_text, read
 ghost use Rattle.draw_told.specs.Tops.{told_line, open_word, told_open, told_lines, told_text};
 
 use crate::close::Close;
-use crate::style::{print_key, print_style};
 use crate::told::Span;
 use audit_text::{Found, print_found};
 use board_model::Board;
+use draw_items::{print_key, print_style};
 use history_model::Why;
 use std::alloc::AllocError;
 

@@ -8,7 +8,7 @@ use Rattle.board_model.specs.declared.bridge.Lane.{Lane as BridgeLane}
 use Rattle.board_model.specs.declared.board.Board.{Board}
 use Rattle.history_model.specs.World.{same_lane}
 use Rattle.draw_items.specs.declared.journey.Journey.{Journey}
-use Rattle.draw_items.specs.Items.{has_stood}
+use Rattle.draw_items.specs.Journeys.{has_stood}
 use Rattle.draw_items.specs.declared.columns.line.ColumnLine.{ColumnLine}
 use Rattle.draw_items.specs.declared.columns.line.ColumnLine.TheVariants.{Left, Master, Target, Right}
 use Rattle.draw_items.specs.declared.columns.columns.Band.{Band}

@@ -4,7 +4,7 @@ use Rattle.board_model.specs.declared.board.Board.{Board}
 use Rattle.history_model.specs.declared.event.Event.{Event}
 use Rattle.history_model.specs.declared.event.Event.TheVariants.{Act, Arrive}
 use Rattle.draw_items.specs.declared.journey.Journey.{Journey}
-use Rattle.draw_items.specs.Items.{Lanes, item_of, taken_by, named_by}
+use Rattle.draw_items.specs.Touched.{item_of, taken_by, named_by}
 use Rattle.draw_items.specs.Tries.{is_pale}
 use Rattle.draw_told.specs.Told.{is_loud, is_key}
 use Rattle.draw_shapes.specs.declared.row.Row.{Row}
@@ -41,8 +41,8 @@ row_with board events n e item taken =
     }
 
 -- a row by what travels on the lanes
-abbrev pub row_of : Board → List Event → Lanes → ℕ → Event → Row
-row_of board events lanes n e = row_with board events n e (item_of n lanes) (taken_by n lanes)
+abbrev pub row_of : Board → List Event → List Journey → ℕ → Event → Row
+row_of board events js n e = row_with board events n e (item_of n e js) (taken_by n e js)
 
 -- event n, which is not allowed after these
 abbrev pub refused_row : Board → List Event → ℕ → Event → Option Journey → Row
@@ -60,18 +60,18 @@ refused_row board events n e item =
     }
 
 -- event n: one of these, or one that is not allowed after them
-abbrev pub row_at : Board → List Event → Lanes → ℕ → Event → Row
-row_at board events lanes n e = if nat_lt (length events) n then refused_row board events n e (named_by e lanes) else row_of board events lanes n e
+abbrev pub row_at : Board → List Event → List Journey → ℕ → Event → Row
+row_at board events js n e = if nat_lt (length events) n then refused_row board events n e (named_by e js) else row_of board events js n e
 
 -- so many events are before these
-abbrev pub rows_after : Board → List Event → Lanes → ℕ → List Event → List Row
-rows_after board events lanes n [] = []
-rows_after board events lanes n (e ∷ rest) = row_at board events lanes (n + 1) e ∷ rows_after board events lanes (n + 1) rest
+abbrev pub rows_after : Board → List Event → List Journey → ℕ → List Event → List Row
+rows_after board events js n [] = []
+rows_after board events js n (e ∷ rest) = row_at board events js (n + 1) e ∷ rows_after board events js (n + 1) rest
 
 -- the events from one number to another
 abbrev pub drawn : List Event → ℕ → ℕ → List Event
 drawn events before last = drop before (take last events)
 
 -- the rows of these events, of which the first are allowed
-unfoldable pub rows_of : Board → List Event → Lanes → List Event → ℕ → ℕ → List Row
-rows_of board allowed lanes events first last = rows_after board allowed lanes (first - 1) (drawn events (first - 1) last)
+unfoldable pub rows_of : Board → List Event → List Journey → List Event → ℕ → ℕ → List Row
+rows_of board allowed js events first last = rows_after board allowed js (first - 1) (drawn events (first - 1) last)

@@ -37,7 +37,7 @@ pub(crate) fn layers_of(
     ensures { (events : List Event) → TellsTries events known.now.tries.now →
         TellsTold canvas.now.board.now events known.now.told.now →
         IfOk result (λ elements. elements.items ≡ layers canvas.now.board.now events
-        canvas.now.columns.now canvas.now.frame.now rows.now known.now.traffic.now.items ahead
+        canvas.now.columns.now canvas.now.frame.now rows.now known.now.journeys.now ahead
         (waits_of known.now.events.now) known.now.told.now.spans brackets.now.tracks) }
 {
     let mut elements = Vec::new(alloc);
@@ -61,10 +61,10 @@ fn add_behind(
         TellsTold board events known.now.told.now →
         OnOk result (elements.new.items ≡ elements.old.items ++
         behind board events canvas.now.columns.now canvas.now.frame.now rows.now
-        known.now.traffic.now.items ahead (waits_of known.now.events.now)) }
+        known.now.journeys.now ahead (waits_of known.now.events.now)) }
 {
     add_keys(alloc, elements, canvas, rows)?;
-    add_item_rims(alloc, elements, canvas, known.told, known.traffic.items())?;
+    add_item_rims(alloc, elements, canvas, known.told, known.journeys)?;
     add_act_rims(alloc, elements, canvas, rows)?;
     add_ahead_rim(alloc, elements, canvas, ahead)?;
     add_waiting(alloc, elements, known, canvas)
@@ -83,9 +83,9 @@ fn add_in_front(
     ensures { (events : List Event) → TellsTries events known.now.tries.now →
         OnOk result (elements.new.items ≡ elements.old.items ++
         in_front canvas.now.board.now events canvas.now.columns.now canvas.now.frame.now rows.now
-        known.now.traffic.now.items known.now.told.now.spans tracks.now) }
+        known.now.journeys.now known.now.told.now.spans tracks.now) }
 {
-    add_items(alloc, elements, canvas, known.tries, known.traffic.items())?;
+    add_items(alloc, elements, canvas, known.tries, known.journeys)?;
     add_acts(alloc, elements, canvas, rows)?;
     add_brackets(alloc, elements, canvas.frame, known.told.spans(), tracks)?;
     add_rows(alloc, elements, canvas, rows)

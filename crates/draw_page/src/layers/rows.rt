@@ -1,7 +1,7 @@
 ghost use Rattle.std.specs.Prelude.{◌≡◌, ◌+◌, ◌-◌, ◌<◌, ◌≤◌, ◌^◌, List, length, IfOk};
 ghost use Rattle.board_model.specs.declared.board.Board.{Board};
 ghost use Rattle.history_model.specs.declared.event.Event.{Event};
-ghost use Rattle.draw_items.specs.Items.{named_by};
+ghost use Rattle.draw_items.specs.Touched.{named_by, TellsRow};
 ghost use Rattle.draw_items.specs.Kept.{TellsTries};
 ghost use Rattle.draw_told.specs.Kept.{TellsTold};
 ghost use Rattle.draw_page.specs.layers.Rows.{is_item_pale, is_event_pale, is_event_loud};
@@ -9,7 +9,7 @@ ghost use Rattle.draw_page.specs.layers.Rows.{row_with, row_of, refused_row, row
 ghost use Rattle.draw_page.specs.layers.Rows.{rows_after, drawn, rows_of};
 
 use crate::known::Known;
-use draw_items::{Journey, Tries};
+use draw_items::{Journey, Tries, item_of, named_by, near_of, taken_by};
 use draw_shapes::{Row, width_of};
 use draw_told::Told;
 use history_model::Event;
@@ -29,14 +29,16 @@ pub(crate) fn rows_of(
     requires tries { TellsTries known.now.events.now known.now.tries.now }
     requires told { TellsTold known.now.board.now known.now.events.now known.now.told.now }
     ensures { IfOk result (λ rows. rows.items ≡ rows_of known.now.board.now known.now.events.now
-        known.now.traffic.now events.now first last) }
+        known.now.journeys.now events.now first last) }
 {
     let before = first.saturating_sub(1);
     let shown = drawn(events, before, last);
+    let near = near_of(alloc, known.journeys, before, last)?;
+    let near = near.as_slice();
     let mut rows = Vec::new(alloc);
     for (row, event) in shown.iter().enumerate() {
         let n = before + row as u32 + 1;
-        rows.push(row_at(alloc, known, n, event)?)?;
+        rows.push(row_at(alloc, known, near, n, event)?)?;
     }
     Ok(rows)
 }
@@ -50,17 +52,25 @@ fn drawn(events: &[Event], before: u32, last: u32) -> &[Event]
     shown
 }
 
-fn row_at(alloc: Global, known: &Known, n: u32, event: &Event) -> Result<Row, NoMemory>
+/// Event number n, by the journeys that it has to do with.
+fn row_at(
+    alloc: Global,
+    known: &Known,
+    near: &[Journey],
+    n: u32,
+    event: &Event,
+) -> Result<Row, NoMemory>
     requires some { 0 < n }
+    requires near { TellsRow n known.now.journeys.now near.now }
     requires tries { TellsTries known.now.events.now known.now.tries.now }
     requires told { TellsTold known.now.board.now known.now.events.now known.now.told.now }
     ensures { IfOk result (λ row. row
-        ≡ row_at known.now.board.now known.now.events.now known.now.traffic.now n event.now) }
+        ≡ row_at known.now.board.now known.now.events.now known.now.journeys.now n event.now) }
 {
     if known.events.len() < n as usize {
         refused_row(alloc, known, n, event)
     } else {
-        row_of(alloc, known, n, event)
+        row_of(alloc, known, near, n, event)
     }
 }
 
@@ -68,9 +78,9 @@ fn row_at(alloc: Global, known: &Known, n: u32, event: &Event) -> Result<Row, No
 fn refused_row(alloc: Global, known: &Known, n: u32, event: &Event) -> Result<Row, NoMemory>
     ensures { (events : List Event) → TellsTries events known.now.tries.now
         → IfOk result (λ row. row ≡ refused_row known.now.board.now events n event.now
-        (named_by event.now known.now.traffic.now)) }
+        (named_by event.now known.now.journeys.now)) }
 {
-    let item = known.traffic.named_by(event).copied();
+    let item = named_by(known.journeys, event);
     Ok(Row {
         n,
         event: *event,
@@ -84,14 +94,20 @@ fn refused_row(alloc: Global, known: &Known, n: u32, event: &Event) -> Result<Ro
     })
 }
 
-fn row_of(alloc: Global, known: &Known, n: u32, event: &Event) -> Result<Row, NoMemory>
+fn row_of(
+    alloc: Global,
+    known: &Known,
+    near: &[Journey],
+    n: u32,
+    event: &Event,
+) -> Result<Row, NoMemory>
     ensures { (events : List Event) → TellsTries events known.now.tries.now →
         TellsTold known.now.board.now events known.now.told.now →
-        0 < n → n ≤ length events → IfOk result (λ row.
-        row ≡ row_of known.now.board.now events known.now.traffic.now n event.now) }
+        TellsRow n known.now.journeys.now near.now → 0 < n → n ≤ length events → IfOk result
+        (λ row. row ≡ row_of known.now.board.now events known.now.journeys.now n event.now) }
 {
-    let item = known.traffic.item_of(n).copied();
-    let taken = known.traffic.taken_by(n).copied();
+    let item = item_of(near, n, event);
+    let taken = taken_by(near, n, event);
     Ok(Row {
         n,
         event: *event,

@@ -1,4 +1,4 @@
-use Rattle.std.proofs.Common.{◌≡◌, ◌++◌, List, append_assoc, ◌∙◌, ap}
+use Rattle.std.proofs.Common.{◌≡◌, ◌++◌, List, append_assoc}
 use Rattle.std.specs.List.{flat_map}
 use Rattle.std.proofs.lemmas.Result.{IfOk-weaker}
 use Rattle.draw_items.specs.declared.journey.Journey.{Journey}
@@ -28,12 +28,12 @@ returns c = λ board events tells loud.
     IfOk-weaker _ _ _
     (λ _ waits. five c.args.elements.now.items c.add_keys.new.elements.items c.add_item_rims.new.elements.items c.add_act_rims.new.elements.items c.add_ahead_rim.new.elements.items c.add_waiting.new.elements.items
     (flat_map (key_shapes canvas.columns.now canvas.frame.now) c.args.rows.now)
-    (rims known.traffic.now.items)
+    (rims known.journeys.now)
     (flat_map (act_rims canvas.columns.now canvas.frame.now) c.args.rows.now)
     (ahead_rims canvas.columns.now canvas.frame.now c.args.ahead)
     (flat_map (λ wait. wait_shapes canvas.columns.now canvas.frame.now (is_pale events wait.op) wait) (waits_of known.events.now))
     c.in_ok-add_keys.ensures
-    (c.in_ok-add_item_rims.ensures board events loud ∙ ap (λ (l : List Journey). c.add_keys.new.elements.items ++ rims l) c.items.ensures)
+    (c.in_ok-add_item_rims.ensures board events loud)
     c.in_ok-add_act_rims.ensures
     c.in_ok-add_ahead_rim.ensures
     waits)

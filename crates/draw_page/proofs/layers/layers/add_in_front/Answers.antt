@@ -27,11 +27,11 @@ returns c = λ events tells.
     let told : List Span → List Shape = λ spans. flat_map (span_shapes canvas.frame.now) (zip spans c.args.tracks.now) in
     IfOk-weaker _ _ _
     (λ _ rows. four old c.add_items.new.elements.items c.add_acts.new.elements.items c.add_brackets.new.elements.items c.add_rows.new.elements.items
-    (shown known.traffic.now.items)
+    (shown known.journeys.now)
     (flat_map (act_shapes canvas.board.now canvas.columns.now canvas.frame.now) c.args.rows.now)
     (told known.told.now.spans)
     (flat_map (list_shapes canvas.board.now canvas.frame.now) c.args.rows.now)
-    (c.in_ok-add_items.ensures events tells ∙ ap (λ (l : List Journey). old ++ shown l) c.items.ensures)
+    (c.in_ok-add_items.ensures events tells)
     c.in_ok-add_acts.ensures
     (c.in_ok-add_brackets.ensures ∙ ap (λ (l : List Span). c.add_acts.new.elements.items ++ told l) c.spans.ensures)
     rows)

@@ -5,4 +5,4 @@ use Rattle.draw_page.proofs.layers.rows.rows_of.Given as goal
 -- the rows so far, and those to come
 abbrev pub invariant-loop-row : goal.invariant-loop-row
 invariant-loop-row l =
-    l.rows.items ++ rows_after l.known.board.now l.known.events.now l.known.traffic.now (l.before + l.row) (drop l.row l.shown) ≡ rows_after l.known.board.now l.known.events.now l.known.traffic.now l.before l.shown
+    l.rows.items ++ rows_after l.known.board.now l.known.events.now l.known.journeys.now (l.before + l.row) (drop l.row l.shown) ≡ rows_after l.known.board.now l.known.events.now l.known.journeys.now l.before l.shown

@@ -1,0 +1,9 @@
+pub mod ChangeLemmas
+pub mod OrderLemmas
+pub mod PlaceLemmas
+pub mod SeenLemmas
+pub mod KeepLemmas
+pub mod AgreeLemmas
+pub mod RunLemmas
+pub mod UnderWayLemmas
+pub mod FollowLemmas

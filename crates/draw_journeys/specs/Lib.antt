@@ -1,0 +1,3 @@
+pub mod Journeys
+pub mod Steps
+pub mod Kept
