@@ -7,7 +7,8 @@ ghost use Rattle.draw_elements.specs.Items.{group_text, item_text};
 use crate::height::{Height, print_circle, row_middle};
 use crate::words::{faint, kind_class, kind_word};
 use board_model::Board;
-use draw_items::{Columns, Journey, JourneyKind, lane_back};
+use draw_items::{Columns, Journey, lane_back};
+use history_model::Carried;
 use std::alloc::AllocError;
 use trace_text::{LaneWord, print_operation};
 

@@ -129,12 +129,12 @@ fn columns_in(
     brackets: &Brackets,
     frame: &Frame,
 ) -> Result<Columns, NoMemory>
-    ensures { IfOk result (λ columns. columns ≡ layout_of board.now traffic.now.items
+    ensures { IfOk result (λ columns. columns ≡ layout_of board.now journeys.now
         (plus frame.now.told_x (plus (times 10 (length brackets.now.ends)) 10))) }
 {
     let wide = sum(product(10, brackets.count() as u64), 10);
     let start = sum(frame.told_x, wide);
-    let most = most_of(alloc, traffic.items())?;
+    let most = most_of(alloc, journeys)?;
     columns_of(alloc, board, &most, start)
 }
 

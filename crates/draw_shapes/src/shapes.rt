@@ -144,7 +144,7 @@ pub fn add_item_rim(
     ensures { OnOk result (elements.new.items ≡ elements.old.items ++
         item_rims canvas.now.columns.now canvas.now.frame.now loud item.now) }
 {
-    if can_have_rim(item.kind) && loud {
+    if can_have_rim(item.carried) && loud {
         let route = DrawnRoute::of(canvas.columns, canvas.frame.end, item);
         add_route_rim(alloc, elements, "g", canvas.frame, &route)
     } else {

@@ -6,7 +6,7 @@ use Rattle.list_facts.specs.Lists.{greatest}
 use Rattle.board_model.specs.declared.bridge.Lane.{Lane as BridgeLane}
 use Rattle.history_model.specs.World.{same_direction, same_lane}
 use Rattle.draw_items.specs.declared.journey.Journey.{Journey}
-use Rattle.draw_items.specs.Items.{has_stood}
+use Rattle.draw_items.specs.Journeys.{has_stood}
 use Rattle.draw_items.specs.columns.Sums.{plus}
 use Rattle.draw_items.specs.columns.Places.{tracks_used, most}
 use Rattle.draw_items.specs.columns.Kept.{slot_of, with_item, IsMost}

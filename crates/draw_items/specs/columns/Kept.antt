@@ -3,7 +3,7 @@ use Rattle.std.specs.Prelude.{◌≡◌, ◌<◌, ℕ, ◌+◌, ◌*◌, max, Li
 use Rattle.std.proofs.Math.ListN.{set}
 use Rattle.board_model.specs.declared.bridge.Lane.{Lane as BridgeLane}
 use Rattle.draw_items.specs.declared.journey.Journey.{Journey}
-use Rattle.draw_items.specs.Items.{has_stood}
+use Rattle.draw_items.specs.Journeys.{has_stood}
 use Rattle.draw_items.specs.columns.Sums.{plus}
 use Rattle.draw_items.specs.columns.Places.{most}
 
