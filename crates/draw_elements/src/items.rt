@@ -132,12 +132,8 @@ fn print_title_of(text: &mut String, board: &Board, item: &Journey) -> Result<()
         title_of board.now item.now.carried item.now) }
 {
     match item.carried {
-        Carried::Post { .. }
-        | Carried::Ask { .. }
-        | Carried::Done { .. }
-        | Carried::Gone { .. } => {
-            print_title(text, board, item)
-        }
+        Carried::Post { .. } | Carried::Ask { .. } | Carried::Done { .. } | Carried::Gone { .. } =>
+            { print_title(text, board, item) }
         Carried::Room => Ok(()),
     }
 }

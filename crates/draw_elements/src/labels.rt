@@ -156,13 +156,11 @@ fn print_item_note(
         item_note board.now item op) }
 {
     match item {
-        Carried::Post { .. }
-        | Carried::Ask { .. }
-        | Carried::Done { .. }
-        | Carried::Gone { .. } => {
-            write!(text, "{} ", kind_word(item))?;
-            print_operation(text, board, &op)
-        }
+        Carried::Post { .. } | Carried::Ask { .. } | Carried::Done { .. } | Carried::Gone { .. } =>
+            {
+                write!(text, "{} ", kind_word(item))?;
+                print_operation(text, board, &op)
+            }
         Carried::Room => text.push_str("credit"),
     }
 }

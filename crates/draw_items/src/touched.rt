@@ -122,10 +122,7 @@ pub fn named_by(journeys: &[Journey], event: &Event) -> Option<Journey>
 fn flying_on(journeys: &[Journey], lane: Lane) -> Option<Journey>
     ensures { result ≡ find (flies lane) journeys.now }
 {
-    journeys
-        .iter()
-        .copied()
-        .find(|journey| journey.flies(lane))
+    journeys.iter().copied().find(|journey| journey.flies(lane))
 }
 
 fn presented_of(journeys: &[Journey], by: By, op: OpId) -> Option<Journey>
@@ -140,10 +137,7 @@ fn presented_of(journeys: &[Journey], by: By, op: OpId) -> Option<Journey>
 fn standing_of(journeys: &[Journey], lane: Lane, op: OpId) -> Option<Journey>
     ensures { result ≡ find (is_there lane (is_of op)) journeys.now }
 {
-    journeys
-        .iter()
-        .copied()
-        .find(|journey| journey.stands(lane) && is_of(journey.carried, op))
+    journeys.iter().copied().find(|journey| journey.stands(lane) && is_of(journey.carried, op))
 }
 
 /// The completion of the operation that stands where it would be taken at this place.
@@ -159,10 +153,7 @@ pub fn completion_at(journeys: &[Journey], op: OpId, place: Place) -> Option<Jou
 fn done_of(journeys: &[Journey], lane: Lane, op: OpId) -> Option<Journey>
     ensures { result ≡ find (is_there lane (is_done_of op)) journeys.now }
 {
-    journeys
-        .iter()
-        .copied()
-        .find(|journey| journey.stands(lane) && is_done_of(journey.carried, op))
+    journeys.iter().copied().find(|journey| journey.stands(lane) && is_done_of(journey.carried, op))
 }
 
 fn is_done_of(item: Carried, of: OpId) -> bool
@@ -207,8 +198,7 @@ fn is_near(journey: Journey, before: u32, last: u32) -> bool
     is_among(before, last, journey.came)
         || (is_among(before, last, journey.left)
             || (journey.has_come(last)
-                && (!journey.marked
-                    && (can_stand(journey.carried) && !journey.has_left(before)))))
+                && (!journey.marked && (can_stand(journey.carried) && !journey.has_left(before)))))
 }
 
 fn is_among(before: u32, last: u32, n: u32) -> bool

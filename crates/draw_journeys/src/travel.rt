@@ -375,8 +375,7 @@ fn begins(n: u32, lane: Lane, op: OpId, carried: Carried) -> Journey
 fn is_under_way(journey: Journey) -> bool
     ensures { result ≡ is_under_way journey }
 {
-    journey.came == 0
-        || (!journey.marked && (can_stand(journey.carried) && journey.left == 0))
+    journey.came == 0 || (!journey.marked && (can_stand(journey.carried) && journey.left == 0))
 }
 
 fn put_journey(journeys: &mut Vec<Journey>, place: usize, journey: Journey)

@@ -153,18 +153,6 @@ impl<L: LaneEnd + Drop> Worker<L> {
         ensures idle { result ≡ 0 → self.new.segment.stopped ≡ false →
             GivesOnlyRetries board.now self.new.segment.bus }
     {
-        self.turn_again(board, false)
-    }
-
-    /// The same, where the bus may be known to be idle: whoever presents something there gets a Retry,
-    /// as after a turn that made no event. So if nothing is received then, nobody is served.
-    pub fn turn_again(&mut self, board: &Board, idle: bool) -> u32
-        requires may { MayTurn board.now self.old }
-        requires idle { idle ≡ true → GivesOnlyRetries board.now self.old.segment.bus }
-        ensures turn { DoesTurn L.had L.sent L.got L.kept L.paired board.now self.old self.new result }
-        ensures idle { result ≡ 0 → self.new.segment.stopped ≡ false →
-            GivesOnlyRetries board.now self.new.segment.bus }
-    {
         let before = self.segment.recorded();
         receive_all(&mut self.segment, board);
         let came = (self.segment.recorded() - before) as u32;

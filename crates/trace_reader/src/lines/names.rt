@@ -107,11 +107,7 @@ impl<'a> Names<'a> {
 }
 
 /// The place of a name: that of the guess, if it has this name, and else as the table has it.
-fn place_in(
-    places: &BTreeMap<&[u8], usize>,
-    likely: &Guesses<'_>,
-    word: &[u8],
-) -> Option<usize>
+fn place_in(places: &BTreeMap<&[u8], usize>, likely: &Guesses<'_>, word: &[u8]) -> Option<usize>
     requires { AreRight places.now likely.now }
     ensures { result ≡ place_of places.now word.now }
 {
