@@ -8,6 +8,7 @@ use pci_command::NoMemory;
 /// How many steps the trying of pairings takes at most, beside one for each errand; and where others
 /// are tried otherwise than usual.
 const MOST_STEPS: usize = 20_000;
+
 const FEW_STEPS: usize = 1_000;
 
 /// In which order the near errands that a far one may have been made for are tried.

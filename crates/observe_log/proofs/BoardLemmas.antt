@@ -26,9 +26,9 @@ tells_board text at found board starts finds is =
     let number = length part + 3 in
     let by_lines : log_read text ≡ by_first (starts.first ∷ rest) = ap by_first starts.lines in
     let by_head : by_first (starts.first ∷ rest) ≡ by_parts past (until_log rest) =
-          ap (λ (first : Bool). if first then by_parts past (until_log rest) else Err (of_line 1 NoFirstLine)) starts.is_first in
+    ap (λ (first : Bool). if first then by_parts past (until_log rest) else Err (of_line 1 NoFirstLine)) starts.is_first in
     let by_log : by_parts past (until_log rest) ≡ by_board number behind (board_in part) = ap (by_parts past) finds.parts in
     let of_board : by_board number behind (board_in part) ≡ with_read board (lines_read board number nothing_read behind) =
-          ap (by_board number behind) is in
+    ap (by_board number behind) is in
     subst (λ read. TellsBoardOf (Ok board) read) (sym (by_lines ∙ by_head ∙ by_log ∙ of_board))
-      (with_lines board (lines_read board number nothing_read behind))
+    (with_lines board (lines_read board number nothing_read behind))
