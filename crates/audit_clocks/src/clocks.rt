@@ -36,7 +36,11 @@ impl Clocks {
     /// Nobody of so many masters knows of anything.
     #[tactic(auto, using(crate::proofs::RowLemmas::replicate_more))]
     pub fn new(alloc: Global, masters: usize) -> Result<Clocks, NoMemory>
-        ensures { IfOk result (λ clocks. clocks ≡ record { known = replicate masters (replicate masters []); starts = []; taught = [] }) }
+        ensures { IfOk result (λ clocks. clocks ≡ record {
+          known = replicate masters (replicate masters []);
+          starts = [];
+          taught = [];
+        }) }
     {
         let mut all = Vec::new(alloc);
         for _master in 0..masters {
@@ -88,7 +92,8 @@ impl Clocks {
         self.taught.put(op, told)
     }
 
-    /// The operation ended at its master: with a value, and then what it read tells, or without one.
+    /// The operation ended at its master: with a value, and then what it read tells, or without
+    /// one.
     pub fn end(&mut self, alloc: Global, op: OpId, has_value: bool) -> Result<(), NoMemory>
         ensures { OnOk result (Ended op has_value self.old self.new) }
     {
@@ -112,7 +117,8 @@ fn learn(
     op: OpId,
     told: Option<&Numbers>,
 ) -> Result<(), NoMemory>
-    ensures { OnOk result (Learns op (list_in (option_copied told.entry)) masters.old.items masters.new.items) }
+    ensures { OnOk result (Learns op (list_in (option_copied told.entry))
+        masters.old.items masters.new.items) }
 {
     let master = usize::from(op.master);
     if master < masters.len() {
@@ -127,7 +133,8 @@ fn learn_told(
     op: OpId,
     told: Option<&Numbers>,
 ) -> Result<(), NoMemory>
-    ensures { OnOk result (Reaches op known.old known.new (λ author. max (number (list_in (option_copied told.entry)) author) (own op author))) }
+    ensures { OnOk result (Reaches op known.old known.new (λ author.
+        max (number (list_in (option_copied told.entry)) author) (own op author))) }
 {
     match told {
         Some(told) => known.learn(op, told),

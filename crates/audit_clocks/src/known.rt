@@ -60,7 +60,8 @@ impl Known {
 
     /// The operation ended, and was told so much: its master knows it and that.
     pub fn learn(&mut self, op: OpId, told: &Numbers) -> Result<(), NoMemory>
-        ensures { OnOk result (Reaches op self.old self.new (λ author. max (number told.now author) (own op author))) }
+        ensures { OnOk result (Reaches op self.old self.new (λ author.
+            max (number told.now author) (own op author))) }
     {
         learn_all(&mut self.rows, op, told)
     }
@@ -68,7 +69,8 @@ impl Known {
 
 #[tactic(auto, using(crate::proofs::RowLemmas::reaches_none, crate::proofs::RowLemmas::reaches_next, crate::proofs::RowLemmas::reaches_all))]
 fn learn_all(rows: &mut Vec<ClockRow>, op: OpId, told: &Numbers) -> Result<(), NoMemory>
-    ensures { OnOk result (Reaches op rows.old.items rows.new.items (λ author. max (number told.now author) (own op author))) }
+    ensures { OnOk result (Reaches op rows.old.items rows.new.items (λ author.
+        max (number told.now author) (own op author))) }
 {
     for author in 0..rows.len() {
         learn_at(rows, op, told, author)?;
@@ -83,8 +85,9 @@ fn learn_at(
     author: usize,
 ) -> Result<(), NoMemory>
     requires { author < length rows.old.items }
-    ensures { OnOk result (rows.new.items ≡ set rows.old.items author (reached op (max (number told.now author) (own op author)) (row rows.old.items author))) }
+    ensures { OnOk result (rows.new.items ≡ set rows.old.items author
+        (reached op (max (number told.now author) (own op author)) (row rows.old.items author))) }
 {
-    let count = told.of(author).max(own(op, author));
+    let count = told.count_of(author).max(own(op, author));
     rows[author].reach(op, count)
 }

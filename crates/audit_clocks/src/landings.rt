@@ -61,7 +61,8 @@ impl Landings {
 
     /// A data phase of the write lands in the dword.
     pub fn land(&mut self, alloc: Global, word: Word, op: OpId) -> Result<(), NoMemory>
-        ensures { OnOk result (Lands self.old self.new (λ q. if same_word word q then op ∷ [] else [])) }
+        ensures { OnOk result (Lands self.old self.new (λ q. if same_word word q then op ∷
+            [] else [])) }
     {
         let found = self.words.remove(&word);
         let landed = landed_or_new(alloc, found).with(alloc, op)?;

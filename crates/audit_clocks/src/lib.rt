@@ -1,7 +1,7 @@
 //! What each master knows of all writes, by one number for each author: who was told of a write was
 //! told of all that its author wrote before it, so what is known of an author is how many of the
-//! operations of its program are. Beside it tables by operation and by dword, and what landed in each
-//! dword, also along the programs of the authors.
+//! operations of its program are. Beside it tables by operation and by dword, and what landed in
+//! each dword, also along the programs of the authors.
 #![tactic(auto)]
 
 mod clocks;

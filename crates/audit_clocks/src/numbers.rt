@@ -9,7 +9,7 @@ use std::marker::Model;
 /// How many operations of each author's program are known, from the first on.
 #[derive(Debug, Drop)]
 pub struct Numbers {
-    counts: Vec<usize>,
+    counts: Vec<u32>,
 }
 
 impl Model for Numbers {
@@ -41,7 +41,7 @@ impl Numbers {
     }
 
     /// These.
-    pub(crate) fn from_counts(counts: Vec<usize>) -> Numbers
+    pub(crate) fn from_counts(counts: Vec<u32>) -> Numbers
         ensures { result ≡ counts.items }
     {
         Numbers { counts }
@@ -59,6 +59,12 @@ impl Numbers {
     pub fn of(&self, author: usize) -> usize
         ensures { result ≡ number self.now author }
     {
+        self.count_of(author) as usize
+    }
+
+    pub(crate) fn count_of(&self, author: usize) -> u32
+        ensures { result ≡ number self.now author }
+    {
         match self.counts.as_slice().get(author) {
             Some(count) => *count,
             None => 0,
@@ -67,14 +73,15 @@ impl Numbers {
 
     /// What is known rises by an operation, by those before it in its program, and by what it knew.
     pub fn raise(&mut self, start: &Numbers, op: OpId)
-        ensures { Raises self.old self.new (λ author. max (number start.now author) (own op author)) }
+        ensures { Raises self.old self.new (λ author.
+            max (number start.now author) (own op author)) }
     {
         raise_all(&mut self.counts, start, op);
     }
 }
 
 #[tactic(auto, using(crate::proofs::RowLemmas::raised_none, crate::proofs::RowLemmas::raised_next, crate::proofs::RowLemmas::raised_all))]
-fn raise_all(counts: &mut Vec<usize>, start: &Numbers, op: OpId)
+fn raise_all(counts: &mut Vec<u32>, start: &Numbers, op: OpId)
     ensures { Raises counts.old.items counts.new.items (λ author. max (number start.now author) (own op author)) }
 {
     for author in 0..counts.len() {
@@ -82,20 +89,21 @@ fn raise_all(counts: &mut Vec<usize>, start: &Numbers, op: OpId)
     }
 }
 
-fn raise_at(counts: &mut Vec<usize>, start: &Numbers, op: OpId, author: usize)
+fn raise_at(counts: &mut Vec<u32>, start: &Numbers, op: OpId, author: usize)
     requires { author < length counts.old.items }
-    ensures { counts.new.items ≡ set counts.old.items author (max (number counts.old.items author) (max (number start.now author) (own op author))) }
+    ensures { counts.new.items ≡ set counts.old.items author
+        (max (number counts.old.items author) (max (number start.now author) (own op author))) }
 {
-    let more = start.of(author).max(own(op, author));
+    let more = start.count_of(author).max(own(op, author));
     counts[author] = counts[author].max(more);
 }
 
 /// How many of the author's operations an operation and those before it in its program are.
-pub(crate) fn own(op: OpId, author: usize) -> usize
+pub(crate) fn own(op: OpId, author: usize) -> u32
     ensures { result ≡ own op author }
 {
     if usize::from(op.master) == author {
-        usize::from(op.index) + 1
+        u32::from(op.index) + 1
     } else {
         0
     }

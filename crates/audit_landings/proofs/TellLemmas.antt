@@ -114,6 +114,9 @@ pub telling_waits : (whole : List (OpId × ℕ)) (starts : List (OpId × List �
 telling_waits whole starts all rest old now waits_old waits telling is =
     sym (append-nil waits) ∙ ap (λ xs. waits ++ filter (is_waiting whole) xs) (sym is) ∙ telling.waiting
 
+-- none so far, one more, and all
+pub ruleset of_writes = (telling_none, telling_next, telling_raises, telling_waits)
+
 -- What is kept of a dword.
 
 module _ (whole : List (OpId × ℕ)) (starts : List (OpId × List ℕ)) (writes : List OpId) (old : Told) (stands : ToldOf whole starts writes old) (mid new : List ℕ) (waits_mid waits : List OpId)

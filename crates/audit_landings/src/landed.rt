@@ -4,7 +4,8 @@ ghost use Rattle.history_model.specs.Knowledge.{is_land_step};
 ghost use Rattle.history_model.specs.Runs.{history_of};
 ghost use Rattle.pci_command.specs.declared.op_id.OpId.{OpId};
 ghost use Rattle.audit_clocks.specs.Tables.{value_of, Lands, Puts};
-ghost use Rattle.audit_landings.specs.Hits.{few_of, hits, request_hits, place_hits, event_hits, lands, whole_at, Landed, Parted};
+ghost use Rattle.audit_landings.specs.Hits.{few_of, hits, request_hits, place_hits};
+ghost use Rattle.audit_landings.specs.Hits.{event_hits, lands, whole_at, Landed, Parted};
 
 use audit_clocks::{Landings, OpTable};
 use board_model::{Board, Place, Word, request_of};
@@ -31,39 +32,46 @@ pub(crate) fn record_landed(
             step,
             place: Place::Target(target),
             ..
-        } => record_step(
-            alloc,
-            landed,
-            board,
-            gone_of(gone, op),
-            bus,
-            op,
-            step,
-            target,
-        ),
+        } => {
+            let gone = gone_of(gone, op);
+            let at = TargetStep {
+                gone,
+                op,
+                step,
+                target,
+            };
+            record_step(alloc, landed, board, bus, at)
+        }
         Event::Act { .. } | Event::Arrive { .. } => Ok(()),
     }
+}
+
+/// A step of an operation at a target, before which so many of its data phases went through.
+#[derive(Clone, Copy)]
+struct TargetStep {
+    gone: u128,
+    op: OpId,
+    step: Step,
+    target: u16,
 }
 
 fn record_step(
     alloc: Global,
     landed: &mut Landings,
     board: &Board,
-    gone: u128,
     bus: u8,
-    op: OpId,
-    step: Step,
-    target: u16,
+    at: TargetStep,
 ) -> Result<(), NoMemory>
-    requires { gone ≤ 2 ^ 100 }
-    ensures { OnOk result (Lands landed.old landed.new (place_hits board.now gone bus op step (Target target))) }
+    requires { at.gone ≤ 2 ^ 100 }
+    ensures { OnOk result (Lands landed.old landed.new
+        (place_hits board.now at.gone bus at.op at.step (Target at.target))) }
 {
-    if !lands(step) {
+    if !lands(at.step) {
         return Ok(());
     }
-    match request_of(board, op, bus) {
+    match request_of(board, at.op, bus) {
         None => Ok(()),
-        Some(request) => record_request(alloc, landed, &request, gone, op, step, target),
+        Some(request) => record_request(alloc, landed, &request, at),
     }
 }
 
@@ -98,28 +106,20 @@ fn record_request(
     alloc: Global,
     landed: &mut Landings,
     request: &Request,
-    gone: u128,
-    op: OpId,
-    step: Step,
-    target: u16,
+    at: TargetStep,
 ) -> Result<(), NoMemory>
-    requires { gone ≤ 2 ^ 100 }
-    ensures { OnOk result (Lands landed.old landed.new (request_hits gone op step target request.now)) }
+    requires { at.gone ≤ 2 ^ 100 }
+    ensures { OnOk result (Lands landed.old landed.new
+        (request_hits at.gone at.op at.step at.target request.now)) }
 {
     let space = request.command.space();
-    let address = dword_address(space, u128::from(request.address) + 4 * gone);
     let first = Word {
-        target,
+        target: at.target,
         space,
-        address,
+        address: dword_address(space, u128::from(request.address) + 4 * at.gone),
     };
-    record_phases(
-        alloc,
-        landed,
-        first,
-        op,
-        brought_by(step, left_of(request.phases.as_slice(), gone)),
-    )
+    let left = left_of(request.phases.as_slice(), at.gone);
+    record_phases(alloc, landed, first, at.op, brought_by(at.step, left))
 }
 
 #[tactic(auto, using(crate::proofs::HitLemmas::hits_none, crate::proofs::HitLemmas::hits_more))]
@@ -131,7 +131,8 @@ fn record_phases(
     phases: &[Phase],
 ) -> Result<(), NoMemory>
     requires { first.address ≤ 2 ^ 120 }
-    ensures { OnOk result (Lands landed.old landed.new (λ word. hits word op first.target first.space first.address (length phases.now))) }
+    ensures { OnOk result (Lands landed.old landed.new (λ word.
+        hits word op first.target first.space first.address (length phases.now))) }
 {
     let mut address = first.address;
     for phase in phases {
@@ -188,9 +189,11 @@ pub(crate) fn record_whole(
     }
 }
 
-/// Of each write that landed whole in these events, the first event first, how many there were before.
+/// Of each write that landed whole in these events, the first event first, how many there were
+/// before.
 pub fn whole_landings(alloc: Global, events: &[Event]) -> Result<OpTable<usize>, NoMemory>
-    ensures { IfOk result (λ whole. (op : OpId) → value_of op whole ≡ whole_at (history_of events.now) op) }
+    ensures { IfOk result (λ whole. (op : OpId) →
+        value_of op whole ≡ whole_at (history_of events.now) op) }
 {
     let mut whole = OpTable::new(alloc);
     record_each(&mut whole, events)?;
@@ -200,7 +203,8 @@ pub fn whole_landings(alloc: Global, events: &[Event]) -> Result<OpTable<usize>,
 #[tactic(auto, using(crate::proofs::StandLemmas::whole_more))]
 fn record_each(whole: &mut OpTable<usize>, events: &[Event]) -> Result<(), NoMemory>
     requires { whole.old ≡ [] }
-    ensures { OnOk result ((op : OpId) → value_of op whole.new ≡ whole_at (history_of events.now) op) }
+    ensures { OnOk result ((op : OpId) →
+        value_of op whole.new ≡ whole_at (history_of events.now) op) }
 {
     for (index, event) in events.iter().enumerate() {
         record_whole(whole, index, event)?;

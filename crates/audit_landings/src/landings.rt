@@ -1,7 +1,7 @@
 ghost use Rattle.std.specs.Prelude.{◌≡◌, OnOk, IfOk};
 
 use crate::landed::{record_landed, record_parted, record_whole};
-use crate::told::{Told, told_in};
+use crate::told::{Told, told_further, told_or_nothing};
 use audit_clocks::{Landings, Numbers, OpTable, Track, WordTable};
 use board_model::{Board, Word};
 use history_model::Event;
@@ -27,7 +27,8 @@ impl Model for DwordLandings {
 
     ghost Value = { LandingNotes };
 
-    ghost view = { λ k. record { gone = k.gone; landed = k.landed; whole = k.whole; tolds = k.tolds } };
+    ghost view = { λ k.
+        record { gone = k.gone; landed = k.landed; whole = k.whole; tolds = k.tolds } };
 }
 
 impl DwordLandings {
@@ -76,19 +77,18 @@ impl DwordLandings {
         word: Word,
     ) -> Result<Numbers, NoMemory>
         requires { ToldsFor masters self.old.whole starts.now self.old.landed self.old.tolds }
-        ensures tells { IfOk result (Tells masters self.old.whole starts.now (writes_in word self.old.landed)) }
-        ensures stand { OnOk result (ToldsFor masters self.new.whole starts.now self.new.landed self.new.tolds) }
+        ensures tells { IfOk result (Tells masters self.old.whole starts.now
+            (writes_in word self.old.landed)) }
+        ensures stand { OnOk result
+            (ToldsFor masters self.new.whole starts.now self.new.landed self.new.tolds) }
         ensures same { SameLandings self.old self.new }
     {
-        told_in(
-            alloc,
-            masters,
-            starts,
-            &self.whole,
-            &self.landed,
-            &mut self.tolds,
-            word,
-        )
+        let found = self.tolds.take(word);
+        let old = told_or_nothing(alloc, masters, found)?;
+        let next = told_further(alloc, starts, &self.whole, self.landed.of(word), old)?;
+        let numbers = next.numbers.copied(alloc)?;
+        self.tolds.put(word, next)?;
+        Ok(numbers)
     }
 
     /// The writes of the data phases that landed in the dword, in their order.

@@ -16,6 +16,7 @@ use Rattle.history_model.specs.declared.event.By.TheVariants.{Master, Lane as By
 use Rattle.history_model.specs.declared.event.Step.{Step}
 use Rattle.history_model.specs.declared.event.Event.{Event}
 use Rattle.history_model.specs.declared.event.Event.TheVariants.{Act, Arrive}
+use Rattle.history_model.specs.declared.rule.Rule.TheVariants.{Tagged}
 use Rattle.history_model.specs.Program.{Ending, ended, turn_of}
 use Rattle.history_model.specs.Knowledge.{value_in, is_write}
 use Rattle.history_model.specs.Runs.{Run}
@@ -170,7 +171,7 @@ module _ (board : Board) (valid : IsValid board) (h : List Event) (notes : Notes
     told author = number (list_in (told_at old.taught ending.op (is_some (value_in ending.outcome)))) author
 
     mine_within : mine < M
-    mine_within = master_within board ending.op (turn_is_there board h ending.op (ends_turn board e h ending run is))
+    mine_within = master_within board ending.op (turn_is_there board h ending.op (ends_turn Tagged board e h ending run is))
 
     told_is : (author : ℕ) → author < M → told author ≡ value_tells ending.outcome ((clocks_of board (e ∷ h)).taught ending.op author)
     told_is author below =

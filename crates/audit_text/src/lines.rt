@@ -15,17 +15,11 @@ pub fn print_found(text: &mut String, board: &Board, found: &Found) -> Result<()
     ensures { OnOk result
         (string_bytes text.new ≡ string_bytes text.old ++ finding_words board.now found.now) }
 {
-    print_finding(
-        text,
-        board,
-        found.read,
-        found.target,
-        found.space,
-        found.address,
-        found.value,
-        found.write,
-        found.chain.as_slice(),
-    )
+    print_operation(text, board, &found.read)?;
+    print_word(text, board, found.target, found.space, found.address)?;
+    print_known(text, board, found.value, found.write)?;
+    text.push_str(" by")?;
+    print_chain(text, board, found.chain.as_slice())
 }
 
 /// The line of a read, behind a text.
@@ -35,34 +29,6 @@ pub(crate) fn print_line(text: &mut String, board: &Board, found: &Found) -> Res
 {
     print_found(text, board, found)?;
     writeln!(text)
-}
-
-fn print_finding(
-    text: &mut String,
-    board: &Board,
-    read: OpId,
-    target: u16,
-    space: Space,
-    address: u64,
-    value: u32,
-    write: OpId,
-    chain: &[OpId],
-) -> Result<(), AllocError>
-    ensures { OnOk result
-        (string_bytes text.new ≡ string_bytes text.old ++ finding_words board.now
-        (record {
-          read = read;
-          word = record { target = target; space = space; address = address };
-          value = value;
-          write = write;
-          chain = chain.now;
-        })) }
-{
-    print_operation(text, board, &read)?;
-    print_word(text, board, target, space, address)?;
-    print_known(text, board, value, write)?;
-    text.push_str(" by")?;
-    print_chain(text, board, chain)
 }
 
 fn print_word(

@@ -6,7 +6,7 @@ use Rattle.board_model.specs.declared.bridge.Bridge.{Bridge}
 use Rattle.board_model.specs.declared.bridge.Window.{Window}
 use Rattle.board_model.specs.WellFormed.{is_window}
 use Rattle.board_headers.specs.declared.windows.Windows.{Windows}
-use Rattle.board_headers.specs.HeaderBytes.{bits, bytes_2, bytes_4, register_2, register_4, header_bytes, control_of, is_wide, io_base, io_limit, io_base_upper, io_limit_upper, memory_base, memory_limit, prefetchable_base, prefetchable_limit, prefetchable_base_upper, prefetchable_limit_upper}
+use Rattle.board_model.specs.HeaderBytes.{bits, bytes_2, bytes_4, register_2, register_4, header_bytes, control_of, is_wide, io_base, io_limit, io_base_upper, io_limit_upper, memory_base, memory_limit, prefetchable_base, prefetchable_limit, prefetchable_base_upper, prefetchable_limit_upper}
 use Rattle.board_headers.specs.Windows.{window_between, has_whole_windows, has_bit, windows_of, windows_in}
 
 -- ---- numbers in registers

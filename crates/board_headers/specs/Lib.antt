@@ -1,3 +1,1 @@
-pub mod HeaderBytes
 pub mod Windows
-pub mod device

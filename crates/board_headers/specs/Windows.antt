@@ -7,7 +7,7 @@ use Rattle.board_model.specs.WellFormed.{is_window}
 use Rattle.board_headers.specs.declared.windows.Windows.{Windows}
 use Rattle.board_headers.specs.declared.fault.HeaderFault.{HeaderFault}
 use Rattle.board_headers.specs.declared.fault.HeaderFault.TheVariants.{H1, H2, H3}
-use Rattle.board_headers.specs.HeaderBytes.{bits, register_2, register_4}
+use Rattle.board_model.specs.HeaderBytes.{bits, register_2, register_4}
 
 -- a window from base to limit; a base above the limit closes it
 abbrev pub window_between : ℕ → ℕ → Option Window

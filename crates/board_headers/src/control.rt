@@ -1,6 +1,7 @@
 use bitflags::{Flag, Flags, bitflag_items};
 
-/// Bits of the command register of a bridge (PCI-to-PCI Bridge Architecture 1.1, section 3.2, from memory).
+/// Bits of the command register of a bridge (PCI-to-PCI Bridge Architecture 1.1, section 3.2, from
+/// memory).
 #[derive(Clone, Copy, Debug, Default, PartialEq, Eq)]
 pub struct CommandBits(u16);
 
@@ -22,7 +23,8 @@ impl Flags for CommandBits {
 
     ghost exact = { ⊤ };
 
-    ghost table = { (codes "IO_SPACE", 1) ∷ (codes "MEMORY_SPACE", 2) ∷ (codes "BUS_MASTER", 4) ∷ [] };
+    ghost table = { (codes "IO_SPACE", 1) ∷ (codes "MEMORY_SPACE", 2) ∷
+        (codes "BUS_MASTER", 4) ∷ [] };
 
     ghost set_of = { λ bits. bits.0 };
 
@@ -39,7 +41,8 @@ impl Flags for CommandBits {
     }
 }
 
-/// Bits of the bridge control register (PCI-to-PCI Bridge Architecture 1.1, section 3.2.5.18, from memory).
+/// Bits of the bridge control register (PCI-to-PCI Bridge Architecture 1.1, section 3.2.5.18, from
+/// memory).
 #[derive(Clone, Copy, Debug, Default, PartialEq, Eq)]
 pub struct BridgeControl(u16);
 
@@ -63,7 +66,8 @@ impl Flags for BridgeControl {
 
     ghost exact = { ⊤ };
 
-    ghost table = { (codes "ISA_ENABLE", 4) ∷ (codes "VGA_ENABLE", 8) ∷ (codes "MASTER_ABORT_MODE", 0x20) ∷ (codes "SECONDARY_BUS_RESET", 0x40) ∷ [] };
+    ghost table = { (codes "ISA_ENABLE", 4) ∷ (codes "VGA_ENABLE", 8) ∷
+        (codes "MASTER_ABORT_MODE", 0x20) ∷ (codes "SECONDARY_BUS_RESET", 0x40) ∷ [] };
 
     ghost set_of = { λ bits. bits.0 };
 

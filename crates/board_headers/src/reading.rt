@@ -1,8 +1,11 @@
 ghost use Rattle.std.specs.Prelude.{◌≡◌, ◌+◌, ◌^◌, ◌<◌, IsTrue, IfOk};
 ghost use Rattle.board_model.specs.WellFormed.{is_window};
-ghost use Rattle.board_headers.specs.HeaderBytes.{register_2, register_4};
-ghost use Rattle.board_headers.specs.Windows.{reading_of, windows_of, is_type_1, is_enabled, has_refused_control, memory_window};
-ghost use Rattle.board_headers.specs.Windows.{prefetchable_window, prefetchable_upper, io_window, io_upper, window_between, has_whole_windows, has_ordered_buses};
+ghost use Rattle.board_model.specs.HeaderBytes.{register_2, register_4};
+ghost use Rattle.board_headers.specs.Windows.{reading_of, windows_of, is_type_1, is_enabled};
+ghost use Rattle.board_headers.specs.Windows.{has_refused_control, memory_window};
+ghost use Rattle.board_headers.specs.Windows.{prefetchable_window, prefetchable_upper};
+ghost use Rattle.board_headers.specs.Windows.{io_window, io_upper, window_between};
+ghost use Rattle.board_headers.specs.Windows.{has_whole_windows, has_ordered_buses};
 
 use crate::control::{BridgeControl, CommandBits};
 use crate::{HeaderFault, Windows};

@@ -2,11 +2,12 @@ ghost use Rattle.std.specs.Prelude.{◌≡◌, IsTrue, Ok};
 ghost use Rattle.board_model.specs.declared.bridge.Bridge.{Bridge};
 ghost use Rattle.board_model.specs.WellFormed.{is_well_formed_bridge};
 ghost use Rattle.board_model.specs.Valid.{is_numbered};
-ghost use Rattle.board_headers.specs.HeaderBytes.{header_bytes};
-ghost use Rattle.board_headers.specs.Windows.{reading_of, windows_of, windows_in, has_whole_windows};
+ghost use Rattle.board_model.specs.HeaderBytes.{header_bytes};
+ghost use Rattle.board_headers.specs.Windows.{reading_of, windows_of};
+ghost use Rattle.board_headers.specs.Windows.{windows_in, has_whole_windows};
 
-use crate::{Windows, decode, encode};
-use board_model::Bridge;
+use crate::{Windows, decode};
+use board_model::{Bridge, encode};
 
 /// What the header of a bridge says: the bridge's own buses, windows and master abort mode.
 pub fn read_back(bridge: &Bridge) -> Windows

@@ -3,7 +3,8 @@ ghost use Rattle.board_headers.specs.Windows.{has_ordered_buses};
 
 use board_model::Window;
 
-/// What a header says of buses and windows (PCI-to-PCI Bridge Architecture 1.1, section 3.2.5, from memory).
+/// What a header says of buses and windows (PCI-to-PCI Bridge Architecture 1.1, section 3.2.5, from
+/// memory).
 #[derive(Clone, Copy, Debug, Default, PartialEq, Eq)]
 pub struct Windows {
     /// The bus above the bridge.

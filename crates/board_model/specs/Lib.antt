@@ -6,3 +6,5 @@ pub mod WellFormed
 pub mod Valid
 pub mod Fits
 pub mod form_laws
+pub mod HeaderBytes
+pub mod device

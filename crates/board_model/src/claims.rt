@@ -1,13 +1,16 @@
 //! Who claims a request on a bus, found by a look at every agent of the board: PCI-to-PCI Bridge
 //! Architecture Specification 1.1, chapter 4 (addresses), section 3.1 (configuration; from memory).
-ghost use Rattle.std.specs.Prelude.{◌≡◌, ◌/◌, ◌%◌, ◌^◌, ◌<◌, ◌≤◌, ◌==◌, ◌&&◌, length, nat_le, IsTrue};
+ghost use Rattle.std.specs.Prelude.{◌≡◌, ◌/◌, ◌%◌, ◌^◌, ◌<◌, ◌≤◌, ◌==◌};
+ghost use Rattle.std.specs.Prelude.{◌&&◌, length, nat_le, IsTrue};
 ghost use Rattle.std.specs.Option.{option_copied};
 ghost use Rattle.std.specs.List.{find, list_any, position_from};
 ghost use Rattle.board_model.specs.declared.bridge.Bridge.{Bridge};
 ghost use Rattle.board_model.specs.declared.agents.Target.{Target};
 ghost use Rattle.board_model.specs.WellFormed.{is_well_formed};
-ghost use Rattle.board_model.specs.Claims.{range_holds, bridge_holds, decodes_down, claim_upwards, claim_by_bridge, claim_by_address, claim_by_header};
-ghost use Rattle.board_model.specs.Claims.{claim_by_device, claim_by_bus, is_type_0, device_in, bus_in, claim_in_configuration, claim_in_space, claim};
+ghost use Rattle.board_model.specs.Claims.{range_holds, bridge_holds, decodes_down, claim_upwards};
+ghost use Rattle.board_model.specs.Claims.{claim_by_bridge, claim_by_address, claim_by_header};
+ghost use Rattle.board_model.specs.Claims.{claim_by_device, claim_by_bus, is_type_0, device_in};
+ghost use Rattle.board_model.specs.Claims.{bus_in, claim_in_configuration, claim_in_space, claim};
 
 use crate::{Board, Bridge, Lane, Place, Range, Target, bridge_to, window_holds};
 use pci_command::{Request, Space};
@@ -54,8 +57,8 @@ fn range_holds(range: &Range, space: Space, address: u128) -> bool
 fn claim_by_address(board: &Board, bus: u8, space: Space, address: u128) -> Place
     requires { IsTrue (is_well_formed board.now) }
     ensures { result ≡
-        claim_by_address board.now bus space address
-        (position_from (λ target. target.bus == bus && list_any (range_holds space address) target.ranges) 0 board.now.targets) }
+        claim_by_address board.now bus space address (position_from (λ target. target.bus == bus &&
+        list_any (range_holds space address) target.ranges) 0 board.now.targets) }
 {
     match target_at(board, bus, space, address) {
         Some(target) => Place::Target(target),
@@ -66,7 +69,8 @@ fn claim_by_address(board: &Board, bus: u8, space: Space, address: u128) -> Plac
 #[tactic(auto, using(crate::proofs::claims::FewLemmas::few_targets_before, crate::proofs::claims::FewLemmas::target_more))]
 fn target_at(board: &Board, bus: u8, space: Space, address: u128) -> Option<u16>
     requires { IsTrue (is_well_formed board.now) }
-    ensures { result ≡ position_from (λ target. target.bus == bus && list_any (range_holds space address) target.ranges) 0 board.now.targets }
+    ensures { result ≡ position_from (λ target. target.bus == bus &&
+        list_any (range_holds space address) target.ranges) 0 board.now.targets }
 {
     for (index, target) in board.targets.as_slice().iter().enumerate() {
         if claims(target, bus, space, address) {
@@ -77,7 +81,8 @@ fn target_at(board: &Board, bus: u8, space: Space, address: u128) -> Option<u16>
 }
 
 fn claims(target: &Target, bus: u8, space: Space, address: u128) -> bool
-    ensures value { result ≡ (target.now.bus == bus && list_any (range_holds space address) target.now.ranges) }
+    ensures value { result ≡
+        (target.now.bus == bus && list_any (range_holds space address) target.now.ranges) }
     ensures on_a_bus { target.now.bus < 256 }
 {
     target.bus == bus && is_in_ranges(target.ranges.as_slice(), space, address)
@@ -86,7 +91,8 @@ fn claims(target: &Target, bus: u8, space: Space, address: u128) -> bool
 /// Positive decoding by a bridge below the bus, or else inverse decoding by that above it.
 fn claim_by_bridge(board: &Board, bus: u8, space: Space, address: u128) -> Place
     ensures { result ≡
-        claim_by_bridge board.now bus space address (find (decodes_down bus space address) board.now.bridges) }
+        claim_by_bridge board.now bus space address
+        (find (decodes_down bus space address) board.now.bridges) }
 {
     match child_holding(board, bus, space, address) {
         Some(child) => Place::Lane(Lane {
@@ -105,7 +111,8 @@ fn child_holding(board: &Board, bus: u8, space: Space, address: u128) -> Option<
 }
 
 fn claim_upwards(board: &Board, bus: u8, space: Space, address: u128) -> Place
-    ensures { result ≡ claim_upwards bus space address (find (λ bridge. bridge.bus == bus) board.now.bridges) }
+    ensures { result ≡
+        claim_upwards bus space address (find (λ bridge. bridge.bus == bus) board.now.bridges) }
 {
     match bridge_to(board, bus) {
         Some(own) if !bridge_holds(own, space, address) => Place::Lane(Lane { bus, up: true }),
@@ -141,7 +148,8 @@ fn claim_by_device(board: &Board, bus: u8, device: u8) -> Place
     requires { IsTrue (is_well_formed board.now) }
     ensures { result ≡
         claim_by_device board.now bus device
-        (position_from (λ target. target.bus == bus && target.device == device) 0 board.now.targets) }
+        (position_from (λ target. target.bus == bus && target.device == device) 0
+        board.now.targets) }
 {
     match target_with(board, bus, device) {
         Some(target) => Place::Target(target),
@@ -152,7 +160,8 @@ fn claim_by_device(board: &Board, bus: u8, device: u8) -> Place
 #[tactic(auto, using(crate::proofs::claims::FewLemmas::few_targets_before, crate::proofs::claims::FewLemmas::target_more))]
 fn target_with(board: &Board, bus: u8, device: u8) -> Option<u16>
     requires { IsTrue (is_well_formed board.now) }
-    ensures { result ≡ position_from (λ target. target.bus == bus && target.device == device) 0 board.now.targets }
+    ensures { result ≡
+        position_from (λ target. target.bus == bus && target.device == device) 0 board.now.targets }
 {
     for (index, target) in board.targets.as_slice().iter().enumerate() {
         if has_number(target, bus, device) {
@@ -171,7 +180,8 @@ fn has_number(target: &Target, bus: u8, device: u8) -> bool
 
 fn claim_by_header(board: &Board, bus: u8, device: u8) -> Place
     ensures { result ≡
-        claim_by_header (find (λ bridge. bridge.parent == bus && bridge.device == device) board.now.bridges) }
+        claim_by_header (find (λ bridge. bridge.parent == bus && bridge.device == device)
+        board.now.bridges) }
 {
     match child_with(board, bus, device) {
         Some(child) => Place::Header(child.bus),
@@ -180,7 +190,8 @@ fn claim_by_header(board: &Board, bus: u8, device: u8) -> Place
 }
 
 fn child_with(board: &Board, bus: u8, device: u8) -> Option<&Bridge>
-    ensures { option_copied result ≡ find (λ bridge. bridge.parent == bus && bridge.device == device) board.now.bridges }
+    ensures { option_copied result ≡
+        find (λ bridge. bridge.parent == bus && bridge.device == device) board.now.bridges }
 {
     let bridges = board.bridges.as_slice();
     bridges
@@ -190,8 +201,8 @@ fn child_with(board: &Board, bus: u8, device: u8) -> Option<&Bridge>
 
 fn claim_by_bus(board: &Board, bus: u8, named: u8) -> Place
     ensures { result ≡
-        claim_by_bus
-        (find (λ bridge. bridge.parent == bus && nat_le bridge.bus named && nat_le named bridge.last) board.now.bridges) }
+        claim_by_bus (find (λ bridge. bridge.parent == bus && nat_le bridge.bus named &&
+        nat_le named bridge.last) board.now.bridges) }
 {
     match child_towards(board, bus, named) {
         Some(child) => Place::Lane(Lane {
@@ -204,7 +215,8 @@ fn claim_by_bus(board: &Board, bus: u8, named: u8) -> Place
 
 fn child_towards(board: &Board, bus: u8, named: u8) -> Option<&Bridge>
     ensures { option_copied result ≡
-        find (λ bridge. bridge.parent == bus && nat_le bridge.bus named && nat_le named bridge.last) board.now.bridges }
+        find (λ bridge. bridge.parent == bus && nat_le bridge.bus named && nat_le named bridge.last)
+        board.now.bridges }
 {
     let bridges = board.bridges.as_slice();
     bridges.iter().find(|bridge| bridge.parent == bus

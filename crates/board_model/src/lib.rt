@@ -1,5 +1,6 @@
-//! A board: the tree of buses with its bridges, targets and masters, as its text names them, and
-//! who claims a request on a bus. Its form, claims, ways and validity are pages of `specs/`.
+//! A board: the tree of buses with its bridges, targets and masters, as its text names them, who
+//! claims a request on a bus, and the registers that configuration reads. Its form, claims, ways
+//! and validity are pages of `specs/`.
 #![tactic(auto)]
 
 mod agents;
@@ -7,6 +8,8 @@ mod board;
 mod bridge;
 mod buses;
 pub mod claims;
+mod device;
+mod encoding;
 mod fits;
 pub mod form_laws;
 mod name;
@@ -21,6 +24,8 @@ pub use board::{Board, Planned};
 pub use bridge::{Bridge, Lane, Place, Window};
 pub use buses::{bridge_to, end_of, has_bridge_to, is_bus, primary_of};
 pub use claims::{claim, claim_in_space, is_in_ranges};
+pub use device::{merge, opening, write_mask};
+pub use encoding::encode;
 pub use fits::board_fits;
 pub use form_laws::{
     claims_never_turn_back, one_claimant, parts_are_named, ways_end, well_formed_is_named,

@@ -1,6 +1,8 @@
 ghost use Rattle.std.specs.Prelude.{◌≡◌, [], ◌∷◌};
 ghost use Rattle.std.specs.Option.{option_map};
-ghost use Rattle.board_model.specs.Requests.{op_of, tries_of, read_in, read_phases, configuration_address, command_of, address_on, phases_of, request_on, request_of, is_posted};
+ghost use Rattle.board_model.specs.Requests.{op_of, tries_of, read_in, read_phases};
+ghost use Rattle.board_model.specs.Requests.{configuration_address, command_of, address_on};
+ghost use Rattle.board_model.specs.Requests.{phases_of, request_on, request_of, is_posted};
 
 use crate::{Board, Op};
 use pci_command::{Command, OpId, Phase, Phases, Request, Space};

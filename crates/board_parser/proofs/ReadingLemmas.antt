@@ -4,7 +4,6 @@ use Rattle.std.specs.Prelude.{Option, Some, None, Result, Ok, Err, nat_lt}
 use Rattle.board_model.specs.declared.board.Board.{Board}
 use Rattle.board_model.specs.WellFormed.{is_well_formed}
 use Rattle.board_text.specs.Lines.{lines_of, line_fault}
-use Rattle.board_text.specs.declared.reader.BadLine.{BadLine}
 use Rattle.board_text.specs.Tokens.{words_of}
 use Rattle.text_faults.specs.declared.board_line.LineFault.{LineFault}
 use Rattle.board_statements.specs.Statements.{statement_of, first_line_of}
@@ -41,7 +40,7 @@ more-sound : (test : Bool) (before : Option Draft) (words : List (List ℕ)) (ne
 more-sound true before words next sound h = words-sound before words next sound h
 more-sound false before words next sound h = let is : before ≡ next = cc in subst SomeSound is sound
 
-unless-sound : (fault : Option BadLine) (before : Option Draft) (line : List ℕ) (next : Option Draft) → SomeSound before → read_unless fault before line ≡ Ok next → SomeSound next
+unless-sound : (fault : Option LineFault) (before : Option Draft) (line : List ℕ) (next : Option Draft) → SomeSound before → read_unless fault before line ≡ Ok next → SomeSound next
 unless-sound None before line next sound h = more-sound (nat_lt 0 (length (words_of line))) before (words_of line) next sound h
 unless-sound (Some fault) before line next sound h = absurd (cc)
 

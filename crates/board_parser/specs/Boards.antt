@@ -4,10 +4,11 @@ use Rattle.board_model.specs.declared.board.Board.{Board}
 use Rattle.board_text.specs.Lines.{lines_of}
 use Rattle.text_faults.specs.declared.board_line.LineFault.{LineFault}
 use Rattle.text_faults.specs.declared.board_line.LineFault.TheVariants.{NoFirstLine}
+use Rattle.text_faults.specs.declared.at_line.AtLine.{AtLine}
+use Rattle.text_faults.specs.declared.or_no_memory.OrNoMemory.{OrNoMemory}
+use Rattle.text_faults.specs.declared.or_no_memory.OrNoMemory.TheVariants.{Fault, NoMemory}
 use Rattle.board_parser.specs.declared.draft.draft.Draft.{Draft}
 use Rattle.board_parser.specs.draft.Drafts.{board_of}
-use Rattle.board_parser.specs.declared.fault.ParseFault.{ParseFault}
-use Rattle.board_parser.specs.declared.fault.ParseFault.TheVariants.{Fault, NoMemory}
 use Rattle.board_parser.specs.OneLine.{read_line}
 
 -- the lines behind the line of this number, unless that line has a fault
@@ -42,18 +43,18 @@ abbrev pub sheet_read : List ℕ → Result Draft (ℕ × LineFault)
 sheet_read text = sheet_ended (read_lines None 1 (lines_of text))
 
 -- a board or a fault is told exactly where the text reads so, unless there was no memory
-abbrev pub Tells : Result Board ParseFault → Result Board (ℕ × LineFault) → Type 0
+abbrev pub Tells : Result Board (OrNoMemory (AtLine LineFault)) → Result Board (ℕ × LineFault) → Type 0
 Tells (Ok board) reading = reading ≡ Ok board
-Tells (Err (Fault line fault)) reading = reading ≡ Err (line, fault)
+Tells (Err (Fault found)) reading = reading ≡ Err (found.line, found.fault)
 Tells (Err NoMemory) reading = Unit {0}
 
 -- the same of a draft
-abbrev pub TellsSheet : Result Draft ParseFault → Result Draft (ℕ × LineFault) → Type 0
+abbrev pub TellsSheet : Result Draft (OrNoMemory (AtLine LineFault)) → Result Draft (ℕ × LineFault) → Type 0
 TellsSheet (Ok draft) reading = reading ≡ Ok draft
-TellsSheet (Err (Fault line fault)) reading = reading ≡ Err (line, fault)
+TellsSheet (Err (Fault found)) reading = reading ≡ Err (found.line, found.fault)
 TellsSheet (Err NoMemory) reading = Unit {0}
 
 -- a fault is told of one of so many lines
-abbrev pub IsWithin : ℕ → ParseFault → Type 0
-IsWithin lines (Fault line fault) = line ≤ lines
+abbrev pub IsWithin : ℕ → OrNoMemory (AtLine LineFault) → Type 0
+IsWithin lines (Fault found) = found.line ≤ lines
 IsWithin lines NoMemory = Unit {0}

@@ -1,11 +1,9 @@
 -- How one line of a board text is read, behind the lines before it.
 use Rattle.std.specs.Prelude.{ℕ, Bool, List, length, Option, Some, None, Result, Ok, Err, nat_lt, if◌then◌else◌}
 use Rattle.board_text.specs.Lines.{line_fault}
-use Rattle.board_text.specs.declared.reader.BadLine.{BadLine}
-use Rattle.board_text.specs.declared.reader.BadLine.TheVariants as bad_lines
 use Rattle.board_text.specs.Tokens.{words_of}
 use Rattle.text_faults.specs.declared.board_line.LineFault.{LineFault}
-use Rattle.text_faults.specs.declared.board_line.LineFault.TheVariants.{BadByte, TooLong, NoFirstLine}
+use Rattle.text_faults.specs.declared.board_line.LineFault.TheVariants.{NoFirstLine}
 use Rattle.board_statements.specs.Statements.{statement_of, first_line_of}
 use Rattle.board_parser.specs.declared.draft.draft.Draft.{Draft}
 use Rattle.board_parser.specs.draft.Steps.{◌>>=◌}
@@ -35,15 +33,10 @@ read_words (Some draft) words = some_of (read_statement draft words)
 abbrev pub read_more : Option Draft → List (List ℕ) → Result (Option Draft) LineFault
 read_more draft words = if nat_lt 0 (length words) then read_words draft words else Ok draft
 
--- the fault of a line that is too long, or of one with a byte that no line may have
-abbrev pub text_fault : BadLine → LineFault
-text_fault bad_lines.TooLong = TooLong
-text_fault bad_lines.BadByte = BadByte
-
 -- a fault of the line itself comes before what its words say
-abbrev pub read_unless : Option BadLine → Option Draft → List ℕ → Result (Option Draft) LineFault
+abbrev pub read_unless : Option LineFault → Option Draft → List ℕ → Result (Option Draft) LineFault
 read_unless None draft line = read_more draft (words_of line)
-read_unless (Some fault) draft line = Err (text_fault fault)
+read_unless (Some fault) draft line = Err fault
 
 -- the draft behind the line, or the first fault of the line
 abbrev pub read_line : Option Draft → List ℕ → Result (Option Draft) LineFault

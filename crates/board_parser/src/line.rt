@@ -2,11 +2,11 @@ ghost use Rattle.std.specs.Prelude.{◌≡◌, nat_lt, length};
 ghost use Rattle.board_text.specs.Tokens.{words_of};
 ghost use Rattle.board_statements.specs.Statements.{statement_of, first_line_of};
 ghost use Rattle.board_parser.specs.draft.Steps.{Answers};
-ghost use Rattle.board_parser.specs.OneLine.{read_line, read_words, read_statement, text_fault};
+ghost use Rattle.board_parser.specs.OneLine.{read_line, read_words, read_statement};
 
 use crate::draft::{AddFault, Sheet};
 use board_statements::{first_line, has_words, statement_of};
-use board_text::{BadLine, check_line};
+use board_text::check_line;
 use std::alloc::Global;
 use text_faults::LineFault;
 
@@ -19,21 +19,12 @@ pub(crate) fn read_line(
     ensures { Answers result (read_line sheet line.now) }
 {
     if let Err(fault) = check_line(line) {
-        return Err(AddFault::Fault(text_fault(fault)));
+        return Err(AddFault::Fault(fault));
     }
     if !has_words(line) {
         return Ok(sheet);
     }
     read_words(alloc, sheet, line)
-}
-
-fn text_fault(fault: BadLine) -> LineFault
-    ensures { result ≡ text_fault fault }
-{
-    match fault {
-        BadLine::TooLong => LineFault::TooLong,
-        BadLine::BadByte => LineFault::BadByte,
-    }
 }
 
 fn read_words(alloc: Global, sheet: Option<Sheet>, line: &[u8]) -> Result<Option<Sheet>, AddFault>

@@ -7,7 +7,7 @@ use crate::line::read_line;
 use board_model::Board;
 use board_text::next_line;
 use std::alloc::Global;
-use text_faults::LineFault;
+use text_faults::{AtLine, LineFault};
 
 /// The board of a text, or its first fault. A text has fewer than 2^31 bytes. Lines are numbered
 /// from 1, and the first line with a fault decides; of the faults of one line a byte or a length
@@ -36,10 +36,10 @@ pub fn parse_sheet(alloc: Global, bytes: &[u8]) -> Result<Sheet, ParseFault>
         match read_line(alloc, sheet, line) {
             Ok(read) => sheet = read,
             Err(AddFault::Fault(fault)) => {
-                return Err(ParseFault::Fault {
+                return Err(ParseFault::Fault(AtLine {
                     line: number,
                     fault,
-                });
+                }));
             }
             Err(AddFault::NoMemory) => return Err(ParseFault::NoMemory),
         }
@@ -47,10 +47,10 @@ pub fn parse_sheet(alloc: Global, bytes: &[u8]) -> Result<Sheet, ParseFault>
         at = next;
     }
     match sheet {
-        None => Err(ParseFault::Fault {
+        None => Err(ParseFault::Fault(AtLine {
             line: 1,
             fault: LineFault::NoFirstLine,
-        }),
+        })),
         Some(sheet) => Ok(sheet),
     }
 }

@@ -1,6 +1,7 @@
 ghost use Rattle.std.specs.Prelude.{◌≡◌, ◌++◌, [], map, OnOk, string_bytes};
 ghost use Rattle.board_printer.specs.Lines.{spaced, line_text, text_of};
-ghost use Rattle.board_printer.specs.Bridges.{window_words, depth_words, mode_words, option_words, bridge_line};
+ghost use Rattle.board_printer.specs.Bridges.{window_words, depth_words, mode_words};
+ghost use Rattle.board_printer.specs.Bridges.{option_words, bridge_line};
 
 use crate::Address;
 use board_model::{Bridge, Window};

@@ -1,15 +1,16 @@
 //! The header bytes of the bridges of a board, as text.
-ghost use Rattle.std.specs.Prelude.{◌≡◌, ◌++◌, ◌<◌, ◌≤◌, ◌+◌, [], ◌∷◌, length, map, codes, IfOk, OnOk, string_bytes};
+ghost use Rattle.std.specs.Prelude.{◌≡◌, ◌++◌, ◌<◌, ◌≤◌, ◌+◌, [], ◌∷◌, length};
+ghost use Rattle.std.specs.Prelude.{map, codes, IfOk, OnOk, string_bytes};
 ghost use Rattle.std.specs.List.{flat_map};
 ghost use Rattle.std.specs.Fmt.{decimal};
 ghost use Rattle.board_printer.specs.Lines.{spaced, line_text, text_of};
-ghost use Rattle.board_headers.specs.HeaderBytes.{header_bytes};
-ghost use Rattle.board_printer.specs.headers.Headers.{byte_text, sixteen, row_line, rows_of, header_lines, headers_text};
+ghost use Rattle.board_model.specs.HeaderBytes.{header_bytes};
+ghost use Rattle.board_printer.specs.headers.Headers.{byte_text, sixteen, row_line};
+ghost use Rattle.board_printer.specs.headers.Headers.{rows_of, header_lines, headers_text};
 
 mod byte;
 
-use board_headers::encode;
-use board_model::{Board, Bridge};
+use board_model::{Board, Bridge, encode};
 use byte::HexByte;
 use pci_command::{List, NoMemory};
 use std::alloc::{AllocError, Global};
@@ -27,7 +28,8 @@ pub fn print_headers(alloc: Global, board: &Board) -> Result<List<u8>, NoMemory>
 
 fn print_bridges(text: &mut String, bridges: &[Bridge]) -> Result<(), AllocError>
     ensures { OnOk result
-        (string_bytes text.new ≡ string_bytes text.old ++ text_of (flat_map header_lines bridges.now)) }
+        (string_bytes text.new ≡
+        string_bytes text.old ++ text_of (flat_map header_lines bridges.now)) }
 {
     for bridge in bridges {
         print_bridge(text, bridge)?;
@@ -46,7 +48,8 @@ fn print_bridge(text: &mut String, bridge: &Bridge) -> Result<(), AllocError>
 
 fn print_name(text: &mut String, bus: u8) -> Result<(), AllocError>
     ensures { OnOk result
-        (string_bytes text.new ≡ string_bytes text.old ++ line_text (codes "bridge" ∷ decimal bus ∷ [])) }
+        (string_bytes text.new ≡
+        string_bytes text.old ++ line_text (codes "bridge" ∷ decimal bus ∷ [])) }
 {
     writeln!(text, "bridge {bus}")
 }
@@ -64,7 +67,8 @@ fn print_rows(text: &mut String, bytes: &[u8; 64]) -> Result<(), AllocError>
 
 fn print_row(text: &mut String, label: &str, bytes: &[u8]) -> Result<(), AllocError>
     ensures { OnOk result
-        (string_bytes text.new ≡ string_bytes text.old ++ line_text (label.now ∷ map byte_text bytes.now)) }
+        (string_bytes text.new ≡
+        string_bytes text.old ++ line_text (label.now ∷ map byte_text bytes.now)) }
 {
     text.push_str(label)?;
     print_bytes(text, bytes)?;

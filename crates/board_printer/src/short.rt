@@ -1,6 +1,8 @@
 ghost use Rattle.std.specs.Prelude.{◌≡◌};
 ghost use Rattle.std.specs.List.{list_all};
-ghost use Rattle.board_printer.specs.Boards.{is_short, is_short_window, is_short_bridge, is_short_range, is_short_target, is_short_op, is_short_board};
+ghost use Rattle.board_printer.specs.Boards.{is_short, is_short_window, is_short_bridge};
+ghost use Rattle.board_printer.specs.Boards.{is_short_range, is_short_target};
+ghost use Rattle.board_printer.specs.Boards.{is_short_op, is_short_board};
 
 use board_model::{Board, Bridge, Master, Op, Opening, Range, Target, Window};
 

@@ -1,7 +1,8 @@
 ghost use Rattle.std.specs.Prelude.{◌≡◌, ◌++◌, map, OnOk, string_bytes};
 ghost use Rattle.std.specs.List.{flat_map};
 ghost use Rattle.board_printer.specs.Lines.{line_text, text_of};
-ghost use Rattle.board_printer.specs.Targets.{target_line, id_lines, stall_lines, burst_lines, range_line, opening_line, target_lines};
+ghost use Rattle.board_printer.specs.Targets.{target_line, id_lines, stall_lines, burst_lines};
+ghost use Rattle.board_printer.specs.Targets.{range_line, opening_line, target_lines};
 
 use crate::spaces::space_word;
 use crate::{Address, HexHalf, HexWord};

@@ -7,7 +7,6 @@ use Rattle.std.proofs.lemmas.List.{append-nil}
 use Rattle.board_model.specs.declared.board.Board.{Board}
 use Rattle.board_model.specs.WellFormed.{is_well_formed, IsWellFormed}
 use Rattle.board_text.specs.Lines.{line_fault, lines_of}
-use Rattle.board_text.specs.declared.reader.BadLine.{BadLine}
 use Rattle.board_text.specs.Tokens.{words_of}
 use Rattle.board_printer.specs.Lines.{Line, text_of}
 use Rattle.board_printer.specs.Bridges.{bridge_line}
@@ -23,7 +22,7 @@ use Rattle.board_parser.specs.declared.draft.draft.Draft.{Draft}
 use Rattle.board_parser.specs.draft.Drafts.{first_draft}
 use Rattle.board_parser.specs.OneLine.{begin, read_words, read_more, read_unless, read_line}
 use Rattle.board_parser.specs.Boards.{then_lines, read_lines, ended, board_read}
-use Rattle.board_roundtrip.specs.lines.Fits.{BoardFits}
+use Rattle.board_model.specs.Fits.{BoardFits}
 use Rattle.board_roundtrip.proofs.LeadLemmas.{Leads, leads-append, leads-each, leads-map, behind_first}
 use Rattle.board_roundtrip.proofs.StateLemmas.{so_far, Of}
 use Rattle.board_roundtrip.proofs.BridgeSteps.{bridge_step}
@@ -86,7 +85,7 @@ has_words (word ∷ words) wide told = lt-ltb _ _ (omega arith)
 begun : (bytes : List ℕ) (wide : Bool) → line_fault bytes ≡ None → first_line_of (words_of bytes) ≡ told_so wide → read_line None bytes ≡ Ok (Some (first_draft wide))
 begun bytes wide none told =
     let words = words_of bytes in
-    let one : read_line None bytes ≡ read_more None words = ap (λ (fault : Option BadLine). read_unless fault None bytes) none in
+    let one : read_line None bytes ≡ read_more None words = ap (λ (fault : Option LineFault). read_unless fault None bytes) none in
     let two : read_more None words ≡ read_words None words = ap (λ (b : Bool). cond b (read_words None words) (Ok None)) (has_words words wide told) in
     one ∙ two ∙ ap begin told
 

@@ -10,7 +10,7 @@ use Rattle.board_model.specs.WellFormed.{is_window, is_well_formed_bridge, has_b
 use Rattle.board_printer.specs.Bridges.{bridge_line}
 use Rattle.board_printer.specs.Boards.{is_short_bridge}
 use Rattle.board_statements.specs.declared.statement.Statement.TheVariants.{NewBridge}
-use Rattle.board_roundtrip.specs.lines.Ranges.{BridgeFits}
+use Rattle.board_model.specs.Fits.{BridgeFits}
 use Rattle.board_roundtrip.proofs.lines.Laws.{bridge_law}
 use Rattle.board_parser.specs.draft.Drafts.{board_of, draft_of}
 use Rattle.board_parser.specs.draft.Bridges.{is_whole, are_windows_whole, is_ordered, are_windows_ordered, add_bridge}

@@ -19,7 +19,7 @@ use Rattle.board_printer.specs.Boards.{is_short, is_short_range}
 use Rattle.text_faults.specs.declared.board_line.LineFault.{LineFault}
 use Rattle.board_statements.specs.declared.statement.Statement.{Statement}
 use Rattle.board_statements.specs.declared.statement.Statement.TheVariants.{Identifies, Stalls, Bursts, Claims, Aborts, Opens}
-use Rattle.board_roundtrip.specs.lines.Ranges.{RangeFits, OpeningFits}
+use Rattle.board_model.specs.Fits.{RangeFits, OpeningFits}
 use Rattle.board_roundtrip.specs.lines.ReadsAs.{IsReadAs}
 use Rattle.board_roundtrip.proofs.lines.Laws.{id_law, stall_law, burst_law, claim_law, abort_law, opening_law}
 use Rattle.board_parser.specs.declared.draft.draft.Draft.{Draft}

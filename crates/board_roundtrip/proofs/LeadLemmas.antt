@@ -6,12 +6,11 @@ use Rattle.std.proofs.lemmas.Bool.Decides.{nat_tests}
 use Rattle.std.proofs.lemmas.List.{append-nil}
 use Rattle.std.proofs.lemmas.List.Concat.{flat_map-append}
 use Rattle.board_text.specs.Lines.{is_newline, is_allowed, line_fault, lines_of}
-use Rattle.board_text.specs.declared.reader.BadLine.{BadLine}
-use Rattle.board_text.specs.declared.reader.BadLine.TheVariants.{TooLong, BadByte}
 use Rattle.board_text.specs.Tokens.{words_of}
 use Rattle.board_printer.specs.Lines.{Line, line_text, text_of}
 use Rattle.board_roundtrip.specs.words.Printed.{joined}
 use Rattle.text_faults.specs.declared.board_line.LineFault.{LineFault}
+use Rattle.text_faults.specs.declared.board_line.LineFault.TheVariants.{TooLong, BadByte}
 use Rattle.board_statements.specs.declared.statement.Statement.{Statement}
 use Rattle.board_statements.specs.Statements.{statement_form, statement_of}
 use Rattle.board_roundtrip.specs.lines.ReadsAs.{IsReadAs}
@@ -101,7 +100,7 @@ no_newline (byte ∷ bytes) all =
     let here : is_newline byte ≡ false = grind (arith, nat_tests, parts.0) in
     rw here (no_newline bytes parts.1)
 
-fault_cases : (long allowed : Bool) (one other : BadLine) → cond long (Some one) (cond allowed None (Some other)) ≡ None → allowed ≡ true
+fault_cases : (long allowed : Bool) (one other : LineFault) → cond long (Some one) (cond allowed None (Some other)) ≡ None → allowed ≡ true
 fault_cases true allowed one other h = absurd (cc)
 fault_cases false true one other h = refl
 fault_cases false false one other h = absurd (cc)
@@ -123,7 +122,7 @@ line_read wide bytes statement draft next none read width is =
     let words = words_of bytes in
     let some = has_words wide words statement read in
     let stated : statement_of draft.wide words ≡ Ok statement = ap (λ (w : Bool). statement_of w words) width ∙ read in
-    let one : read_line (Some draft) bytes ≡ read_more (Some draft) words = ap (λ (fault : Option BadLine). read_unless fault (Some draft) bytes) none in
+    let one : read_line (Some draft) bytes ≡ read_more (Some draft) words = ap (λ (fault : Option LineFault). read_unless fault (Some draft) bytes) none in
     let two : read_more (Some draft) words ≡ read_words (Some draft) words = ap (λ (b : Bool). cond b (read_words (Some draft) words) (Ok (Some draft))) some in
     let three : read_words (Some draft) words ≡ some_of (add draft statement) = ap (λ (s : Result Statement LineFault). some_of (s >>= add draft)) stated in
     one ∙ two ∙ three ∙ ap some_of is

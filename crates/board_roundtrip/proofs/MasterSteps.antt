@@ -14,7 +14,7 @@ use Rattle.board_printer.specs.Masters.{op_line, master_line, master_lines}
 use Rattle.board_printer.specs.Boards.{is_short_op}
 use Rattle.text_faults.specs.declared.board_line.LineFault.{LineFault}
 use Rattle.board_statements.specs.declared.statement.Statement.TheVariants.{NewMaster, Does}
-use Rattle.board_roundtrip.specs.lines.Ranges.{OpFits}
+use Rattle.board_model.specs.Fits.{OpFits}
 use Rattle.board_roundtrip.proofs.lines.Laws.{master_law, op_law}
 use Rattle.board_parser.specs.declared.draft.draft.Draft.{Draft}
 use Rattle.board_parser.specs.declared.draft.draft.AgentPlace.TheVariants.{OfMaster}
@@ -23,7 +23,7 @@ use Rattle.board_parser.specs.draft.Drafts.{board_of}
 use Rattle.board_parser.specs.draft.Targets.{agent_fault, unless}
 use Rattle.board_parser.specs.draft.Masters.{add_op, add_master, does}
 use Rattle.board_parser.specs.draft.Add.{add}
-use Rattle.board_roundtrip.specs.lines.Fits.{ProgramFits}
+use Rattle.board_model.specs.Fits.{ProgramFits}
 use Rattle.board_roundtrip.proofs.LeadLemmas.{Leads, Steps, leads-append, leads-to, leads-map, leads-line}
 use Rattle.board_roundtrip.proofs.PlaceLemmas.{each_of, all_of, may_of, length_of, count_of, total_of, masters_of, beside_of}
 use Rattle.board_roundtrip.proofs.StateLemmas.{so_far, Of, holding, Is}

@@ -7,7 +7,7 @@ use Rattle.board_model.specs.declared.board.Board.{Board}
 use Rattle.board_model.specs.WellFormed.{is_well_formed_plan, IsWellFormed}
 use Rattle.board_printer.specs.Boards.{planned_line}
 use Rattle.board_statements.specs.declared.statement.Statement.TheVariants.{Discards, Drops}
-use Rattle.board_roundtrip.specs.lines.Ranges.{PlannedFits}
+use Rattle.board_model.specs.Fits.{PlannedFits}
 use Rattle.board_roundtrip.proofs.lines.Laws.{discard_law, drop_law}
 use Rattle.board_parser.specs.draft.Drafts.{board_of, draft_of}
 use Rattle.board_parser.specs.draft.Plans.{add_discard, add_drop}

@@ -16,7 +16,7 @@ use Rattle.board_parser.specs.declared.draft.draft.Draft.{Draft}
 use Rattle.board_parser.specs.declared.draft.draft.AgentPlace.TheVariants.{OfTarget}
 use Rattle.board_parser.specs.draft.Drafts.{board_of}
 use Rattle.board_parser.specs.draft.Targets.{is_name_used, agent_fault, unless, new_target, add_target}
-use Rattle.board_roundtrip.specs.lines.Fits.{DetailsFit}
+use Rattle.board_model.specs.Fits.{DetailsFit}
 use Rattle.board_roundtrip.proofs.LeadLemmas.{Leads, Steps, leads-append, leads-to, leads-map, leads-line}
 use Rattle.board_roundtrip.proofs.PlaceLemmas.{each_of, all_of, may_of, count_of, targets_of}
 use Rattle.board_roundtrip.proofs.StateLemmas.{so_far, Of, holding}

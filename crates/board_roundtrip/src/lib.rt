@@ -1,7 +1,6 @@
 //! What is printed of a board is read as the same board. The law is the contract of a function that
-//! does nothing. A board of the program meets it: this is the contract of functions that look at
-//! its fields and change nothing. In a `pciboard 1` text it is of addresses, sizes and limits below
-//! 2^32.
+//! does nothing. A board of the program meets it (`board_fits` of `board_model`). In a `pciboard 1`
+//! text it is of addresses, sizes and limits below 2^32.
 #![tactic(auto)]
 
 mod fits;
@@ -13,9 +12,9 @@ ghost use Rattle.board_model.specs.declared.board.Board.{Board};
 ghost use Rattle.board_model.specs.WellFormed.{is_well_formed};
 ghost use Rattle.board_printer.specs.Boards.{board_text};
 ghost use Rattle.board_parser.specs.Boards.{board_read};
-ghost use Rattle.board_roundtrip.specs.lines.Fits.{BoardFits};
+ghost use Rattle.board_model.specs.Fits.{BoardFits};
 
-pub use fits::{board_fits, printed_is_read};
+pub use fits::printed_is_read;
 pub use lines::{
     bridges_are_read, first_line_is_read, masters_are_read, plans_are_read, ranges_are_read,
     targets_are_read, words_are_read,

@@ -33,8 +33,8 @@ ghost use Rattle.board_statements.specs.declared.statement.Statement.TheVariants
 ghost use Rattle.board_statements.specs.declared.statement.Statement.TheVariants.{Does, Discards};
 ghost use Rattle.board_statements.specs.declared.statement.Statement.TheVariants.{Drops};
 ghost use Rattle.board_statements.specs.Statements.{first_line_of};
-ghost use Rattle.board_roundtrip.specs.lines.Ranges.{BridgeFits, TargetFits, MasterFits, RangeFits};
-ghost use Rattle.board_roundtrip.specs.lines.Ranges.{OpeningFits, OpFits, PlannedFits};
+ghost use Rattle.board_model.specs.Fits.{BridgeFits, TargetFits, MasterFits, RangeFits};
+ghost use Rattle.board_model.specs.Fits.{OpeningFits, OpFits, PlannedFits};
 ghost use Rattle.board_roundtrip.specs.words.Printed.{has_words_alone};
 ghost use Rattle.board_roundtrip.specs.lines.ReadsAs.{IsReadAs};
 

@@ -1,8 +1,8 @@
 -- A text is lines, and what a line may be.
 use Rattle.std.specs.Prelude.{ℕ, Bool, List, [], ◌∷◌, length, Option, Some, None, nat_lt, nat_le, ◌==◌, ◌&&◌, ◌||◌, if◌then◌else◌}
 use Rattle.std.specs.List.{list_all, slice_split}
-use Rattle.board_text.specs.declared.reader.BadLine.{BadLine}
-use Rattle.board_text.specs.declared.reader.BadLine.TheVariants.{TooLong, BadByte}
+use Rattle.text_faults.specs.declared.board_line.LineFault.{LineFault}
+use Rattle.text_faults.specs.declared.board_line.LineFault.TheVariants.{TooLong, BadByte}
 
 -- the byte 10, with which a line ends
 abbrev pub is_newline : ℕ → Bool
@@ -23,5 +23,5 @@ abbrev pub is_allowed : ℕ → Bool
 is_allowed byte = byte == 9 || (nat_le 32 byte && nat_le byte 126)
 
 -- a line longer than 256 bytes is too long; else one with a byte that no line may have is bad for it
-abbrev pub line_fault : List ℕ → Option BadLine
+abbrev pub line_fault : List ℕ → Option LineFault
 line_fault line = if nat_lt 256 (length line) then Some TooLong else if list_all is_allowed line then None else Some BadByte

@@ -6,5 +6,5 @@ mod reader;
 mod tokens;
 
 pub use numbers::{NumberFault, decimal, hex, value_of_digit};
-pub use reader::{BadLine, check_line, next_line};
+pub use reader::{check_line, next_line};
 pub use tokens::{Token, length_before_comment, tokens_of};

@@ -3,18 +3,7 @@ ghost use Rattle.std.specs.Prelude.{Some, None, IfSome, IsNone, MatchResult};
 ghost use Rattle.std.specs.List.{position_or_len, list_all};
 ghost use Rattle.board_text.specs.Lines.{is_newline, is_allowed, lines_of, line_fault};
 
-use thiserror::Error;
-
-/// Why a line may not be read.
-#[derive(Clone, Copy, Debug, PartialEq, Eq, Error)]
-pub enum BadLine {
-    /// It is longer than 256 bytes.
-    #[error("longer than 256 bytes")]
-    TooLong,
-    /// It has a byte other than the tab and 20 to 7e.
-    #[error("a byte other than the tab and 20 to 7e")]
-    BadByte,
-}
+use text_faults::LineFault;
 
 /// The line that begins at `at`, without its newline, and the place behind its newline, at which
 /// the next line begins. A last line without a newline has that place as if it had one. There is
@@ -37,19 +26,19 @@ pub fn next_line(bytes: &[u8], at: usize) -> Option<(&[u8], usize)>
     Some((line, at + size + 1))
 }
 
-/// Refuses a line longer than 256 bytes, and else one with a byte other than the tab and 20 to 7e.
-/// The line is given without its newline.
-pub fn check_line(line: &[u8]) -> Result<(), BadLine>
+/// Refuses a line longer than 256 bytes, and else one with a byte other than the tab and 20 to 7e:
+/// it is `TooLong`, or has a `BadByte`. The line is given without its newline.
+pub fn check_line(line: &[u8]) -> Result<(), LineFault>
     ensures { MatchResult result (λ _. line_fault line.now ≡ None)
         (λ fault. line_fault line.now ≡ Some fault) }
 {
     if line.len() > 256 {
-        return Err(BadLine::TooLong);
+        return Err(LineFault::TooLong);
     }
     if has_only_allowed(line) {
         Ok(())
     } else {
-        Err(BadLine::BadByte)
+        Err(LineFault::BadByte)
     }
 }
 

@@ -16,7 +16,8 @@ use Rattle.history_model.specs.declared.event.By.TheVariants.{Master, Lane as By
 use Rattle.history_model.specs.declared.event.Event.{Event}
 use Rattle.history_model.specs.declared.event.Step.TheVariants.{Accept, Latch, Take, MasterAbort}
 use Rattle.history_model.specs.declared.item.Answer.{Answer}
-use Rattle.history_model.specs.declared.item.Answer.TheVariants.{Gives}
+use Rattle.history_model.specs.declared.item.Answer.TheVariants.{Gives, Retry}
+use Rattle.history_model.specs.declared.item.Cause.{Cause}
 use Rattle.history_model.specs.Lanes.{LaneState}
 use Rattle.history_model.specs.World.{World, same_lane, same_initiator, enters}
 use Rattle.history_model.specs.Answers.{bridge_to, lane_answer, answer_by, answer_to, answer_in}
@@ -36,7 +37,7 @@ use Rattle.bus_core.specs.Bus.{BusView, Shape, shape_of, arrivals_at, IsOf, AreL
 use Rattle.bus_core.specs.Calls.{items_at, IsLine, Answered, ClaimedBack}
 use Rattle.bus_core.specs.Parts.{IsClaimed, PlaceAnswers, PlaceTurns}
 use Rattle.bus_core.specs.Places.{RespondsAt, sent_over}
-use Rattle.bus_core.proofs.ListLemmas.{one_map, one_each, get_map, map_get, found_at, none_at}
+use Rattle.bus_core.proofs.ListLemmas.{one_map, one_same, one_each, get_map, map_get, found_at, none_at}
 use Rattle.bus_core.proofs.CalmLemmas.{IsCalm, calm_target, calm_through, calm_parts, unmoved}
 
 -- a reply is at no target
@@ -243,3 +244,14 @@ ports_shape s place line o request reply ports responds =
 
 pub ports_arrivals : (s : BusView) (place line : ℕ) (o : OpId) (request : Request) (reply : Reply) (ports : List PortView) → RespondsAt place s.ports line o request reply ports → arrivals_at (record s { ports = ports }) ≡ arrivals_at s
 ports_arrivals s place line o request reply ports responds = one_map (λ (one : PortView). one.face.arrivals) place s.ports ports responds.before responds.after responds.one responds.arrivals
+
+-- a port that answered with Retry is as before
+retried_reply : (lane : BridgeLane) (reply : Reply) (cause : Cause) → as_answer lane reply ≡ Retry cause → reply ≡ Retried cause
+retried_reply lane Accepted cause is = cc
+retried_reply lane (Latched slot) cause is = cc
+retried_reply lane (Taken slot outcome) cause is = cc
+retried_reply lane (Retried other) cause is = let same : other ≡ cause = cc in ap Retried same
+
+pub ports_stay : (place line : ℕ) (o : OpId) (request : Request) (lane : BridgeLane) (reply : Reply) (cause : Cause) (old ports : List PortView) → RespondsAt place old line o request reply ports → as_answer lane reply ≡ Retry cause → ports ≡ old
+ports_stay place line o request lane reply cause old ports responds is =
+    one_same place old ports responds.before responds.after responds.one (responds.retried.stays cause (retried_reply lane reply cause is))

@@ -42,6 +42,20 @@ one_mapped f place old new before after one =
       others = λ n apart. slice_get-map f new n ∙ (ap (option_map f) (one.others n apart) ∙ sym (slice_get-map f old n));
     }
 
+-- what did not change is as before
+pub one_same : {X : Type 0} (place : ℕ) (old new : List X) (before after : X) → OneChanged place old new before after → after ≡ before → new ≡ old
+one_same {X} place old new before after one same =
+    lists_same new old (λ n.
+    let P : Bool → Type 0 = λ b. (n == place) ≡ b → slice_get new n ≡ slice_get old n in
+    (elim (n == place) as P [
+      | true ↦ λ is.
+          let here : n ≡ place = eqb-true n place is in
+          let now : slice_get new n ≡ Some after = ap (slice_get new) here ∙ one.is in
+          let then : slice_get old n ≡ Some before = ap (slice_get old) here ∙ one.was in
+          now ∙ (ap Some same ∙ sym then)
+      | false ↦ λ apart. one.others n (eqb-false n place apart)
+    ]) refl)
+
 -- of each element after the change: it is the changed one, or was there before
 pub one_each : {X : Type 0} (P : ℕ → X → Type 0) (place : ℕ) (old new : List X) (before after : X) → OneChanged place old new before after → P place after
     → ((n : ℕ) (x : X) → n ≢ place → slice_get old n ≡ Some x → P n x) → (n : ℕ) (x : X) → slice_get new n ≡ Some x → P n x

@@ -15,6 +15,7 @@ use Rattle.history_model.specs.declared.event.Event.{Event}
 use Rattle.history_model.specs.declared.event.Event.TheVariants.{Act}
 use Rattle.history_model.specs.declared.item.Answer.{Answer}
 use Rattle.history_model.specs.declared.item.Answer.TheVariants.{Gives, Retry}
+use Rattle.history_model.specs.declared.item.Cause.{Cause}
 use Rattle.history_model.specs.World.{World}
 use Rattle.history_model.specs.Words.{through, without}
 use Rattle.history_model.specs.Answers.{answer_in}
@@ -76,6 +77,10 @@ pub record Answered (board : Board) (tags : By → OpId → ℕ) (world : World)
 pub record BusAnswers (board : Board) (old : BusView) (line : ℕ) (o : OpId) (answer : Answer) (over : Option Sent) (new : BusView) : Type 0 where
   pub answers : (tags : By → OpId → ℕ) (world : World) (p : List Event) (by : By) → IsLine board old.bus tags by o line → BusStands board tags world p old
       → Answered board tags world p by o old answer over new
+
+-- a Retry leaves the bus as it was
+pub record BusStaysAtRetry (old : BusView) (answer : Answer) (new : BusView) : Type 0 where
+  pub stays : (cause : Cause) → answer ≡ Retry cause → new ≡ old
 
 -- what the lane presents is claimed by its lane back
 pub record ClaimedBack (board : Board) (bus : ℕ) (p : List Event) (by : By) (o : OpId) : Type 0 where

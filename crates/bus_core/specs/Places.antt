@@ -23,7 +23,7 @@ use Rattle.bus_face.specs.declared.offer.Offer.{Offer}
 use Rattle.bus_face.specs.Arrivals.{is_taken}
 use Rattle.bus_face.specs.Offers.{offers_of}
 use Rattle.bus_core.specs.port.Port.{PortView}
-use Rattle.bus_core.specs.port.Calls.{PortTests, PortArrives, PortReplies, PortEnds}
+use Rattle.bus_core.specs.port.Calls.{PortTests, PortArrives, PortReplies, PortStaysAtRetry, PortEnds}
 use Rattle.bus_agents.specs.Turns.{MasterView, MasterStands, EndsTurn}
 use Rattle.bus_targets.specs.declared.access.Access.{Access}
 use Rattle.bus_targets.specs.declared.access.Access.TheVariants.{Part}
@@ -52,6 +52,7 @@ pub record RespondsAt (place : ℕ) (old : List PortView) (line : ℕ) (o : OpId
   pub lane : after.lane ≡ before.lane
   pub arrivals : after.face.arrivals ≡ before.face.arrivals
   pub replies : PortReplies before line o request reply after
+  pub retried : PortStaysAtRetry before reply after
 
 -- the target at the place answers the request so, and no other changed
 pub record AccessesAt (board : Board) (place : ℕ) (old : List TargetView) (request : Request) (access : Access) (new : List TargetView) : Type 0 where

@@ -1,8 +1,10 @@
-ghost use Rattle.std.specs.Prelude.{◌≡◌, ◌+◌, ◌<◌, ◌^◌, ◌&&◌, length, slice_get, true, IfSome, IfNone};
+ghost use Rattle.std.specs.Prelude.{◌≡◌, ◌+◌, ◌<◌, ◌^◌, ◌&&◌, length};
+ghost use Rattle.std.specs.Prelude.{slice_get, true, IfSome, IfNone};
 ghost use Rattle.bus_face.specs.Arrivals.{carried, is_taken, HasRequest};
 ghost use Rattle.bus_core.specs.Bus.{shape_of, arrivals_at};
 ghost use Rattle.bus_core.specs.Places.{ComesAt, TestsAt, ask_request};
-ghost use Rattle.bus_core.specs.Serves.{is_there_as, names_its_kind, HasStamp, IsTested, OneMoreAt, BusRefuses, BusArrives};
+ghost use Rattle.bus_core.specs.Serves.{is_there_as, names_its_kind, HasStamp};
+ghost use Rattle.bus_core.specs.Serves.{IsTested, OneMoreAt, BusRefuses, BusArrives};
 
 use crate::Bus;
 use crate::port::{Arrival, Port};
@@ -12,15 +14,18 @@ use pci_command::{Command, Request};
 
 impl Bus {
     /// The item comes at the port of this place, and arrives; what goes back at once has the stamp.
-    /// None, and nothing changes, where the bus does not take it: no lawful peer sends it now, or it
-    /// is not of the kind of its operation.
+    /// None, and nothing changes, where the bus does not take it: no lawful peer sends it now, or
+    /// it is not of the kind of its operation.
     pub fn arrive(&mut self, board: &Board, place: usize, item: Item, stamp: u32) -> Option<Arrival>
         requires place { place < length self.old.ports }
-        requires counts { IfSome (slice_get self.old.ports place) (λ port. port.face.arrivals + 1 < 2 ^ 64) }
+        requires counts { IfSome (slice_get self.old.ports place)
+            (λ port. port.face.arrivals + 1 < 2 ^ 64) }
         ensures shape { shape_of self.new ≡ shape_of self.old }
-        ensures arrivals { IfSome result (λ _. OneMoreAt place (arrivals_at self.old) (arrivals_at self.new)) }
+        ensures arrivals { IfSome result (λ _.
+            OneMoreAt place (arrivals_at self.old) (arrivals_at self.new)) }
         ensures stamped { IfSome result (λ arrival. HasStamp stamp arrival.back) }
-        ensures arrives { IfSome result (λ arrival. BusArrives board.now place self.old item arrival.mark arrival.back self.new) }
+        ensures arrives { IfSome result (λ arrival.
+            BusArrives board.now place self.old item arrival.mark arrival.back self.new) }
         ensures refuses { IfNone result (BusRefuses board.now place self.old item) }
         ensures unchanged { IfNone result (self.new ≡ self.old) }
     {
@@ -59,10 +64,12 @@ fn arrive_at(
     stamp: u32,
 ) -> Arrival
     requires place { place < length ports.old }
-    requires taken { IfSome (slice_get ports.old place) (λ port. is_taken port.face (carried item) ≡ true) }
+    requires taken { IfSome (slice_get ports.old place) (λ port. is_taken port.face (carried item) ≡
+        true) }
     requires request { HasRequest (carried item) request }
     requires counts { IfSome (slice_get ports.old place) (λ port. port.face.arrivals + 1 < 2 ^ 64) }
-    ensures comes { ComesAt place ports.old (carried item) request result.mark result.back ports.new }
+    ensures comes { ComesAt place ports.old (carried item)
+        request result.mark result.back ports.new }
     ensures stamped { HasStamp stamp result.back }
 {
     let port = &mut ports[place];

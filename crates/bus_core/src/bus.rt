@@ -1,4 +1,5 @@
-ghost use Rattle.std.specs.Prelude.{◌≡◌, ◌+◌, ◌<◌, ℕ, length, None, IfSome, IfNone, IsTrue, slice_get};
+ghost use Rattle.std.specs.Prelude.{◌≡◌, ◌+◌, ◌<◌, ℕ, length, None};
+ghost use Rattle.std.specs.Prelude.{IfSome, IfNone, IsTrue, slice_get};
 ghost use Rattle.pci_command.specs.declared.request.Request.{Request as RequestOf};
 ghost use Rattle.board_model.specs.declared.board.Board.{Board as BoardTree};
 ghost use Rattle.board_model.specs.declared.bridge.Place.TheVariants.{Target, Lane as LaneOf};
@@ -36,12 +37,19 @@ impl Model for Bus {
 
     ghost Value = { BusView };
 
-    ghost view = { λ b. record { bus = b.bus; ports = b.ports.items; masters = b.masters.items; targets = b.targets.items; through = b.through } };
+    ghost view = { λ b. record {
+      bus = b.bus;
+      ports = b.ports.items;
+      masters = b.masters.items;
+      targets = b.targets.items;
+      through = b.through;
+    } };
 }
 
 impl Bus {
     ghost use Rattle.bus_core.specs.Bus.{shape_of, arrivals_at, StandsAtFirst};
     ghost use Rattle.bus_core.specs.Calls.{IsStamped, IsElsewhere, BusAnswers, TurnsBack};
+    ghost use Rattle.bus_core.specs.Calls.{BusStaysAtRetry};
     ghost use Rattle.bus_face.specs.Offers.{offers_of};
     ghost use Rattle.bus_core.specs.Places.{WantsAt};
     ghost use Rattle.bus_core.specs.Serves.{BusOffers};
@@ -57,20 +65,14 @@ impl Bus {
         targets: Vec<TargetState>,
         through: Through,
     ) -> Bus
-        ensures kept { result ≡ record { bus = bus; ports = ports.items; masters = masters.items; targets = targets.items; through = through } }
+        ensures kept { result ≡ record {
+          bus = bus;
+          ports = ports.items;
+          masters = masters.items;
+          targets = targets.items;
+          through = through;
+        } }
         ensures first { StandsAtFirst result }
-    {
-        Bus::of(bus, ports, masters, targets, through)
-    }
-
-    fn of(
-        bus: u8,
-        ports: Vec<Port>,
-        masters: Vec<MasterState>,
-        targets: Vec<TargetState>,
-        through: Through,
-    ) -> Bus
-        ensures { result ≡ record { bus = bus; ports = ports.items; masters = masters.items; targets = targets.items; through = through } }
     {
         Bus {
             bus,
@@ -105,7 +107,8 @@ impl Bus {
     /// The items that the lane of the port at this place presents, in the order in which they came.
     pub fn offers(&self, place: usize) -> ArrayVec<Offer, 16>
         requires { place < length self.now.ports }
-        ensures kept { IfSome (slice_get self.now.ports place) (λ port. result.items ≡ offers_of port.face) }
+        ensures kept { IfSome (slice_get self.now.ports place) (λ port. result.items ≡
+            offers_of port.face) }
         ensures offers { BusOffers place self.now result.items }
     {
         offers_at(self.ports.as_slice(), place)
@@ -120,8 +123,8 @@ impl Bus {
     }
 
     /// What the operation is answered that the initiator of this line presents, with what that does
-    /// at whoever claims it. What goes over a bridge has the stamp. None, and nothing is done, where
-    /// a lane presents it and its lane back claims it.
+    /// at whoever claims it; a Retry changes nothing. What goes over a bridge has the stamp. None, and
+    /// nothing is done, where a lane presents it and its lane back claims it.
     pub fn answer(&mut self, board: &Board, line: u8, op: OpId, stamp: u32) -> Option<Given>
         requires { IsTrue (is_well_formed board.now) }
         ensures shape { shape_of self.new ≡ shape_of self.old }
@@ -131,6 +134,7 @@ impl Bus {
         ensures stamped { IfSome result (λ given. IsStamped stamp given.over) }
         ensures apart { IfSome result (λ given. IsElsewhere line given.over) }
         ensures answers { IfSome result (λ given. BusAnswers board.now self.old line op given.answer given.over self.new) }
+        ensures retried { IfSome result (λ given. BusStaysAtRetry self.old given.answer self.new) }
         ensures turns { IfNone result (TurnsBack board.now self.old line op) }
     {
         match request_of(board, op, self.bus) {
@@ -156,6 +160,7 @@ impl Bus {
         ensures stamped { IfSome result (λ given. IsStamped stamp given.over) }
         ensures apart { IfSome result (λ given. IsElsewhere line given.over) }
         ensures answers { IfSome result (λ given. RequestAnswers board.now self.old line op request.now given.answer given.over self.new) }
+        ensures retried { IfSome result (λ given. BusStaysAtRetry self.old given.answer self.new) }
         ensures turns { IfNone result (RequestTurns board.now self.old line op request.now) }
     {
         let rest = rest_of(request, self.through.of(op));
@@ -176,6 +181,7 @@ impl Bus {
         ensures ports { self.new.ports ≡ self.old.ports }
         ensures none { result.over ≡ None }
         ensures answers { (line : ℕ) (request : RequestOf) → PlaceAnswers board.now self.old (Target target) line op request rest.now result.answer result.over self.new }
+        ensures retried { BusStaysAtRetry self.old result.answer self.new }
     {
         match target_place(self.targets.as_slice(), target) {
             None => nobody(),
@@ -209,6 +215,7 @@ impl Bus {
         ensures stamped { IfSome result (λ given. IsStamped stamp given.over) }
         ensures apart { IfSome result (λ given. IsElsewhere line given.over) }
         ensures answers { (board : BoardTree) (rest : RequestOf) → IfSome result (λ given. PlaceAnswers board self.old (LaneOf lane) line op request.now rest given.answer given.over self.new) }
+        ensures retried { IfSome result (λ given. BusStaysAtRetry self.old given.answer self.new) }
         ensures turns { (board : BoardTree) (rest : RequestOf) → IfNone result (PlaceTurns board self.old (LaneOf lane) line op request.now rest) }
     {
         match port_back(self.ports.as_slice(), lane) {

@@ -23,5 +23,6 @@ pub use port::{Arrival, Port, other_bridges_leave_ports};
 /// The places of bridges and masters on a bus are lines that tell all its initiators apart, where
 /// there are at most nine bridges and eight masters on it.
 pub fn lines_tell_apart()
-    ensures { (board : Board) (shape : Shape) → IsOf board shape → length shape.lanes ≤ 9 → length shape.masters ≤ 8 → (tags : By → OpId → ℕ) × AreLines board tags shape }
+    ensures { (board : Board) (shape : Shape) → IsOf board shape → length shape.lanes ≤ 9 →
+        length shape.masters ≤ 8 → (tags : By → OpId → ℕ) × AreLines board tags shape }
 {}

@@ -1,4 +1,5 @@
-ghost use Rattle.std.specs.Prelude.{◌≡◌, ◌+◌, ◌<◌, ◌==◌, length, position, slice_get, IfSome, IsTrue};
+ghost use Rattle.std.specs.Prelude.{◌≡◌, ◌+◌, ◌<◌, ◌==◌, length};
+ghost use Rattle.std.specs.Prelude.{position, slice_get, IfSome, IsTrue};
 ghost use Rattle.std.specs.List.{Contains};
 ghost use Rattle.board_model.specs.WellFormed.{is_well_formed};
 ghost use Rattle.bus_face.specs.Offers.{offers_of};
@@ -8,7 +9,8 @@ ghost use Rattle.bus_agents.specs.Through.{count_in};
 ghost use Rattle.bus_targets.specs.State.{step_of};
 ghost use Rattle.history_model.specs.World.{same_lane};
 ghost use Rattle.board_model.specs.Ways.{lane_back};
-ghost use Rattle.bus_core.specs.Places.{OffersAt, RespondsAt, AccessesAt, NotesPart, WantsAt, EndsTurnAt, TellsMaster, EndsAt};
+ghost use Rattle.bus_core.specs.Places.{OffersAt, RespondsAt, AccessesAt, NotesPart};
+ghost use Rattle.bus_core.specs.Places.{WantsAt, EndsTurnAt, TellsMaster, EndsAt};
 
 use crate::port::Port;
 use arrayvec::ArrayVec;
@@ -130,7 +132,8 @@ pub(crate) fn end_at(
     stamp: u32,
 ) -> Item
     requires place { place < length ports.old }
-    requires offered { IfSome (slice_get ports.old place) (λ port. Contains (offers_of port.face) offer.now) }
+    requires offered { IfSome (slice_get ports.old place)
+        (λ port. Contains (offers_of port.face) offer.now) }
     ensures ends { EndsAt place ports.old offer.now outcome ports.new result }
     ensures stamped { stamp_in result ≡ stamp }
 {

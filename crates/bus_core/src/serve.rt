@@ -7,6 +7,7 @@ ghost use Rattle.bus_agents.specs.Turns.{MasterView};
 ghost use Rattle.bus_core.specs.Bus.{shape_of, arrivals_at};
 ghost use Rattle.bus_core.specs.port.Port.{PortView};
 ghost use Rattle.bus_core.specs.Calls.{IsStamped};
+ghost use Rattle.bus_core.specs.declared.given.Served.TheVariants.{Retried};
 ghost use Rattle.bus_core.specs.Parts.{TellsLane};
 ghost use Rattle.bus_core.specs.Serves.{Serves, SendsStamped, SendsApart, IsAt, ServesMaster};
 
@@ -19,7 +20,8 @@ use machine_steps::lane_outcome;
 use pci_command::OpId;
 
 impl Bus {
-    /// The master at this place presents its turn, if its program did not end.
+    /// The master at this place presents its turn, if its program did not end. A Retry changes
+    /// nothing.
     pub fn serve_master(&mut self, board: &Board, place: u8, stamp: u32) -> Served
         requires formed { IsTrue (is_well_formed board.now) }
         requires place { place < length self.old.masters }
@@ -29,6 +31,7 @@ impl Bus {
         ensures stamped { SendsStamped stamp result }
         ensures apart { SendsApart result }
         ensures serves { ServesMaster board.now place self.old result self.new }
+        ensures retried { result ≡ Retried → self.new ≡ self.old }
     {
         match want_at(self.masters.as_slice(), place as usize) {
             None => Served::Nothing,
@@ -46,6 +49,7 @@ impl Bus {
         ensures stamped { SendsStamped stamp result }
         ensures apart { SendsApart result }
         ensures serves { (master : MasterView) → slice_get self.old.masters place ≡ Some master → master.turn ≡ Some op → Serves board.now Master op self.old result self.new }
+        ensures retried { result ≡ Retried → self.new ≡ self.old }
     {
         match self.answer(board, 9 + place, op, stamp) {
             None => Served::TurnsBack,
@@ -70,16 +74,19 @@ impl Bus {
         }
     }
 
-    /// The lane of the port at this place presents what it offers. Its line is its place.
+    /// The lane of the port at this place presents what it offers. Its line is its place. A Retry
+    /// changes nothing.
     pub fn serve_offer(&mut self, board: &Board, place: u8, offer: &Offer, stamp: u32) -> Served
         requires formed { IsTrue (is_well_formed board.now) }
         requires place { place < length self.old.ports }
-        requires offered { IfSome (slice_get self.old.ports place) (λ port. Contains (offers_of port.face) offer.now) }
+        requires offered { IfSome (slice_get self.old.ports place)
+            (λ port. Contains (offers_of port.face) offer.now) }
         ensures shape { shape_of self.new ≡ shape_of self.old }
         ensures arrivals { arrivals_at self.new ≡ arrivals_at self.old }
         ensures stamped { SendsStamped stamp result }
         ensures apart { SendsApart result }
         ensures serves { (port : PortView) → slice_get self.old.ports place ≡ Some port → Serves board.now (ByLane port.lane) offer.now.op self.old result self.new }
+        ensures retried { result ≡ Retried → self.new ≡ self.old }
     {
         match self.answer(board, place, offer.op, stamp) {
             None => Served::TurnsBack,
@@ -113,8 +120,8 @@ impl Bus {
         self.ports[place].lane()
     }
 
-    /// What the port at this place offered was answered with this step: it leaves where that ends it, and its
-    /// answer goes back.
+    /// What the port at this place offered was answered with this step: it leaves where that ends
+    /// it, and its answer goes back.
     fn tell_lane(
         &mut self,
         board: &Board,
@@ -124,7 +131,8 @@ impl Bus {
         stamp: u32,
     ) -> Option<Sent>
         requires place { place < length self.old.ports }
-        requires offered { IfSome (slice_get self.old.ports place) (λ port. Contains (offers_of port.face) offer.now) }
+        requires offered { IfSome (slice_get self.old.ports place)
+            (λ port. Contains (offers_of port.face) offer.now) }
         ensures shape { shape_of self.new ≡ shape_of self.old }
         ensures arrivals { arrivals_at self.new ≡ arrivals_at self.old }
         ensures stamped { IsStamped stamp result }

@@ -16,7 +16,7 @@ use Rattle.history_model.specs.declared.item.Carried.{Carried}
 use Rattle.history_model.specs.declared.item.Carried.TheVariants.{Post, Ask, Done, Room, Gone}
 use Rattle.history_model.specs.Lanes.{Both, has_number, effect_of, takes_effect}
 use Rattle.history_model.proofs.facts.BridgeLemmas.{flip}
-use Rattle.bus_face.specs.declared.requests.ask_table.Ask.{Ask as AskEntry}
+use Rattle.lane_items.specs.declared.requests.ask_table.Ask.{Ask as AskEntry}
 use Rattle.law_lanes.specs.Kinds.{RightKind}
 use Rattle.bus_face.specs.State.{FaceState}
 use Rattle.bus_face.specs.Arrivals.{carried, sent_back, counted, freed, asks_arrived, dones_arrived, arrived}

@@ -6,10 +6,10 @@ use Rattle.pci_command.specs.declared.op_id.OpId.{OpId}
 use Rattle.pci_command.specs.Command.{is_read}
 use Rattle.board_model.specs.Requests.{is_posted}
 use Rattle.history_model.specs.declared.item.Cause.TheVariants.{Full, Behind}
-use Rattle.bus_face.specs.declared.requests.slot_table.SlotEntry.{SlotEntry}
-use Rattle.bus_face.specs.requests.Slots.{IsOwnNumber, HasNoOwn, without as without_slot}
-use Rattle.bus_face.specs.declared.completions.done_table.Done.{Done}
-use Rattle.bus_face.specs.completions.Completions.{done_at, without as without_done}
+use Rattle.lane_items.specs.declared.requests.slot_table.SlotEntry.{SlotEntry}
+use Rattle.lane_items.specs.requests.Slots.{IsOwnNumber, HasNoOwn, without as without_slot}
+use Rattle.lane_items.specs.declared.completions.done_table.Done.{Done}
+use Rattle.lane_items.specs.completions.Completions.{done_at, without as without_done}
 use Rattle.bus_face.specs.declared.reply.Reply.{Reply}
 use Rattle.bus_face.specs.declared.reply.Reply.TheVariants.{Accepted, Latched, Taken, Retry}
 use Rattle.bus_face.specs.State.{FaceState}

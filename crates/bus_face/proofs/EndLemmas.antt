@@ -19,8 +19,8 @@ use Rattle.history_model.specs.declared.item.Carried.TheVariants.{Post, Ask, Don
 use Rattle.history_model.specs.Lanes.{Both, is_of, reply_to}
 use Rattle.history_model.specs.Answers.{asked, asks_same, presents}
 use Rattle.lane_items.specs.declared.item.Item.{Item}
-use Rattle.bus_face.specs.declared.posts.posted_table.Post.{Post as PostEntry}
-use Rattle.bus_face.specs.declared.requests.ask_table.Ask.{Ask as AskEntry}
+use Rattle.lane_items.specs.declared.posts.posted_table.Post.{Post as PostEntry}
+use Rattle.lane_items.specs.declared.requests.ask_table.Ask.{Ask as AskEntry}
 use Rattle.bus_face.specs.declared.offer.Offer.{Offer}
 use Rattle.bus_face.specs.State.{FaceState}
 use Rattle.bus_face.specs.Arrivals.{carried}

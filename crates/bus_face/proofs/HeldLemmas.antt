@@ -2,11 +2,11 @@
 use Rattle.std.proofs.Common.{◌≡◌, ◌≢◌, ℕ, ◌+◌, ◌<◌, ◌≤◌, Bool, true, false, cond, ◌==◌, List, [], ◌∷◌, length, Option, Some, None, is_some, refl, sym, ap, subst, ◌∙◌, arith}
 use Rattle.std.proofs.lemmas.Bool.{eqb-true}
 use Rattle.std.proofs.lemmas.Bool.Decides.{nat_tests}
-use Rattle.bus_face.specs.declared.requests.slot_table.SlotEntry.{SlotEntry}
-use Rattle.bus_face.specs.requests.Slots.{IsHeld, without}
-use Rattle.bus_face.proofs.requests.SlotLemmas.{slot_at-without_other}
-use Rattle.bus_face.specs.declared.completions.done_table.Done.{Done}
-use Rattle.bus_face.specs.completions.Completions.{done_at, IsStanding, IsOneForEachSlot}
+use Rattle.lane_items.specs.declared.requests.slot_table.SlotEntry.{SlotEntry}
+use Rattle.lane_items.specs.requests.Slots.{IsHeld, without}
+use Rattle.lane_items.proofs.requests.SlotLemmas.{slot_at-without_other}
+use Rattle.lane_items.specs.declared.completions.done_table.Done.{Done}
+use Rattle.lane_items.specs.completions.Completions.{done_at, IsStanding, IsOneForEachSlot}
 use Rattle.bus_face.specs.Held.{HoldsSlots}
 
 -- one slot fewer is held once one was freed

@@ -15,10 +15,10 @@ use Rattle.history_model.specs.declared.item.Carried.TheVariants.{Post, Ask, Don
 use Rattle.history_model.specs.declared.item.Slot.{Slot as HeldSlot}
 use Rattle.history_model.specs.Lanes.{Both, has_number, is_done_for, is_post}
 use Rattle.history_model.specs.Local.{is_ask, is_ask_of, is_held_for, is_lawful}
-use Rattle.bus_face.specs.declared.requests.ask_table.Ask.{Ask as AskEntry}
-use Rattle.bus_face.specs.declared.requests.slot_table.SlotEntry.{SlotEntry}
-use Rattle.bus_face.specs.requests.Slots.{slot_at, IsOneForEachNumber}
-use Rattle.bus_face.specs.completions.Completions.{done_at}
+use Rattle.lane_items.specs.declared.requests.ask_table.Ask.{Ask as AskEntry}
+use Rattle.lane_items.specs.declared.requests.slot_table.SlotEntry.{SlotEntry}
+use Rattle.lane_items.specs.requests.Slots.{slot_at, IsOneForEachNumber}
+use Rattle.lane_items.specs.completions.Completions.{done_at}
 use Rattle.bus_face.specs.State.{FaceState}
 use Rattle.bus_face.specs.Arrivals.{is_for, has_slot, is_taken}
 use Rattle.bus_face.specs.Stands.{Arrived, AskKey, ask_key, post_entries, ask_entries, done_entries, AreEntries, Stands}

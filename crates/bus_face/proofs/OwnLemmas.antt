@@ -4,8 +4,8 @@ use Rattle.std.specs.List.{find}
 use Rattle.std.proofs.lemmas.Bool.{eqb-true, eq-eqb, and_parts}
 use Rattle.pci_command.specs.declared.request.Request.{Request}
 use Rattle.pci_command.specs.Same.{same_request}
-use Rattle.bus_face.specs.declared.requests.slot_table.SlotEntry.{SlotEntry}
-use Rattle.bus_face.specs.requests.Slots.{IsOwn, IsOwnNumber, HasNoOwn}
+use Rattle.lane_items.specs.declared.requests.slot_table.SlotEntry.{SlotEntry}
+use Rattle.lane_items.specs.requests.Slots.{IsOwn, IsOwnNumber, HasNoOwn}
 use Rattle.bus_face.specs.Replies.{is_own_entry}
 use Rattle.machine_steps.proofs.SameLemmas.{request_decides}
 

@@ -7,9 +7,9 @@ use Rattle.list_facts.specs.Lists.{less}
 use Rattle.pci_command.specs.declared.request.Request.{Request}
 use Rattle.pci_command.specs.declared.op_id.OpId.{OpId}
 use Rattle.pci_command.specs.Same.{same_op, same_request}
-use Rattle.bus_face.specs.declared.posts.posted_table.Post.{Post}
-use Rattle.bus_face.specs.declared.requests.ask_table.Ask.{Ask}
-use Rattle.bus_face.specs.requests.Asks.{request_at, HasOlderEqual}
+use Rattle.lane_items.specs.declared.posts.posted_table.Post.{Post}
+use Rattle.lane_items.specs.declared.requests.ask_table.Ask.{Ask}
+use Rattle.lane_items.specs.requests.Asks.{request_at, HasOlderEqual}
 use Rattle.bus_face.specs.declared.offer.Offer.{Offer}
 use Rattle.bus_face.specs.Offers.{has_equal, is_offered, ask_offer, offer_where, ask_offers, came_before, is_ask_for}
 use Rattle.machine_steps.proofs.SameLemmas.{request_decides}

@@ -26,10 +26,10 @@ use Rattle.history_model.specs.declared.item.Carried.TheVariants.{Post, Ask, Don
 use Rattle.history_model.specs.World.{both, is_own, slot_found}
 use Rattle.history_model.specs.Answers.{request_kind, completion_kind, completion_passes, lane_answer, completion_answer, delayed_answer, posted_answer}
 use Rattle.law_lanes.specs.Latched.{IsAt}
-use Rattle.bus_face.specs.declared.requests.slot_table.SlotEntry.{SlotEntry}
-use Rattle.bus_face.specs.requests.Slots.{IsLowestFree, without as without_slot}
-use Rattle.bus_face.specs.declared.completions.done_table.Done.{Done as DoneEntry}
-use Rattle.bus_face.specs.completions.Completions.{done_at, without as without_done}
+use Rattle.lane_items.specs.declared.requests.slot_table.SlotEntry.{SlotEntry}
+use Rattle.lane_items.specs.requests.Slots.{IsLowestFree, without as without_slot}
+use Rattle.lane_items.specs.declared.completions.done_table.Done.{Done as DoneEntry}
+use Rattle.lane_items.specs.completions.Completions.{done_at, without as without_done}
 use Rattle.bus_face.specs.declared.reply.Reply.{Reply}
 use Rattle.bus_face.specs.declared.reply.Reply.TheVariants.{Accepted, Latched, Taken, Retry}
 use Rattle.bus_face.specs.State.{FaceState}

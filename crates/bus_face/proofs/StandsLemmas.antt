@@ -15,11 +15,11 @@ use Rattle.history_model.specs.declared.item.Carried.TheVariants.{Post, Ask, Don
 use Rattle.history_model.specs.declared.item.Slot.{Slot as HeldSlot}
 use Rattle.history_model.specs.Lanes.{has_number, is_done_for, is_post, lowest_free, lowest_free_from}
 use Rattle.history_model.specs.World.{same_initiator, is_own}
-use Rattle.bus_face.specs.declared.requests.slot_table.SlotEntry.{SlotEntry}
-use Rattle.bus_face.specs.requests.Slots.{slot_at, IsLowestFree, without as without_slot}
-use Rattle.bus_face.proofs.requests.LowestFreeLemmas.{all_below_held}
-use Rattle.bus_face.specs.declared.completions.done_table.Done.{Done as DoneEntry}
-use Rattle.bus_face.specs.completions.Completions.{done_at, without as without_done}
+use Rattle.lane_items.specs.declared.requests.slot_table.SlotEntry.{SlotEntry}
+use Rattle.lane_items.specs.requests.Slots.{slot_at, IsLowestFree, without as without_slot}
+use Rattle.lane_items.proofs.requests.LowestFreeLemmas.{all_below_held}
+use Rattle.lane_items.specs.declared.completions.done_table.Done.{Done as DoneEntry}
+use Rattle.lane_items.specs.completions.Completions.{done_at, without as without_done}
 use Rattle.bus_face.specs.Replies.{is_behind, is_own_entry}
 use Rattle.bus_face.specs.Stands.{Arrived, post_entry, done_entry, post_entries, ask_entries, done_entries, Rising, IsEntry, AreEntries, IsTag}
 

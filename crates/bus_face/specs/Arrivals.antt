@@ -11,10 +11,10 @@ use Rattle.history_model.specs.declared.event.Mark.{Mark}
 use Rattle.history_model.specs.declared.event.Mark.TheVariants.{Plain, Discard, Drop}
 use Rattle.history_model.specs.declared.item.Carried.{Carried}
 use Rattle.history_model.specs.declared.item.Carried.TheVariants.{Post, Ask, Done, Room, Gone}
-use Rattle.bus_face.specs.declared.requests.ask_table.Ask.{Ask as AskEntry}
-use Rattle.bus_face.specs.declared.requests.slot_table.SlotEntry.{SlotEntry}
-use Rattle.bus_face.specs.requests.Slots.{slot_at, without as without_slot}
-use Rattle.bus_face.specs.completions.Completions.{done_at}
+use Rattle.lane_items.specs.declared.requests.ask_table.Ask.{Ask as AskEntry}
+use Rattle.lane_items.specs.declared.requests.slot_table.SlotEntry.{SlotEntry}
+use Rattle.lane_items.specs.requests.Slots.{slot_at, without as without_slot}
+use Rattle.lane_items.specs.completions.Completions.{done_at}
 use Rattle.bus_face.specs.State.{FaceState}
 
 -- an item without its stamp

@@ -1,9 +1,9 @@
 -- A completion stands only for a request whose slot is held.
 use Rattle.std.specs.Prelude.{◌≡◌, ℕ, List}
-use Rattle.bus_face.specs.declared.requests.slot_table.SlotEntry.{SlotEntry}
-use Rattle.bus_face.specs.requests.Slots.{Slots, IsHeld}
-use Rattle.bus_face.specs.declared.completions.done_table.Done.{Done}
-use Rattle.bus_face.specs.completions.Completions.{Completions, IsStanding}
+use Rattle.lane_items.specs.declared.requests.slot_table.SlotEntry.{SlotEntry}
+use Rattle.lane_items.specs.requests.Slots.{Slots, IsHeld}
+use Rattle.lane_items.specs.declared.completions.done_table.Done.{Done}
+use Rattle.lane_items.specs.completions.Completions.{Completions, IsStanding}
 
 -- the slot of each completion that stands is held
 abbrev pub HoldsSlots : List SlotEntry → List Done → Type 0

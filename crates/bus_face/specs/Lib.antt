@@ -5,6 +5,3 @@ pub mod Arrivals
 pub mod Offers
 pub mod Stands
 pub mod OnLanes
-pub mod posts
-pub mod requests
-pub mod completions

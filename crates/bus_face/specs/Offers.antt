@@ -11,8 +11,8 @@ use Rattle.history_model.specs.declared.item.Carried.{Carried}
 use Rattle.history_model.specs.declared.item.Carried.TheVariants.{Post, Ask}
 use Rattle.lane_items.specs.declared.item.Item.{Item}
 use Rattle.lane_items.specs.declared.item.Item.TheVariants.{Done as DoneItem, Room as RoomItem}
-use Rattle.bus_face.specs.declared.posts.posted_table.Post.{Post as PostEntry}
-use Rattle.bus_face.specs.declared.requests.ask_table.Ask.{Ask as AskEntry}
+use Rattle.lane_items.specs.declared.posts.posted_table.Post.{Post as PostEntry}
+use Rattle.lane_items.specs.declared.requests.ask_table.Ask.{Ask as AskEntry}
 use Rattle.bus_face.specs.declared.offer.Offer.{Offer}
 use Rattle.bus_face.specs.State.{FaceState}
 

@@ -16,11 +16,11 @@ use Rattle.history_model.specs.declared.item.Answer.TheVariants.{Gives, Retry as
 use Rattle.history_model.specs.declared.item.Cause.TheVariants.{Full, NoSlot, Waiting, Behind}
 use Rattle.history_model.specs.Lanes.{Both}
 use Rattle.history_model.specs.World.{enters}
-use Rattle.bus_face.specs.declared.posts.posted_table.Post.{Post}
-use Rattle.bus_face.specs.declared.requests.slot_table.SlotEntry.{SlotEntry}
-use Rattle.bus_face.specs.requests.Slots.{IsLowestFree, without as without_slot}
-use Rattle.bus_face.specs.declared.completions.done_table.Done.{Done}
-use Rattle.bus_face.specs.completions.Completions.{done_at, without as without_done}
+use Rattle.lane_items.specs.declared.posts.posted_table.Post.{Post}
+use Rattle.lane_items.specs.declared.requests.slot_table.SlotEntry.{SlotEntry}
+use Rattle.lane_items.specs.requests.Slots.{IsLowestFree, without as without_slot}
+use Rattle.lane_items.specs.declared.completions.done_table.Done.{Done}
+use Rattle.lane_items.specs.completions.Completions.{done_at, without as without_done}
 use Rattle.bus_face.specs.declared.reply.Reply.{Reply}
 use Rattle.bus_face.specs.declared.reply.Reply.TheVariants.{Accepted, Latched, Taken, Retry}
 use Rattle.bus_face.specs.State.{FaceState}

@@ -14,10 +14,10 @@ use Rattle.history_model.specs.World.{same_initiator}
 use Rattle.law_lanes.specs.Latched.{IsAt}
 use Rattle.law_lanes.specs.Kinds.{RightKind}
 use Rattle.law_lanes.specs.Standing.{CanStand}
-use Rattle.bus_face.specs.declared.posts.posted_table.Post.{Post as PostEntry}
-use Rattle.bus_face.specs.declared.requests.ask_table.Ask.{Ask as AskEntry}
-use Rattle.bus_face.specs.declared.requests.slot_table.SlotEntry.{SlotEntry}
-use Rattle.bus_face.specs.declared.completions.done_table.Done.{Done as DoneEntry}
+use Rattle.lane_items.specs.declared.posts.posted_table.Post.{Post as PostEntry}
+use Rattle.lane_items.specs.declared.requests.ask_table.Ask.{Ask as AskEntry}
+use Rattle.lane_items.specs.declared.requests.slot_table.SlotEntry.{SlotEntry}
+use Rattle.lane_items.specs.declared.completions.done_table.Done.{Done as DoneEntry}
 use Rattle.bus_face.specs.State.{FaceState}
 
 -- an item that stands, with the number of its arrival

@@ -1,9 +1,9 @@
 -- What half a bridge keeps, on the bus of its face.
 use Rattle.std.specs.Prelude.{ℕ}
-use Rattle.bus_face.specs.posts.Posted.{Posted}
-use Rattle.bus_face.specs.requests.Asks.{Asks}
-use Rattle.bus_face.specs.requests.Slots.{Slots}
-use Rattle.bus_face.specs.completions.Completions.{Completions}
+use Rattle.lane_items.specs.posts.Posted.{Posted}
+use Rattle.lane_items.specs.requests.Asks.{Asks}
+use Rattle.lane_items.specs.requests.Slots.{Slots}
+use Rattle.lane_items.specs.completions.Completions.{Completions}
 
 -- what the half of a bridge on one of its buses keeps
 pub record FaceState : Type 0 where

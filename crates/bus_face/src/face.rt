@@ -1,15 +1,13 @@
-ghost use Rattle.std.specs.Prelude.{◌≡◌, ◌+◌, ◌<◌, ◌≤◌, ◌^◌, ◌&&◌, length, not, true, false, None, Some, nat_lt};
+ghost use Rattle.std.specs.Prelude.{◌≡◌, ◌+◌, ◌<◌, ◌≤◌, ◌^◌, ◌&&◌, length};
+ghost use Rattle.std.specs.Prelude.{not, true, false, None, Some, nat_lt};
 ghost use Rattle.bus_face.specs.State.{FaceState};
 ghost use Rattle.bus_face.specs.Offers.{answered_with};
 
-use crate::completions::DoneTable;
-use crate::posts::PostedTable;
-use crate::requests::{AskTable, SlotTable};
 use crate::{Offer, Reply};
 use arrayvec::ArrayVec;
 use board_model::is_posted;
 use history_model::{Cause, Mark};
-use lane_items::Item;
+use lane_items::{AskTable, DoneTable, Item, PostedTable, SlotTable};
 use machine_steps::{completion_kind, request_kind};
 use order_table::may_pass;
 use pci_command::{Kind, OpId, Outcome, Request, same_op};
@@ -33,7 +31,15 @@ impl Model for Face {
 
     ghost Value = { FaceState };
 
-    ghost view = { λ f. record { posts = f.posts; asks = f.asks; dones = f.dones; slots = f.slots; posted = f.posted; owed = f.owed; arrivals = f.arrivals } };
+    ghost view = { λ f. record {
+      posts = f.posts;
+      asks = f.asks;
+      dones = f.dones;
+      slots = f.slots;
+      posted = f.posted;
+      owed = f.owed;
+      arrivals = f.arrivals;
+    } };
 
     ghost invariant = { λ f. IsFace f.slots f.dones };
 }
@@ -43,13 +49,18 @@ impl Face {
     ghost use Rattle.list_facts.specs.Lists.{less};
     ghost use Rattle.std.specs.Option.{option_map};
     ghost use Rattle.std.specs.List.{find};
-    ghost use Rattle.bus_face.specs.requests.Slots.{IsHeld, slot_at};
-    ghost use Rattle.bus_face.specs.completions.Completions.{done_at, IsStanding};
+    ghost use Rattle.lane_items.specs.requests.Slots.{IsHeld, slot_at};
+    ghost use Rattle.lane_items.specs.completions.Completions.{done_at, IsStanding};
     ghost use Rattle.std.specs.List.{list_any};
-    ghost use Rattle.bus_face.specs.Arrivals.{carried, is_taken, is_for, has_slot, counted, arrived, ask_marked, done_marked, sent_back, word_of, HasRequest};
-    ghost use Rattle.bus_face.specs.Replies.{posts_reply, is_behind, is_own_entry, taken_reply, LowestReply, LowestLatched};
-    ghost use Rattle.bus_face.specs.Offers.{offers_of, ask_offers, is_offered, came_before, is_ask_for, LessAt, left_by, answered_with};
-    ghost use Rattle.bus_face.specs.OnLanes.{StandsForEmpty, RepliesOfLanes, IsLawfulOnLanes, ArrivesOnLanes, OffersOfLanes, EndsOnLanes};
+    ghost use Rattle.bus_face.specs.Arrivals.{carried, is_taken, is_for, has_slot};
+    ghost use Rattle.bus_face.specs.Arrivals.{counted, arrived, ask_marked, done_marked};
+    ghost use Rattle.bus_face.specs.Arrivals.{sent_back, word_of, HasRequest};
+    ghost use Rattle.bus_face.specs.Replies.{posts_reply, is_behind, is_own_entry};
+    ghost use Rattle.bus_face.specs.Replies.{taken_reply, LowestReply, LowestLatched};
+    ghost use Rattle.bus_face.specs.Offers.{offers_of, ask_offers, is_offered, came_before};
+    ghost use Rattle.bus_face.specs.Offers.{is_ask_for, LessAt, left_by, answered_with};
+    ghost use Rattle.bus_face.specs.OnLanes.{StandsForEmpty, RepliesOfLanes, IsLawfulOnLanes};
+    ghost use Rattle.bus_face.specs.OnLanes.{ArrivesOnLanes, OffersOfLanes, EndsOnLanes};
     ghost use Rattle.std.specs.List.{Contains};
     ghost use Rattle.pci_command.specs.Command.{is_read};
     ghost use Rattle.board_model.specs.Requests.{is_posted};
@@ -80,11 +91,12 @@ impl Face {
         }
     }
 
-    /// What the face answers to an operation that it claims, presented by the initiator of this tag (PCI Local Bus
-    /// 2.2, sections 3.2.5 and 3.3.3.3, from memory). A posted write is accepted while fewer are owed than the
-    /// bridge holds, and else Full. A delayed request is given the completion of its own slot: Waiting where that
-    /// has not come, and Behind where it reads and an older posted write stands. Without an own slot it is latched
-    /// in the lowest free one, and without a free one the cause is NoSlot. A Retry changes nothing.
+    /// What the face answers to an operation that it claims, presented by the initiator of this tag
+    /// (PCI Local Bus 2.2, sections 3.2.5 and 3.3.3.3, from memory). A posted write is accepted
+    /// while fewer are owed than the bridge holds, and else Full. A delayed request is given the
+    /// completion of its own slot: Waiting where that has not come, and Behind where it reads and
+    /// an older posted write stands. Without an own slot it is latched in the lowest free one, and
+    /// without a free one the cause is NoSlot. A Retry changes nothing.
     pub fn respond(&mut self, tag: u8, op: OpId, request: &Request) -> Reply
         ensures kept { LowestReply self.old tag op request.now result self.new }
         ensures lanes { RepliesOfLanes self.old tag op request.now result self.new }
@@ -125,11 +137,12 @@ impl Face {
         }
     }
 
-    /// The completion of the own slot, if it came: Behind where it may not pass posted writes, and one
-    /// stands that is older. Posted writes alone are in the way.
+    /// The completion of the own slot, if it came: Behind where it may not pass posted writes, and
+    /// one stands that is older. Posted writes alone are in the way.
     fn take(&mut self, slot: u8, read: bool) -> Reply
         requires { IsHeld slot self.old.slots.slots }
-        ensures { let reply = taken_reply self.old slot read (done_at slot self.old.dones.dones) in (result ≡ reply.0) × (self.new ≡ reply.1) }
+        ensures { let reply = taken_reply self.old slot read (done_at slot self.old.dones.dones) in
+            (result ≡ reply.0) × (self.new ≡ reply.1) }
     {
         match self.dones.find(slot) {
             None => Reply::Retry(Cause::Waiting),
@@ -171,7 +184,8 @@ impl Face {
         self.owed
     }
 
-    /// Whether the face takes the item now: its tables have room for it, and what it answers is asked here.
+    /// Whether the face takes the item now: its tables have room for it, and what it answers is
+    /// asked here.
     pub fn lawful(&self, item: &Item) -> bool
         ensures kept { result ≡ is_taken self.now (carried item.now) }
         ensures lanes { IsLawfulOnLanes self.now (carried item.now) result }
@@ -196,7 +210,9 @@ impl Face {
     }
 
     fn takes_ask(&self, slot: u8) -> bool
-        ensures { result ≡ (nat_lt slot self.now.asks.depth && nat_lt (length self.now.asks.asks) self.now.asks.depth && not (list_any (has_slot slot) self.now.asks.asks)) }
+        ensures { result ≡ (nat_lt slot self.now.asks.depth &&
+            nat_lt (length self.now.asks.asks) self.now.asks.depth &&
+            not (list_any (has_slot slot) self.now.asks.asks)) }
     {
         self.asks.room() > 0
             && slot < self.asks.len() + self.asks.room()
@@ -212,9 +228,9 @@ impl Face {
         }
     }
 
-    /// An item arrives that the face takes; a delayed request comes with its request as driven on this bus. By its
-    /// mark a completion is discarded and its slot freed, or a request is dropped. What goes back at once is the
-    /// word of that, with the stamp.
+    /// An item arrives that the face takes; a delayed request comes with its request as driven on
+    /// this bus. By its mark a completion is discarded and its slot freed, or a request is dropped.
+    /// What goes back at once is the word of that, with the stamp.
     pub fn arrive(
         &mut self,
         item: Item,
@@ -324,9 +340,9 @@ impl Face {
         }
     }
 
-    /// The items that may be driven on this bus now, in the order in which they came: the delayed requests that came
-    /// before every posted write and have no older equal one, and the posted write that came first (PCI Local Bus
-    /// 2.2, appendix E, from memory).
+    /// The items that may be driven on this bus now, in the order in which they came: the delayed
+    /// requests that came before every posted write and have no older equal one, and the posted
+    /// write that came first (PCI Local Bus 2.2, appendix E, from memory).
     pub fn offers(&self) -> ArrayVec<Offer, 16>
         ensures kept { result.items ≡ offers_of self.now }
         ensures lanes { OffersOfLanes self.now result.items }
@@ -368,11 +384,13 @@ impl Face {
         offers
     }
 
-    /// Whether the delayed request at this place may be driven now: it may pass posted writes, or none
-    /// stands that is older, and it has no older equal one. Posted writes alone are in the way.
+    /// Whether the delayed request at this place may be driven now: it may pass posted writes, or
+    /// none stands that is older, and it has no older equal one. Posted writes alone are in the
+    /// way.
     fn is_offered(&self, place: u8) -> bool
         requires { place < length self.now.asks.asks }
-        ensures { Some result ≡ option_map (λ ask. is_offered self.now.posts.posts (take place self.now.asks.asks) ask) (slice_get self.now.asks.asks place) }
+        ensures { Some result ≡ option_map (λ ask. is_offered self.now.posts.posts
+            (take place self.now.asks.asks) ask) (slice_get self.now.asks.asks place) }
     {
         let (_, _, arrival) = self.asks.get(place);
         let first = self.goes_first(place, arrival);
@@ -380,8 +398,8 @@ impl Face {
         first && !equal
     }
 
-    /// Whether the delayed request at this place, which came with this arrival, goes before the posted
-    /// writes: it may pass them, or none stands that came before.
+    /// Whether the delayed request at this place, which came with this arrival, goes before the
+    /// posted writes: it may pass them, or none stands that came before.
     fn goes_first(&self, place: u8, arrival: u64) -> bool
         requires { place < length self.now.asks.asks }
         ensures { result ≡ came_before arrival self.now.posts.posts }
@@ -399,8 +417,8 @@ impl Face {
         }
     }
 
-    /// An item that is offered ended on this bus: it leaves, and the answer is what goes back for it, with the
-    /// stamp: a credit for a posted write, the completion of a delayed request.
+    /// An item that is offered ended on this bus: it leaves, and the answer is what goes back for
+    /// it, with the stamp: a credit for a posted write, the completion of a delayed request.
     pub fn ended(&mut self, offer: &Offer, outcome: Outcome, stamp: u32) -> Item
         requires { Contains (offers_of self.old) offer.now }
         ensures kept { self.new ≡ left_by self.old offer.now }
@@ -425,7 +443,9 @@ impl Face {
 
     /// The oldest delayed request of the operation leaves.
     fn leave_ask(&mut self, op: OpId)
-        ensures { self.new ≡ record self.old { asks = record (self.old.asks) { asks = less (is_ask_for op) self.old.asks.asks } } }
+        ensures { self.new ≡ record self.old {
+          asks = record (self.old.asks) { asks = less (is_ask_for op) self.old.asks.asks };
+        } }
     {
         if let Some(place) = self.place_of(op) {
             self.asks.leave(place);

@@ -1,5 +1,5 @@
 -- An initiator that is granted the bus, and nothing is done.
-use Rattle.std.proofs.Common.{◌≡◌, ℕ, Bool, true, false, List, [], ◌∷◌, length, Option, Some, None, sym, ap, subst, ◌∙◌, arith, slice_get}
+use Rattle.std.proofs.Common.{◌≡◌, ℕ, Bool, true, false, List, [], ◌∷◌, length, Option, Some, None, refl, sym, ap, subst, ◌∙◌, arith, slice_get}
 use Rattle.std.proofs.lemmas.Bool.{and_parts}
 use Rattle.std.proofs.lemmas.List.{length-append}
 use Rattle.pci_command.specs.declared.op_id.OpId.{OpId}
@@ -17,11 +17,11 @@ use Rattle.bus_agents.specs.Turns.{MasterView}
 use Rattle.bus_core.specs.declared.given.Acted.{Acted}
 use Rattle.bus_core.specs.declared.given.Served.{Served}
 use Rattle.bus_core.specs.declared.given.Served.TheVariants.{Nothing, Retried, TurnsBack as Back, Did}
-use Rattle.bus_core.specs.Bus.{BusView, shape_of, BusStands}
+use Rattle.bus_core.specs.Bus.{BusView, shape_of}
 use Rattle.bus_core.specs.Serves.{Serves, ServesTurn, ServesMaster}
 use Rattle.bus_core.proofs.ListLemmas.{get_map}
 use Rattle.bus_segment.specs.Turn.{Records, Finishes}
-use Rattle.bus_segment.specs.Steps.{StandsStill, GetsRetry, IsOfMaster, IsOfLane, Retries}
+use Rattle.bus_segment.specs.Steps.{GetsRetry, IsOfMaster, IsOfLane, Retries}
 
 -- no event, and no stop
 abbrev IsIdle : Served → Type 0
@@ -44,11 +44,11 @@ module _ {End : Type 0} (had sent got : End → List Item) (kept : End → ℕ) 
 
   module _ (board : Board) (old new : BusView) where
     -- what was presented got a Retry
-    retry_still : (by : By) (o : OpId) (presented : Served) → Serves board by o old presented new → IsIdle presented → StandsStill board old new
-    retry_still by o Nothing serves is = absurd serves
-    retry_still by o Retried serves is = record { still = λ tags world p stands. (serves.1.presents tags world p stands).stands }
-    retry_still by o Back serves is = absurd is
-    retry_still by o (Did acted) serves is = absurd is
+    retry_same : (by : By) (o : OpId) (presented : Served) → Serves board by o old presented new → IsIdle presented → (presented ≡ Retried → new ≡ old) → new ≡ old
+    retry_same by o Nothing serves is same = absurd serves
+    retry_same by o Retried serves is same = same refl
+    retry_same by o Back serves is same = absurd is
+    retry_same by o (Did acted) serves is same = absurd is
 
     retried : (by : By) (o : OpId) (presented : Served) → Serves board by o old presented new → IsIdle presented → GetsRetry board old by o
     retried by o Nothing serves is = absurd serves
@@ -61,22 +61,22 @@ module _ {End : Type 0} (had sent got : End → List Item) (kept : End → ℕ) 
     same_turn o None is = cc
     same_turn o (Some other) is = ap Some (same_op_true other o is)
 
-    turn_still : (turn : Option OpId) (presented : Served) → ServesTurn board turn old presented new → IsIdle presented → StandsStill board old new
-    turn_still None presented serves is = record { still = λ tags world p stands. subst (λ s. BusStands board tags world p s) (sym serves.1) stands }
-    turn_still (Some o) presented serves is = retry_still Master o presented serves is
+    turn_same : (turn : Option OpId) (presented : Served) → ServesTurn board turn old presented new → IsIdle presented → (presented ≡ Retried → new ≡ old) → new ≡ old
+    turn_same None presented serves is same = serves.1
+    turn_same (Some o) presented serves is same = retry_same Master o presented serves is same
 
     turn_retried : (turn : Option OpId) (presented : Served) → ServesTurn board turn old presented new → IsIdle presented → (o : OpId) → turn ≡ Some o → GetsRetry board old Master o
     turn_retried None presented serves is o turn_is = cc
     turn_retried (Some other) presented serves is o turn_is = let same : other ≡ o = cc in subst (λ x. GetsRetry board old Master x) same (retried Master other presented serves is)
 
-    pub master_retries : (place : ℕ) (presented : Served) (stamp : ℕ) (ends after : List End) (events all : List Stamped) (stopped : Bool) → ServesMaster board place old presented new
+    pub master_retries : (place : ℕ) (presented : Served) (stamp : ℕ) (ends after : List End) (events all : List Stamped) (stopped : Bool) → ServesMaster board place old presented new → (presented ≡ Retried → new ≡ old)
         → Finishes had sent got kept paired presented stamp ends after events all stopped → length all ≡ length events → stopped ≡ false
         → Retries board old new ends after (IsOfMaster (shape_of old) place)
-    master_retries place presented stamp ends after events all stopped serves done same on =
+    master_retries place presented stamp ends after events all stopped serves stays done same on =
         let no_event = idle presented stamp ends after events all stopped done same on in
         record {
           same_ends = no_event.1;
-          still = turn_still serves.master.turn presented serves.serves no_event.0;
+          same_bus = turn_same serves.master.turn presented serves.serves no_event.0 stays;
           retried = λ by o is.
               subst (λ b. GetsRetry board old b o) (sym is.is_by) (record {
                 retry = λ tags world p stands wants.
@@ -90,14 +90,14 @@ module _ {End : Type 0} (had sent got : End → List Item) (kept : End → ℕ) 
               });
         }
 
-    pub offer_retries : (place : ℕ) (port : PortView) (op : OpId) (presented : Served) (stamp : ℕ) (ends after : List End) (events all : List Stamped) (stopped : Bool) → slice_get old.ports place ≡ Some port → Serves board (ByLane port.lane) op old presented new
+    pub offer_retries : (place : ℕ) (port : PortView) (op : OpId) (presented : Served) (stamp : ℕ) (ends after : List End) (events all : List Stamped) (stopped : Bool) → slice_get old.ports place ≡ Some port → Serves board (ByLane port.lane) op old presented new → (presented ≡ Retried → new ≡ old)
         → Finishes had sent got kept paired presented stamp ends after events all stopped → length all ≡ length events → stopped ≡ false
         → Retries board old new ends after (IsOfLane (shape_of old) place op)
-    offer_retries place port op presented stamp ends after events all stopped there serves done same on =
+    offer_retries place port op presented stamp ends after events all stopped there serves stays done same on =
         let no_event = idle presented stamp ends after events all stopped done same on in
         record {
           same_ends = no_event.1;
-          still = retry_still (ByLane port.lane) op presented serves no_event.0;
+          same_bus = retry_same (ByLane port.lane) op presented serves no_event.0 stays;
           retried = λ by o is.
               let lane = get_map (λ (x : PortView). x.lane) old.ports place port there in
               let both = sym lane ∙ is.there in

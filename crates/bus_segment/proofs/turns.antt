@@ -4,3 +4,4 @@ pub mod LineLemmas
 pub mod AskLemmas
 pub mod ServeLemmas
 pub mod QuietLemmas
+pub mod AgainLemmas

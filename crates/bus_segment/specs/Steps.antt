@@ -40,10 +40,6 @@ pub record NothingCame {End : Type 0} (had got : End → List Item) (place : ℕ
   pub nothing : (end : End) → slice_get after place ≡ Some end → in_hand (had end) (got end) ≡ []
   pub others : (n : ℕ) → n ≢ place → slice_get after n ≡ slice_get ends n
 
--- wherever the bus stood for what is on the lanes and for a past, it stands for them still
-pub record StandsStill (board : Board) (old new : BusView) : Type 0 where
-  pub still : (tags : By → OpId → ℕ) (world : World) (p : List Event) → BusStands board tags world p old → BusStands board tags world p new
-
 -- wherever the initiator presents the operation, it gets a Retry
 pub record GetsRetry (board : Board) (s : BusView) (by : By) (o : OpId) : Type 0 where
   pub retry : (tags : By → OpId → ℕ) (world : World) (p : List Event) → BusStands board tags world p s
@@ -61,8 +57,8 @@ pub record IsOfLane (shape : Shape) (place : ℕ) (op : OpId) (by : By) (o : OpI
   pub is_by : by ≡ ByLane lane
   pub same : o ≡ op
 
--- the bus did nothing, and these are retried
+-- the bus did nothing and is as it was, and these are retried
 pub record Retries {End : Type 0} (board : Board) (old new : BusView) (ends after : List End) (presented : By → OpId → Type 0) : Type 0 where
   pub same_ends : after ≡ ends
-  pub still : StandsStill board old new
+  pub same_bus : new ≡ old
   pub retried : (by : By) (o : OpId) → presented by o → GetsRetry board old by o

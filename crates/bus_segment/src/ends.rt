@@ -1,6 +1,7 @@
 ghost use Rattle.std.specs.Prelude.{◌≡◌, ◌≢◌, ◌<◌, length, slice_get, Some, true, false};
 ghost use Rattle.bus_core.specs.declared.given.Sent.{Sent as SentItem};
-ghost use Rattle.bus_segment.specs.Ends.{HasRoom, LacksRoom, ReceivesOne, SendsOne, SendsAt, SendsBoth, sent_at};
+ghost use Rattle.bus_segment.specs.Ends.{HasRoom, LacksRoom, ReceivesOne};
+ghost use Rattle.bus_segment.specs.Ends.{SendsOne, SendsAt, SendsBoth, sent_at};
 ghost use Rattle.bus_core.specs.Calls.{stamp_of};
 
 use bus_core::Sent;

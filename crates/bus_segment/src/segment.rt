@@ -1,4 +1,5 @@
-ghost use Rattle.std.specs.Prelude.{◌≡◌, ◌+◌, ◌-◌, ◌<◌, ◌≤◌, ◌^◌, ◌++◌, [], ◌∷◌, true, false, length, max, slice_get, vec_len, IfOk, IfSome, IsTrue};
+ghost use Rattle.std.specs.Prelude.{◌≡◌, ◌+◌, ◌-◌, ◌<◌, ◌≤◌, ◌^◌, ◌++◌, [], ◌∷◌, true, false};
+ghost use Rattle.std.specs.Prelude.{length, max, slice_get, vec_len, IfOk, IfSome, IsTrue};
 ghost use Rattle.std.specs.List.{Contains};
 ghost use Rattle.std.specs.Vec.{vec_capacity};
 ghost use Rattle.bus_core.specs.declared.given.Served.TheVariants.{Did};
@@ -83,7 +84,8 @@ impl<L: LaneEnd + Drop> Segment<L> {
 
     /// Takes memory for 8,192 more events: those of many turns.
     pub fn reserve(&mut self) -> Result<(), NoMemory>
-        ensures spare { IfOk result (λ _. 8192 ≤ vec_capacity self.new.events - vec_len self.new.events) }
+        ensures spare { IfOk result (λ _.
+            8192 ≤ vec_capacity self.new.events - vec_len self.new.events) }
         ensures bus { self.new.bus ≡ self.old.bus }
         ensures ends { self.new.ends.items ≡ self.old.ends.items }
         ensures stamp { self.new.stamp ≡ self.old.stamp }
@@ -123,7 +125,8 @@ impl<L: LaneEnd + Drop> Segment<L> {
         List::from_vec(events)
     }
 
-    /// The master at this place is granted the bus: it presents its turn, if its program did not end.
+    /// The master at this place is granted the bus: it presents its turn, if its program did not
+    /// end.
     pub fn serve_master(&mut self, board: &Board, place: u8)
         requires formed { IsTrue (is_well_formed board.now) }
         requires place { place < length self.old.bus.masters }
@@ -132,16 +135,20 @@ impl<L: LaneEnd + Drop> Segment<L> {
         requires goes { self.old.stopped ≡ false }
         requires spare { vec_len self.old.events < vec_capacity self.old.events }
         ensures does { Does L.had L.sent L.got L.kept L.paired board.now
-            (record { bus = self.old.bus; stamp = self.old.stamp; stopped = false }) (record { bus = self.new.bus; stamp = self.old.stamp; stopped = self.new.stopped })
+            (record { bus = self.old.bus; stamp = self.old.stamp; stopped = false })
+            (record { bus = self.new.bus; stamp = self.old.stamp; stopped = self.new.stopped })
             self.old.ends.items self.new.ends.items self.old.events.items self.new.events.items }
         ensures shape { shape_of self.new.bus ≡ shape_of self.old.bus }
         ensures arrivals { arrivals_at self.new.bus ≡ arrivals_at self.old.bus }
         ensures stamp { self.new.stamp ≡ self.old.stamp }
-        ensures stamps { StampsRise L.sent L.got self.old.stamp self.new.stamp self.old.ends.items self.new.ends.items }
+        ensures stamps { StampsRise L.sent L.got self.old.stamp self.new.stamp self.old.ends.items
+            self.new.ends.items }
         ensures most { length self.new.events.items ≤ length self.old.events.items + 1 }
         ensures spare { vec_capacity self.old.events ≤ vec_capacity self.new.events }
-        ensures quiet { length self.new.events.items ≡ length self.old.events.items → self.new.stopped ≡ false →
-            Retries board.now self.old.bus self.new.bus self.old.ends.items self.new.ends.items (IsOfMaster (shape_of self.old.bus) place) }
+        ensures quiet { length self.new.events.items ≡ length self.old.events.items →
+            self.new.stopped ≡ false →
+            Retries board.now self.old.bus self.new.bus self.old.ends.items self.new.ends.items
+            (IsOfMaster (shape_of self.old.bus) place) }
     {
         let presented = self.bus.serve_master(board, place, self.stamp);
         self.finish(presented);
@@ -151,45 +158,56 @@ impl<L: LaneEnd + Drop> Segment<L> {
     pub fn serve_offer(&mut self, board: &Board, place: u8, offer: &Offer)
         requires formed { IsTrue (is_well_formed board.now) }
         requires place { place < length self.old.bus.ports }
-        requires offered { IfSome (slice_get self.old.bus.ports place) (λ port. Contains (offers_of port.face) offer.now) }
+        requires offered { IfSome (slice_get self.old.bus.ports place)
+            (λ port. Contains (offers_of port.face) offer.now) }
         requires ends { length self.old.ends.items ≡ length self.old.bus.ports }
         requires goes { self.old.stopped ≡ false }
         requires spare { vec_len self.old.events < vec_capacity self.old.events }
         ensures does { Does L.had L.sent L.got L.kept L.paired board.now
-            (record { bus = self.old.bus; stamp = self.old.stamp; stopped = false }) (record { bus = self.new.bus; stamp = self.old.stamp; stopped = self.new.stopped })
+            (record { bus = self.old.bus; stamp = self.old.stamp; stopped = false })
+            (record { bus = self.new.bus; stamp = self.old.stamp; stopped = self.new.stopped })
             self.old.ends.items self.new.ends.items self.old.events.items self.new.events.items }
         ensures shape { shape_of self.new.bus ≡ shape_of self.old.bus }
         ensures arrivals { arrivals_at self.new.bus ≡ arrivals_at self.old.bus }
         ensures stamp { self.new.stamp ≡ self.old.stamp }
-        ensures stamps { StampsRise L.sent L.got self.old.stamp self.new.stamp self.old.ends.items self.new.ends.items }
+        ensures stamps { StampsRise L.sent L.got self.old.stamp self.new.stamp self.old.ends.items
+            self.new.ends.items }
         ensures most { length self.new.events.items ≤ length self.old.events.items + 1 }
         ensures spare { vec_capacity self.old.events ≤ vec_capacity self.new.events }
-        ensures quiet { length self.new.events.items ≡ length self.old.events.items → self.new.stopped ≡ false →
-            Retries board.now self.old.bus self.new.bus self.old.ends.items self.new.ends.items (IsOfLane (shape_of self.old.bus) place offer.now.op) }
+        ensures quiet { length self.new.events.items ≡ length self.old.events.items →
+            self.new.stopped ≡ false →
+            Retries board.now self.old.bus self.new.bus self.old.ends.items self.new.ends.items
+            (IsOfLane (shape_of self.old.bus) place offer.now.op) }
     {
         let presented = self.bus.serve_offer(board, place, offer, self.stamp);
         self.finish(presented);
     }
 
-    /// One item is received from the end of the port at this place, if one is there, and arrives, with
-    /// a stamp above its own; or it stops the segment. Whether one was received.
+    /// One item is received from the end of the port at this place, if one is there, and arrives,
+    /// with a stamp above its own; or it stops the segment. Whether one was received.
     pub fn receive(&mut self, board: &Board, place: usize) -> bool
         requires valid { IsValid board.now }
         requires place { place < length self.old.bus.ports }
-        requires counts { IfSome (slice_get self.old.bus.ports place) (λ port. port.face.arrivals + 1 < 2 ^ 64) }
+        requires counts { IfSome (slice_get self.old.bus.ports place)
+            (λ port. port.face.arrivals + 1 < 2 ^ 64) }
         requires ends { length self.old.ends.items ≡ length self.old.bus.ports }
         requires goes { self.old.stopped ≡ false }
         requires spare { vec_len self.old.events < vec_capacity self.old.events }
         ensures does { Does L.had L.sent L.got L.kept L.paired board.now
-            (record { bus = self.old.bus; stamp = self.old.stamp; stopped = false }) (record { bus = self.new.bus; stamp = self.new.stamp; stopped = self.new.stopped })
+            (record { bus = self.old.bus; stamp = self.old.stamp; stopped = false })
+            (record { bus = self.new.bus; stamp = self.new.stamp; stopped = self.new.stopped })
             self.old.ends.items self.new.ends.items self.old.events.items self.new.events.items }
         ensures shape { shape_of self.new.bus ≡ shape_of self.old.bus }
-        ensures stamps { StampsRise L.sent L.got self.old.stamp self.new.stamp self.old.ends.items self.new.ends.items }
+        ensures stamps { StampsRise L.sent L.got self.old.stamp self.new.stamp self.old.ends.items
+            self.new.ends.items }
         ensures most { length self.new.events.items ≤ length self.old.events.items + 1 }
         ensures spare { vec_capacity self.old.events ≤ vec_capacity self.new.events }
-        ensures recorded { result ≡ true → self.new.stopped ≡ false → length self.new.events.items ≡ length self.old.events.items + 1 }
-        ensures arrives { result ≡ true → self.new.stopped ≡ false → OneMoreAt place (arrivals_at self.old.bus) (arrivals_at self.new.bus) }
-        ensures nothing { result ≡ false → NothingCame L.had L.got place self.old.ends.items self.new.ends.items }
+        ensures recorded { result ≡ true → self.new.stopped ≡ false →
+            length self.new.events.items ≡ length self.old.events.items + 1 }
+        ensures arrives { result ≡ true → self.new.stopped ≡ false →
+            OneMoreAt place (arrivals_at self.old.bus) (arrivals_at self.new.bus) }
+        ensures nothing { result ≡ false →
+            NothingCame L.had L.got place self.old.ends.items self.new.ends.items }
         ensures same_bus { result ≡ false → self.new.bus ≡ self.old.bus }
         ensures same_events { result ≡ false → self.new.events.items ≡ self.old.events.items }
     {
@@ -202,18 +220,22 @@ impl<L: LaneEnd + Drop> Segment<L> {
         }
     }
 
-    /// An item came at the port of this place: it arrives, and what goes back at once is sent; or the
-    /// segment stops, since the bus does not take it or there is no room for what goes back.
+    /// An item came at the port of this place: it arrives, and what goes back at once is sent; or
+    /// the segment stops, since the bus does not take it or there is no room for what goes back.
     fn take(&mut self, board: &Board, place: usize, item: Item)
         requires place { place < length self.old.bus.ports }
-        requires counts { IfSome (slice_get self.old.bus.ports place) (λ port. port.face.arrivals + 1 < 2 ^ 64) }
+        requires counts { IfSome (slice_get self.old.bus.ports place)
+            (λ port. port.face.arrivals + 1 < 2 ^ 64) }
         requires goes { self.old.stopped ≡ false }
         requires spare { vec_len self.old.events < vec_capacity self.old.events }
         ensures takes { Takes L.had L.sent L.got L.kept L.paired board.now place item
-            (record { bus = self.old.bus; stamp = self.old.stamp; stopped = false }) self.old.ends.items self.old.events.items
-            (record { bus = self.new.bus; stamp = self.new.stamp; stopped = self.new.stopped }) self.new.ends.items self.new.events.items }
+            (record { bus = self.old.bus; stamp = self.old.stamp; stopped = false })
+            self.old.ends.items self.old.events.items
+            (record { bus = self.new.bus; stamp = self.new.stamp; stopped = self.new.stopped })
+            self.new.ends.items self.new.events.items }
         ensures shape { shape_of self.new.bus ≡ shape_of self.old.bus }
-        ensures arrives { self.new.stopped ≡ false → OneMoreAt place (arrivals_at self.old.bus) (arrivals_at self.new.bus) }
+        ensures arrives { self.new.stopped ≡ false →
+            OneMoreAt place (arrivals_at self.old.bus) (arrivals_at self.new.bus) }
         ensures spare { vec_capacity self.old.events ≤ vec_capacity self.new.events }
     {
         let sent = stamp_of(item);
@@ -265,7 +287,9 @@ impl<L: LaneEnd + Drop> Segment<L> {
         requires apart { SendsApart presented }
         requires goes { self.old.stopped ≡ false }
         requires spare { vec_len self.old.events < vec_capacity self.old.events }
-        ensures finishes { Finishes L.had L.sent L.got L.kept L.paired presented self.old.stamp self.old.ends.items self.new.ends.items self.old.events.items self.new.events.items self.new.stopped }
+        ensures finishes { Finishes L.had L.sent L.got L.kept L.paired presented self.old.stamp
+            self.old.ends.items self.new.ends.items self.old.events.items self.new.events.items
+            self.new.stopped }
         ensures bus { self.new.bus ≡ self.old.bus }
         ensures stamp { self.new.stamp ≡ self.old.stamp }
         ensures spare { vec_capacity self.old.events ≤ vec_capacity self.new.events }
@@ -281,7 +305,9 @@ impl<L: LaneEnd + Drop> Segment<L> {
         requires apart { SendsApart (Did acted) }
         requires goes { self.old.stopped ≡ false }
         requires spare { vec_len self.old.events < vec_capacity self.old.events }
-        ensures records { Records L.had L.sent L.got L.kept L.paired acted self.old.stamp self.old.ends.items self.new.ends.items self.old.events.items self.new.events.items self.new.stopped }
+        ensures records { Records L.had L.sent L.got L.kept L.paired acted self.old.stamp
+            self.old.ends.items self.new.ends.items self.old.events.items self.new.events.items
+            self.new.stopped }
         ensures bus { self.new.bus ≡ self.old.bus }
         ensures stamp { self.new.stamp ≡ self.old.stamp }
         ensures spare { vec_capacity self.old.events ≤ vec_capacity self.new.events }

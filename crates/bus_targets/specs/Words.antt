@@ -4,7 +4,7 @@ use Rattle.std.specs.List.{position_from}
 use Rattle.list_facts.specs.Lists.{changed_at}
 use Rattle.pci_command.specs.declared.command.Space.{Space}
 use Rattle.pci_command.specs.declared.phases.Phase.{Phase}
-use Rattle.board_headers.specs.device.Registers.{merge_of}
+use Rattle.board_model.specs.device.Registers.{merge_of}
 use Rattle.history_model.specs.Words.{mask_in}
 use Rattle.machine_steps.specs.Counts.{or_zero}
 

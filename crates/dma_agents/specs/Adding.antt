@@ -13,13 +13,13 @@ use Rattle.board_parser.specs.draft.Targets.{is_name_used, bus_of_target}
 use Rattle.board_parser.specs.draft.Masters.{add_master, does}
 use Rattle.text_faults.specs.declared.device.DeviceFault.{DeviceFault}
 use Rattle.text_faults.specs.declared.device.DeviceFault.TheVariants.{Misshapen, Misplaced, NameUsed, NotThere, OverLimit}
+use Rattle.text_faults.specs.declared.or_no_memory.OrNoMemory.{OrNoMemory}
+use Rattle.text_faults.specs.declared.or_no_memory.OrNoMemory.TheVariants.{Fault, NoMemory}
 use Rattle.dma_agents.specs.declared.line.Flag.{Flag}
 use Rattle.dma_agents.specs.declared.line.DeviceLine.{DeviceLine}
 use Rattle.dma_agents.specs.declared.line.DeviceLine.TheVariants.{Device, Handler, Puts, Gets, Sends, Looks, Waits, Writes}
 use Rattle.dma_agents.specs.declared.line.DeviceOwner.{DeviceOwner}
 use Rattle.dma_agents.specs.declared.line.DeviceOwner.TheVariants.{Nobody, Device as OfDevice, Handler as OfHandler}
-use Rattle.dma_agents.specs.declared.add.LineError.{LineError}
-use Rattle.dma_agents.specs.declared.add.LineError.TheVariants.{Fault, NoMemory}
 use Rattle.dma_agents.specs.Put.{cut}
 
 -- a line of operations stands behind its device or handler
@@ -127,7 +127,7 @@ line_added owner draft line =
     else added draft line
 
 -- an answer is what is to be answered, unless there was no memory
-abbrev pub Adds : {A : Type 0} → Result A LineError → Result A DeviceFault → Type 0
+abbrev pub Adds : {A : Type 0} → Result A (OrNoMemory DeviceFault) → Result A DeviceFault → Type 0
 Adds (Ok value) expected = expected ≡ Ok value
 Adds (Err (Fault fault)) expected = expected ≡ Err fault
 Adds (Err NoMemory) expected = Unit {0}

@@ -3,7 +3,6 @@ use Rattle.std.specs.Prelude.{◌≡◌, ℕ, Bool, true, false, ◌+◌, List, 
 use Rattle.std.specs.List.{list_all, find}
 use Rattle.std.specs.Str.{bytes_eq}
 use Rattle.board_model.specs.declared.board.Board.{Board}
-use Rattle.board_text.specs.declared.reader.BadLine.{BadLine}
 use Rattle.board_text.specs.Lines.{lines_of, line_fault}
 use Rattle.board_text.specs.Tokens.{words_of}
 use Rattle.text_faults.specs.declared.board_line.LineFault.{LineFault}
@@ -22,7 +21,9 @@ use Rattle.dma_agents.specs.declared.line.DeviceOwner.{DeviceOwner}
 use Rattle.dma_agents.specs.declared.line.DeviceOwner.TheVariants.{Nobody, Device as OfDevice, Handler as OfHandler}
 use Rattle.dma_agents.specs.declared.making.Making.{Making}
 use Rattle.dma_agents.specs.declared.fault.MakeFault.{MakeFault}
-use Rattle.dma_agents.specs.declared.fault.MakeFault.TheVariants.{Board as OfBoard, Device as OfLine, NotClear, NoMemory}
+use Rattle.dma_agents.specs.declared.fault.MakeFault.TheVariants.{Board as OfBoard, Device as OfLine, NotClear}
+use Rattle.text_faults.specs.declared.or_no_memory.OrNoMemory.{OrNoMemory}
+use Rattle.text_faults.specs.declared.or_no_memory.OrNoMemory.TheVariants.{Fault, NoMemory}
 use Rattle.dma_agents.specs.DeviceLines.{device_line}
 use Rattle.dma_agents.specs.Adding.{line_added}
 use Rattle.dma_agents.specs.Unclear.{why_unclear}
@@ -30,7 +31,7 @@ use Rattle.dma_agents.specs.Unclear.{why_unclear}
 -- The marks of a text.
 
 -- the line has no fault of the text
-abbrev pub is_faultless : Option BadLine → Bool
+abbrev pub is_faultless : Option LineFault → Bool
 is_faultless None = true
 is_faultless (Some fault) = false
 
@@ -133,11 +134,9 @@ lines_read making number (line ∷ lines) =
     else then_lines (line_read making number line) number (λ next. lines_read next (number + 1) lines)
 
 -- an answer is what the lines read as, unless there was no memory
-abbrev pub TellsMaking : Result Making MakeFault → Result Making MakeFault → Type 0
+abbrev pub TellsMaking : Result Making (OrNoMemory MakeFault) → Result Making MakeFault → Type 0
 TellsMaking (Ok making) reading = reading ≡ Ok making
-TellsMaking (Err (OfBoard line fault)) reading = reading ≡ Err (OfBoard line fault)
-TellsMaking (Err (OfLine line fault)) reading = reading ≡ Err (OfLine line fault)
-TellsMaking (Err (NotClear line flag why)) reading = reading ≡ Err (NotClear line flag why)
+TellsMaking (Err (Fault fault)) reading = reading ≡ Err fault
 TellsMaking (Err NoMemory) reading = Unit {0}
 
 -- The flags, on the whole board.
@@ -215,11 +214,9 @@ board_in (Ok made) = Ok made.board
 board_in (Err fault) = Err fault
 
 -- an answer is what the text reads as, unless there was no memory
-abbrev pub Tells : Result Board MakeFault → Result Made MakeFault → Type 0
+abbrev pub Tells : Result Board (OrNoMemory MakeFault) → Result Made MakeFault → Type 0
 Tells (Ok board) reading = board_in reading ≡ Ok board
-Tells (Err (OfBoard line fault)) reading = reading ≡ Err (OfBoard line fault)
-Tells (Err (OfLine line fault)) reading = reading ≡ Err (OfLine line fault)
-Tells (Err (NotClear line flag why)) reading = reading ≡ Err (NotClear line flag why)
+Tells (Err (Fault fault)) reading = reading ≡ Err fault
 Tells (Err NoMemory) reading = Unit {0}
 
 -- a board is that of the text, and the number of its first master of devices

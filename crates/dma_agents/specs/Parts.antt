@@ -5,7 +5,9 @@ use Rattle.board_text.specs.Lines.{lines_of}
 use Rattle.text_faults.specs.declared.board_line.LineFault.{LineFault}
 use Rattle.board_parser.specs.declared.draft.draft.Draft.{Draft}
 use Rattle.dma_agents.specs.declared.fault.MakeFault.{MakeFault}
-use Rattle.dma_agents.specs.declared.fault.MakeFault.TheVariants.{Board as OfBoard, Device as OfLine, NotClear, NoMemory}
+use Rattle.dma_agents.specs.declared.fault.MakeFault.TheVariants.{Board as OfBoard, Device as OfLine, NotClear}
+use Rattle.text_faults.specs.declared.or_no_memory.OrNoMemory.{OrNoMemory}
+use Rattle.text_faults.specs.declared.or_no_memory.OrNoMemory.TheVariants.{Fault, NoMemory}
 use Rattle.dma_agents.specs.declared.parts.DevicesLine.{DevicesLine}
 use Rattle.dma_agents.specs.Made.{is_line, until_devices}
 
@@ -30,9 +32,9 @@ abbrev pub IsWithout : List ℕ → ℕ → ℕ → Type 0
 IsWithout text from past = (until_devices (lines_of (drop from text)) ≡ None) × (past ≡ length (lines_of (drop from text)) + 2)
 
 -- the sheet of a part that begins at the second line of the text
-abbrev pub TellsSheet : Result Draft MakeFault → Result Draft (ℕ × LineFault) → Type 0
+abbrev pub TellsSheet : Result Draft (OrNoMemory MakeFault) → Result Draft (ℕ × LineFault) → Type 0
 TellsSheet (Ok draft) reading = reading ≡ Ok draft
-TellsSheet (Err (OfBoard line fault)) reading = (at : ℕ) × (reading ≡ Err (at, fault)) × (line ≡ at + 1)
-TellsSheet (Err (OfLine line fault)) reading = ⊥
-TellsSheet (Err (NotClear line flag why)) reading = ⊥
+TellsSheet (Err (Fault (OfBoard line fault))) reading = (at : ℕ) × (reading ≡ Err (at, fault)) × (line ≡ at + 1)
+TellsSheet (Err (Fault (OfLine line fault))) reading = ⊥
+TellsSheet (Err (Fault (NotClear line flag why))) reading = ⊥
 TellsSheet (Err NoMemory) reading = Unit {0}

@@ -18,26 +18,10 @@ use board_parser::{AddFault, Sheet};
 use board_statements::Statement;
 use pci_command::{Command, NoMemory, Phase, Phases, Space};
 use std::alloc::Global;
-use text_faults::DeviceFault;
+use text_faults::{DeviceFault, OrNoMemory};
 
-/// Why a line adds nothing.
-#[derive(Clone, Copy, Debug, PartialEq, Eq)]
-pub enum LineError {
-    /// Its first fault.
-    Fault(DeviceFault),
-    NoMemory,
-}
-
-impl From<NoMemory> for LineError {
-    ghost use Rattle.std.specs.Prelude.{◌≡◌};
-    ghost use Rattle.dma_agents.specs.declared.add.LineError.TheVariants.{NoMemory};
-
-    ghost from_gives = { λ _ given. given ≡ NoMemory };
-
-    fn from(_refused: NoMemory) -> LineError {
-        LineError::NoMemory
-    }
-}
+/// Why a line adds nothing: its first fault.
+pub(crate) type LineError = OrNoMemory<DeviceFault>;
 
 /// The sheet behind a line, or its first fault.
 pub(crate) fn line_added(

@@ -1,8 +1,8 @@
 use crate::{Flag, Unclear};
-use text_faults::{DeviceFault, LineFault};
+use text_faults::{DeviceFault, LineFault, OrNoMemory};
 use thiserror::Error;
 
-/// Why a text was not read as devices on a board. Lines are numbered from 1, in the whole text.
+/// Why a text is none of devices on a board. Lines are numbered from 1, in the whole text.
 #[derive(Clone, Copy, Debug, PartialEq, Eq, Error)]
 pub enum MakeFault {
     /// The first fault of the board.
@@ -14,17 +14,15 @@ pub enum MakeFault {
     /// The first flag that is not clear, by the line that waits for it, and why it is not.
     #[error("line {line}: a flag that is not clear")]
     NotClear { line: u32, flag: Flag, why: Unclear },
-    #[error("no memory")]
-    NoMemory,
 }
 
-impl From<pci_command::NoMemory> for MakeFault {
+impl From<MakeFault> for OrNoMemory<MakeFault> {
     ghost use Rattle.std.specs.Prelude.{◌≡◌};
-    ghost use Rattle.dma_agents.specs.declared.fault.MakeFault.TheVariants.{NoMemory};
+    ghost use Rattle.text_faults.specs.declared.or_no_memory.OrNoMemory.TheVariants.{Fault};
 
-    ghost from_gives = { λ _ given. given ≡ NoMemory };
+    ghost from_gives = { λ fault given. given ≡ Fault fault };
 
-    fn from(_refused: pci_command::NoMemory) -> MakeFault {
-        MakeFault::NoMemory
+    fn from(fault: MakeFault) -> OrNoMemory<MakeFault> {
+        OrNoMemory::Fault(fault)
     }
 }

@@ -18,7 +18,7 @@ use board_statements::has_words;
 use board_text::next_line;
 use pci_command::{List, NoMemory};
 use std::alloc::Global;
-use text_faults::DeviceFault;
+use text_faults::{DeviceFault, OrNoMemory};
 
 /// What was read so far.
 #[derive(Drop)]
@@ -37,7 +37,7 @@ pub(crate) fn lines_read(
     bytes: &[u8],
     from: usize,
     first: u32,
-) -> Result<Making, MakeFault>
+) -> Result<Making, OrNoMemory<MakeFault>>
     requires short { length bytes.now < 2 ^ 31 }
     requires within { from ≤ length bytes.now + 1 }
     requires counted { first ≤ from + 1 }
@@ -48,22 +48,22 @@ pub(crate) fn lines_read(
     let mut at = from;
     while let Some((line, next)) = next_line(bytes, at) {
         if is_end(line) && is_blank_from(bytes, next) {
-            return behind_end(making, fault_behind(bytes, next, number + 1));
+            return Ok(behind_end(making, fault_behind(bytes, next, number + 1))?);
         }
         match line_read(alloc, making, number, line) {
             Ok(read) => making = read,
             Err(LineError::Fault(fault)) => {
-                return Err(MakeFault::Device {
+                return Err(OrNoMemory::Fault(MakeFault::Device {
                     line: number,
                     fault,
-                });
+                }));
             }
-            Err(LineError::NoMemory) => return Err(MakeFault::NoMemory),
+            Err(LineError::NoMemory) => return Err(OrNoMemory::NoMemory),
         }
         number += 1;
         at = next;
     }
-    Err(misshapen(number))
+    Err(OrNoMemory::Fault(misshapen(number)))
 }
 
 /// What is read, where no line past the last has a fault.

@@ -17,10 +17,11 @@ use board_model::Board;
 use board_parser::{ParseFault, Sheet, parse_sheet};
 use pci_command::List;
 use std::alloc::Global;
+use text_faults::OrNoMemory;
 
 /// The board of a device text: that of its board part, with the masters of its devices and
 /// handlers; or the first fault of the text. A text has fewer than 2^31 bytes.
-pub fn make(alloc: Global, bytes: &[u8]) -> Result<Board, MakeFault>
+pub fn make(alloc: Global, bytes: &[u8]) -> Result<Board, OrNoMemory<MakeFault>>
     requires { length bytes.now < 2 ^ 31 }
     ensures made { Tells result (made_read bytes.now) }
     ensures formed { IfOk result (λ board. IsTrue (is_well_formed board)) }
@@ -30,16 +31,16 @@ pub fn make(alloc: Global, bytes: &[u8]) -> Result<Board, MakeFault>
 }
 
 #[tactic(auto, using(crate::proofs::MakeLemmas::by_parts_found, crate::proofs::MakeLemmas::without_devices, crate::proofs::MakeLemmas::sheet_refused, crate::proofs::MakeLemmas::sheet_given))]
-fn read_made(alloc: Global, bytes: &[u8]) -> Result<Board, MakeFault>
+fn read_made(alloc: Global, bytes: &[u8]) -> Result<Board, OrNoMemory<MakeFault>>
     requires { length bytes.now < 2 ^ 31 }
     ensures { Tells result (made_read bytes.now) }
 {
     let Some(at) = behind_first_line(bytes) else {
-        return Err(misshapen(1));
+        return Err(OrNoMemory::Fault(misshapen(1)));
     };
     let found = match find_devices(bytes, at) {
         Ok(found) => found,
-        Err(past) => return Err(misshapen(past)),
+        Err(past) => return Err(OrNoMemory::Fault(misshapen(past))),
     };
     let sheet = read_sheet(alloc, &bytes[at..found.start])?;
     let first = sheet.master_count();
@@ -53,22 +54,26 @@ fn read_made(alloc: Global, bytes: &[u8]) -> Result<Board, MakeFault>
 }
 
 /// The sheet of this part of a text, in which it begins at the second line.
-fn read_sheet(alloc: Global, part: &[u8]) -> Result<Sheet, MakeFault>
+fn read_sheet(alloc: Global, part: &[u8]) -> Result<Sheet, OrNoMemory<MakeFault>>
     requires { length part.now < 2 ^ 31 }
     ensures { TellsSheet result (sheet_read part.now) }
 {
     match parse_sheet(alloc, part) {
         Ok(sheet) => Ok(sheet),
-        Err(ParseFault::Fault { line, fault }) => Err(MakeFault::Board {
-            line: line + 1,
-            fault,
-        }),
-        Err(ParseFault::NoMemory) => Err(MakeFault::NoMemory),
+        Err(ParseFault::Fault(at)) => Err(OrNoMemory::Fault(MakeFault::Board {
+            line: at.line + 1,
+            fault: at.fault,
+        })),
+        Err(ParseFault::NoMemory) => Err(OrNoMemory::NoMemory),
     }
 }
 
 /// The board, where all flags that are waited for are clear.
-fn with_clear_flags(alloc: Global, making: Making, first: usize) -> Result<Board, MakeFault>
+fn with_clear_flags(
+    alloc: Global,
+    making: Making,
+    first: usize,
+) -> Result<Board, OrNoMemory<MakeFault>>
     ensures { Tells result (by_lines first (Ok making)) }
 {
     let Making {
@@ -80,11 +85,11 @@ fn with_clear_flags(alloc: Global, making: Making, first: usize) -> Result<Board
     let board = sheet.into_board(alloc)?;
     match unclear(&board, waits.as_slice()) {
         None => Ok(board),
-        Some(wait) => Err(MakeFault::NotClear {
+        Some(wait) => Err(OrNoMemory::Fault(MakeFault::NotClear {
             line: wait.line,
             flag: wait.flag,
             why: why_unclear(alloc, &board, wait.flag)?,
-        }),
+        })),
     }
 }
 

@@ -1,4 +1,4 @@
-ghost use Rattle.std.specs.Prelude.{◌≡◌, ◌++◌, codes, if◌then◌else◌, string_bytes, IfOk, OnOk};
+ghost use Rattle.std.specs.Prelude.{◌≡◌, ◌++◌, codes, if◌then◌else◌, string_bytes, OnOk};
 ghost use Rattle.board_model.specs.Requests.{request_of};
 ghost use Rattle.draw_elements.specs.Acts.{bar_of, begin_of, end_at, end_of, act_of, head_text};
 ghost use Rattle.draw_elements.specs.Acts.{line_path, line_element, round_element, goes_right};
@@ -10,7 +10,7 @@ use crate::words::faint;
 use board_model::{Board, Lane, Place, request_of};
 use draw_items::{Columns, Journey, lane_back};
 use history_model::{By, Step};
-use pci_command::{Command, NoMemory, OpId};
+use pci_command::{Command, OpId};
 use std::alloc::AllocError;
 
 /// What an event says of its act.
@@ -45,13 +45,13 @@ impl Act {
         line: ActLine,
         item: Option<Journey>,
         taken: Option<Journey>,
-    ) -> Result<Act, NoMemory>
-        ensures { IfOk result (λ act. act
-            ≡ act_of columns.now line.by line.op line.step line.place item taken) }
+    ) -> Act
+        ensures { result ≡ act_of columns.now line.by line.op line.step line.place item taken }
     {
-        let begin = begin_of(columns, line.by, line.op, item)?;
-        let end = end_of(columns, line, taken)?;
-        Ok(Act { begin, end })
+        Act {
+            begin: begin_of(columns, line.by, line.op, item),
+            end: end_of(columns, line, taken),
+        }
     }
 
     /// Whether it goes to the right.
@@ -62,42 +62,37 @@ impl Act {
     }
 }
 
-fn bar_of(columns: &Columns, item: Option<Journey>) -> Result<u64, NoMemory>
-    ensures { IfOk result (λ place. place ≡ bar_of columns.now item) }
+fn bar_of(columns: &Columns, item: Option<Journey>) -> u64
+    ensures { result ≡ bar_of columns.now item }
 {
     match item {
         Some(item) => columns.bar(item.lane, item.track),
-        None => Ok(0),
+        None => 0,
     }
 }
 
-fn begin_of(columns: &Columns, by: By, op: OpId, item: Option<Journey>) -> Result<u64, NoMemory>
-    ensures { IfOk result (λ place. place ≡ begin_of columns.now by op item) }
+fn begin_of(columns: &Columns, by: By, op: OpId, item: Option<Journey>) -> u64
+    ensures { result ≡ begin_of columns.now by op item }
 {
     match by {
-        By::Master => Ok(columns.master(op.master)),
+        By::Master => columns.master(op.master),
         By::Lane(_) => bar_of(columns, item),
     }
 }
 
-fn end_of(columns: &Columns, line: ActLine, taken: Option<Journey>) -> Result<u64, NoMemory>
-    ensures { IfOk result (λ end. end ≡ end_of columns.now line.step line.place taken) }
+fn end_of(columns: &Columns, line: ActLine, taken: Option<Journey>) -> u64
+    ensures { result ≡ end_of columns.now line.step line.place taken }
 {
     match line.place {
-        Place::Target(target) => Ok(columns.target(target)),
-        Place::Header(bus) => Ok(columns.face(Lane { bus, up: true })),
+        Place::Target(target) => columns.target(target),
+        Place::Header(bus) => columns.face(Lane { bus, up: true }),
         Place::Lane(lane) => end_at(columns, lane, taken, line.step),
-        Place::Nobody => Ok(0),
+        Place::Nobody => 0,
     }
 }
 
-fn end_at(
-    columns: &Columns,
-    lane: Lane,
-    taken: Option<Journey>,
-    step: Step,
-) -> Result<u64, NoMemory>
-    ensures { IfOk result (λ end. end ≡ end_at columns.now lane taken step) }
+fn end_at(columns: &Columns, lane: Lane, taken: Option<Journey>, step: Step) -> u64
+    ensures { result ≡ end_at columns.now lane taken step }
 {
     match step {
         Step::Take(_) => bar_of(columns, taken),
@@ -108,7 +103,7 @@ fn end_at(
         | Step::Latch
         | Step::Stall
         | Step::MasterAbort
-        | Step::TargetAbort => Ok(columns.face(lane_back(lane))),
+        | Step::TargetAbort => columns.face(lane_back(lane)),
     }
 }
 

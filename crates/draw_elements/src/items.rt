@@ -1,4 +1,4 @@
-ghost use Rattle.std.specs.Prelude.{◌≡◌, ◌++◌, string_bytes, IfOk, OnOk};
+ghost use Rattle.std.specs.Prelude.{◌≡◌, ◌++◌, string_bytes, OnOk};
 ghost use Rattle.draw_elements.specs.Items.{route_of, or_end, route_text, rim_down, path_open};
 ghost use Rattle.draw_elements.specs.Items.{item_rim, title_of, title_text, came_text, left_text};
 ghost use Rattle.draw_elements.specs.Items.{bar_text, cross_sign, sign_text, slant_text};
@@ -9,7 +9,6 @@ use crate::words::{faint, kind_class, kind_word};
 use board_model::Board;
 use draw_items::{Columns, Journey, lane_back};
 use history_model::Carried;
-use pci_command::NoMemory;
 use std::alloc::AllocError;
 use trace_text::{LaneWord, print_operation};
 
@@ -27,27 +26,27 @@ pub struct DrawnRoute {
 
 impl DrawnRoute {
     /// That of an item, if `end` is the row behind the last event.
-    pub fn of(columns: &Columns, end: u32, item: &Journey) -> Result<DrawnRoute, NoMemory>
-        ensures { IfOk result (λ route. route ≡ route_of columns.now end item.now) }
+    pub fn of(columns: &Columns, end: u32, item: &Journey) -> DrawnRoute
+        ensures { result ≡ route_of columns.now end item.now }
     {
         let from = columns.face(lane_back(item.lane));
         let came = or_end(item.came, end);
         if item.has_stood() {
-            Ok(DrawnRoute {
+            DrawnRoute {
                 from,
-                to: columns.bar(item.lane, item.track)?,
+                to: columns.bar(item.lane, item.track),
                 sent: item.sent,
                 came,
                 left: or_end(item.left, end),
-            })
+            }
         } else {
-            Ok(DrawnRoute {
+            DrawnRoute {
                 from,
                 to: columns.face(item.lane),
                 sent: item.sent,
                 came,
                 left: came,
-            })
+            }
         }
     }
 }

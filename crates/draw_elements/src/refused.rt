@@ -1,4 +1,4 @@
-ghost use Rattle.std.specs.Prelude.{◌≡◌, ◌++◌, string_bytes, IfOk, OnOk};
+ghost use Rattle.std.specs.Prelude.{◌≡◌, ◌++◌, string_bytes, OnOk};
 ghost use Rattle.draw_elements.specs.Acts.{bar_or_face, initiator_place, refused_place};
 ghost use Rattle.draw_elements.specs.Acts.{refused_path, refused_text};
 
@@ -6,44 +6,35 @@ use crate::height::Height;
 use board_model::Lane;
 use draw_items::{Columns, Journey};
 use history_model::{By, Event};
-use pci_command::{NoMemory, OpId};
+use pci_command::OpId;
 use std::alloc::AllocError;
 
 /// Where an event that is not allowed has its cross: at the line of the master, at the bar of the
 /// item that it names, or at the face of the lane where nothing of it stands.
-pub fn refused_place(
-    columns: &Columns,
-    item: Option<Journey>,
-    event: &Event,
-) -> Result<u64, NoMemory>
-    ensures { IfOk result (λ place. place ≡ refused_place columns.now item event.now) }
+pub fn refused_place(columns: &Columns, item: Option<Journey>, event: &Event) -> u64
+    ensures { result ≡ refused_place columns.now item event.now }
 {
     match *event {
         Event::Act { by, op, .. } => initiator_place(columns, by, op, item),
-        Event::Arrive { lane, .. } => Ok(columns.face(lane)),
+        Event::Arrive { lane, .. } => columns.face(lane),
     }
 }
 
-fn initiator_place(
-    columns: &Columns,
-    by: By,
-    op: OpId,
-    item: Option<Journey>,
-) -> Result<u64, NoMemory>
-    ensures { IfOk result (λ place. place ≡ initiator_place columns.now by op item) }
+fn initiator_place(columns: &Columns, by: By, op: OpId, item: Option<Journey>) -> u64
+    ensures { result ≡ initiator_place columns.now by op item }
 {
     match by {
-        By::Master => Ok(columns.master(op.master)),
+        By::Master => columns.master(op.master),
         By::Lane(lane) => bar_or_face(columns, lane, item),
     }
 }
 
-fn bar_or_face(columns: &Columns, lane: Lane, item: Option<Journey>) -> Result<u64, NoMemory>
-    ensures { IfOk result (λ place. place ≡ bar_or_face columns.now lane item) }
+fn bar_or_face(columns: &Columns, lane: Lane, item: Option<Journey>) -> u64
+    ensures { result ≡ bar_or_face columns.now lane item }
 {
     match item {
         Some(item) => columns.bar(item.lane, item.track),
-        None => Ok(columns.face(lane)),
+        None => columns.face(lane),
     }
 }
 

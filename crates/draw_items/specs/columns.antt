@@ -1,3 +1,4 @@
+pub mod Sums
 pub mod Order
 pub mod Places
 pub mod Kept

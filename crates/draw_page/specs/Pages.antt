@@ -11,6 +11,7 @@ use Rattle.draw_journeys.specs.Steps.{journeys_in}
 use Rattle.draw_told.specs.declared.told.Span.{Span}
 use Rattle.draw_told.specs.Told.{spans_of}
 use Rattle.draw_told.specs.Brackets.{brackets_of}
+use Rattle.draw_items.specs.columns.Sums.{plus, times}
 use Rattle.draw_items.specs.columns.Places.{Layout, layout_of}
 use Rattle.draw_shapes.specs.declared.row.Row.{Row}
 use Rattle.draw_shapes.specs.declared.frame.Frame.{Frame}
@@ -43,7 +44,7 @@ count_in frame = frame.end - 1
 
 -- the title
 abbrev pub title_in : Board → Frame → Close → List ℕ
-title_in board frame close = title_text (count_in frame) (length board.bridges + 1) frame.first frame.last close
+title_in board frame close = title_text (count_in frame) (plus (length board.bridges) 1) frame.first frame.last close
 
 -- the page: its top, the lines of the audit, and the table
 unfoldable pub page_with : Board → Close → Layout → Frame → List Finding → List Span → List Shape → List ℕ
@@ -52,7 +53,7 @@ page_with board close layout frame found spans shapes =
 
 -- where the brackets end: the columns begin there
 abbrev pub brackets_end : Board → List Event → Frame → ℕ
-brackets_end board events frame = frame.told_x + (10 * length (brackets_of (spans_of board events)).ends + 10)
+brackets_end board events frame = plus frame.told_x (plus (times 10 (length (brackets_of (spans_of board events)).ends)) 10)
 
 -- the columns of a board, as far apart as these events need
 unfoldable pub layout_in : Board → List Event → Frame → Layout

@@ -1,9 +1,10 @@
-ghost use Rattle.std.specs.Prelude.{◌≡◌, ◌++◌, ◌+◌, ◌*◌, ◌<◌, ◌^◌};
+ghost use Rattle.std.specs.Prelude.{◌≡◌, ◌++◌, ◌<◌, ◌^◌};
 ghost use Rattle.std.specs.Prelude.{length, string_bytes, IfOk, OnOk};
 ghost use Rattle.history_model.specs.Runs.{Run, history_of};
 ghost use Rattle.draw_journeys.specs.Steps.{journeys_in};
 ghost use Rattle.draw_items.specs.Kept.{TellsTries};
 ghost use Rattle.draw_told.specs.Kept.{TellsTold};
+ghost use Rattle.draw_items.specs.columns.Sums.{plus, times};
 ghost use Rattle.draw_items.specs.columns.Places.{layout_of};
 ghost use Rattle.draw_told.specs.Closes.{allowed_in};
 ghost use Rattle.draw_page.specs.Pages.{table_open, names_part, table_text};
@@ -129,10 +130,10 @@ fn columns_in(
     frame: &Frame,
 ) -> Result<Columns, NoMemory>
     ensures { IfOk result (λ columns. columns ≡ layout_of board.now journeys.now
-        (frame.now.told_x + (10 * length brackets.now.ends + 10))) }
+        (plus frame.now.told_x (plus (times 10 (length brackets.now.ends)) 10))) }
 {
-    let wide = sum(product(10, brackets.count() as u64)?, 10)?;
-    let start = sum(frame.told_x, wide)?;
+    let wide = sum(product(10, brackets.count() as u64), 10);
+    let start = sum(frame.told_x, wide);
     let most = most_of(alloc, journeys)?;
     columns_of(alloc, board, &most, start)
 }
@@ -154,7 +155,7 @@ fn print_page(
     let frame = canvas.frame;
     let title = Title {
         count: frame.end.saturating_sub(1),
-        buses: sum(board.bridges.as_slice().len() as u64, 1)?,
+        buses: sum(board.bridges.as_slice().len() as u64, 1),
         first: frame.first,
         last: frame.last,
         close,

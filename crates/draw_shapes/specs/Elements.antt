@@ -10,6 +10,7 @@ use Rattle.history_model.specs.declared.item.Carried.TheVariants.{Post, Ask, Don
 use Rattle.draw_items.specs.declared.journey.Journey.{Journey}
 use Rattle.draw_items.specs.declared.waits.Wait.{Wait}
 use Rattle.draw_items.specs.declared.columns.line.ColumnLine.TheVariants as lines
+use Rattle.draw_items.specs.columns.Sums.{plus, times}
 use Rattle.draw_items.specs.columns.Places.{Layout, place_of}
 use Rattle.draw_elements.specs.declared.acts.Act.{Act as Ends}
 use Rattle.draw_elements.specs.declared.items.DrawnRoute.{DrawnRoute}
@@ -48,7 +49,7 @@ dotted_shapes layout frame row (Arrive lane mark) = []
 
 -- the mark of a row, behind its line in the list
 abbrev pub mark_shapes : List ℕ → Frame → Row → List Shape
-mark_shapes class frame row = in_row row.n (mark_text class frame.first row.n (frame.text_x - 4) (row.width + 8))
+mark_shapes class frame row = in_row row.n (mark_text class frame.first row.n (frame.text_x - 4) (plus row.width 8))
 
 -- that of an event that is not allowed
 abbrev pub refused_marks : Frame → Row → List Shape
@@ -146,7 +147,7 @@ act_shapes board layout frame row =
 abbrev pub bracket_on : Frame → ℕ → ℕ → ℕ → List Shape
 bracket_on frame landed read track =
     seen frame (min landed read) (max landed read)
-    (bracket_text frame.first frame.told_x (frame.told_x + (10 * track + 10)) landed read (frame.told_x + 4))
+    (bracket_text frame.first frame.told_x (plus frame.told_x (plus (times 10 track) 10)) landed read (plus frame.told_x 4))
 
 -- the same, where the bracket has a track
 unfoldable pub bracket_shapes : Frame → ℕ → ℕ → Option ℕ → List Shape

@@ -1,7 +1,8 @@
 -- Which rows are drawn, and where the list of events and the brackets beside it stand.
-use Rattle.std.specs.Prelude.{ℕ, ◌+◌, ◌*◌, List, length}
+use Rattle.std.specs.Prelude.{ℕ, ◌+◌, List, length}
 use Rattle.std.specs.Fmt.{decimal}
 use Rattle.list_facts.specs.Lists.{greatest}
+use Rattle.draw_items.specs.columns.Sums.{plus, times}
 use Rattle.draw_shapes.specs.declared.row.Row.{Row}
 use Rattle.draw_shapes.specs.declared.frame.Frame.{Frame}
 
@@ -11,12 +12,12 @@ row_width row = row.width
 
 -- room for the digits of the number of events
 abbrev pub number_x : ℕ → ℕ
-number_x count = 8 + 6 * length (decimal count)
+number_x count = plus 8 (times 6 (length (decimal count)))
 
 -- a frame with the list of events at this place, and the brackets behind its widest line
 abbrev pub frame_with : ℕ → ℕ → ℕ → ℕ → ℕ → Frame
 frame_with count first last number wide =
-    record { first = first; last = last; end = count + 1; number_x = number; text_x = number + 10; told_x = number + 10 + (wide + 14) }
+    record { first = first; last = last; end = count + 1; number_x = number; text_x = plus number 10; told_x = plus (plus number 10) (plus wide 14) }
 
 -- of so many events those from one number to another are drawn
 unfoldable pub frame_of : ℕ → ℕ → ℕ → List Row → Frame

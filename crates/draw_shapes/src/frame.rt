@@ -37,8 +37,8 @@ pub fn frame_of(
     ensures { IfOk result (λ frame. frame ≡ frame_of count first last rows.now) }
 {
     let number_x = number_x(alloc, count)?;
-    let text_x = sum(number_x, 10)?;
-    let told_x = sum(text_x, sum(widest(rows), 14)?)?;
+    let text_x = sum(number_x, 10);
+    let told_x = sum(text_x, sum(widest(rows), 14));
     Ok(Frame {
         first,
         last,
@@ -49,11 +49,11 @@ pub fn frame_of(
     })
 }
 
-fn number_x(alloc: Global, count: u32) -> Result<u64, NoMemory>
+fn number_x(alloc: Global, count: u32) -> Result<u64, AllocError>
     ensures { IfOk result (λ x. x ≡ number_x count) }
 {
     let digits = digits_of(alloc, count)?;
-    sum(8, product(6, digits as u64)?)
+    Ok(sum(8, product(6, digits as u64)))
 }
 
 fn digits_of(alloc: Global, number: u32) -> Result<usize, AllocError>

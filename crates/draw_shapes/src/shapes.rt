@@ -1,4 +1,4 @@
-ghost use Rattle.std.specs.Prelude.{◌≡◌, ◌++◌, min, OnOk, IfOk};
+ghost use Rattle.std.specs.Prelude.{◌≡◌, ◌++◌, min, OnOk};
 ghost use Rattle.draw_shapes.specs.Elements.{is_claimed, dotted_to, dotted_shapes, mark_shapes};
 ghost use Rattle.draw_shapes.specs.Elements.{refused_marks, key_shapes, can_have_rim, route_rim};
 ghost use Rattle.draw_shapes.specs.Elements.{item_rims, rim_in, act_rims_of, act_rims, ahead_class};
@@ -71,7 +71,7 @@ fn add_mark(
 {
     let mut text = String::new(alloc);
     let x = frame.text_x.saturating_sub(4);
-    let size = sum(row.width, 8)?;
+    let size = sum(row.width, 8);
     print_mark(&mut text, class, frame.first, row.n, x, size)?;
     add_in_row(elements, row.n, text)
 }
@@ -101,7 +101,7 @@ fn add_dotted_of(
                 step,
                 place,
             };
-            let act = Act::of(canvas.columns, line, row.item, row.taken)?;
+            let act = Act::of(canvas.columns, line, row.item, row.taken);
             add_dotted(alloc, elements, canvas.frame, row.n, &act)
         }
         Event::Act { .. } | Event::Arrive { .. } => Ok(()),
@@ -145,7 +145,7 @@ pub fn add_item_rim(
         item_rims canvas.now.columns.now canvas.now.frame.now loud item.now) }
 {
     if can_have_rim(item.carried) && loud {
-        let route = DrawnRoute::of(canvas.columns, canvas.frame.end, item)?;
+        let route = DrawnRoute::of(canvas.columns, canvas.frame.end, item);
         add_route_rim(alloc, elements, "g", canvas.frame, &route)
     } else {
         Ok(())
@@ -216,7 +216,7 @@ fn add_act_rim_of(
                 step,
                 place,
             };
-            let act = Act::of(canvas.columns, line, row.item, row.taken)?;
+            let act = Act::of(canvas.columns, line, row.item, row.taken);
             add_rim(alloc, elements, canvas.frame, row.n, &act)
         }
         Event::Act { .. } | Event::Arrive { .. } => Ok(()),
@@ -250,7 +250,7 @@ pub fn add_ahead_rim(
 {
     match item {
         Some(item) => {
-            let route = DrawnRoute::of(canvas.columns, canvas.frame.end, &item)?;
+            let route = DrawnRoute::of(canvas.columns, canvas.frame.end, &item);
             add_route_rim(alloc, elements, AHEAD, canvas.frame, &route)
         }
         None => Ok(()),
@@ -292,7 +292,7 @@ pub fn add_item(
         item_shapes canvas.now.board.now canvas.now.columns.now canvas.now.frame.now
         pale item.now) }
 {
-    let route = DrawnRoute::of(canvas.columns, canvas.frame.end, item)?;
+    let route = DrawnRoute::of(canvas.columns, canvas.frame.end, item);
     add_routed(alloc, elements, canvas, pale, item, &route)
 }
 
@@ -344,7 +344,7 @@ fn add_refused(
     ensures { OnOk result (elements.new.items ≡ elements.old.items ++
         refused_shapes canvas.now.columns.now canvas.now.frame.now row.now) }
 {
-    let x = refused_place(canvas.columns, row.item, &row.event)?;
+    let x = refused_place(canvas.columns, row.item, &row.event);
     add_cross(alloc, elements, canvas.frame, row.n, x)
 }
 
@@ -388,7 +388,7 @@ fn add_act_of(
                 step,
                 place,
             };
-            let act = Act::of(canvas.columns, line, row.item, row.taken)?;
+            let act = Act::of(canvas.columns, line, row.item, row.taken);
             let in_row = ActRow {
                 first: canvas.frame.first,
                 n: row.n,
@@ -440,8 +440,8 @@ fn add_bracket_on(
     let x = frame.told_x;
     let way = BracketWay {
         x,
-        right: sum(x, sum(product(10, track)?, 10)?)?,
-        tip: sum(x, 4)?,
+        right: sum(x, sum(product(10, track), 10)),
+        tip: sum(x, 4),
         landed,
         read,
     };

@@ -6,7 +6,6 @@ use board_model::Board;
 use draw_elements::{print_event, print_note};
 use draw_items::{Journey, product, sum};
 use history_model::Event;
-use pci_command::NoMemory;
 use std::alloc::{AllocError, Global};
 
 /// How wide the line of the event and what is noted behind it are.
@@ -16,21 +15,21 @@ pub fn width_of(
     board: &Board,
     item: Option<Journey>,
     event: &Event,
-) -> Result<u64, NoMemory>
+) -> Result<u64, AllocError>
     ensures { IfOk result (λ width. width ≡ width_of board.now item event.now) }
 {
     let line = line_length(alloc, board, event)?;
     let note = note_length(alloc, board, item, event)?;
-    product(6, noted_length(line as u64, note as u64)?)
+    Ok(product(6, noted_length(line as u64, note as u64)))
 }
 
-fn noted_length(line: u64, note: u64) -> Result<u64, NoMemory>
-    ensures { IfOk result (λ length. length ≡ noted_length line note) }
+fn noted_length(line: u64, note: u64) -> u64
+    ensures { result ≡ noted_length line note }
 {
     if note == 0 {
-        Ok(line)
+        line
     } else {
-        sum(line, sum(note, 1)?)
+        sum(line, sum(note, 1))
     }
 }
 

@@ -4,6 +4,7 @@ use Rattle.board_model.specs.declared.board.Board.{Board}
 use Rattle.lane_items.specs.declared.item.Item.{Item}
 use Rattle.bus_segment.specs.Stands.{WorkerView}
 use Rattle.bus_segment.specs.Steps.{ArrivedUpTo}
+use Rattle.bus_segment.specs.turns.Works.{GivesOnlyRetries}
 use Rattle.bus_segment.specs.declared.turns.worker.Worker.{Worker}
 use Rattle.engine_phases.specs.Phase.{Turned, AllTurned, begun}
 
@@ -44,3 +45,8 @@ pub record Worked {End : Type 0} (had sent got : End → List Item) (kept : End 
 pub record AllWorked {End : Type 0} (had sent got : End → List Item) (kept : End → ℕ) (paired : End → End → Type 0) (board : Board) (phase : ℕ) (old new : List (WorkerView End)) (busy : Bool) : Type 0 where
   pub turned : AllTurned had sent got kept paired board phase old new busy
   pub counts : (k : ℕ) (v : WorkerView End) → slice_get new k ≡ Some v → v.segment.stopped ≡ false → ArrivedUpTo (length v.events) v.segment.bus
+
+-- the buses that are marked idle: whoever presents something on one of them gets a Retry
+pub record AreMarkedIdle {End : Type 0} (board : Board) (workers : List (WorkerView End)) (idle : List Bool) : Type 0 where
+  pub many : length idle ≡ length workers
+  pub retried : (k : ℕ) (w : WorkerView End) → slice_get workers k ≡ Some w → slice_get idle k ≡ Some true → GivesOnlyRetries board w.segment.bus

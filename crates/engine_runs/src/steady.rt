@@ -3,7 +3,7 @@ ghost use Rattle.board_model.specs.Valid.{IsValid};
 ghost use Rattle.board_model.specs.Ways.{bound_of};
 ghost use Rattle.history_model.specs.Runs.{Run, Complete, history_of};
 ghost use Rattle.engine_phases.specs.Phase.{CrossesAtSettle, IsCompleteRun, history_of_all};
-ghost use Rattle.engine_runs.specs.Loop.{all_seen};
+ghost use Rattle.engine_runs.specs.Loop.{all_seen, AreMarkedIdle};
 ghost use Rattle.engine_runs.specs.Steady.{IsSteady};
 
 use crate::first::{all_above, all_workers};
@@ -57,13 +57,15 @@ fn run_all<L: LaneEnd + Drop>(
         (all_seen workers.items) above.now 0 }
     ensures { IfOk result (λ events. IsCompleteRun board.now (history_of events)) }
 {
-    run_phases(workers.as_mut_slice(), board, above)?;
+    let mut idle = vec![in alloc; false; workers.len()]?;
+    run_phases(workers.as_mut_slice(), idle.as_mut_slice(), board, above)?;
     merge_all(alloc, workers)
 }
 
 /// The phases, up to the first that makes no event.
 fn run_phases<L: LaneEnd + Drop>(
     workers: &mut [Worker<L>],
+    idle: &mut [bool],
     board: &Board,
     above: &[Above],
 ) -> Result<(), NoMemory>
@@ -71,11 +73,12 @@ fn run_phases<L: LaneEnd + Drop>(
     requires crosses { CrossesAtSettle L.had L.got }
     requires steady { IsSteady L.had L.sent L.got L.kept L.paired board.now
         (all_seen workers.old) above.now 0 }
+    requires marked { AreMarkedIdle board.now (all_seen workers.old) idle.old }
     ensures { OnOk result (IsCompleteRun board.now (history_of_all (all_seen workers.new))) }
 {
     phases_are_few::<L>();
     for phases in 0..TOO_MANY_PHASES {
-        if !run_phase(workers, board, above, phases)? {
+        if !run_phase(workers, idle, board, above, phases)? {
             return Ok(());
         }
     }
@@ -85,6 +88,7 @@ fn run_phases<L: LaneEnd + Drop>(
 /// One phase: whether it made an event. If it did, all lanes are settled for the next one.
 fn run_phase<L: LaneEnd + Drop>(
     workers: &mut [Worker<L>],
+    idle: &mut [bool],
     board: &Board,
     above: &[Above],
     phases: u32,
@@ -94,6 +98,8 @@ fn run_phase<L: LaneEnd + Drop>(
     requires few { phases < 500001 }
     requires steady { IsSteady L.had L.sent L.got L.kept L.paired board.now (all_seen workers.old)
         above.now phases }
+    requires marked { AreMarkedIdle board.now (all_seen workers.old) idle.old }
+    ensures marked { IfOk result (λ _. AreMarkedIdle board.now (all_seen workers.new) idle.new) }
     ensures busy { IfOk result (λ busy. busy ≡ true → IsSteady L.had L.sent L.got L.kept L.paired
         board.now (all_seen workers.new) above.now (phases + 1)) }
     ensures idle { IfOk result (λ busy. busy ≡ false →
@@ -102,7 +108,7 @@ fn run_phase<L: LaneEnd + Drop>(
     turns_stop_no_worker::<L>();
     settles_end_a_phase::<L>();
     idle_phases_end_the_run::<L>();
-    let busy = work_all(workers, board, phases + 1)?;
+    let busy = work_all(workers, idle, board, phases + 1)?;
     if busy {
         settle_all(workers, above);
     }

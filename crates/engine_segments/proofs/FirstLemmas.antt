@@ -24,7 +24,8 @@ use Rattle.bus_core.proofs.LineLemmas.{line_of, shape_lines}
 use Rattle.bus_segment.specs.Segment.{SegmentPast, all_carried}
 use Rattle.bus_segment.specs.Stands.{ComesBehind}
 use Rattle.engine_segments.specs.First.{lanes_to, shape_on, IsAtFirst}
-use Rattle.engine_segments.specs.Parts.{BridgeFits, PortAtFirst, BusAtFirst}
+use Rattle.board_model.specs.Fits.{BridgeFits}
+use Rattle.engine_segments.specs.Parts.{PortAtFirst, BusAtFirst}
 use Rattle.engine_segments.proofs.LaneLemmas.{of_bridge_at, ends_at, shape_is_of}
 use Rattle.engine_segments.proofs.FewLemmas.{few_lanes, few_masters}
 

@@ -17,7 +17,8 @@ use Rattle.history_model.specs.Answers.{is_on, bridge_to}
 use Rattle.bus_core.specs.Bus.{HasPlace, IsOf}
 use Rattle.bus_core.proofs.ListLemmas.{get_map, map_get}
 use Rattle.engine_segments.specs.First.{is_below, children_of, down_to, up_from, lanes_to, has_target, shape_on}
-use Rattle.engine_segments.specs.Parts.{BridgeFits, IsOfBridge}
+use Rattle.board_model.specs.Fits.{BridgeFits}
+use Rattle.engine_segments.specs.Parts.{IsOfBridge}
 use Rattle.engine_segments.proofs.NumberLemmas.{passing_rise, one_place, passes_at, passing_place, children_rise, child_place, child_below}
 
 -- Of the lanes of a bus, its own or one from below.
@@ -72,7 +73,7 @@ number_fits : (board : Board) (bus : ℕ) → AllByRecursion BridgeFits board.br
 number_fits board bus fit there =
     let found = any_some (λ (b : Bridge). b.bus == bus) board.bridges there in
     let number : found.0.bus ≡ bus = eqb-true found.0.bus bus (find_passes (λ (b : Bridge). b.bus == bus) board.bridges found.0 found.1) in
-    let below : found.0.bus < 256 = Each-find BridgeFits (λ (b : Bridge). b.bus == bus) board.bridges found.0 fit found.1 in
+    let below : found.0.bus < 256 = (Each-find BridgeFits (λ (b : Bridge). b.bus == bus) board.bridges found.0 fit found.1).bus in
     omega (arith, number, below)
 
 pub bus_fits : (board : Board) (bus : ℕ) → AllByRecursion BridgeFits board.bridges → is_bus board bus ≡ true → bus < 256

@@ -7,7 +7,7 @@ use Rattle.board_model.specs.declared.board.Board.{Board}
 use Rattle.bus_core.proofs.ListLemmas.{get_map}
 use Rattle.bus_segment.specs.Stands.{WorkerView}
 use Rattle.engine_segments.specs.First.{buses_of, lanes_to, AreEndsOf, IsAtFirst, AreAtFirst}
-use Rattle.engine_segments.specs.Parts.{BridgeFits}
+use Rattle.board_model.specs.Fits.{BridgeFits}
 use Rattle.engine_segments.proofs.NumberLemmas.{buses_rise, bus_place}
 use Rattle.engine_segments.proofs.LaneLemmas.{bus_fits}
 

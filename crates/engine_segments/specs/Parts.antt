@@ -1,7 +1,6 @@
 -- What is on one bus before the first event, part by part.
-use Rattle.std.specs.Prelude.{◌≡◌, ℕ, ◌<◌, true, List, [], map}
+use Rattle.std.specs.Prelude.{◌≡◌, ℕ, true, List, [], map}
 use Rattle.std.specs.List.{AllByRecursion}
-use Rattle.board_model.specs.declared.bridge.Bridge.{Bridge}
 use Rattle.board_model.specs.declared.bridge.Lane.{Lane as BridgeLane}
 use Rattle.board_model.specs.declared.board.Board.{Board}
 use Rattle.board_model.specs.Valid.{has_bridge_to}
@@ -14,10 +13,6 @@ use Rattle.bus_targets.specs.State.{TargetView}
 use Rattle.bus_targets.specs.Stands.{TargetStands}
 use Rattle.bus_core.specs.Bus.{BusView, StandsAtFirst}
 use Rattle.engine_segments.specs.First.{lanes_to, masters_on, targets_on}
-
--- the bridge is to one of 256 buses
-abbrev pub BridgeFits : Bridge → Type 0
-BridgeFits bridge = bridge.bus < 256
 
 -- the lane is one of a bridge of the board
 abbrev pub IsOfBridge : Board → BridgeLane → Type 0

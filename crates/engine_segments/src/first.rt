@@ -3,13 +3,13 @@ ghost use Rattle.std.specs.List.{AllByRecursion};
 ghost use Rattle.board_model.specs.Valid.{IsValid};
 ghost use Rattle.engine_segments.specs.First.{lanes_to, AreEndsOf, worker_of};
 ghost use Rattle.engine_segments.specs.First.{IsAtFirst, AreAtFirst};
-ghost use Rattle.engine_segments.specs.Parts.{BridgeFits, BusAtFirst};
+ghost use Rattle.board_model.specs.Fits.{BridgeFits};
+ghost use Rattle.engine_segments.specs.Parts.{BusAtFirst};
 
 use crate::agents::{masters_on, targets_on};
-use crate::fits::bridges_fit;
 use crate::order::{buses, lanes_to};
 use crate::ports::ports_of;
-use board_model::Board;
+use board_model::{Board, board_fits};
 use board_tree::Tree;
 use bus_agents::Through;
 use bus_core::Bus;
@@ -30,7 +30,7 @@ pub fn segments<L: LaneEnd + Drop>(
         AreAtFirst tree.now (map (λ at. at.items) ends.items) (map worker_of segments.items)) }
 {
     let board = tree.board();
-    bridges_fit(board.bridges.as_slice());
+    board_fits(board);
     let buses = buses(alloc, board)?;
     let mut segments = Vec::new(alloc);
     for at in ends {

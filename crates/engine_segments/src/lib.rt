@@ -4,7 +4,6 @@
 
 mod agents;
 mod first;
-mod fits;
 mod order;
 mod plain;
 mod ports;

@@ -1,4 +1,4 @@
-use bus_face::AskTable;
+use lane_items::AskTable;
 use pci_command::{Command, OpId, Request};
 
 fn read_of(address: u64) -> Request {

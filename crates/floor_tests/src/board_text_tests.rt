@@ -1,9 +1,10 @@
 ghost use Rattle.std.specs.Prelude.{◌<◌, ◌^◌, length};
 
-use board_text::{BadLine, NumberFault, check_line, decimal, hex, next_line};
+use board_text::{NumberFault, check_line, decimal, hex, next_line};
 use plain_board::{TextFault, lines};
 use std::alloc::Global;
 use std::test::Fail;
+use text_faults::{AtLine, LineFault};
 
 #[test]
 fn numbers_of_both_kinds(rt: HostRuntime) {
@@ -43,12 +44,12 @@ fn the_first_fault_and_its_line(rt: HostRuntime) -> Result<(), Fail> {
     let mut long = vec![in rt.alloc(); b'#'; 257]?;
     assert_eq!(rt; check_line(&long[1..]), Ok(()));
     long[200] = b'\r';
-    assert_eq!(rt; check_line(&long), Err(BadLine::TooLong));
-    assert_eq!(rt; check_line(&long[1..]), Err(BadLine::BadByte));
-    let fault = TextFault::Fault {
+    assert_eq!(rt; check_line(&long), Err(LineFault::TooLong));
+    assert_eq!(rt; check_line(&long[1..]), Err(LineFault::BadByte));
+    let fault = TextFault::Fault(AtLine {
         line: 3,
-        fault: BadLine::BadByte,
-    };
+        fault: LineFault::BadByte,
+    });
     assert_eq!(rt; places(rt.alloc(), b"a\n\n\x7f\n\x80").err(), Some(fault));
     Ok(())
 }

@@ -2,8 +2,8 @@ ghost use Rattle.std.specs.Prelude.{IsTrue};
 ghost use Rattle.board_model.specs.WellFormed.{is_well_formed_bridge};
 ghost use Rattle.board_model.specs.Valid.{is_numbered};
 
-use board_headers::{HeaderFault, Windows, decode, encode, read_back};
-use board_model::{Bridge, Window};
+use board_headers::{HeaderFault, Windows, decode, read_back};
+use board_model::{Bridge, Window, encode};
 use std::process::Abort;
 use std::test::Fail;
 

@@ -1,4 +1,4 @@
-use bus_face::DoneTable;
+use lane_items::DoneTable;
 use pci_command::{OpId, Outcome};
 
 #[test]

@@ -1,5 +1,4 @@
-use board_headers::{merge, opening, write_mask};
-use board_model::{Name, Range, Target};
+use board_model::{Name, Range, Target, merge, opening, write_mask};
 use pci_command::{List, Phase, Space};
 use std::alloc::Global;
 use std::test::Fail;

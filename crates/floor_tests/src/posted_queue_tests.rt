@@ -1,4 +1,4 @@
-use bus_face::PostedTable;
+use lane_items::PostedTable;
 use pci_command::OpId;
 
 #[test]

@@ -1,4 +1,4 @@
-use bus_face::SlotTable;
+use lane_items::SlotTable;
 use pci_command::{Command, OpId, Phase, Request};
 
 fn read_of(address: u64) -> Request {

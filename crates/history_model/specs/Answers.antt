@@ -19,7 +19,7 @@ use Rattle.board_model.specs.declared.board.Board.{Board}
 use Rattle.board_model.specs.Requests.{request_of, reads, same_requests, is_posted}
 use Rattle.board_model.specs.Claims.{claim}
 use Rattle.board_model.specs.Ways.{end_of, aborts_at, address_in, lane_back}
-use Rattle.board_headers.specs.HeaderBytes.{header_word}
+use Rattle.board_model.specs.HeaderBytes.{header_word}
 use Rattle.history_model.specs.declared.event.By.{By}
 use Rattle.history_model.specs.declared.event.By.TheVariants.{Master, Lane as ByLane}
 use Rattle.history_model.specs.declared.event.Step.{Step}

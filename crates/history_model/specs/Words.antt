@@ -14,7 +14,7 @@ use Rattle.board_model.specs.declared.bridge.Place.TheVariants.{Target, Header, 
 use Rattle.board_model.specs.declared.board.Board.{Board}
 use Rattle.board_model.specs.Requests.{request_of}
 use Rattle.board_model.specs.Ways.{Dword, address_in}
-use Rattle.board_headers.specs.device.Registers.{opening_of, write_mask_of, merge_of}
+use Rattle.board_model.specs.device.Registers.{opening_of, write_mask_of, merge_of}
 use Rattle.history_model.specs.declared.event.Step.{Step}
 use Rattle.history_model.specs.declared.event.Step.TheVariants.{Land, Part, Read, Accept, Latch, Take, Stall, MasterAbort, TargetAbort}
 use Rattle.history_model.specs.declared.event.Event.{Event}

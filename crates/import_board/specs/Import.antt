@@ -2,8 +2,9 @@
 use Rattle.std.specs.Prelude.{◌≡◌, ℕ, List, Option, Result, Ok, Err}
 use Rattle.import_text.specs.declared.function.Function.{Function}
 use Rattle.text_faults.specs.declared.lspci.LspciFault.{LspciFault}
-use Rattle.import_text.specs.declared.fault.ReadFault.{ReadFault}
-use Rattle.import_text.specs.declared.fault.ReadFault.TheVariants.{Fault, NoMemory}
+use Rattle.text_faults.specs.declared.at_line.AtLine.{AtLine}
+use Rattle.text_faults.specs.declared.or_no_memory.OrNoMemory.{OrNoMemory}
+use Rattle.text_faults.specs.declared.or_no_memory.OrNoMemory.TheVariants.{Fault, NoMemory}
 use Rattle.import_text.specs.Functions.{functions_read}
 use Rattle.import_bridges.specs.declared.machine.Machine.{Machine}
 use Rattle.import_bridges.specs.declared.machine.Root.{Root}
@@ -31,7 +32,7 @@ abbrev pub imported : Option Root → List ℕ → Result (List ℕ) (ℕ × Lsp
 imported root text = with_functions root (functions_read text)
 
 -- it is told exactly where that is so, unless there was no memory
-abbrev pub TellsBoard : Result (List ℕ) ReadFault → Result (List ℕ) (ℕ × LspciFault) → Type 0
+abbrev pub TellsBoard : Result (List ℕ) (OrNoMemory (AtLine LspciFault)) → Result (List ℕ) (ℕ × LspciFault) → Type 0
 TellsBoard (Ok board) is = is ≡ Ok board
-TellsBoard (Err (Fault line fault)) is = is ≡ Err (line, fault)
+TellsBoard (Err (Fault found)) is = is ≡ Err (found.line, found.fault)
 TellsBoard (Err NoMemory) is = Unit {0}

@@ -5,7 +5,7 @@ use Rattle.std.specs.Fmt.{decimal, digit_glyph}
 use Rattle.list_facts.specs.Lists.{total}
 use Rattle.pci_command.specs.declared.command.Space.{Space}
 use Rattle.board_model.specs.declared.bridge.Window.{Window}
-use Rattle.board_headers.specs.HeaderBytes.{register_2}
+use Rattle.board_model.specs.HeaderBytes.{register_2}
 use Rattle.board_headers.specs.Windows.{has_bit}
 use Rattle.board_printer.specs.Numbers.{word_text, half_text, address_text}
 use Rattle.board_printer.specs.Spaces.{space_word}

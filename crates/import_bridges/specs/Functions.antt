@@ -3,7 +3,7 @@
 use Rattle.std.specs.Prelude.{ℕ, Bool, ◌+◌, ◌*◌, ◌-◌, ◌^◌, List, [], ◌∷◌, Option, Some, None, min, ◌==◌, not, nat_lt, if◌then◌else◌, slice_index}
 use Rattle.std.specs.List.{filter, insert, position_or_len}
 use Rattle.import_text.specs.declared.function.Function.{Function}
-use Rattle.board_headers.specs.HeaderBytes.{bits}
+use Rattle.board_model.specs.HeaderBytes.{bits}
 use Rattle.import_bridges.specs.declared.machine.Root.{Root}
 use Rattle.import_bridges.specs.declared.machine.Machine.{Machine}
 

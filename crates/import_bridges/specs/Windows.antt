@@ -5,7 +5,7 @@ use Rattle.std.specs.List.{find, list_any}
 use Rattle.pci_command.specs.declared.command.Space.{Space}
 use Rattle.pci_command.specs.declared.command.Space.TheVariants.{Mem, Io, Cfg}
 use Rattle.board_model.specs.declared.bridge.Window.{Window}
-use Rattle.board_headers.specs.HeaderBytes.{register_2}
+use Rattle.board_model.specs.HeaderBytes.{register_2}
 use Rattle.board_headers.specs.Windows.{memory_window, prefetchable_window, io_window, has_bit}
 use Rattle.import_text.specs.declared.function.Function.{Function}
 use Rattle.import_bridges.specs.declared.fate.NoWindow.{NoWindow}

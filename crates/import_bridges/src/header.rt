@@ -1,5 +1,5 @@
 ghost use Rattle.std.specs.Prelude.{◌≡◌, ◌<◌, ◌^◌, slice_index};
-ghost use Rattle.board_headers.specs.HeaderBytes.{register_2, register_4};
+ghost use Rattle.board_model.specs.HeaderBytes.{register_2, register_4};
 ghost use Rattle.import_bridges.specs.Functions.{header_type, is_bridge};
 ghost use Rattle.import_bridges.specs.Windows.{decodes};
 

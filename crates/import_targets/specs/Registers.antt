@@ -2,7 +2,7 @@
 use Rattle.std.specs.Prelude.{ℕ, Bool, zero, suc, ◌+◌, ◌*◌, ◌^◌, List, [], ◌∷◌, ◌++◌, Option, Some, None, is_none, not, ◌==◌, ◌&&◌, nat_lt, if◌then◌else◌, slice_get}
 use Rattle.pci_command.specs.declared.command.Space.{Space}
 use Rattle.pci_command.specs.declared.command.Space.TheVariants.{Mem, Io}
-use Rattle.board_headers.specs.HeaderBytes.{bits, register_4}
+use Rattle.board_model.specs.HeaderBytes.{bits, register_4}
 use Rattle.import_text.specs.declared.function.Function.{Function}
 use Rattle.import_bridges.specs.Functions.{header_type}
 use Rattle.import_targets.specs.declared.found.Flaw.{Flaw}

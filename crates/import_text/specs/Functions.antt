@@ -8,8 +8,9 @@ use Rattle.import_text.specs.declared.entry.Entry.TheVariants.{Slot, Row, Region
 use Rattle.import_text.specs.declared.function.Function.{Function}
 use Rattle.text_faults.specs.declared.lspci.LspciFault.{LspciFault}
 use Rattle.text_faults.specs.declared.lspci.LspciFault.TheVariants.{NoSlot, Repeated, NoRow, HighDevice}
-use Rattle.import_text.specs.declared.fault.ReadFault.{ReadFault}
-use Rattle.import_text.specs.declared.fault.ReadFault.TheVariants.{Fault, NoMemory}
+use Rattle.text_faults.specs.declared.at_line.AtLine.{AtLine}
+use Rattle.text_faults.specs.declared.or_no_memory.OrNoMemory.{OrNoMemory}
+use Rattle.text_faults.specs.declared.or_no_memory.OrNoMemory.TheVariants.{Fault, NoMemory}
 use Rattle.import_text.specs.Entries.{entries_read}
 
 -- a slot, with which a function begins
@@ -169,7 +170,8 @@ abbrev pub functions_read : List ℕ → Result (List Function) (ℕ × LspciFau
 functions_read text = judged (length (entries_read text)) (functions_of 1 (entries_read text))
 
 -- the functions or the fault are told exactly where the text reads so, unless there was no memory
-abbrev pub Tells : Result (List Function) ReadFault → Result (List Function) (ℕ × LspciFault) → Type 0
+abbrev pub Tells : Result (List Function) (OrNoMemory (AtLine LspciFault)) → Result (List Function) (ℕ × LspciFault)
+    → Type 0
 Tells (Ok functions) reading = reading ≡ Ok functions
-Tells (Err (Fault line fault)) reading = reading ≡ Err (line, fault)
+Tells (Err (Fault found)) reading = reading ≡ Err (found.line, found.fault)
 Tells (Err NoMemory) reading = Unit {0}

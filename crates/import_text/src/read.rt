@@ -1,4 +1,5 @@
 ghost use Rattle.std.specs.Prelude.{◌≡◌, ◌<◌, ◌≤◌, ◌^◌, ◌+◌, [], length, IfOk};
+ghost use Rattle.text_faults.specs.declared.or_no_memory.OrNoMemory.TheVariants.{Fault};
 ghost use Rattle.import_text.specs.Functions.{repeated_after, lacks_row, lacking, has_high_device};
 ghost use Rattle.import_text.specs.Functions.{high, functions_read, judged, Tells};
 
@@ -8,7 +9,7 @@ use crate::lines::entries_read;
 use pci_command::{List, NoMemory};
 use std::alloc::Global;
 use std::collections::BTreeSet;
-use text_faults::LspciFault;
+use text_faults::{AtLine, LspciFault};
 
 /// The line of the first function that has the slot of one before.
 fn repeated(alloc: Global, functions: &[Function]) -> Result<Option<u32>, NoMemory>
@@ -86,7 +87,7 @@ fn judged(alloc: Global, lines: u32, functions: List<Function>) -> Result<List<F
 }
 
 fn fault_at(line: u32, fault: LspciFault) -> ReadFault
-    ensures { result ≡ ReadFault.Fault line fault }
+    ensures { result ≡ Fault (record { line = line; fault = fault }) }
 {
-    ReadFault::Fault { line, fault }
+    ReadFault::Fault(AtLine { line, fault })
 }

@@ -7,7 +7,7 @@ use std::alloc::Global;
 use std::marker::Model;
 
 /// A sink into memory, which has room for so many bytes, takes at most so many of them in one
-/// call and fails at calls of given numbers.
+/// call and fails at calls of given numbers: for tests. No word of the program calls it.
 #[derive(Debug, Drop)]
 pub struct MemorySink {
     bytes: Vec<u8>,

@@ -6,7 +6,7 @@ use pci_command::List;
 use std::marker::Model;
 
 /// A source over bytes in memory, which gives at most so many of them in one call and fails at
-/// calls of given numbers.
+/// calls of given numbers: for tests. No word of the program calls it.
 #[derive(Debug, Drop)]
 pub struct MemorySource {
     bytes: Bytes,

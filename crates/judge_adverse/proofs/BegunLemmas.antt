@@ -18,6 +18,7 @@ use Rattle.history_model.specs.declared.event.Event.{Event}
 use Rattle.history_model.specs.declared.event.Event.TheVariants.{Act, Arrive}
 use Rattle.history_model.specs.declared.item.Carried.{Carried}
 use Rattle.history_model.specs.declared.item.Carried.TheVariants.{Post, Ask, Done, Room, Gone}
+use Rattle.history_model.specs.declared.rule.Rule.TheVariants.{Tagged}
 use Rattle.history_model.specs.Knowledge.{is_landing_of}
 use Rattle.history_model.specs.Lanes.{is_of}
 use Rattle.history_model.specs.World.{lane_outcome, world_of}
@@ -69,7 +70,7 @@ module _ (board : Board) (w : OpId) where
   presented_other h on Master o step place has wanted none = own_other on o step place none
   presented_other h on (ByLane k) o step place has wanted none =
       let standing : List Carried = (world_of board h k).standing in
-      let here = (presented_at board h on k o wanted).1 in
+      let here = (presented_at Tagged board h on k o wanted).1 in
       of_item o here.item (find_passes (is_of o) standing here.item here.found) (Each-find OtherItem (is_of o) standing here.item (has k).1 here.found)
 
   enters_other : (o : OpId) (step : Step) → Other o → Enters OtherItem o step
@@ -98,10 +99,10 @@ module _ (board : Board) (w : OpId) where
       let parts = or_parts (is_from_on w (Act on by o step place)) (list_any (is_from_on w) h) none in
       let old = no_item h run.1 parts.1 in
       let other : Other o = presented_other h on by o step place old run.0.0 parts.0 in
-      act_has OtherItem tt (λ slot. tt) board on by o step place (world_of board h) (enters_other o step other) (replies_by_other o step by other) old
+      act_has OtherItem tt (λ slot. tt) Tagged board on by o step place (world_of board h) (enters_other o step other) (replies_by_other o step by other) old
   no_item (Arrive lane mark ∷ h) run none =
       let parts = or_parts (is_from_on w (Arrive lane mark)) (list_any (is_from_on w) h) none in
-      arrival_has OtherItem tt (λ slot. tt) board lane mark (world_of board h) (no_item h run.1 parts.1)
+      arrival_has OtherItem tt (λ slot. tt) Tagged board lane mark (world_of board h) (no_item h run.1 parts.1)
 
   -- and no act of it was done
   pub no_act : (h : List Event) → Run board h → list_any (is_from_on w) h ≡ false → list_any (is_act_of w) h ≡ false

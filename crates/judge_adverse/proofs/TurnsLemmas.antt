@@ -9,7 +9,7 @@ use Rattle.pci_command.specs.declared.op_id.OpId.{OpId}
 use Rattle.board_model.specs.declared.bridge.Lane.{Lane as BridgeLane}
 use Rattle.board_model.specs.declared.bridge.Place.{Place}
 use Rattle.board_model.specs.declared.board.Board.{Board}
-use Rattle.board_model.specs.Fits.{BusesFit}
+use Rattle.board_model.specs.Fits.{BoardFits}
 use Rattle.board_model.specs.Valid.{has_bridge_to}
 use Rattle.board_model.specs.Ways.{end_of}
 use Rattle.history_model.specs.declared.event.By.TheVariants.{Master, Lane as ByLane}
@@ -38,7 +38,7 @@ use Rattle.judge_adverse.specs.declared.ring.Ring.{Ring}
 use Rattle.judge_adverse.specs.Turns.{ring_below, IsRing, IsSameRing, IsWoken, is_passed_over, act_of_initiator, Idles, MayCome, NothingMayCome, Rests, AllRest, WentOnBy, GoesOnBy}
 use Rattle.judge_adverse.proofs.RingLemmas.{each_placed, lanes_on, masters_on}
 
-module _ (board : Board) (h : List Event) (held : Option OpId) (run : Run board h) (fits : BusesFit board) where
+module _ (board : Board) (h : List Event) (held : Option OpId) (run : Run board h) (fits : BoardFits board) where
   abbrev Resting : Initiator → Type 0
   Resting = Rests board h held
 

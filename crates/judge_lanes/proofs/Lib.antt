@@ -4,3 +4,4 @@ pub mod LaneLemmas
 pub mod SumLemmas
 pub mod ReachLemmas
 pub mod RunningLemmas
+pub mod LeaveLemmas

@@ -136,7 +136,7 @@ impl LaneTables {
     }
 
     /// The slot of this number is free.
-    #[tactic(auto, using(machine_steps::proofs::LeaveLemmas::removes_first, machine_steps::proofs::LeaveLemmas::leaves_none, machine_steps::proofs::LeaveLemmas::finds_none, machine_steps::proofs::LeaveLemmas::finds_first, machine_steps::proofs::LeaveLemmas::no_more))]
+    #[tactic(auto, using(crate::proofs::LeaveLemmas::leaves))]
     pub(crate) fn free(&mut self, number: u8)
         ensures left { self.new ≡ record self.old {
           held = less (has_number number) self.old.held;
@@ -157,7 +157,7 @@ impl LaneTables {
     }
 
     /// The completion of this slot leaves.
-    #[tactic(auto, using(machine_steps::proofs::LeaveLemmas::removes_first, machine_steps::proofs::LeaveLemmas::leaves_none, machine_steps::proofs::LeaveLemmas::finds_none, machine_steps::proofs::LeaveLemmas::finds_first, machine_steps::proofs::LeaveLemmas::no_more))]
+    #[tactic(auto, using(crate::proofs::LeaveLemmas::leaves))]
     pub(crate) fn leave_done(&mut self, number: u8)
         ensures left { self.new ≡ record self.old {
           standing = less (is_done_for number) self.old.standing;
@@ -170,7 +170,7 @@ impl LaneTables {
     }
 
     /// The oldest standing posted write or delayed request of the operation leaves.
-    #[tactic(auto, using(machine_steps::proofs::LeaveLemmas::removes_first, machine_steps::proofs::LeaveLemmas::leaves_none, machine_steps::proofs::LeaveLemmas::finds_none, machine_steps::proofs::LeaveLemmas::finds_first, machine_steps::proofs::LeaveLemmas::no_more))]
+    #[tactic(auto, using(crate::proofs::LeaveLemmas::leaves))]
     pub(crate) fn leave(&mut self, op: OpId) -> Option<Carried>
         ensures item { result ≡ find (is_of op) self.old.standing }
         ensures left { self.new ≡ record self.old { standing = less (is_of op) self.old.standing } }

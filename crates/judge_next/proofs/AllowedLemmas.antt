@@ -8,7 +8,7 @@ use Rattle.board_model.specs.declared.bridge.Bridge.{Bridge}
 use Rattle.board_model.specs.declared.bridge.Lane.{Lane as BridgeLane}
 use Rattle.board_model.specs.declared.bridge.Place.{Place}
 use Rattle.board_model.specs.declared.board.Board.{Board}
-use Rattle.board_model.specs.Fits.{BusesFit}
+use Rattle.board_model.specs.Fits.{BoardFits}
 use Rattle.board_model.specs.Ways.{end_of}
 use Rattle.history_model.specs.declared.event.By.{By}
 use Rattle.history_model.specs.declared.event.By.TheVariants.{Master, Lane as ByLane}
@@ -143,7 +143,7 @@ module _ (board : Board) (h : List Event) where
 
   -- Lanes of the board.
 
-  module _ (run : Run board h) (fits : BusesFit board) where
+  module _ (run : Run board h) (fits : BoardFits board) where
     -- a lane on which anything is is one of the board
     lane_there : (lane : BridgeLane) (P : LaneState → Type 0) → (P empty_lane → ⊥) → P (world_of board h lane) → IsOnBoard board lane
     lane_there lane P empty is =

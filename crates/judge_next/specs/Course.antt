@@ -2,7 +2,7 @@
 -- changed: the lines of each bus, which buses are quiet, and where something is in flight.
 use Rattle.std.specs.Prelude.{◌≡◌, ℕ, Bool, true, List, Some, None, length, slice_get}
 use Rattle.board_model.specs.declared.board.Board.{Board}
-use Rattle.board_model.specs.Fits.{BusesFit}
+use Rattle.board_model.specs.Fits.{BoardFits}
 use Rattle.history_model.specs.declared.event.Event.{Event}
 use Rattle.history_model.specs.declared.event.Event.TheVariants.{Act, Arrive}
 use Rattle.judge_state.specs.State.{KeptState}
@@ -20,7 +20,7 @@ KnowsQuiet board k quiet = (bus : ℕ) → slice_get quiet bus ≡ Some true →
 pub record IsCourse (board : Board) (h : List Event) (c : Course) : Type 0 where
   pub stands : StandsFor board h c.kept
   -- its bus numbers are as wide as their fields
-  pub fits : BusesFit board
+  pub fits : BoardFits board
   pub lines : AreLines board c.lines.items
   pub all_buses : length c.quiet.items ≡ 256
   pub quiet : KnowsQuiet board c.kept c.quiet.items

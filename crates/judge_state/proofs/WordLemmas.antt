@@ -6,7 +6,7 @@ use Rattle.pci_command.specs.declared.command.Space.{Space}
 use Rattle.pci_command.specs.declared.command.Space.TheVariants.{Mem, Io, Cfg}
 use Rattle.pci_command.specs.declared.phases.Phase.{Phase}
 use Rattle.pci_command.specs.Same.{same_space}
-use Rattle.board_headers.specs.device.Registers.{merge_of}
+use Rattle.board_model.specs.device.Registers.{merge_of}
 use Rattle.board_model.specs.declared.word.Word.{Word}
 use Rattle.std.specs.Prelude.{slice_get}
 use Rattle.history_model.specs.Words.{mask_in}

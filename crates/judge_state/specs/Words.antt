@@ -13,7 +13,7 @@ use Rattle.board_model.specs.declared.op.Op.{Op}
 use Rattle.board_model.specs.declared.bridge.Place.TheVariants.{Target}
 use Rattle.board_model.specs.Requests.{command_of, request_on}
 use Rattle.board_model.specs.Ways.{Dword, address_in, route_of}
-use Rattle.board_headers.specs.device.Registers.{merge_of}
+use Rattle.board_model.specs.device.Registers.{merge_of}
 use Rattle.history_model.specs.declared.event.Step.{Step}
 use Rattle.history_model.specs.Words.{mask_in, without, brings, opens_as}
 use Rattle.board_model.specs.declared.word.Word.{Word}

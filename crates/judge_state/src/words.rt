@@ -1,6 +1,6 @@
 ghost use Rattle.std.specs.Prelude.{◌≡◌, ◌≤◌, ◌+◌, ◌*◌, ◌^◌, Some};
 ghost use Rattle.history_model.specs.Words.{mask_in};
-ghost use Rattle.board_headers.specs.device.Registers.{merge_of};
+ghost use Rattle.board_model.specs.device.Registers.{merge_of};
 ghost use Rattle.std.specs.Prelude.{slice_get};
 ghost use Rattle.machine_steps.specs.Counts.{or_zero};
 ghost use Rattle.list_facts.specs.Lists.{changed_at};

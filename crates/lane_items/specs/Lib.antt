@@ -1,1 +1,4 @@
 pub mod Lane
+pub mod posts
+pub mod requests
+pub mod completions

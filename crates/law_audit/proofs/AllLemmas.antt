@@ -64,7 +64,7 @@ module _ (board : Board) (valid : IsValid board) (h : List Event) (run : Run boa
       let there = (split_later board h knew.by r knew.before).there in
       let known = knew_knows board valid h run w r knew in
       let told : was_told board h w r ≡ true = rw (writes, there, known) refl in
-      let whole : has_landed reading.before w ≡ true = (Fresh-run board h valid run).informed w r reading (known_told board valid w h run r told) is_got named in
+      let whole : has_landed reading.before w ≡ true = (Fresh-run board h valid run).informed w r reading (known_told board w h run r told) is_got named in
       let front : Front reading.before h = got_front board h r reading is_got in
       named_lands board reading.before w reading.word valid (front_run board reading.before h front run) writes named whole
 

@@ -12,6 +12,7 @@ use Rattle.board_model.specs.declared.board.Board.{Board}
 use Rattle.board_model.specs.Requests.{op_of}
 use Rattle.board_model.specs.Valid.{IsValid}
 use Rattle.history_model.specs.declared.event.Event.{Event}
+use Rattle.history_model.specs.declared.rule.Rule.TheVariants.{Tagged}
 use Rattle.history_model.specs.Program.{Ending, ended}
 use Rattle.history_model.specs.Words.{Landing, landed}
 use Rattle.history_model.specs.Knowledge.{value_in, Reading, value_of_ending, outcome_in, ends_as, ends_with, has_ended, up_to_end, reading_in, reading_or, last_reading, got, has_landed, is_landing_of, saw_in, saw, stands_after, later, tells, is_write}
@@ -99,7 +100,7 @@ module _ (board : Board) (valid : IsValid board) (w : OpId) (write : WriteOp boa
       let now_shows : Landing → Bool = shows w (aware_of board w h) before in
       let alike : (l : Landing) → LandingBegun board before l → now_shows l ≡ then_shows l = λ l begun. ap (λ b. has_landed before l.op && (same_op l.op w || b)) (same_knows board w l.op before h front run begun) in
       let same : find now_shows landings ≡ find then_shows landings = find_same now_shows then_shows landings
-      (Each-weaker (LandingBegun board before) (λ l. now_shows l ≡ then_shows l) alike landings (LandingsBegun-run board before reading.word (front_run board before h front run))) in
+      (Each-weaker (LandingBegun board before) (λ l. now_shows l ≡ then_shows l) alike landings (LandingsBegun-run Tagged board before reading.word (front_run board before h front run))) in
       let some = any_some then_shows landings is in
       let landing : Landing = some.0 in
       let parts = and_parts (has_landed before landing.op) (same_op landing.op w || knows (aware_of board w before) landing.op) (find_passes then_shows landings landing some.1) in

@@ -15,6 +15,7 @@ use Rattle.history_model.specs.declared.event.By.TheVariants.{Master, Lane as By
 use Rattle.history_model.specs.declared.event.Step.{Step}
 use Rattle.history_model.specs.declared.event.Event.{Event}
 use Rattle.history_model.specs.declared.event.Event.TheVariants.{Act, Arrive}
+use Rattle.history_model.specs.declared.rule.Rule.TheVariants.{Tagged}
 use Rattle.history_model.specs.World.{world_of}
 use Rattle.history_model.specs.Program.{Ending, ended, turn_of}
 use Rattle.history_model.specs.Words.{Landing, landed}
@@ -25,10 +26,9 @@ use Rattle.history_model.proofs.facts.RequestLemmas.{same_op_true, same_op_self}
 use Rattle.law_fresh.specs.Aware.{Aware, is_behind, knows, brings, first_known, shows, aware_of}
 use Rattle.std.proofs.lemmas.Bool.{or_left, or_right}
 use Rattle.std.proofs.Math.Bool.{or-false}
-use Rattle.law_fresh.proofs.Laws.{IsBehind, Begun, Begun-turn, Begun-kept, WorldHas, ends_turn, knew, knows_kept, write_since, since_behind, before_in, or_either}
+use Rattle.law_fresh.proofs.Laws.{IsBehind, Begun, Begun-turn, Begun-kept, WorldHas, ends_turn, knew, knows_kept, write_since, since_behind, before_in, or_either, Names, Entry, items_after, landings_after}
 use Rattle.law_audit.specs.Clocks.{Clocks, own, landing_tells, value_tells, known_after, clocks_of, reaches, taught_by}
 use Rattle.law_fresh.proofs.Laws.{WriteOp, write_op, own_ended}
-use Rattle.law_audit.proofs.NamedLemmas.{Names, Entry, items_after, landings_after}
 
 pub bool_same : (a b : Bool) → (a ≡ true → b ≡ true) → (b ≡ true → a ≡ true) → a ≡ b
 bool_same true true f g = refl
@@ -141,7 +141,7 @@ module _ (board : Board) (valid : IsValid board) (w : OpId) (write : WriteOp boa
       let starts : Bool = reaches ((clocks_of board (e ∷ h)).start o) w in
       let same_start : some ≡ starts = old.known o.master ∙ sym start in
       record {
-        begun = Begun-kept board e h o run begun;
+        begun = Begun-kept Tagged board e h o run begun;
         law = bool_same (now || same_op o w) (starts || reaches (own o) w)
             (λ is. or_either ((starts || reaches (own o) w) ≡ true) now (same_op o w)
             (λ known. or_left starts (reaches (own o) w) (sym same_start ∙ (sym stable ∙ known)))
@@ -157,7 +157,7 @@ module _ (board : Board) (valid : IsValid board) (w : OpId) (write : WriteOp boa
       let stable : knows (aware_of board w (e ∷ h)) q ≡ knows (aware_of board w h) q =
       bool_same (knows (aware_of board w (e ∷ h)) q) (knows (aware_of board w h) q) (knew board w e h q run old.begun) (knows_kept board w e h q) in
       record {
-        begun = Begun-kept board e h q run old.begun;
+        begun = Begun-kept Tagged board e h q run old.begun;
         law = ap (λ b. b || same_op q w) stable ∙ old.law ∙ ap (λ (known : ℕ → ℕ). reaches known w || reaches (own q) w) (sym same);
       }
 
@@ -263,7 +263,7 @@ module _ (board : Board) (valid : IsValid board) (w : OpId) (write : WriteOp boa
       let S : Option OpId → Type 0 = λ found. is_some (first_known found master w taught None) ≡ is_some found in
       (elim (ended e) as P [
         | None ↦ λ _. (elim since as S [ None ↦ refl | Some p ↦ refl ]) ∙ old.known master
-        | Some ending ↦ λ is. ending_law h master taught clock ending run.1 (ends_turn board e h ending run is) (λ o. taught_law e h o old) old
+        | Some ending ↦ λ is. ending_law h master taught clock ending run.1 (ends_turn Tagged board e h ending run is) (λ o. taught_law e h o old) old
       ]) refl
 
   pub Law-run : (h : List Event) → Run board h → Law h
@@ -273,8 +273,8 @@ module _ (board : Board) (valid : IsValid board) (w : OpId) (write : WriteOp boa
       record {
         known = λ master. known_law e h master run old;
         taught = λ o. taught_law e h o old;
-        items = items_after board h (Starts h) (Starts (e ∷ h)) (starts_kept e h run old) old.items e run (entry e h run old);
-        landings = λ word. landings_after board h (Starts h) (Starts (e ∷ h)) (starts_kept e h run old) old.items e word run (entry e h run old) (old.landings word);
+        items = items_after Tagged board h (Starts h) (Starts (e ∷ h)) (starts_kept e h run old) old.items e run (entry e h run old);
+        landings = λ word. landings_after Tagged board h (Starts h) (Starts (e ∷ h)) (starts_kept e h run old) old.items e word run (entry e h run old) (old.landings word);
       }
 
 -- a master knows of a write where its number for the write's author is above the write's

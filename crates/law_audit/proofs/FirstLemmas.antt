@@ -10,6 +10,7 @@ use Rattle.pci_command.specs.declared.op_id.Outcome.{Outcome}
 use Rattle.pci_command.specs.Same.{same_op}
 use Rattle.board_model.specs.declared.board.Board.{Board}
 use Rattle.history_model.specs.declared.event.Event.{Event}
+use Rattle.history_model.specs.declared.rule.Rule.TheVariants.{Tagged}
 use Rattle.history_model.specs.Program.{Ending, ended, turn_of}
 use Rattle.history_model.specs.Words.{Landing, landed}
 use Rattle.history_model.specs.Knowledge.{value_in, Reading, value_of_ending, outcome_in, ends_as, ends_with, has_ended, up_to_end, reading_in, has_landed, stands_after, later}
@@ -48,7 +49,7 @@ end_in board o e g (f ∷ later) run is =
     (elim (is_some (ends_with o f)) as P [
       | true ↦ λ again.
           let second = value_ends o f again in
-          let turn : turn_of board (later ++ e ∷ g) o.master ≡ Some o = ends_turn board f (later ++ e ∷ g) (record { op = o; outcome = second.0 }) run (ends_as_ended o f second.0 second.1) in
+          let turn : turn_of board (later ++ e ∷ g) o.master ≡ Some o = ends_turn Tagged board f (later ++ e ∷ g) (record { op = o; outcome = second.0 }) run (ends_as_ended o f second.0 second.1) in
           let none : times (ends_at_master o) (later ++ e ∷ g) ≡ 0 = turn_not_ended board (later ++ e ∷ g) o run.1 turn in
           let first = value_ends o e is in
           let ends_it : is_some (ends_as o e) ≡ true = ap is_some first.1 in
@@ -98,7 +99,7 @@ module _ (board : Board) (w : OpId) where
       let landing : Landing = some.0 in
       let parts = and_parts (has_landed g landing.op) (same_op landing.op w || knows aware landing.op) (find_passes (shows w aware g) landings landing some.1) in
       or_either (Begun board g w) (same_op landing.op w) (knows aware landing.op)
-      (λ same. subst (Begun board g) (same_op_true landing.op w same) (Each-find (LandingBegun board g) (shows w aware g) landings landing (LandingsBegun-run board g reading.word run) some.1))
+      (λ same. subst (Begun board g) (same_op_true landing.op w same) (Each-find (LandingBegun board g) (shows w aware g) landings landing (LandingsBegun-run Tagged board g reading.word run) some.1))
       (λ known. let first = behind_first aware landing.op known in old landing.op.master first.first first.is) parts.1
 
   record Knowing (g : List Event) : Type 0 where
@@ -130,15 +131,15 @@ module _ (board : Board) (w : OpId) where
                 | None ↦ λ _ k. cc
                 | Some ending ↦ λ ends k.
                     let brought = first_brought m w taught ending p k in
-                    let turn : turn_of board g ending.op.master ≡ Some ending.op = ends_turn board e g ending run ends in
+                    let turn : turn_of board g ending.op.master ≡ Some ending.op = ends_turn Tagged board e g ending run ends in
                     or_either (Begun board (e ∷ g) w) (same_op ending.op w) (is_some (value_in ending.outcome) && taught ending.op)
-                    (λ same. Begun-kept board e g w run (subst (Begun board g) (same_op_true ending.op w same) (Begun-turn board g ending.op turn)))
-                    (λ both. Begun-kept board e g w run (taught_begun e g ending.op run.1 old (and_parts (is_some (value_in ending.outcome)) (taught ending.op) both).1))
+                    (λ same. Begun-kept Tagged board e g w run (subst (Begun board g) (same_op_true ending.op w same) (Begun-turn board g ending.op turn)))
+                    (λ both. Begun-kept Tagged board e g w run (taught_begun e g ending.op run.1 old (and_parts (is_some (value_in ending.outcome)) (taught ending.op) both).1))
                     brought.brings_it
               ]) refl f
-              | Some first ↦ λ was f. Begun-kept board e g w run (old.since m first was)
+              | Some first ↦ λ was f. Begun-kept Tagged board e g w run (old.since m first was)
             ]) refl is;
-        taught = λ o is. Begun-kept board e g w run (taught_begun e g o run.1 old is);
+        taught = λ o is. Begun-kept Tagged board e g w run (taught_begun e g o run.1 old is);
       }
 
   not_before : (p : OpId) → stands_after p w ≡ false → w.index < p.index + 1
@@ -157,7 +158,7 @@ module _ (board : Board) (w : OpId) where
           | None ↦ λ _ k _. cc
           | Some ending ↦ λ ends k none.
               let brought = first_brought w.master w taught ending p k in
-              let turn : turn_of board g ending.op.master ≡ Some ending.op = ends_turn board e g ending run ends in
+              let turn : turn_of board g ending.op.master ≡ Some ending.op = ends_turn Tagged board e g ending run ends in
               let R : Bool → Type 0 = λ b. same_op ending.op w ≡ b → (b || (is_some (value_in ending.outcome) && taught ending.op)) ≡ true → p ≡ w in
               (elim (same_op ending.op w) as R [
                 | true ↦ λ same _. brought.is_first ∙ same_op_true ending.op w same

@@ -69,7 +69,7 @@ module _ (board : Board) (valid : IsValid board) (h : List Event) (run : Run boa
       (λ (told : Told board h w by).
       let mine : Bool = knows (aware_of board w h) by in
       let taught : Bool = (aware_of board w (up_to_end by h)).taught by in
-      let known = (and_parts (is_write board w && is_some (op_of board by)) (mine || taught) (told_known board valid w h run by told)).1 in
+      let known = (and_parts (is_write board w && is_some (op_of board by)) (mine || taught) (told_known board w h run by told)).1 in
       or_either Goal mine taught
       (λ is. knows_later (aware_of board w h) by r is parts.masters parts.after)
       (λ is. on (got_since board w h by run is)) known)

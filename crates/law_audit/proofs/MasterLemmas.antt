@@ -7,6 +7,7 @@ use Rattle.board_model.specs.Requests.{op_of}
 use Rattle.board_model.specs.Valid.{IsValid}
 use Rattle.board_model.proofs.form_laws.Laws.{few_masters}
 use Rattle.history_model.specs.declared.event.Event.{Event}
+use Rattle.history_model.specs.declared.rule.Rule.TheVariants.{Tagged}
 use Rattle.history_model.specs.Program.{Ending, ended, turn_of}
 use Rattle.history_model.specs.Answers.{is_turn}
 use Rattle.history_model.specs.Runs.{Run}
@@ -35,6 +36,6 @@ has_place board o valid there = let number = master_number board o there in omeg
 -- an operation that an event ends is there
 pub ended_there : (board : Board) (e : Event) (h : List Event) (ending : Ending) → Run board (e ∷ h) → ended e ≡ Some ending → is_some (op_of board ending.op) ≡ true
 ended_there board e h ending run is =
-    let turn : turn_of board h ending.op.master ≡ Some ending.op = ends_turn board e h ending run is in
+    let turn : turn_of board h ending.op.master ≡ Some ending.op = ends_turn Tagged board e h ending run is in
     let self : is_turn ending.op (Some ending.op) ≡ true = same_op_self ending.op in
     turn_is_there board h ending.op (subst (λ found. is_turn ending.op found ≡ true) (sym turn) self)

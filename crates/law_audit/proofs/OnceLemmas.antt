@@ -9,6 +9,7 @@ use Rattle.pci_command.specs.declared.op_id.Outcome.{Outcome}
 use Rattle.pci_command.specs.declared.op_id.Outcome.TheVariants.{Value, Written, Aborted, Nobody}
 use Rattle.board_model.specs.declared.board.Board.{Board}
 use Rattle.history_model.specs.declared.event.Event.{Event}
+use Rattle.history_model.specs.declared.rule.Rule.TheVariants.{Tagged}
 use Rattle.history_model.specs.Program.{Ending, ended, turn_of}
 use Rattle.history_model.specs.Knowledge.{Reading, ends_as, has_ended, got}
 use Rattle.history_model.specs.Runs.{Run}
@@ -100,7 +101,7 @@ found_once board (e ∷ h) run =
     let P : List OpId → Type 0 = λ new. Once (xs ++ new) in
     let none : P [] = subst Once (sym (append-nil xs)) old in
     let one : (ending : Ending) → ended e ≡ Some ending → P (ending.op ∷ []) = λ ending is.
-    let turn : turn_of board h ending.op.master ≡ Some ending.op = ends_turn board e h ending run is in
+    let turn : turn_of board h ending.op.master ≡ Some ending.op = ends_turn Tagged board e h ending run is in
     let count = turn_not_ended board h ending.op run.1 turn in
     let apart : (y : OpId) → has_ended h y ≡ true → ending.op ≡ y → ⊥ = λ y ended_it same.
     let counts = ended_counts ending.op h (subst (λ o. has_ended h o ≡ true) (sym same) ended_it) in

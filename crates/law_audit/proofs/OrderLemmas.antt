@@ -10,6 +10,7 @@ use Rattle.board_model.specs.declared.board.Board.{Board}
 use Rattle.board_model.specs.Ways.{Dword}
 use Rattle.board_model.specs.Valid.{IsValid}
 use Rattle.history_model.specs.declared.event.Event.{Event}
+use Rattle.history_model.specs.declared.rule.Rule.TheVariants.{Tagged}
 use Rattle.history_model.specs.Program.{Ending, ended, turn_of}
 use Rattle.history_model.specs.Words.{Landing, landed}
 use Rattle.history_model.specs.Knowledge.{stands_after, is_write}
@@ -61,7 +62,7 @@ module _ (board : Board) (valid : IsValid board) (w v : OpId) (w_writes : is_wri
       let taught : OpId → Bool = (aware_of board w (e ∷ h)).taught in
       let next_is : (aware_of board w (e ∷ h)).since r.master ≡ first_known since r.master w taught (Some ending) = ap (λ found. first_known since r.master w taught found) is in
       let some : is_some (first_known since r.master w taught (Some ending)) ≡ true = sym (ap is_some next_is) ∙ both_known (e ∷ h) r.master run there in
-      let turn : turn_of board h r.master ≡ Some ending.op = subst (λ n. turn_of board h n ≡ Some ending.op) mine (ends_turn board e h ending run is) in
+      let turn : turn_of board h r.master ≡ Some ending.op = subst (λ n. turn_of board h n ≡ Some ending.op) mine (ends_turn Tagged board e h ending run is) in
       let P : Option OpId → Type 0 = λ found. since ≡ found → is_some (first_known found r.master w taught (Some ending)) ≡ true → is_behind (first_known found r.master w taught (Some ending)) r ≡ true in
       ap (λ found. is_behind found r) next_is
       ∙ (elim since as P [

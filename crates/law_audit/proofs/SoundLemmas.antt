@@ -11,6 +11,7 @@ use Rattle.board_model.specs.declared.board.Board.{Board}
 use Rattle.board_model.specs.Requests.{op_of}
 use Rattle.board_model.specs.Valid.{IsValid}
 use Rattle.history_model.specs.declared.event.Event.{Event}
+use Rattle.history_model.specs.declared.rule.Rule.TheVariants.{Tagged}
 use Rattle.history_model.specs.Program.{Ending, ended}
 use Rattle.history_model.specs.Words.{Landing, landed}
 use Rattle.history_model.specs.Knowledge.{Reading, got, is_write}
@@ -95,7 +96,7 @@ module _ (board : Board) (valid : IsValid board) (h : List Event) (run : Run boa
     run_now = front_run board now h front run
 
     begun : Begun board now r
-    begun = Begun-kept board e g r run_now (Begun-turn board g r (ends_turn board e g ending run_now ends))
+    begun = Begun-kept Tagged board e g r run_now (Begun-turn board g r (ends_turn Tagged board e g ending run_now ends))
 
     there : is_some (op_of board r) ≡ true
     there = ended_there board e g ending run_now ends

@@ -14,6 +14,7 @@ use Rattle.history_model.specs.declared.event.By.TheVariants.{Master, Lane as By
 use Rattle.history_model.specs.declared.event.Step.{Step}
 use Rattle.history_model.specs.declared.event.Event.{Event}
 use Rattle.history_model.specs.declared.event.Event.TheVariants.{Act, Arrive}
+use Rattle.history_model.specs.declared.rule.Rule.TheVariants.{Tagged}
 use Rattle.history_model.specs.World.{world_of}
 use Rattle.history_model.specs.Program.{ending_of, master_outcome, present, next_op, next_try, meets, follows_in, follows, turn_after, turn_of}
 use Rattle.history_model.specs.Knowledge.{stands_after, is_land_of, is_land_step, has_landed}
@@ -21,9 +22,8 @@ use Rattle.history_model.specs.Runs.{Run}
 use Rattle.history_model.proofs.facts.WantsLemmas.{wants-turn}
 use Rattle.history_model.proofs.facts.RequestLemmas.{same_op_true, same_op_self}
 use Rattle.std.proofs.lemmas.Bool.{and_parts}
-use Rattle.law_fresh.proofs.Laws.{Begun, Begun-turn, Begun-kept, WorldHas, or_either}
+use Rattle.law_fresh.proofs.Laws.{Begun, Begun-turn, Begun-kept, WorldHas, or_either, Names, Entry, items_after, presents_named}
 use Rattle.law_audit.specs.Clocks.{Clocks, known_after, taught_after, clocks_of}
-use Rattle.law_audit.proofs.NamedLemmas.{Names, Entry, items_after, presents_named}
 
 -- What follows an operation stands behind it.
 
@@ -95,14 +95,14 @@ module _ (board : Board) where
   act_settled on Master o step place h q run old =
       let e : Event = Act on Master o step place in
       record {
-        begun = Begun-kept board e h q run old.begun;
+        begun = Begun-kept Tagged board e h q run old.begun;
         start = λ turn author. ending_settled h o (master_outcome step) (taught_after board (clocks_of board h) h e) q author (wants-turn board h on o run.0.0) old.begun (λ _ was. old.start was author) turn;
       }
-  act_settled on (ByLane k) o step place h q run old = record { begun = Begun-kept board (Act on (ByLane k) o step place) h q run old.begun; start = λ turn author. old.start turn author }
+  act_settled on (ByLane k) o step place h q run old = record { begun = Begun-kept Tagged board (Act on (ByLane k) o step place) h q run old.begun; start = λ turn author. old.start turn author }
 
   kept : (e : Event) (h : List Event) → Run board (e ∷ h) → (q : OpId) → Settled h q → Settled (e ∷ h) q
   kept (Act on by o step place) h run q old = act_settled on by o step place h q run old
-  kept (Arrive lane mark) h run q old = record { begun = Begun-kept board (Arrive lane mark) h q run old.begun; start = λ turn author. old.start turn author }
+  kept (Arrive lane mark) h run q old = record { begun = Begun-kept Tagged board (Arrive lane mark) h q run old.begun; start = λ turn author. old.start turn author }
 
   entry : (e : Event) (h : List Event) → Run board (e ∷ h) → Entry (Settled (e ∷ h)) e
   entry (Act on Master o step place) h run =
@@ -111,7 +111,7 @@ module _ (board : Board) where
       let begun : Begun board h o = Begun-turn board h o turn in
       let self : same_op o o ≡ true = same_op_self o in
       record {
-        begun = Begun-kept board e h o run begun;
+        begun = Begun-kept Tagged board e h o run begun;
         start = λ next author. ending_settled h o (master_outcome step) (taught_after board (clocks_of board h) h e) o author turn begun (λ other _. let f : true ≡ false = sym self ∙ other in cc) next;
       }
   entry (Act on (ByLane k) o step place) h run = tt
@@ -119,12 +119,12 @@ module _ (board : Board) where
 
   items_settled : (h : List Event) → Run board h → WorldHas (Names (Settled h)) (world_of board h)
   items_settled [] run = λ lane. (tt, tt)
-  items_settled (e ∷ h) run = items_after board h (Settled h) (Settled (e ∷ h)) (kept e h run) (items_settled h run.1) e run (entry e h run)
+  items_settled (e ∷ h) run = items_after Tagged board h (Settled h) (Settled (e ∷ h)) (kept e h run) (items_settled h run.1) e run (entry e h run)
 
   lands_settled : (e : Event) (h : List Event) (w : OpId) → Run board (e ∷ h) → is_land_of w e ≡ true → Settled (e ∷ h) w
   lands_settled (Act on by o step place) h w run is =
       let e : Event = Act on by o step place in
-      let named : Settled (e ∷ h) o = presents_named board h (Settled h) (Settled (e ∷ h)) (kept e h run) (items_settled h run.1) on by o step place run (entry e h run) in
+      let named : Settled (e ∷ h) o = presents_named Tagged board h (Settled h) (Settled (e ∷ h)) (kept e h run) (items_settled h run.1) on by o step place run (entry e h run) in
       let same : same_op o w ≡ true = (and_parts (same_op o w) (is_land_step step) is).0 in
       subst (Settled (e ∷ h)) (same_op_true o w same) named
   lands_settled (Arrive lane mark) h w run is = cc

@@ -23,6 +23,7 @@ use Rattle.history_model.specs.declared.event.Step.TheVariants.{Land, Part, Read
 use Rattle.history_model.specs.declared.event.Event.{Event}
 use Rattle.history_model.specs.declared.event.Event.TheVariants.{Act, Arrive}
 use Rattle.history_model.specs.declared.item.Carried.{Carried}
+use Rattle.history_model.specs.declared.rule.Rule.TheVariants.{Tagged}
 use Rattle.history_model.specs.World.{world_of}
 use Rattle.history_model.specs.Answers.{wants, presents}
 use Rattle.history_model.specs.Program.{turn_of}
@@ -201,7 +202,7 @@ ended_before board (e ∷ h) w n writes run ended_it masters before =
     (elim (ends_as n e) as P [
       | None ↦ λ _ older. or_right (is_some (ends_as w e)) (has_ended h w) (ended_before board h w n writes run.1 older masters before)
       | Some outcome ↦ λ ends _.
-          let turn : turn_of board h n.master ≡ Some n = ends_turn board e h (record { op = n; outcome = outcome }) run (ends_as_ended n e outcome ends) in
+          let turn : turn_of board h n.master ≡ Some n = ends_turn Tagged board e h (record { op = n; outcome = outcome }) run (ends_as_ended n e outcome ends) in
           let other : same_op n w ≡ false = grind (arith, nat_tests) in
           let old = own_ended board w (write_op board w writes) h n run.1 turn (sym masters) (omega (arith, before)) other in
           or_right (is_some (ends_as w e)) (has_ended h w) old

@@ -1,18 +1,15 @@
 -- What an operation that began knows of a write it knows ever after, and nothing more.
-use Rattle.std.proofs.Common.{◌≡◌, ℕ, Bool, true, false, ◌&&◌, ◌==◌, cond, eqb-true, List, ◌∷◌, Option, Some, None, is_some, refl, sym, ap, subst, ◌∙◌}
+use Rattle.std.proofs.Common.{◌≡◌, ℕ, Bool, true, false, ◌&&◌, ◌==◌, cond, eqb-true, List, ◌∷◌, Option, Some, None, is_some, refl, sym, subst, ◌∙◌}
 use Rattle.pci_command.specs.declared.op_id.OpId.{OpId}
-use Rattle.pci_command.specs.declared.op_id.Outcome.{Outcome}
 use Rattle.board_model.specs.declared.board.Board.{Board}
-use Rattle.history_model.specs.declared.event.By.TheVariants.{Master, Lane as ByLane}
 use Rattle.history_model.specs.declared.event.Event.{Event}
-use Rattle.history_model.specs.declared.event.Event.TheVariants.{Act, Arrive}
-use Rattle.history_model.specs.Program.{Ending, ending_of, ended, master_outcome, turn_of}
+use Rattle.history_model.specs.declared.rule.Rule.TheVariants.{Tagged}
+use Rattle.history_model.specs.Program.{Ending, ended, turn_of}
 use Rattle.history_model.specs.Knowledge.{stands_after}
 use Rattle.history_model.specs.Runs.{Run}
 use Rattle.std.proofs.lemmas.Bool.{and_parts}
 use Rattle.law_fresh.specs.Aware.{Aware, is_behind, knows, brings, first_known, taught_after, aware_of}
-use Rattle.law_fresh.proofs.BehindLemmas.{Begun}
-use Rattle.history_model.proofs.facts.WantsLemmas.{wants-turn}
+use Rattle.law_fresh.proofs.BehindLemmas.{Begun, ends_turn}
 
 -- what an ending brings to a master
 pub record Brought (master : ℕ) (w : OpId) (taught : OpId → Bool) (ending : Ending) (first : OpId) : Type 0 where
@@ -33,24 +30,6 @@ first_brought master w taught ending first is =
       | false ↦ λ _ e. cc
     ]) refl is
 
--- the turn of a master whose operation an event ends
-pub ends_turn : (board : Board) (e : Event) (h : List Event) (ending : Ending) → Run board (e ∷ h) → ended e ≡ Some ending → turn_of board h ending.op.master ≡ Some ending.op
-ends_turn board (Act on Master o step place) h ending run is =
-    let P : Option Outcome → Type 0 = λ given. ending_of o given ≡ Some ending → turn_of board h ending.op.master ≡ Some ending.op in
-    (elim (master_outcome step) as P [
-      | None ↦ λ f. cc
-      | Some outcome ↦ λ f.
-          let G : OpId → Type 0 = λ p. turn_of board h p.master ≡ Some p in
-          let same : o ≡ ending.op = ap op_or_self f in
-          subst G same (wants-turn board h on o run.0.0)
-    ]) is
-  where
-    op_or_self : Option Ending → OpId
-    op_or_self None = o
-    op_or_self (Some other) = other.op
-ends_turn board (Act on (ByLane lane) o step place) h ending run is = cc
-ends_turn board (Arrive lane mark) h ending run is = cc
-
 -- where an operation that began knows of the write after an event, it knew before
 pub knew : (board : Board) (w : OpId) (e : Event) (h : List Event) (q : OpId) → Run board (e ∷ h) → Begun board h q → knows (aware_of board w (e ∷ h)) q ≡ true → knows (aware_of board w h) q ≡ true
 knew board w e h q run begun is =
@@ -66,7 +45,7 @@ knew board w e h q run begun is =
           | None ↦ λ _ _ g. g
           | Some first ↦ λ some ends g.
               let brought = first_brought q.master w taught ending first some in
-              let turn : turn_of board h q.master ≡ Some ending.op = subst (λ m. turn_of board h m ≡ Some ending.op) brought.of_master (ends_turn board e h ending run ends) in
+              let turn : turn_of board h q.master ≡ Some ending.op = subst (λ m. turn_of board h m ≡ Some ending.op) brought.of_master (ends_turn Tagged board e h ending run ends) in
               let none : stands_after ending.op q ≡ false = begun ending.op turn in
               let behind : stands_after ending.op q ≡ true = subst (λ p. stands_after p q ≡ true) brought.is_first g in
               sym none ∙ behind

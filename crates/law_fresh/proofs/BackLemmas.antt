@@ -14,10 +14,10 @@ use Rattle.board_model.specs.declared.op.Op.{Op}
 use Rattle.board_model.specs.declared.board.Board.{Board}
 use Rattle.board_model.specs.Requests.{op_of, request_of, reads, reads_in}
 use Rattle.board_model.specs.Ways.{Dword}
-use Rattle.board_model.specs.Valid.{IsValid}
 use Rattle.history_model.specs.declared.event.Step.{Step}
 use Rattle.history_model.specs.declared.event.Event.{Event}
 use Rattle.history_model.specs.declared.event.Event.TheVariants.{Act, Arrive}
+use Rattle.history_model.specs.declared.rule.Rule.TheVariants.{Tagged}
 use Rattle.history_model.specs.Program.{Ending, ended, turn_of}
 use Rattle.history_model.specs.Words.{Landing, through, landings_of, landings_by, brought, landed}
 use Rattle.history_model.specs.Knowledge.{value_in, Reading, value_of_ending, outcome_in, ends_as, ends_with, has_ended, up_to_end, reading_in, reading_or, last_reading, got, has_landed, is_landing_of, saw_in, saw, stands_after, later, tells, Chain, one, more, is_write, Told}
@@ -27,14 +27,15 @@ use Rattle.std.proofs.lemmas.Bool.{and_parts, or_left, or_right}
 use Rattle.law_fresh.specs.Aware.{Aware, is_behind, knows, shows, shown, first_known, taught_by, taught_after, aware_of}
 use Rattle.law_fresh.specs.Told.{was_told}
 use Rattle.law_fresh.proofs.ListLemmas.{or_either}
-use Rattle.law_fresh.proofs.BegunLemmas.{IsOf, of_of}
-use Rattle.law_fresh.proofs.AwareLemmas.{first_brought, ends_turn}
+use Rattle.law_fresh.proofs.AwareLemmas.{first_brought}
 use Rattle.law_fresh.proofs.SinceLemmas.{ends_as_ended}
 use Rattle.law_fresh.proofs.ToldLemmas.{Front, front_run, front_end, before_in, told_knows}
 use Rattle.history_model.proofs.facts.RequestLemmas.{same_op_true, same_op_self, request_is_of}
 use Rattle.law_lanes.proofs.order.Laws.{turn_not_ended}
 use Rattle.list_facts.proofs.AnyLemmas.{any_some, found_any}
 use Rattle.law_fresh.proofs.reads.Laws.{no_reading}
+use Rattle.law_fresh.proofs.BehindLemmas.{ends_turn}
+use Rattle.law_fresh.proofs.NamedLemmas.{IsOf, of_of}
 
 -- An operation of which a data phase landed is there.
 
@@ -85,7 +86,7 @@ ends_turn_of board e h o run is =
     let P : Option Outcome → Type 0 = λ given. ends_as o e ≡ given → is_some given ≡ true → turn_of board h o.master ≡ Some o in
     (elim (ends_as o e) as P [
       | None ↦ λ _ f. cc
-      | Some outcome ↦ λ some _. ends_turn board e h (record { op = o; outcome = outcome }) run (ends_as_ended o e outcome some)
+      | Some outcome ↦ λ some _. ends_turn Tagged board e h (record { op = o; outcome = outcome }) run (ends_as_ended o e outcome some)
     ]) refl is
 
 end_in : (board : Board) (o : OpId) (e : Event) (g later : List Event) → Run board (later ++ e ∷ g) → is_some (ends_with o e) ≡ true → up_to_end o (later ++ e ∷ g) ≡ e ∷ g
@@ -106,14 +107,14 @@ end_at : (board : Board) (o : OpId) (e : Event) (g h : List Event) → Run board
 end_at board o e g h run front is =
     subst (λ k. up_to_end o k ≡ e ∷ g) front.is (end_in board o e g front.later (subst (Run board) (sym front.is) run) is)
 
-ended_later : (o : OpId) (later g : List Event) → has_ended g o ≡ true → has_ended (later ++ g) o ≡ true
+pub ended_later : (o : OpId) (later g : List Event) → has_ended g o ≡ true → has_ended (later ++ g) o ≡ true
 ended_later o [] g is = is
 ended_later o (e ∷ later) g is = or_right (is_some (ends_as o e)) (has_ended (later ++ g) o) (ended_later o later g is)
 
 pub ended_front : (o : OpId) (g h : List Event) → Front g h → has_ended g o ≡ true → has_ended h o ≡ true
 ended_front o g h front is = subst (λ k. has_ended k o ≡ true) front.is (ended_later o front.later g is)
 
-module _ (board : Board) (valid : IsValid board) (w : OpId) (h : List Event) (run : Run board h) where
+module _ (board : Board) (w : OpId) (h : List Event) (run : Run board h) where
   -- the write, or told of it by a chain
   abbrev Linked : OpId → Type 0
   Linked p = (p ≡ w) ⊎ Chain board h w p
@@ -299,6 +300,6 @@ module _ (board : Board) (valid : IsValid board) (w : OpId) (h : List Event) (ru
   pub told_known : (r : OpId) → Told board h w r → was_told board h w r ≡ true
   told_known r told =
       let there = chain_there w r told.1 in
-      let known = told_knows board valid w h run r told.1 in
+      let known = told_knows board w h run r told.1 in
       let write = told.0 in
       rw (write, there) known

@@ -10,9 +10,10 @@ use Rattle.board_model.specs.Requests.{op_of}
 use Rattle.history_model.specs.declared.event.By.TheVariants.{Master, Lane as ByLane}
 use Rattle.history_model.specs.declared.event.Event.{Event}
 use Rattle.history_model.specs.declared.event.Event.TheVariants.{Act, Arrive}
-use Rattle.history_model.specs.Program.{ending_of, master_outcome, present, next_op, next_try, meets, follows_op, follows_in, follows, turn_after, turn_of}
+use Rattle.history_model.specs.declared.rule.Rule.{Rule}
 use Rattle.history_model.specs.Knowledge.{stands_after}
-use Rattle.history_model.specs.Runs.{Run}
+use Rattle.history_model.specs.Runs.{RunBy}
+use Rattle.history_model.specs.Program.{Ending, ending_of, ended, master_outcome, present, next_op, next_try, meets, follows_op, follows_in, follows, turn_after, turn_of}
 use Rattle.history_model.proofs.facts.WantsLemmas.{wants-turn}
 
 pub behind_self : (p : OpId) → stands_after p p ≡ false
@@ -71,24 +72,72 @@ follows_begun : (p q : OpId) (next : Option OpId) → IsBehind p next → stands
 follows_begun p q None behind none t is = cc
 follows_begun p q (Some next) behind none t is = let same : next ≡ t = cc in not_behind p t q (subst (λ n. stands_after p n ≡ true) same behind) none
 
--- the turn of a master whose turn an event ended, and of any other
-ending_begun : (board : Board) (p : OpId) (outcome : Option Outcome) (turn : ℕ → Option OpId) (q : OpId) → turn p.master ≡ Some p → ((t : OpId) → turn q.master ≡ Some t → stands_after t q ≡ false)
-    → (t : OpId) → turn_after board q.master (turn q.master) (ending_of p outcome) ≡ Some t → stands_after t q ≡ false
-ending_begun board p None turn q is_turn old t is = old t is
-ending_begun board p (Some outcome) turn q is_turn old t is =
-    let next : Option OpId = follows board (record { op = p; outcome = outcome }) in
+-- what is its master's turn as an event ends it
+pub ends_turn : (rule : Rule) (board : Board) (e : Event) (h : List Event) (ending : Ending) → RunBy rule board (e ∷ h) → ended e ≡ Some ending → turn_of board h ending.op.master ≡ Some ending.op
+ends_turn rule board (Act on Master o step place) h ending run is =
+    let P : Option Outcome → Type 0 = λ given. ending_of o given ≡ Some ending → turn_of board h ending.op.master ≡ Some ending.op in
+    (elim (master_outcome step) as P [
+      | None ↦ λ f. cc
+      | Some outcome ↦ λ f.
+          let G : OpId → Type 0 = λ p. turn_of board h p.master ≡ Some p in
+          let same : o ≡ ending.op = ap op_or_self f in
+          subst G same (wants-turn board h on o run.0.0)
+    ]) is
+  where
+    op_or_self : Option Ending → OpId
+    op_or_self None = o
+    op_or_self (Some other) = other.op
+ends_turn rule board (Act on (ByLane lane) o step place) h ending run is = cc
+ends_turn rule board (Arrive lane mark) h ending run is = cc
+
+-- the turn of a master whose turn was ended, and of any other
+ending_begun : (board : Board) (turn : ℕ → Option OpId) (found : Option Ending) (q : OpId) → ((ending : Ending) → found ≡ Some ending → turn ending.op.master ≡ Some ending.op)
+    → ((t : OpId) → turn q.master ≡ Some t → stands_after t q ≡ false) → (t : OpId) → turn_after board q.master (turn q.master) found ≡ Some t → stands_after t q ≡ false
+ending_begun board turn None q ends old t is = old t is
+ending_begun board turn (Some ending) q ends old t is =
+    let p : OpId = ending.op in
+    let next : Option OpId = follows board ending in
     let P : Bool → Type 0 = λ b. eqb p.master q.master ≡ b → cond b next (turn q.master) ≡ Some t → stands_after t q ≡ false in
     (elim (eqb p.master q.master) as P [
       | true ↦ λ same e.
           let masters : p.master ≡ q.master = eqb-true p.master q.master same in
-          let was : turn q.master ≡ Some p = ap turn (sym masters) ∙ is_turn in
-          follows_begun p q next (follows_behind board p outcome) (old p was) t e
+          let was : turn q.master ≡ Some p = ap turn (sym masters) ∙ ends ending refl in
+          follows_begun p q next (follows_behind board p ending.outcome) (old p was) t e
       | false ↦ λ _ e. old t e
     ]) refl is
 
 -- an operation that began has begun ever after
-pub Begun-kept : (board : Board) (e : Event) (h : List Event) (q : OpId) → Run board (e ∷ h) → Begun board h q → Begun board (e ∷ h) q
-Begun-kept board (Act on Master p step place) h q run old =
-    ending_begun board p (master_outcome step) (turn_of board h) q (wants-turn board h on p run.0.0) old
-Begun-kept board (Act on (ByLane lane) p step place) h q run old = old
-Begun-kept board (Arrive lane mark) h q run old = old
+pub Begun-kept : (rule : Rule) (board : Board) (e : Event) (h : List Event) (q : OpId) → RunBy rule board (e ∷ h) → Begun board h q → Begun board (e ∷ h) q
+Begun-kept rule board e h q run old = ending_begun board (turn_of board h) (ended e) q (λ ending is. ends_turn rule board e h ending run is) old
+
+-- what stands before another stands before all that follows it
+behind_more : (p : OpId) (q : OpId) (next : Option OpId) → stands_after p q ≡ true → IsBehind q next → IsBehind p next
+behind_more p q None first behind = tt
+behind_more p q (Some t) first behind = behind_next p q t first behind
+
+-- what stands before a turn stands before what comes behind it
+ending_behind : (board : Board) (p : OpId) (master : ℕ) (found : Option Ending) (turn : ℕ → Option OpId) → ((ending : Ending) → found ≡ Some ending → turn ending.op.master ≡ Some ending.op)
+    → IsBehind p (turn master) → IsBehind p (turn_after board master (turn master) found)
+ending_behind board p master None turn ends old = old
+ending_behind board p master (Some ending) turn ends old =
+    let o : OpId = ending.op in
+    let next : Option OpId = follows board ending in
+    let P : Bool → Type 0 = λ b. eqb o.master master ≡ b → IsBehind p (cond b next (turn master)) in
+    (elim (eqb o.master master) as P [
+      | true ↦ λ same.
+          let masters : o.master ≡ master = eqb-true o.master master same in
+          let was : turn master ≡ Some o = ap turn (sym masters) ∙ ends ending refl in
+          behind_more p o next (subst (IsBehind p) was old) (follows_behind board o ending.outcome)
+      | false ↦ λ _. old
+    ]) refl
+
+pub event_behind : (rule : Rule) (board : Board) (e : Event) (h : List Event) (p : OpId) (master : ℕ) → RunBy rule board (e ∷ h) → IsBehind p (turn_of board h master) → IsBehind p (turn_of board (e ∷ h) master)
+event_behind rule board e h p master run old = ending_behind board p master (ended e) (turn_of board h) (λ ending is. ends_turn rule board e h ending run is) old
+
+-- the turn after an ending stands behind what ended
+pub ended_behind : (board : Board) (e : Event) (h : List Event) (ending : Ending) → ended e ≡ Some ending → IsBehind ending.op (turn_of board (e ∷ h) ending.op.master)
+ended_behind board e h ending is =
+    let F : Option Ending → Type 0 = λ found. IsBehind ending.op (turn_after board ending.op.master (turn_of board h ending.op.master) found) in
+    let self : eqb ending.op.master ending.op.master ≡ true = grind (arith, nat_tests) in
+    let there : F (Some ending) = rw self (follows_behind board ending.op ending.outcome) in
+    subst F (sym is) there

@@ -30,6 +30,7 @@ use Rattle.history_model.specs.declared.event.Event.TheVariants.{Act, Arrive}
 use Rattle.history_model.specs.declared.item.Carried.{Carried}
 use Rattle.history_model.specs.declared.item.Carried.TheVariants.{Post, Ask, Done, Room, Gone}
 use Rattle.history_model.specs.declared.item.Answer.TheVariants.{Gives}
+use Rattle.history_model.specs.declared.rule.Rule.TheVariants.{Tagged}
 use Rattle.history_model.specs.Lanes.{is_done_for}
 use Rattle.history_model.specs.World.{lane_outcome, world_of}
 use Rattle.history_model.specs.Program.{master_outcome}
@@ -221,11 +222,11 @@ module _ (board : Board) (valid : IsValid board) (w : OpId) (op : Op) (is_op : o
   event_says : (e : Event) (h : List Event) → Run board (e ∷ h) → Says h → Says (e ∷ h)
   event_says (Act on by o step place) h run says =
       let e : Event = Act on by o step place in
-      act_has (SaysLanded w (has_landed (e ∷ h) w)) tt (λ slot. tt) board on by o step place (world_of board h)
+      act_has (SaysLanded w (has_landed (e ∷ h) w)) tt (λ slot. tt) Tagged board on by o step place (world_of board h)
       (enters_says (has_landed (e ∷ h) w) o step) (replies_by_says on o step place by h run says) (says_kept e h says)
   event_says (Arrive lane mark) h run says =
       let e : Event = Arrive lane mark in
-      arrival_has (SaysLanded w (has_landed (e ∷ h) w)) tt (λ slot. tt) board lane mark (world_of board h) (says_kept e h says)
+      arrival_has (SaysLanded w (has_landed (e ∷ h) w)) tt (λ slot. tt) Tagged board lane mark (world_of board h) (says_kept e h says)
 
   Says-run : (h : List Event) → Run board h → Says h
   Says-run [] run = λ lane. (tt, tt)

@@ -25,6 +25,7 @@ use Rattle.history_model.specs.declared.event.Step.{Step}
 use Rattle.history_model.specs.declared.event.Step.TheVariants.{Land, Part, Read, Accept, Latch, Take, Stall, MasterAbort, TargetAbort}
 use Rattle.history_model.specs.declared.event.Event.{Event}
 use Rattle.history_model.specs.declared.event.Event.TheVariants.{Act, Arrive}
+use Rattle.history_model.specs.declared.rule.Rule.TheVariants.{Tagged}
 use Rattle.history_model.specs.World.{world_of}
 use Rattle.history_model.specs.Words.{Landing, landed}
 use Rattle.history_model.specs.Knowledge.{Reading, reading_of, reading_by, reading_in, up_to_end, got, has_landed, is_landing_of, Chain, Told, words_on, words_named, Fresh}
@@ -149,12 +150,12 @@ module _ (board : Board) (valid : IsValid board) (w : OpId) (op : Op) (covers : 
       let run_e : Run board (read.event ∷ before) = front_run board (read.event ∷ before) h front_e run in
       let informed = Informed-run board valid w op covers before run_e.1 in
       let on_bus = target_on board on (request_on op on) reading.word.target claims in
-      let known = told_knows board valid w h run r chain in
+      let known = told_knows board w h run r chain in
       let Goal : Type 0 = has_landed before w ≡ true in
       or_either Goal (knows (aware_of board w h) r) ((aware_of board w upto).taught r)
       (λ knows_it.
       let at = reads_on board before read.event r reading run_e read.is_reading in
-      let known_then : knows (aware_of board w before) r ≡ true = knew_before board w r before h front run (Begun-wanted board before at.on at.by r run_e.1 at.wanted) knows_it in
+      let known_then : knows (aware_of board w before) r ≡ true = knew_before board w r before h front run (Begun-wanted Tagged board before at.on at.by r run_e.1 at.wanted) knows_it in
       let P : Bool → Type 0 = λ b. same_op r w ≡ b → b ≡ false in
       let other : same_op r w ≡ false = (elim (same_op r w) as P [
         | true ↦ λ same.

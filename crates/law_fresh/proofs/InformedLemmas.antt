@@ -26,6 +26,7 @@ use Rattle.history_model.specs.declared.event.Event.TheVariants.{Act, Arrive}
 use Rattle.history_model.specs.declared.item.Carried.{Carried}
 use Rattle.history_model.specs.declared.item.Answer.TheVariants.{Gives}
 use Rattle.history_model.specs.declared.item.Carried.TheVariants.{Post, Ask, Done, Room, Gone}
+use Rattle.history_model.specs.declared.rule.Rule.TheVariants.{Tagged}
 use Rattle.history_model.specs.Lanes.{is_of, empty_lane}
 use Rattle.history_model.specs.World.{World, at_place, lane_outcome, leaves, world_of}
 use Rattle.history_model.specs.Program.{Ending, ending_of, ended, master_outcome}
@@ -40,7 +41,7 @@ use Rattle.law_fresh.specs.Cover.{items, is_on_lane, covered, Informed}
 use Rattle.law_fresh.proofs.ListLemmas.{or_either}
 use Rattle.law_fresh.proofs.SafeLemmas.{Safe-weaker}
 use Rattle.law_fresh.proofs.BehindLemmas.{Begun}
-use Rattle.law_fresh.proofs.BegunLemmas.{ItemBegun, ItemsBegun-run, Begun-wanted, IsOf, LandingBegun, LandingsBegun-run, brought_of, presented_at}
+use Rattle.law_fresh.proofs.BegunLemmas.{ItemBegun, ItemsBegun-run, Begun-wanted, LandingBegun, LandingsBegun-run}
 use Rattle.law_fresh.proofs.AwareLemmas.{first_brought, knew}
 use Rattle.law_fresh.proofs.LaneLemmas.{WorldSafe, EntersSafe, enters_safe, leaves_safe, arrives_safe}
 use Rattle.law_fresh.proofs.OnLaneLemmas.{place_on}
@@ -48,6 +49,7 @@ use Rattle.law_fresh.proofs.SourceLemmas.{Covers, agent_of, source}
 use Rattle.law_fresh.proofs.TargetLemmas.{answers_on}
 use Rattle.law_fresh.proofs.TaughtLemmas.{back_ends, taught_source}
 use Rattle.law_fresh.proofs.StillLemmas.{Still, event_still}
+use Rattle.law_fresh.proofs.NamedLemmas.{IsOf, brought_of, presented_at}
 use Rattle.history_model.proofs.facts.AnswerLemmas.{AtLane, answered_at}
 use Rattle.history_model.proofs.facts.BridgeLemmas.{lane_back_back}
 use Rattle.law_lanes.proofs.Laws.{claim_starts, Quiet-empty, run_no_bridge, WellFormed-numbers}
@@ -69,7 +71,7 @@ step_ends board k o TargetAbort is = (_, refl)
 -- a lane on which something stands is of a bridge
 pub lane_bridge : (board : Board) (h : List Event) (on : ℕ) (k : BridgeLane) (o : OpId) → Run board h → wants board h on (ByLane k) o ≡ true → (bridge : Bridge) × (bridge_to board k.bus ≡ Some bridge)
 lane_bridge board h on k o run wanted =
-    let here = (presented_at board h on k o wanted).1 in
+    let here = (presented_at Tagged board h on k o wanted).1 in
     let P : Option Bridge → Type 0 = λ found. bridge_to board k.bus ≡ found → (bridge : Bridge) × (bridge_to board k.bus ≡ Some bridge) in
     (elim (bridge_to board k.bus) as P [
       | None ↦ λ none.
@@ -113,7 +115,7 @@ module _ (board : Board) (valid : IsValid board) (w : OpId) (op : Op) (covers : 
     before_safe : WorldSafe w (bears w now) refl (λ slot. refl) sure (world_of board h)
     before_safe lane =
         let state = world_of board h lane in
-        let begun = ItemsBegun-run board h run.1 lane in
+        let begun = ItemsBegun-run Tagged board h run.1 lane in
         let both = Each-both (ItemBegun board h) (Still board h e) (items state)
         (Each-append (ItemBegun board h) state.standing state.flight begun.1 begun.0) (event_still board valid h e run lane) in
         Safe-weaker w (bears w was) (bears w now) (covered board w op h (end_of board lane)) (sure lane) (stays (end_of board lane)) (items state)
@@ -126,7 +128,7 @@ module _ (board : Board) (valid : IsValid board) (w : OpId) (op : Op) (covers : 
     old_landing word v target is_target other lands known =
         let some = any_some (is_landing_of v) (landed board h word) lands in
         let one : some.0.op ≡ v = same_op_true some.0.op v (find_passes (is_landing_of v) (landed board h word) some.0 some.1) in
-        let begun : Begun board h v = subst (Begun board h) one (Each-find (LandingBegun board h) (is_landing_of v) (landed board h word) some.0 (LandingsBegun-run board h word run.1) some.1) in
+        let begun : Begun board h v = subst (Begun board h) one (Each-find (LandingBegun board h) (is_landing_of v) (landed board h word) some.0 (LandingsBegun-run Tagged board h word run.1) some.1) in
         stays target.bus (old.landings word v target is_target other lands (knew board w e h v run begun known))
 
   module _ (on : ℕ) (by : By) (o : OpId) (step : Step) (place : Place) (h : List Event) (run : Run board (Act on by o step place ∷ h)) (old : Informed board w op h) where
@@ -141,7 +143,7 @@ module _ (board : Board) (valid : IsValid board) (w : OpId) (op : Op) (covers : 
 
     -- where the operation knows of the write, its bus was covered
     knows_source : same_op o w ≡ false → knows (aware_of board w (e ∷ h)) o ≡ true → covered board w op h on ≡ true
-    knows_source other known = source board w op h on by o old run.0.0 other (knew board w e h o run (Begun-wanted board h on by o run.1 run.0.0) known)
+    knows_source other known = source board w op h on by o old run.0.0 other (knew board w e h o run (Begun-wanted Tagged board h on by o run.1 run.0.0) known)
 
     -- across a bridge
     crosses_to : (lane : BridgeLane) (bridge : Bridge) → bridge_to board lane.bus ≡ Some bridge → start_of board lane ≡ on → covered board w op h on ≡ true → (covers_end lane || is_on_lane w (world_of board h) lane) ≡ true
@@ -200,7 +202,7 @@ module _ (board : Board) (valid : IsValid board) (w : OpId) (op : Op) (covers : 
         let sure : BridgeLane → Bool = λ l. covered board w op (e ∷ h) (end_of board l) in
         let world : World = world_of board h in
         let mid : World = at_place board on (ByLane k) o step place world in
-        let at_end = presented_at board h on k o run.0.0 in
+        let at_end = presented_at Tagged board h on k o run.0.0 in
         let ends : end_of board k ≡ on = at_end.0 in
         let given = step_ends board k o step (ap is_some is) in
         let lost : same_op o w ≡ true → sure k ≡ true =

@@ -16,15 +16,16 @@ use Rattle.history_model.specs.declared.event.By.TheVariants.{Master, Lane as By
 use Rattle.history_model.specs.declared.event.Step.{Step}
 use Rattle.history_model.specs.declared.event.Event.{Event}
 use Rattle.history_model.specs.declared.event.Event.TheVariants.{Act, Arrive}
+use Rattle.history_model.specs.declared.rule.Rule.TheVariants.{Tagged}
 use Rattle.history_model.specs.World.{World, at_place, lane_outcome, leaves, world_of}
 use Rattle.history_model.specs.Program.{master_outcome}
 use Rattle.history_model.specs.Knowledge.{is_land_of, has_landed}
 use Rattle.history_model.specs.Runs.{Run}
 use Rattle.law_fresh.specs.Cover.{is_on_lane, covered_by, covered}
 use Rattle.law_fresh.proofs.ListLemmas.{or_either}
-use Rattle.law_fresh.proofs.BegunLemmas.{presented_at}
 use Rattle.law_fresh.proofs.OnLaneLemmas.{place_on, leaves_on, arrives_on}
 use Rattle.law_fresh.proofs.InformedLemmas.{step_ends}
+use Rattle.law_fresh.proofs.NamedLemmas.{presented_at}
 use Rattle.history_model.proofs.facts.RequestLemmas.{same_op_true}
 use Rattle.history_model.proofs.facts.PathLemmas.{way_cons}
 
@@ -45,7 +46,7 @@ module _ (board : Board) (tree : IsTree board) (w : OpId) (op : Op) where
         let mid : World = at_place board on (ByLane k) o step place (world_of board h) in
         let lost : BridgeLane → Bool = λ l. covered board w op (e ∷ h) (end_of board l) in
         let given = step_ends board k o step (ap is_some is) in
-        let at_end = presented_at board h on k o run.0.0 in
+        let at_end = presented_at Tagged board h on k o run.0.0 in
         let gone : same_op o w ≡ true → lost k ≡ true =
         λ same.
         let one : o ≡ w = same_op_true o w same in

@@ -18,8 +18,9 @@ use Rattle.history_model.specs.declared.event.Event.TheVariants.{Act, Arrive}
 use Rattle.history_model.specs.declared.item.Carried.{Carried}
 use Rattle.history_model.specs.declared.item.Carried.TheVariants.{Post, Ask, Done, Room, Gone}
 use Rattle.history_model.specs.declared.item.Slot.{Slot}
+use Rattle.history_model.specs.declared.rule.Rule.{Rule}
 use Rattle.history_model.specs.Lanes.{LaneState, Both, lowest_free, is_of, is_done_for, reply_to, item_ends, Effect, Stands, Credits, Frees, Drops, effect_of, takes_effect, came_off, arrives_first, arrives}
-use Rattle.history_model.specs.World.{World, both, moved, is_own, slot_found, enters, at_place, lane_outcome, leaves, at_initiator, after}
+use Rattle.history_model.specs.World.{World, both, moved, is_own, slot_found, enters, at_place, lane_outcome, leaves, at_initiator, noted, after_by}
 use Rattle.board_model.specs.Ways.{lane_back}
 use Rattle.history_model.proofs.facts.BridgeLemmas.{moved_keeps}
 use Rattle.history_model.proofs.facts.RequestLemmas.{same_op_true}
@@ -109,8 +110,9 @@ module _ (P : Carried → Type 0) where
     initiator_has board (ByLane lane) o step world new old = leaves_has lane o (lane_outcome board lane o step) world new old
 
     -- after an act
-    pub act_has : (board : Board) (on : ℕ) (by : By) (o : OpId) (step : Step) (place : Place) (world : World) → Enters o step → RepliesBy board o step by → WorldHas world → WorldHas (after board world (Act on by o step place))
-    act_has board on by o step place world new back old = initiator_has board by o step (at_place board on by o step place world) back (place_has board on by o step place world new old)
+    pub act_has : (rule : Rule) (board : Board) (on : ℕ) (by : By) (o : OpId) (step : Step) (place : Place) (world : World) → Enters o step → RepliesBy board o step by → WorldHas world → WorldHas (after_by rule board world (Act on by o step place))
+    act_has rule board on by o step place world new back old =
+        initiator_has board by o step (at_place board on (noted rule by) o step place world) back (place_has board on (noted rule by) o step place world new old)
 
     effect_has : (effect : Effect) (item : Carried) (x : Both) → P item → BothHave x → BothHave (takes_effect effect item x)
     effect_has Stands item x has old = ((old.0.0, Each-push P x.here.standing item old.0.1 has), old.1)
@@ -123,5 +125,5 @@ module _ (P : Carried → Type 0) where
     first_has mark (item ∷ rest) x flying old = effect_has (effect_of mark item) item (record x { here = came_off item rest x.here }) flying.0 ((flying.1, old.0.1), old.1)
 
     -- after an arrival
-    pub arrival_has : (board : Board) (lane : BridgeLane) (mark : Mark) (world : World) → WorldHas world → WorldHas (after board world (Arrive lane mark))
-    arrival_has board lane mark world old = moved_has (arrives mark) lane world (λ has. first_has mark (both world lane).here.flight (both world lane) has.0.0 has) old
+    pub arrival_has : (rule : Rule) (board : Board) (lane : BridgeLane) (mark : Mark) (world : World) → WorldHas world → WorldHas (after_by rule board world (Arrive lane mark))
+    arrival_has rule board lane mark world old = moved_has (arrives mark) lane world (λ has. first_has mark (both world lane).here.flight (both world lane) has.0.0 has) old

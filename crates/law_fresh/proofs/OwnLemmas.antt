@@ -12,13 +12,15 @@ use Rattle.board_model.specs.declared.op.Op.TheVariants.{Read as ReadOp, Write, 
 use Rattle.board_model.specs.declared.board.Board.{Board}
 use Rattle.board_model.specs.Requests.{op_of, tries_of, command_of, read_in, reads_in}
 use Rattle.history_model.specs.declared.event.Event.{Event}
+use Rattle.history_model.specs.declared.rule.Rule.TheVariants.{Tagged}
+use Rattle.history_model.specs.declared.rule.Rule.{Rule}
 use Rattle.history_model.specs.Program.{Ending, ended, present, next_op, next_try, meets, follows_in, follows, turn_after, turn_of}
 use Rattle.history_model.specs.Knowledge.{outcome_in, ends_as, has_ended, is_write}
-use Rattle.history_model.specs.Runs.{Run}
+use Rattle.history_model.specs.Runs.{Run, RunBy}
 use Rattle.history_model.proofs.facts.RequestLemmas.{same_op_self}
 use Rattle.law_bound.proofs.changes.Laws.{entry_of}
-use Rattle.law_fresh.proofs.AwareLemmas.{ends_turn}
 use Rattle.law_fresh.proofs.reads.Laws.{master_there}
+use Rattle.law_fresh.proofs.BehindLemmas.{ends_turn}
 use Rattle.std.proofs.lemmas.Bool.{or_left, or_right}
 
 -- a write has one try
@@ -209,9 +211,9 @@ module _ (board : Board) (w : OpId) (write : WriteOp board w) where
       ]) refl
 
 -- so it is in a run
-run_turns : (board : Board) (h : List Event) → Run board h → TurnsEnd board h
-run_turns board [] run = tt
-run_turns board (e ∷ h) run = (λ ending is. ends_turn board e h ending run is, run_turns board h run.1)
+pub run_turns : (rule : Rule) (board : Board) (h : List Event) → RunBy rule board h → TurnsEnd board h
+run_turns rule board [] run = tt
+run_turns rule board (e ∷ h) run = (λ ending is. ends_turn rule board e h ending run is, run_turns rule board h run.1)
 
 pub own_ended : (board : Board) (w : OpId) → WriteOp board w → (h : List Event) (o : OpId) → Run board h → turn_of board h o.master ≡ Some o → o.master ≡ w.master → w.index < o.index + 1 → same_op o w ≡ false → has_ended h w ≡ true
-own_ended board w write h o run turn masters at_most other = turns_ended board w write h o (run_turns board h run) turn masters at_most other
+own_ended board w write h o run turn masters at_most other = turns_ended board w write h o (run_turns Tagged board h run) turn masters at_most other

@@ -31,6 +31,7 @@ use Rattle.history_model.specs.declared.item.Carried.{Carried}
 use Rattle.history_model.specs.declared.item.Answer.{Answer}
 use Rattle.history_model.specs.declared.item.Answer.TheVariants.{Gives, Retry}
 use Rattle.history_model.specs.declared.item.Cause.TheVariants.{Full}
+use Rattle.history_model.specs.declared.rule.Rule.TheVariants.{Tagged}
 use Rattle.history_model.specs.Lanes.{is_of}
 use Rattle.history_model.specs.World.{same_lane, is_own, at_place, lane_outcome, world_of}
 use Rattle.history_model.specs.Program.{master_outcome}
@@ -44,7 +45,6 @@ use Rattle.law_lanes.specs.order.Parts.{HasWord}
 use Rattle.std.proofs.lemmas.Bool.{and_parts, or_left, or_right}
 use Rattle.std.proofs.lemmas.List.Folds.{list_any-append}
 use Rattle.law_fresh.specs.Cover.{is_post_of, is_on_lane, covered}
-use Rattle.law_fresh.proofs.BegunLemmas.{presented_at}
 use Rattle.law_fresh.proofs.OnLaneLemmas.{leaves_flies, accept_flies}
 use Rattle.law_fresh.proofs.SourceLemmas.{Covers, agent_of}
 use Rattle.law_fresh.proofs.KeptLemmas.{EndsCovered, kept_covered}
@@ -55,6 +55,7 @@ use Rattle.history_model.proofs.facts.RequestLemmas.{same_op_self}
 use Rattle.law_lanes.proofs.order.Laws.{OneClaimant-formed, AbortWhole-formed, rest_claimed, OnWay-stands, posts-less_first, OnlyTakes, takes_only}
 use Rattle.history_model.proofs.facts.PathLemmas.{way_goes}
 use Rattle.law_fresh.proofs.reads.Laws.{word_at, word_by, word_of, word_on, word_here}
+use Rattle.law_fresh.proofs.NamedLemmas.{presented_at}
 
 -- a target that takes it has its word
 word_at_has : (board : Board) (on place : ℕ) (request : Request) (found : Option TargetAgent) → claim board on request ≡ Target place → slice_get board.targets place ≡ found → word_at request found ≡ true → HasWord board on request
@@ -106,7 +107,7 @@ module _ (board : Board) (valid : IsValid board) (w : OpId) (op : Op) (is_op : o
       let one_op : way_of.op ≡ op = cc in
       let on_op : list_any (same_lane k) (way board op way_of.master.bus) ≡ true = subst (λ p. list_any (same_lane k) (way board p way_of.master.bus) ≡ true) one_op way_of.on_way in
       let on_way : list_any (same_lane k) (way board op master.bus) ≡ true = subst (λ (m : MasterAgent). list_any (same_lane k) (way board op m.bus) ≡ true) one_master on_op in
-      let ends : end_of board k ≡ on = (presented_at board h on k w wanted).0 in
+      let ends : end_of board k ≡ on = (presented_at Tagged board h on k w wanted).0 in
       sym (word_on board op tree k (way board op master.bus) master.bus refl on_way ∙ ap (word_of board op) ends) ∙ word
 
   module _ (h : List Event) (on : ℕ) (by : By) (step : Step) (place : Place) (run : Run board (Act on by w step place ∷ h)) where

@@ -6,48 +6,15 @@ use Rattle.pci_command.specs.declared.op_id.OpId.{OpId}
 use Rattle.pci_command.specs.declared.op_id.Outcome.{Outcome}
 use Rattle.pci_command.specs.Same.{same_op}
 use Rattle.board_model.specs.declared.board.Board.{Board}
-use Rattle.history_model.specs.declared.event.By.TheVariants.{Master, Lane as ByLane}
 use Rattle.history_model.specs.declared.event.Event.{Event}
-use Rattle.history_model.specs.declared.event.Event.TheVariants.{Act, Arrive}
-use Rattle.history_model.specs.Program.{Ending, ending_of, ended, master_outcome, follows, turn_after, turn_of}
+use Rattle.history_model.specs.declared.rule.Rule.TheVariants.{Tagged}
+use Rattle.history_model.specs.Program.{Ending, ended, turn_of}
 use Rattle.history_model.specs.Knowledge.{value_in, value_of_ending, outcome_in, ends_as, ends_with, has_ended, up_to_end, stands_after}
 use Rattle.history_model.specs.Runs.{Run}
 use Rattle.law_fresh.specs.Aware.{Aware, is_behind, knows, brings, first_known, taught_after, aware_of}
-use Rattle.law_fresh.proofs.BehindLemmas.{behind_next, IsBehind, follows_behind}
-use Rattle.law_fresh.proofs.AwareLemmas.{first_brought, ends_turn, since_kept}
-use Rattle.history_model.proofs.facts.WantsLemmas.{wants-turn}
+use Rattle.law_fresh.proofs.AwareLemmas.{first_brought, since_kept}
+use Rattle.law_fresh.proofs.BehindLemmas.{behind_next, IsBehind, ends_turn, event_behind, ended_behind}
 use Rattle.history_model.proofs.facts.RequestLemmas.{same_op_true, same_op_self}
-
--- what stands before another stands before all that follows it
-behind_more : (p : OpId) (q : OpId) (next : Option OpId) → stands_after p q ≡ true → IsBehind q next → IsBehind p next
-behind_more p q None first behind = tt
-behind_more p q (Some t) first behind = behind_next p q t first behind
-
-ending_behind : (board : Board) (p : OpId) (master : ℕ) (o : OpId) (outcome : Option Outcome) (turn : ℕ → Option OpId) → turn o.master ≡ Some o → IsBehind p (turn master) → IsBehind p (turn_after board master (turn master) (ending_of o outcome))
-ending_behind board p master o None turn is_turn old = old
-ending_behind board p master o (Some outcome) turn is_turn old =
-    let next : Option OpId = follows board (record { op = o; outcome = outcome }) in
-    let P : Bool → Type 0 = λ b. eqb o.master master ≡ b → IsBehind p (cond b next (turn master)) in
-    (elim (eqb o.master master) as P [
-      | true ↦ λ same.
-          let masters : o.master ≡ master = eqb-true o.master master same in
-          let was : turn master ≡ Some o = ap turn (sym masters) ∙ is_turn in
-          behind_more p o next (subst (IsBehind p) was old) (follows_behind board o outcome)
-      | false ↦ λ _. old
-    ]) refl
-
-event_behind : (board : Board) (e : Event) (h : List Event) (p : OpId) (master : ℕ) → Run board (e ∷ h) → IsBehind p (turn_of board h master) → IsBehind p (turn_of board (e ∷ h) master)
-event_behind board (Act on Master o step place) h p master run old = ending_behind board p master o (master_outcome step) (turn_of board h) (wants-turn board h on o run.0.0) old
-event_behind board (Act on (ByLane lane) o step place) h p master run old = old
-event_behind board (Arrive lane mark) h p master run old = old
-
--- the turn after an ending stands behind what ended
-ended_behind : (board : Board) (e : Event) (h : List Event) (ending : Ending) → Run board (e ∷ h) → ended e ≡ Some ending → IsBehind ending.op (turn_of board (e ∷ h) ending.op.master)
-ended_behind board e h ending run is =
-    let F : Option Ending → Type 0 = λ found. IsBehind ending.op (turn_after board ending.op.master (turn_of board h ending.op.master) found) in
-    let self : eqb ending.op.master ending.op.master ≡ true = grind (arith, nat_tests) in
-    let there : F (Some ending) = rw self (follows_behind board ending.op ending.outcome) in
-    subst F (sym is) there
 
 -- the first operation with which a master came to know of the write stands before its turn
 pub since_behind : (board : Board) (w : OpId) (h : List Event) (master : ℕ) (p : OpId) → Run board h → (aware_of board w h).since master ≡ Some p → IsBehind p (turn_of board h master)
@@ -62,12 +29,12 @@ since_behind board w (e ∷ h) master p run is =
         | None ↦ λ _ g. cc
         | Some ending ↦ λ ends g.
             let brought = first_brought master w taught ending p g in
-            let there : IsBehind ending.op (turn_of board (e ∷ h) ending.op.master) = ended_behind board e h ending run ends in
+            let there : IsBehind ending.op (turn_of board (e ∷ h) ending.op.master) = ended_behind board e h ending ends in
             subst (λ n. IsBehind p (turn_of board (e ∷ h) n)) brought.of_master (subst (λ q. IsBehind q (turn_of board (e ∷ h) ending.op.master)) (sym brought.is_first) there)
       ]) refl f
       | Some first ↦ λ was f.
           let same : first ≡ p = cc in
-          event_behind board e h p master run (since_behind board w h master p run.1 (was ∙ ap Some same))
+          event_behind Tagged board e h p master run (since_behind board w h master p run.1 (was ∙ ap Some same))
     ]) refl is
 
 -- a master knows of the write from an operation on, or from an earlier one
@@ -86,7 +53,7 @@ end_since board w e h p outcome run ends brings_it =
     let aware : Aware = aware_of board w h in
     let taught : OpId → Bool = taught_after board w aware h e in
     let ending : Ending = record { op = p; outcome = outcome } in
-    let turn : turn_of board h p.master ≡ Some p = ends_turn board e h ending run ends in
+    let turn : turn_of board h p.master ≡ Some p = ends_turn Tagged board e h ending run ends in
     let P : Option OpId → Type 0 = λ since. aware.since p.master ≡ since → Since board w (e ∷ h) p in
     (elim (aware.since p.master) as P [
       | None ↦ λ none.

@@ -21,6 +21,7 @@ use Rattle.history_model.specs.declared.event.Event.{Event}
 use Rattle.history_model.specs.declared.event.Event.TheVariants.{Act}
 use Rattle.history_model.specs.declared.item.Carried.{Carried}
 use Rattle.history_model.specs.declared.item.Carried.TheVariants.{Post, Ask, Done, Room, Gone}
+use Rattle.history_model.specs.declared.rule.Rule.TheVariants.{Tagged}
 use Rattle.history_model.specs.Lanes.{is_of, is_post}
 use Rattle.history_model.specs.World.{world_of}
 use Rattle.history_model.specs.Program.{master_outcome, turn_of}
@@ -33,7 +34,7 @@ use Rattle.law_fresh.specs.Aware.{Aware, knows, bears, aware_of}
 use Rattle.law_fresh.specs.Cover.{is_on_lane, covered, Informed}
 use Rattle.law_fresh.proofs.SafeLemmas.{Safe-find}
 use Rattle.law_fresh.proofs.AwareLemmas.{master_knows}
-use Rattle.law_fresh.proofs.BegunLemmas.{presented_at}
+use Rattle.law_fresh.proofs.NamedLemmas.{presented_at}
 use Rattle.history_model.proofs.facts.RequestLemmas.{same_op_true}
 
 -- How a write is covered, whether it is posted or delayed: what its proof needs of it, and nothing else.
@@ -108,7 +109,7 @@ source board w op h on Master o informed wanted other known =
 source board w op h on (ByLane k) o informed wanted other known =
     let standing : List Carried = (world_of board h k).standing in
     let aware : Aware = aware_of board w h in
-    let at = presented_at board h on k o wanted in
+    let at = presented_at Tagged board h on k o wanted in
     let here = at.1 in
     let presented : presents board on o standing ≡ true = (and_parts (end_of board k == on) (presents board on o standing) wanted).1 in
     let F : Option Carried → Type 0 = λ item. presents_item board on (before (is_of o) standing) item ≡ true in

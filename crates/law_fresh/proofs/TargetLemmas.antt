@@ -15,7 +15,7 @@ use Rattle.board_model.specs.declared.bridge.Place.TheVariants.{Target, Header, 
 use Rattle.board_model.specs.declared.board.Board.{Board}
 use Rattle.board_model.specs.Requests.{request_of, is_posted}
 use Rattle.board_model.specs.Claims.{range_holds, bridge_holds, decodes_down, claim_upwards, claim_by_bridge, claim_by_address, claim_by_header, claim_by_device, claim_by_bus, is_type_0, device_in, bus_in, claim_in_configuration, claim_in_space, claim}
-use Rattle.board_headers.specs.HeaderBytes.{header_word}
+use Rattle.board_model.specs.HeaderBytes.{header_word}
 use Rattle.history_model.specs.declared.event.By.{By}
 use Rattle.history_model.specs.declared.event.Step.{Step}
 use Rattle.history_model.specs.declared.event.Step.TheVariants.{Read, Accept, Latch, Take, MasterAbort}

@@ -3,23 +3,20 @@ use Rattle.std.proofs.Common.{◌≡◌, ℕ, Bool, true, false, ◌&&◌, ◌||
 use Rattle.std.specs.List.{list_any}
 use Rattle.list_facts.proofs.EachLemmas.{Each-find}
 use Rattle.list_facts.proofs.FindLemmas.{find_passes}
-use Rattle.pci_command.specs.declared.command.Command.TheVariants.{MemWrite}
 use Rattle.pci_command.specs.declared.request.Request.{Request}
 use Rattle.pci_command.specs.declared.op_id.OpId.{OpId}
-use Rattle.pci_command.specs.Same.{same_op, same_command}
+use Rattle.pci_command.specs.Same.{same_op}
 use Rattle.board_model.specs.declared.bridge.Place.{Place}
 use Rattle.board_model.specs.declared.bridge.Place.TheVariants.{Target, Header, Lane, Nobody}
 use Rattle.board_model.specs.declared.board.Board.{Board}
-use Rattle.board_model.specs.Requests.{op_of, command_of, request_on, request_of, reads}
-use Rattle.board_model.specs.Claims.{claim}
-use Rattle.board_model.specs.Valid.{IsValid}
-use Rattle.history_model.specs.declared.event.By.{By}
+use Rattle.board_model.specs.Requests.{op_of, request_of, reads}
 use Rattle.history_model.specs.declared.event.Step.{Step}
 use Rattle.history_model.specs.declared.event.Step.TheVariants.{Land, Part, Read, Accept, Latch, Take, Stall, MasterAbort, TargetAbort}
 use Rattle.history_model.specs.declared.event.Event.{Event}
 use Rattle.history_model.specs.declared.event.Event.TheVariants.{Act, Arrive}
+use Rattle.history_model.specs.declared.rule.Rule.TheVariants.{Tagged}
 use Rattle.history_model.specs.Words.{landed}
-use Rattle.history_model.specs.Knowledge.{Reading, ends_with, has_ended, reading_of, reading_at, reading_by, reading_in, reading_or, last_reading, up_to_end, is_land_step, is_land_of, has_landed, is_landing_of, saw_in, saw, stands_after, later, tells, Chain, one, more}
+use Rattle.history_model.specs.Knowledge.{Reading, ends_with, has_ended, reading_of, reading_at, reading_by, reading_in, reading_or, last_reading, up_to_end, has_landed, is_landing_of, saw_in, saw, stands_after, later, tells, Chain, one, more}
 use Rattle.history_model.specs.Runs.{Run}
 use Rattle.std.proofs.lemmas.Bool.{and_parts, or_left, or_right}
 use Rattle.law_fresh.specs.Aware.{Aware, knows, shows, shown, taught_by, aware_of}
@@ -29,13 +26,11 @@ use Rattle.law_fresh.proofs.BegunLemmas.{LandingBegun, LandingsBegun-run}
 use Rattle.law_fresh.proofs.AwareLemmas.{knew}
 use Rattle.law_fresh.proofs.SinceLemmas.{Since, write_since, got_since, since_knows, knows_later}
 use Rattle.law_fresh.proofs.TaughtLemmas.{taught_read}
-use Rattle.board_model.specs.Ways.{is_lane}
-use Rattle.history_model.proofs.facts.AnswerLemmas.{answered_at}
 use Rattle.law_lanes.proofs.Laws.{Run-before}
 use Rattle.history_model.proofs.facts.RequestLemmas.{same_op_true, same_op_self}
-use Rattle.law_bound.proofs.reach.Laws.{lane_there}
 use Rattle.list_facts.proofs.AnyLemmas.{any_some, found_any}
-use Rattle.law_fresh.proofs.reads.Laws.{read_answered, not_posted, no_reading, read_or_not}
+use Rattle.law_fresh.proofs.reads.Laws.{no_reading}
+use Rattle.law_fresh.proofs.LandLemmas.{landed_writes}
 
 -- A history is the end of a longer one.
 pub record Front (before h : List Event) : Type 0 where
@@ -45,7 +40,10 @@ pub record Front (before h : List Event) : Type 0 where
 pub front_run : (board : Board) (before h : List Event) → Front before h → Run board h → Run board before
 front_run board before h front run = Run-before board front.later before (subst (Run board) (sym front.is) run)
 
-front_more : (before h : List Event) (e : Event) → Front before h → Front before (e ∷ h)
+pub front_self : (h : List Event) → Front h h
+front_self h = record { later = []; is = refl }
+
+pub front_more : (before h : List Event) (e : Event) → Front before h → Front before (e ∷ h)
 front_more before h e front = record { later = e ∷ front.later; is = ap (λ g. e ∷ g) front.is }
 
 pub front_front : (a b c : List Event) → Front a b → Front b c → Front a c
@@ -63,7 +61,7 @@ knew_along : (board : Board) (w : OpId) (q : OpId) (later before : List Event) �
 knew_along board w q [] before run begun = (begun, λ is. is)
 knew_along board w q (e ∷ later) before run begun =
     let rest = knew_along board w q later before run.1 begun in
-    (Begun-kept board e (later ++ before) q run rest.0, λ is. rest.1 (knew board w e (later ++ before) q run rest.0 is))
+    (Begun-kept Tagged board e (later ++ before) q run rest.0, λ is. rest.1 (knew board w e (later ++ before) q run rest.0 is))
 
 pub knew_before : (board : Board) (w : OpId) (q : OpId) (before h : List Event) → Front before h → Run board h → Begun board before q → knows (aware_of board w h) q ≡ true → knows (aware_of board w before) q ≡ true
 knew_before board w q before h front run begun is =
@@ -86,7 +84,7 @@ before_at board h on r value (Header bus) reading is = cc
 before_at board h on r value (Lane lane) reading is = cc
 before_at board h on r value Nobody reading is = cc
 
-before_by : (board : Board) (h : List Event) (on : ℕ) (r : OpId) (step : Step) (place : Place) (reading : Reading) → reading_by board h on r step place ≡ Some reading → reading.before ≡ h
+pub before_by : (board : Board) (h : List Event) (on : ℕ) (r : OpId) (step : Step) (place : Place) (reading : Reading) → reading_by board h on r step place ≡ Some reading → reading.before ≡ h
 before_by board h on r Land place reading is = cc
 before_by board h on r (Part phases) place reading is = cc
 before_by board h on r (Read value) place reading is = before_at board h on r value place reading is
@@ -134,49 +132,6 @@ read_by board w (e ∷ h) r reading is =
           }
     ]) refl is
 
--- A read does not land.
-
-read_lands_not : (board : Board) (valid : IsValid board) (h : List Event) (on : ℕ) (by : By) (o : OpId) (place : Place) → Run board (Act on by o Land place ∷ h) → reads board o ≡ false
-read_lands_not board valid h on by o place run =
-    read_or_not board (reads board o ≡ false) o (λ other. other)
-    (λ mine is_op read master is_master.
-    let delayed : same_command (command_of mine) MemWrite ≡ false = not_posted (command_of mine) read in
-    let X : Type 0 = reads board o ≡ false in
-    let way_ends : is_lane (claim board on (request_on mine on)) ≡ false → X = λ none. absurd (read_answered board valid h run.1 on by o mine Land place is_op read delayed run.0.1 none) in
-    let P : Place → Type 0 = λ claimant. claim board on (request_on mine on) ≡ claimant → X in
-    (elim (claim board on (request_on mine on)) as P [
-      | Target target ↦ λ claims. way_ends (ap is_lane claims)
-      | Header bus ↦ λ claims. way_ends (ap is_lane claims)
-      | Lane lane ↦ λ claims.
-          let at_lane : place ≡ Lane lane = lane_there board valid h on by o mine Land place run is_op delayed lane claims in
-          let R : Place → Type 0 = λ p. Run board (Act on by o Land p ∷ h) in
-          let run_of : R (Lane lane) = subst R at_lane run in
-          absurd (answered_at board h on by o Land lane run_of.0.1).gives
-      | Nobody ↦ λ claims. way_ends (ap is_lane claims)
-    ]) refl)
-
-step_lands : (board : Board) (valid : IsValid board) (h : List Event) (on : ℕ) (by : By) (o : OpId) (step : Step) (place : Place) → Run board (Act on by o step place ∷ h) → is_land_step step ≡ true → reads board o ≡ false
-step_lands board valid h on by o Land place run is = read_lands_not board valid h on by o place run
-step_lands board valid h on by o (Part phases) place run is = cc
-step_lands board valid h on by o (Read value) place run is = cc
-step_lands board valid h on by o Accept place run is = cc
-step_lands board valid h on by o Latch place run is = cc
-step_lands board valid h on by o (Take outcome) place run is = cc
-step_lands board valid h on by o Stall place run is = cc
-step_lands board valid h on by o MasterAbort place run is = cc
-step_lands board valid h on by o TargetAbort place run is = cc
-
-event_lands : (board : Board) (valid : IsValid board) (h : List Event) (e : Event) (p : OpId) → Run board (e ∷ h) → is_land_of p e ≡ true → reads board p ≡ false
-event_lands board valid h (Act on by o step place) p run is =
-    let parts = and_parts (same_op o p) (is_land_step step) is in
-    subst (λ q. reads board q ≡ false) (same_op_true o p parts.0) (step_lands board valid h on by o step place run parts.1)
-event_lands board valid h (Arrive lane mark) p run is = cc
-
-landed_writes : (board : Board) (valid : IsValid board) (h : List Event) (p : OpId) → Run board h → has_landed h p ≡ true → reads board p ≡ false
-landed_writes board valid [] p run is = cc
-landed_writes board valid (e ∷ h) p run is =
-    or_either (reads board p ≡ false) (is_land_of p e) (has_landed h p) (λ here. event_lands board valid h e p run here) (λ older. landed_writes board valid h p run.1 older) is
-
 -- what was taught is a read
 pub taught_reads : (board : Board) (w : OpId) (h : List Event) (p : OpId) → Run board h → (aware_of board w h).taught p ≡ true → reads board p ≡ true
 taught_reads board w h p run taught =
@@ -187,7 +142,7 @@ taught_reads board w h p run taught =
       | false ↦ λ other. let last = no_reading board p h other run in let e : is_some (last_reading board p h) ≡ false = ap is_some last in let f : true ≡ false = sym some ∙ e in cc
     ]) refl
 
-module _ (board : Board) (valid : IsValid board) (w : OpId) (h : List Event) (run : Run board h) where
+module _ (board : Board) (w : OpId) (h : List Event) (run : Run board h) where
   -- it knows of the write, or is a read that ended with a value and was taught
   abbrev pub Knows : OpId → Type 0
   Knows q = (knows (aware_of board w h) q || (aware_of board w (up_to_end q h)).taught q) ≡ true
@@ -237,7 +192,7 @@ module _ (board : Board) (valid : IsValid board) (w : OpId) (h : List Event) (ru
             let some = any_some (is_landing_of p) (landed board before reading.word) parts.0 in
             let passes : is_landing_of p some.0 ≡ true = find_passes (is_landing_of p) (landed board before reading.word) some.0 some.1 in
             let one_op : some.0.op ≡ p = same_op_true some.0.op p passes in
-            let begun : Begun board before p = subst (Begun board before) one_op (Each-find (LandingBegun board before) (is_landing_of p) (landed board before reading.word) some.0 (LandingsBegun-run board before reading.word run_before) some.1) in
+            let begun : Begun board before p = subst (Begun board before) one_op (Each-find (LandingBegun board before) (is_landing_of p) (landed board before reading.word) some.0 (LandingsBegun-run Tagged board before reading.word run_before) some.1) in
             let aware : Aware = aware_of board w before in
             let told : (same_op p w || knows aware p) ≡ true =
             or_either ((same_op p w || knows aware p) ≡ true) (same_op p w) (knows (aware_of board w h) p || (aware_of board w (up_to_end p h)).taught p)
@@ -246,7 +201,7 @@ module _ (board : Board) (valid : IsValid board) (w : OpId) (h : List Event) (ru
             (λ known. or_right (same_op p w) (knows aware p) (knew_before board w p before h front run begun known))
             (λ taught.
             let reads_it : reads board p ≡ true = taught_reads board w (up_to_end p h) p (front_run board (up_to_end p h) h (front_end p h) run) taught in
-            let writes : reads board p ≡ false = landed_writes board valid before p run_before parts.1 in
+            let writes : reads board p ≡ false = landed_writes Tagged board before p run_before parts.1 in
             let e : true ≡ false = sym reads_it ∙ writes in
             cc) rest)
             mark in

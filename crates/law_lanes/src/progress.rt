@@ -2,7 +2,7 @@
 //! contract of a function that does nothing.
 ghost use Rattle.std.specs.Prelude.{◌≡◌, ◌↔◌, List, IfSome, None};
 ghost use Rattle.board_model.specs.declared.board.Board.{Board};
-ghost use Rattle.board_model.specs.Fits.{BusesFit};
+ghost use Rattle.board_model.specs.Fits.{BoardFits};
 ghost use Rattle.board_model.specs.Valid.{IsValid};
 ghost use Rattle.history_model.specs.declared.event.Event.{Event};
 ghost use Rattle.history_model.specs.Runs.{Run, Allowed, Complete};
@@ -20,7 +20,7 @@ pub fn runs_go_on()
 pub fn next_goes_on()
     ensures allowed { (board : Board) (h : List Event) →
         IfSome (next_of board h) (Allowed board h) }
-    ensures complete { (board : Board) (h : List Event) → IsValid board → BusesFit board →
+    ensures complete { (board : Board) (h : List Event) → IsValid board → BoardFits board →
         Run board h →
         (next_of board h ≡ None) ↔ Complete board h }
 {}

@@ -4,6 +4,7 @@ use Rattle.std.specs.List.{find, list_any}
 use Rattle.std.specs.Option.{option_and_then}
 use Rattle.std.proofs.lemmas.Bool.Decides.{nat_tests}
 use Rattle.list_facts.proofs.FindLemmas.{find_passes}
+use Rattle.list_facts.proofs.AnyLemmas.{any_some, found_any}
 use Rattle.pci_command.specs.declared.command.Command.TheVariants.{MemWrite}
 use Rattle.pci_command.specs.declared.op_id.OpId.{OpId}
 use Rattle.pci_command.specs.Same.{same_command, same_request}
@@ -20,7 +21,6 @@ use Rattle.history_model.proofs.facts.BridgeLemmas.{same_lane_true, same_lane_se
 use Rattle.history_model.proofs.facts.EqualLemmas.{same_requests-symm}
 use Rattle.law_untagged.specs.Apart.{TakesLane, Apart}
 use Rattle.law_untagged.specs.ApartTest.{delayed_way, meets_on, ops_meet, masters_meet, is_apart}
-use Rattle.law_untagged.proofs.HeardLemmas.{any_some, found_any}
 
 -- an element that passes
 any_at : {X : Type 0} (test : X → Bool) (xs : List X) (place : ℕ) (x : X) → slice_get xs place ≡ Some x → test x ≡ true → list_any test xs ≡ true

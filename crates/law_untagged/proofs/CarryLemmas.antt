@@ -30,7 +30,7 @@ use Rattle.history_model.specs.declared.item.Slot.{Slot}
 use Rattle.history_model.specs.declared.item.Answer.TheVariants.{Gives}
 use Rattle.history_model.specs.Lanes.{Both, is_of, is_done_for, lowest_free, reply_to, item_ends, slot_taken, Effect, Stands, Credits, Frees, Drops, effect_of, takes_effect, came_off, arrives_first, arrives}
 use Rattle.history_model.specs.declared.rule.Rule.TheVariants.{Untagged}
-use Rattle.history_model.specs.World.{anyone, World, same_lane, both, moved, is_own, slot_found, enters, at_place, lane_outcome, leaves, at_initiator}
+use Rattle.history_model.specs.World.{anyone, World, same_lane, both, moved, is_own, slot_found, enters, at_place, lane_outcome, leaves, at_initiator, world_by}
 use Rattle.history_model.specs.Program.{Ending, ending_of, ended_by, master_outcome}
 use Rattle.history_model.specs.Local.{is_ask_of}
 use Rattle.history_model.specs.Knowledge.{value_in, value_of_ending, outcome_in, ends_as, ends_with, or_else, given_value, Reading, reading_of, reading_at, reading_by, reading_or}
@@ -41,7 +41,7 @@ use Rattle.history_model.proofs.facts.AnswerLemmas.{AtLaneIn, answered_in}
 use Rattle.history_model.proofs.facts.KeptLemmas.{place_keeps}
 use Rattle.law_lanes.proofs.SlotsRunLemmas.{Slots-kept, Slots-run_by}
 use Rattle.history_model.proofs.facts.RequestLemmas.{same_op_true}
-use Rattle.law_untagged.specs.Untagged.{untagged_world, UntaggedAllowed, UntaggedRun}
+use Rattle.law_untagged.specs.Untagged.{UntaggedAllowed, UntaggedRun}
 use Rattle.law_untagged.specs.Origins.{Origins, origin_in, taken_from, taken_in, source_of, asks_for, ends_item, answers, origin_by, origins_of, ending_reading, untagged_got}
 
 -- the completion of a slot is as its origin asks
@@ -239,19 +239,19 @@ module _ (good : OpId → Outcome → Reading → Type 0) where
 
   -- after an act of a lane
   module _ (board : Board) (h : List Event) (on : ℕ) (k : BridgeLane) (o : OpId) (step : Step) (place : Place) (run : UntaggedRun board h) (allowed : UntaggedAllowed board h (Act on (ByLane k) o step place))
-      (carry : (l : BridgeLane) → AllCarry good (origins_of board h) l (both (untagged_world board h) l))
-      (makes : (outcome : Outcome) → lane_outcome board k o step ≡ Some outcome → (reading : Reading) → source_of board h (untagged_world board h) (origins_of board h) on o step place ≡ Some reading → good o outcome reading) where
+      (carry : (l : BridgeLane) → AllCarry good (origins_of board h) l (both (world_by Untagged board h) l))
+      (makes : (outcome : Outcome) → lane_outcome board k o step ≡ Some outcome → (reading : Reading) → source_of board h (world_by Untagged board h) (origins_of board h) on o step place ≡ Some reading → good o outcome reading) where
     abbrev Before : World
-    Before = untagged_world board h
+    Before = world_by Untagged board h
 
     abbrev Placed : World
-    Placed = at_place board on anyone o step place (untagged_world board h)
+    Placed = at_place board on anyone o step place (world_by Untagged board h)
 
     abbrev Now : Origins
-    Now = origin_by board h (untagged_world board h) (origins_of board h) on (ByLane k) o step place
+    Now = origin_by board h (world_by Untagged board h) (origins_of board h) on (ByLane k) o step place
 
     placed_carry : (l : BridgeLane) → AllCarry good (origins_of board h) l (both Placed l)
-    placed_carry = place_carries board (origins_of board h) on anyone o step place (untagged_world board h) carry
+    placed_carry = place_carries board (origins_of board h) on anyone o step place (world_by Untagged board h) carry
 
     placed_slots : (l : BridgeLane) → Slots (both Placed l)
     placed_slots =
@@ -266,7 +266,7 @@ module _ (good : OpId → Outcome → Reading → Type 0) where
         )
 
     found_before : find (is_of o) (Placed k).standing ≡ find (is_of o) (Before k).standing
-    found_before = place_found board on anyone o o step place (untagged_world board h) k
+    found_before = place_found board on anyone o o step place (world_by Untagged board h) k
 
     unasked_carry : ((number : ℕ) → answers board Before k o step number ≡ false) → AllCarry good Now k (both Placed k)
     unasked_carry none =
@@ -333,15 +333,15 @@ module _ (good : OpId → Outcome → Reading → Type 0) where
   -- after an event: where what was on the lanes is good, and what an act of a lane makes
   abbrev pub Makes : Board → List Event → Event → Type 0
   Makes board h (Act on Master o step place) = Unit {0}
-  Makes board h (Act on (ByLane k) o step place) = (outcome : Outcome) → lane_outcome board k o step ≡ Some outcome → (reading : Reading) → source_of board h (untagged_world board h) (origins_of board h) on o step place ≡ Some reading → good o outcome reading
+  Makes board h (Act on (ByLane k) o step place) = (outcome : Outcome) → lane_outcome board k o step ≡ Some outcome → (reading : Reading) → source_of board h (world_by Untagged board h) (origins_of board h) on o step place ≡ Some reading → good o outcome reading
   Makes board h (Arrive lane mark) = Unit {0}
 
-  pub event_carries : (board : Board) (e : Event) (h : List Event) → UntaggedRun board h → UntaggedAllowed board h e → Makes board h e → ((l : BridgeLane) → AllCarry good (origins_of board h) l (both (untagged_world board h) l))
-      → (l : BridgeLane) → AllCarry good (origins_of board (e ∷ h)) l (both (untagged_world board (e ∷ h)) l)
-  event_carries board (Act on Master o step place) h run allowed makes old = place_carries board (origins_of board h) on anyone o step place (untagged_world board h) old
+  pub event_carries : (board : Board) (e : Event) (h : List Event) → UntaggedRun board h → UntaggedAllowed board h e → Makes board h e → ((l : BridgeLane) → AllCarry good (origins_of board h) l (both (world_by Untagged board h) l))
+      → (l : BridgeLane) → AllCarry good (origins_of board (e ∷ h)) l (both (world_by Untagged board (e ∷ h)) l)
+  event_carries board (Act on Master o step place) h run allowed makes old = place_carries board (origins_of board h) on anyone o step place (world_by Untagged board h) old
   event_carries board (Act on (ByLane k) o step place) h run allowed makes old = ended_carries board h on k o step place run allowed old makes (lane_outcome board k o step) refl
   event_carries board (Arrive lane mark) h run allowed makes old =
-      let world : World = untagged_world board h in
+      let world : World = world_by Untagged board h in
       let origins : Origins = origins_of board h in
       let both_old = both_ways origins world lane old in
       let new = first_carries origins lane mark (both world lane).here.flight (both world lane) both_old.1.0 both_old in

@@ -1,10 +1,9 @@
 -- What an operation that began knows of a write it knows ever after, and nothing more.
-use Rattle.std.proofs.Common.{◌≡◌, ℕ, Bool, true, false, ◌&&◌, ◌||◌, ◌==◌, cond, eqb, eqb-true, List, [], ◌∷◌, ◌++◌, Option, Some, None, is_some, refl, sym, ap, subst, ◌∙◌, arith}
-use Rattle.std.specs.List.{find, list_any, AllByRecursion}
-use Rattle.std.proofs.lemmas.Bool.Decides.{nat_tests}
+use Rattle.std.proofs.Common.{◌≡◌, ℕ, Bool, true, false, ◌&&◌, ◌||◌, ◌==◌, cond, eqb-true, List, [], ◌∷◌, ◌++◌, Option, Some, None, is_some, refl, sym, ap, subst, ◌∙◌}
+use Rattle.std.specs.List.{find}
 use Rattle.list_facts.proofs.EachLemmas.{Each-find}
 use Rattle.list_facts.proofs.FindLemmas.{find_passes}
-use Rattle.pci_command.specs.declared.request.Request.{Request}
+use Rattle.list_facts.proofs.AnyLemmas.{any_some, found_any}
 use Rattle.pci_command.specs.declared.op_id.OpId.{OpId}
 use Rattle.pci_command.specs.declared.op_id.Outcome.{Outcome}
 use Rattle.pci_command.specs.Same.{same_op}
@@ -12,71 +11,29 @@ use Rattle.board_model.specs.declared.bridge.Lane.{Lane as BridgeLane}
 use Rattle.board_model.specs.declared.bridge.Place.{Place}
 use Rattle.board_model.specs.declared.bridge.Place.TheVariants.{Target, Header, Lane, Nobody}
 use Rattle.board_model.specs.declared.board.Board.{Board}
-use Rattle.board_model.specs.Requests.{request_of, reads}
-use Rattle.history_model.specs.declared.event.By.{By}
+use Rattle.board_model.specs.Requests.{reads}
 use Rattle.history_model.specs.declared.event.By.TheVariants.{Master, Lane as ByLane}
 use Rattle.history_model.specs.declared.event.Step.{Step}
 use Rattle.history_model.specs.declared.event.Step.TheVariants.{Land, Part, Read, Accept, Latch, Take, Stall, MasterAbort, TargetAbort}
 use Rattle.history_model.specs.declared.event.Event.{Event}
 use Rattle.history_model.specs.declared.event.Event.TheVariants.{Act, Arrive}
 use Rattle.history_model.specs.declared.item.Slot.{Slot}
-use Rattle.history_model.specs.World.{anyone, World, same_lane, is_own}
+use Rattle.history_model.specs.declared.rule.Rule.TheVariants.{Untagged}
+use Rattle.history_model.specs.World.{anyone, World, same_lane, is_own, world_by}
 use Rattle.history_model.specs.Program.{Ending, ending_of, ended, master_outcome, turn_of}
 use Rattle.history_model.specs.Words.{Landing, landed}
-use Rattle.history_model.specs.Knowledge.{ends_as, has_ended, Reading, reading_of, reading_at, reading_by, reading_or, has_landed, is_landing_of, stands_after}
-use Rattle.std.proofs.lemmas.Bool.{and_parts}
-use Rattle.history_model.proofs.facts.RequestLemmas.{same_op_true, same_op_self}
-use Rattle.law_untagged.specs.Untagged.{untagged_world}
-use Rattle.law_untagged.specs.Origins.{Origins, origin_in, taken_from, taken_in, source_of, answers, origin_by, origin_after, origins_of, ending_reading, untagged_got}
+use Rattle.history_model.specs.Knowledge.{ends_as, Reading, reading_by, reading_or, has_landed, stands_after}
+use Rattle.std.proofs.lemmas.Bool.{and_parts, or_left, or_right}
+use Rattle.law_untagged.specs.Untagged.{UntaggedRun}
+use Rattle.law_untagged.specs.Origins.{Origins, origin_in, taken_from, taken_in, source_of, answers, origins_of, ending_reading, untagged_got}
 use Rattle.law_untagged.specs.Heard.{Since, is_behind, knows, speaks, heard, first_known, untagged_since}
-use Rattle.law_untagged.specs.Orderly.{Begun, InOrder, Orderly, Front}
-use Rattle.law_untagged.proofs.OrderLemmas.{or_left, or_right, or_either, IsBehind, event_behind, ended_behind, ends_some, front_self, front_more, front_front, front_orderly, front_begun, LandingsBegun}
-
--- Lists.
-
-pub any_some : {X : Type 0} (test : X → Bool) (xs : List X) → list_any test xs ≡ true → (y : X) × (find test xs ≡ Some y)
-any_some test [] is = cc
-any_some test (x ∷ xs) is =
-    let P : Bool → Type 0 = λ b. (b || list_any test xs) ≡ true → (y : _) × (cond b (Some x) (find test xs) ≡ Some y) in
-    (elim (test x) as P [ true ↦ λ _. (x, refl) | false ↦ λ rest. any_some test xs rest ]) is
-
-pub found_any : {X : Type 0} (test other : X → Bool) (xs : List X) (y : X) → find test xs ≡ Some y → other y ≡ true → list_any other xs ≡ true
-found_any test other [] y found is = cc
-found_any test other (x ∷ xs) y found is =
-    let P : Bool → Type 0 = λ b. cond b (Some x) (find test xs) ≡ Some y → (other x || list_any other xs) ≡ true in
-    (elim (test x) as P [
-      | true ↦ λ same. let one : x ≡ y = cc in or_left (other x) (list_any other xs) (subst (λ z. other z ≡ true) (sym one) is)
-      | false ↦ λ rest. or_right (other x) (list_any other xs) (found_any test other xs y rest is)
-    ]) found
+use Rattle.law_untagged.proofs.OrderLemmas.{ends_some, run_front, front_begun}
+use Rattle.law_fresh.proofs.Laws.{IsBehind, Begun, ends_turn, event_behind, ended_behind, LandingBegun, LandingsBegun-run, Front, front_self, front_more, front_front, before_by, or_either}
 
 -- What a reading is of.
 
-before_of : (target value : ℕ) (h : List Event) (request : Option Request) (reading : Reading) → reading_of target value h request ≡ Some reading → Front reading.before h
-before_of target value h None reading is = cc
-before_of target value h (Some request) reading is =
-    let same : h ≡ reading.before = ap before_or is in
-    subst (λ g. Front g h) same (front_self h)
-  where
-    before_or : Option Reading → List Event
-    before_or None = h
-    before_or (Some other) = other.before
-
-before_at : (board : Board) (h : List Event) (on : ℕ) (r : OpId) (value : ℕ) (place : Place) (reading : Reading) → reading_at board h on r value place ≡ Some reading → Front reading.before h
-before_at board h on r value (Target target) reading is = before_of target value h (request_of board r on) reading is
-before_at board h on r value (Header bus) reading is = cc
-before_at board h on r value (Lane lane) reading is = cc
-before_at board h on r value Nobody reading is = cc
-
-before_by : (board : Board) (h : List Event) (on : ℕ) (r : OpId) (step : Step) (place : Place) (reading : Reading) → reading_by board h on r step place ≡ Some reading → Front reading.before h
-before_by board h on r Land place reading is = cc
-before_by board h on r (Part phases) place reading is = cc
-before_by board h on r (Read value) place reading is = before_at board h on r value place reading is
-before_by board h on r Accept place reading is = cc
-before_by board h on r Latch place reading is = cc
-before_by board h on r (Take outcome) place reading is = cc
-before_by board h on r Stall place reading is = cc
-before_by board h on r MasterAbort place reading is = cc
-before_by board h on r TargetAbort place reading is = cc
+read_front : (board : Board) (h : List Event) (on : ℕ) (r : OpId) (step : Step) (place : Place) (reading : Reading) → reading_by board h on r step place ≡ Some reading → Front reading.before h
+read_front board h on r step place reading is = subst (λ g. Front reading.before g) (before_by board h on r step place reading is) (front_self reading.before)
 
 -- all readings are of fronts
 abbrev AreFronts : List Event → Origins → Type 0
@@ -111,7 +68,7 @@ source_front board h world origins fronts on o step place reading is =
     let P : Option Reading → Type 0 = λ here. reading_by board h on o step place ≡ here → reading_or here (taken_in board world origins on o step place) ≡ Some reading → Front reading.before h in
     (elim (reading_by board h on o step place) as P [
       | None ↦ λ _ f. taken_front board world h origins fronts on o step place reading f
-      | Some here ↦ λ some f. before_by board h on o step place reading (some ∙ f)
+      | Some here ↦ λ some f. read_front board h on o step place reading (some ∙ f)
     ]) refl is
 
 more_fronts : (h : List Event) (e : Event) (origins : Origins) → AreFronts h origins → AreFronts (e ∷ h) origins
@@ -121,7 +78,7 @@ event_fronts : (board : Board) (e : Event) (h : List Event) → AreFronts h (ori
 event_fronts board (Act on Master o step place) h old lane number reading is = more_fronts h (Act on Master o step place) (origins_of board h) old lane number reading is
 event_fronts board (Act on (ByLane k) o step place) h old lane number reading is =
     let e : Event = Act on (ByLane k) o step place in
-    let world : World = untagged_world board h in
+    let world : World = world_by Untagged board h in
     let origins : Origins = origins_of board h in
     let P : Bool → Type 0 = λ b. cond b (source_of board h world origins on o step place) (origins lane number) ≡ Some reading → Front reading.before (e ∷ h) in
     (elim (same_lane k lane && answers board world k o step number) as P [
@@ -136,9 +93,9 @@ origins_fronts board (e ∷ h) = event_fronts board e h (origins_fronts board h)
 
 pub ending_front : (board : Board) (h : List Event) (e : Event) (reading : Reading) → ending_reading board h e ≡ Some reading → Front reading.before h
 ending_front board h (Act on Master o step place) reading is =
-    let source : Option Reading = source_of board h (untagged_world board h) (origins_of board h) on o step place in
+    let source : Option Reading = source_of board h (world_by Untagged board h) (origins_of board h) on o step place in
     let P : Bool → Type 0 = λ b. cond b source None ≡ Some reading → Front reading.before h in
-    (elim (reads board o) as P [ true ↦ λ f. source_front board h (untagged_world board h) (origins_of board h) (origins_fronts board h) on o step place reading f | false ↦ λ f. cc ]) is
+    (elim (reads board o) as P [ true ↦ λ f. source_front board h (world_by Untagged board h) (origins_of board h) (origins_fronts board h) on o step place reading f | false ↦ λ f. cc ]) is
 ending_front board h (Act on (ByLane lane) o step place) reading is = cc
 ending_front board h (Arrive lane mark) reading is = cc
 
@@ -154,7 +111,7 @@ got_front board (e ∷ h) r reading is =
 -- what got a reading reads
 ending_reads : (board : Board) (h : List Event) (e : Event) (ending : Ending) (reading : Reading) → ended e ≡ Some ending → ending_reading board h e ≡ Some reading → reads board ending.op ≡ true
 ending_reads board h (Act on Master o step place) ending reading ends is =
-    let source : Option Reading = source_of board h (untagged_world board h) (origins_of board h) on o step place in
+    let source : Option Reading = source_of board h (world_by Untagged board h) (origins_of board h) on o step place in
     let P : Bool → Type 0 = λ b. reads board o ≡ b → cond b source None ≡ Some reading → reads board o ≡ true in
     let there : reads board o ≡ true = (elim (reads board o) as P [ true ↦ λ yes_it _. yes_it | false ↦ λ _ f. cc ]) refl is in
     let Q : Option Outcome → Type 0 = λ given. ending_of o given ≡ Some ending → o ≡ ending.op in
@@ -207,8 +164,8 @@ module _ (board : Board) (w : OpId) where
       (elim (untagged_since board w h q.master) as P [ None ↦ λ f. cc | Some p ↦ λ f. f ]) is
 
   -- where an operation that began knows of the write after an event, it knew before
-  knew : (e : Event) (h : List Event) (q : OpId) → InOrder board e h → Begun board h q → knows (untagged_since board w (e ∷ h)) q ≡ true → knows (untagged_since board w h) q ≡ true
-  knew e h q order begun is =
+  knew : (e : Event) (h : List Event) (q : OpId) → UntaggedRun board (e ∷ h) → Begun board h q → knows (untagged_since board w (e ∷ h)) q ≡ true → knows (untagged_since board w h) q ≡ true
+  knew e h q run begun is =
       let heard_it : Bool = heard board w (untagged_since board w h) (ending_reading board h e) in
       let P : Option OpId → Type 0 = λ since. is_behind (first_known since q.master w heard_it (ended e)) q ≡ true → is_behind since q ≡ true in
       let Q : Option Ending → Type 0 = λ ending. ended e ≡ ending → is_behind (first_known None q.master w heard_it ending) q ≡ true → false ≡ true in
@@ -220,7 +177,7 @@ module _ (board : Board) (w : OpId) where
             | None ↦ λ _ _ g. g
             | Some first ↦ λ some ends g.
                 let brought = first_brought q.master heard_it ending first some in
-                let turn : turn_of board h q.master ≡ Some ending.op = subst (λ m. turn_of board h m ≡ Some ending.op) brought.of_master (order.turn ending ends) in
+                let turn : turn_of board h q.master ≡ Some ending.op = subst (λ m. turn_of board h m ≡ Some ending.op) brought.of_master (ends_turn Untagged board e h ending run ends) in
                 let none : stands_after ending.op q ≡ false = begun ending.op turn in
                 let behind : stands_after ending.op q ≡ true = subst (λ p. stands_after p q ≡ true) brought.is_first g in
                 sym none ∙ behind
@@ -236,15 +193,15 @@ module _ (board : Board) (w : OpId) where
   pub knows_front : (before h : List Event) (q : OpId) → Front before h → knows (untagged_since board w before) q ≡ true → knows (untagged_since board w h) q ≡ true
   knows_front before h q front is = subst (λ g. knows (untagged_since board w g) q ≡ true) front.is (knows_along front.later before q is)
 
-  knew_along : (later before : List Event) (q : OpId) → Orderly board (later ++ before) → Begun board before q → knows (untagged_since board w (later ++ before)) q ≡ true → knows (untagged_since board w before) q ≡ true
-  knew_along [] before q order begun is = is
-  knew_along (e ∷ later) before q order begun is =
-      let now : Begun board (later ++ before) q = front_begun board before (later ++ before) q (record { later = later; is = refl }) order.1 begun in
-      knew_along later before q order.1 begun (knew e (later ++ before) q order.0 now is)
+  knew_along : (later before : List Event) (q : OpId) → UntaggedRun board (later ++ before) → Begun board before q → knows (untagged_since board w (later ++ before)) q ≡ true → knows (untagged_since board w before) q ≡ true
+  knew_along [] before q run begun is = is
+  knew_along (e ∷ later) before q run begun is =
+      let now : Begun board (later ++ before) q = front_begun board before (later ++ before) q (record { later = later; is = refl }) run.1 begun in
+      knew_along later before q run.1 begun (knew e (later ++ before) q run now is)
 
-  pub knew_front : (before h : List Event) (q : OpId) → Front before h → Orderly board h → Begun board before q → knows (untagged_since board w h) q ≡ true → knows (untagged_since board w before) q ≡ true
-  knew_front before h q front order begun is =
-      knew_along front.later before q (subst (Orderly board) (sym front.is) order) begun (subst (λ g. knows (untagged_since board w g) q ≡ true) (sym front.is) is)
+  pub knew_front : (before h : List Event) (q : OpId) → Front before h → UntaggedRun board h → Begun board before q → knows (untagged_since board w h) q ≡ true → knows (untagged_since board w before) q ≡ true
+  knew_front before h q front run begun is =
+      knew_along front.later before q (subst (UntaggedRun board) (sym front.is) run) begun (subst (λ g. knows (untagged_since board w g) q ≡ true) (sym front.is) is)
 
   -- a landing that speaks of the write
   pub record Spoken (since : Since) (reading : Reading) : Type 0 where
@@ -260,19 +217,19 @@ module _ (board : Board) (w : OpId) where
       record { landing = some.0; is_found = some.1; has_landed_whole = parts.0; tells = parts.1 }
 
   -- what a reading tells does not change with who comes to know later
-  pub heard_before : (before h : List Event) (reading : Reading) → Front before h → Front reading.before before → Orderly board h → heard board w (untagged_since board w h) (Some reading) ≡ true → heard board w (untagged_since board w before) (Some reading) ≡ true
-  heard_before before h reading front inner order is =
+  pub heard_before : (before h : List Event) (reading : Reading) → Front before h → Front reading.before before → UntaggedRun board h → heard board w (untagged_since board w h) (Some reading) ≡ true → heard board w (untagged_since board w before) (Some reading) ≡ true
+  heard_before before h reading front inner run is =
       let now : Since = untagged_since board w h in
       let then_ : Since = untagged_since board w before in
       let landings : List Landing = landed board reading.before reading.word in
       let found = spoken now reading is in
-      let inner_order : Orderly board reading.before = front_orderly board reading.before h (front_front reading.before before h inner front) order in
-      let begun : Begun board reading.before found.landing.op = Each-find (λ (landing : Landing). Begun board reading.before landing.op) (speaks w now reading.before) landings found.landing (LandingsBegun board reading.before reading.word inner_order) found.is_found in
-      let begun_then : Begun board before found.landing.op = front_begun board reading.before before found.landing.op inner (front_orderly board before h front order) begun in
+      let inner_run : UntaggedRun board reading.before = run_front board reading.before h (front_front reading.before before h inner front) run in
+      let begun : Begun board reading.before found.landing.op = Each-find (LandingBegun board reading.before) (speaks w now reading.before) landings found.landing (LandingsBegun-run Untagged board reading.before reading.word inner_run) found.is_found in
+      let begun_then : Begun board before found.landing.op = front_begun board reading.before before found.landing.op inner (run_front board before h front run) begun in
       let told : (same_op found.landing.op w || knows then_ found.landing.op) ≡ true =
       or_either ((same_op found.landing.op w || knows then_ found.landing.op) ≡ true) (same_op found.landing.op w) (knows now found.landing.op)
       (λ same. or_left (same_op found.landing.op w) (knows then_ found.landing.op) same)
-      (λ known. or_right (same_op found.landing.op w) (knows then_ found.landing.op) (knew_front before h found.landing.op front order begun_then known)) found.tells in
+      (λ known. or_right (same_op found.landing.op w) (knows then_ found.landing.op) (knew_front before h found.landing.op front run begun_then known)) found.tells in
       let whole = found.has_landed_whole in
       let speaks_then : speaks w then_ reading.before found.landing ≡ true = rw (whole, told) refl in
       found_any (speaks w now reading.before) (speaks w then_ reading.before) landings found.landing found.is_found speaks_then
@@ -292,9 +249,9 @@ module _ (board : Board) (w : OpId) where
       found_any (speaks w then_ reading.before) (speaks w now reading.before) landings found.landing found.is_found speaks_now
 
   -- the first operation with which a master came to know of the write is its own, and stands before its turn
-  pub since_behind : (h : List Event) (master : ℕ) (p : OpId) → Orderly board h → untagged_since board w h master ≡ Some p → (p.master ≡ master) × IsBehind p (turn_of board h master)
-  since_behind [] master p order is = cc
-  since_behind (e ∷ h) master p order is =
+  pub since_behind : (h : List Event) (master : ℕ) (p : OpId) → UntaggedRun board h → untagged_since board w h master ≡ Some p → (p.master ≡ master) × IsBehind p (turn_of board h master)
+  since_behind [] master p run is = cc
+  since_behind (e ∷ h) master p run is =
       let heard_it : Bool = heard board w (untagged_since board w h) (ending_reading board h e) in
       let Goal : Type 0 = (p.master ≡ master) × IsBehind p (turn_of board (e ∷ h) master) in
       let P : Option OpId → Type 0 = λ since. untagged_since board w h master ≡ since → first_known since master w heard_it (ended e) ≡ Some p → Goal in
@@ -310,6 +267,6 @@ module _ (board : Board) (w : OpId) where
         ]) refl f
         | Some first ↦ λ was f.
             let same : first ≡ p = cc in
-            let old = since_behind h master p order.1 (was ∙ ap Some same) in
-            (old.0, event_behind board e h p master order.0 old.1)
+            let old = since_behind h master p run.1 (was ∙ ap Some same) in
+            (old.0, event_behind Untagged board e h p master run old.1)
       ]) refl is

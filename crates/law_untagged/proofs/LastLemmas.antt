@@ -1,6 +1,7 @@
 -- On boards on which masters are apart the origin of a completion is the last reading of its operation, so that what a
 -- read got is the same by either rule.
 use Rattle.std.proofs.Common.{◌≡◌, ℕ, Bool, true, false, ◌&&◌, ◌||◌, cond, List, [], ◌∷◌, ◌++◌, map, Option, Some, None, is_some, refl, sym, ap, subst, ◌∙◌, option_map}
+use Rattle.std.proofs.lemmas.Bool.{or_left, or_right}
 use Rattle.std.specs.List.{find, AllByRecursion}
 use Rattle.pci_command.specs.declared.op_id.OpId.{OpId}
 use Rattle.pci_command.specs.declared.op_id.Outcome.{Outcome}
@@ -23,9 +24,10 @@ use Rattle.history_model.specs.declared.event.Event.TheVariants.{Act, Arrive}
 use Rattle.history_model.specs.declared.item.Carried.{Carried}
 use Rattle.history_model.specs.declared.item.Carried.TheVariants.{Post, Ask, Done, Room, Gone}
 use Rattle.history_model.specs.declared.item.Slot.{Slot}
+use Rattle.history_model.specs.declared.rule.Rule.TheVariants.{Untagged}
 use Rattle.history_model.specs.Lanes.{LaneState, is_done_for}
 use Rattle.board_model.specs.Ways.{lane_back}
-use Rattle.history_model.specs.World.{anyone, World, both, is_own, world_of}
+use Rattle.history_model.specs.World.{anyone, World, both, is_own, world_of, world_by}
 use Rattle.history_model.specs.Program.{Ending, ending_of, master_outcome}
 use Rattle.history_model.specs.Knowledge.{ends_as, ends_with, value_of_ending, given_value, up_to_end, Reading, reading_at, reading_by, reading_in, reading_or, last_reading, got, has_landed, saw_in, saw, later, tells, Chain, Told, Fresh}
 use Rattle.history_model.specs.Runs.{Run}
@@ -37,11 +39,12 @@ use Rattle.law_lanes.proofs.WellFormedLemmas.{WellFormed-numbers, WellFormed-sin
 use Rattle.board_model.proofs.Laws.{op_formed}
 use Rattle.law_fresh.specs.Cover.{items}
 use Rattle.law_fresh.proofs.StillLemmas.{Still, event_still}
-use Rattle.law_untagged.specs.Untagged.{untagged_world, UntaggedAllowed, UntaggedRun}
+use Rattle.law_fresh.proofs.Laws.{or_either}
+use Rattle.law_untagged.specs.Untagged.{UntaggedAllowed, UntaggedRun}
 use Rattle.law_untagged.specs.Apart.{Apart}
 use Rattle.law_untagged.specs.Forgets.{unnamed, forget}
 use Rattle.law_untagged.specs.Origins.{Origins, origin_in, taken_from, source_of, origins_of, ending_reading, untagged_got, untagged_saw, untagged_tells, UntaggedChain, UntaggedTold, UntaggedFresh}
-use Rattle.law_untagged.proofs.OrderLemmas.{or_left, or_right, or_either, Ends, ends_some}
+use Rattle.law_untagged.proofs.OrderLemmas.{Ends, ends_some}
 use Rattle.law_untagged.proofs.ForgetLemmas.{Alike, own_unnamed, Forgets}
 use Rattle.law_untagged.proofs.ApartLemmas.{presented_alike}
 use Rattle.law_untagged.proofs.RunLemmas.{runs_alike}
@@ -73,52 +76,52 @@ module _ (board : Board) (valid : IsValid board) (apart : Apart board) where
   well_at : (q : OpId) (op : Op) → op_of board q ≡ Some op → is_well_formed_op op ≡ true
   well_at q op is = op_formed board q op valid.well_formed is
 
-  forgets : (h : List Event) → Run board h → Forgets (untagged_world board h) (world_of board h)
+  forgets : (h : List Event) → Run board h → Forgets (world_by Untagged board h) (world_of board h)
   forgets h run =
       (runs_alike board (IsTree-valid board valid) (WellFormed-numbers board valid.well_formed) (WellFormed-single board valid.well_formed) well_at apart h).world run
 
   -- an event leaves the last reading of each completion that is about
-  weaker : (e : Event) (h : List Event) → Run board (e ∷ h) → ((l : BridgeLane) → AllCarry (LastOf board h) (origins_of board h) l (both (untagged_world board h) l))
-      → (l : BridgeLane) → AllCarry (LastOf board (e ∷ h)) (origins_of board h) l (both (untagged_world board h) l)
+  weaker : (e : Event) (h : List Event) → Run board (e ∷ h) → ((l : BridgeLane) → AllCarry (LastOf board h) (origins_of board h) l (both (world_by Untagged board h) l))
+      → (l : BridgeLane) → AllCarry (LastOf board (e ∷ h)) (origins_of board h) l (both (world_by Untagged board h) l)
   weaker e h run old l =
       let back : BridgeLane = lane_back l in
-      let same : untagged_world board h back ≡ forget (world_of board h back) = forgets h run.1 back in
+      let same : world_by Untagged board h back ≡ forget (world_of board h back) = forgets h run.1 back in
       let S : Carried → Type 0 = Still board h e in
       let still = each_first S (world_of board h back).standing (world_of board h back).flight (event_still board valid h e run back) in
-      let flying : AllByRecursion S (untagged_world board h back).flight = subst (λ (s : LaneState). AllByRecursion S s.flight) (sym same) still.1 in
-      let standing : AllByRecursion S (untagged_world board h back).standing = subst (λ (s : LaneState). AllByRecursion S s.standing) (sym same) still.0 in (
-        each_still board h e (origins_of board h l) (untagged_world board h back).flight flying (old l).0,
-        each_still board h e (origins_of board h l) (untagged_world board h back).standing standing (old l).1,
+      let flying : AllByRecursion S (world_by Untagged board h back).flight = subst (λ (s : LaneState). AllByRecursion S s.flight) (sym same) still.1 in
+      let standing : AllByRecursion S (world_by Untagged board h back).standing = subst (λ (s : LaneState). AllByRecursion S s.standing) (sym same) still.0 in (
+        each_still board h e (origins_of board h l) (world_by Untagged board h back).flight flying (old l).0,
+        each_still board h e (origins_of board h l) (world_by Untagged board h back).standing standing (old l).1,
       )
 
   -- the own slot and its completion are the operation's by either rule
   taken_last : (h : List Event) (on : ℕ) (by : By) (o : OpId) (outcome : Outcome) (lane : BridgeLane) → Run board (Act on by o (Take outcome) (Lane lane) ∷ h) → UntaggedAllowed board h (Act on by o (Take outcome) (Lane lane))
-      → ((l : BridgeLane) → AllCarry (LastOf board h) (origins_of board h) l (both (untagged_world board h) l)) → (reading : Reading)
-      → origin_in (origins_of board h) lane (find (is_own board on anyone o) (untagged_world board h lane).held) ≡ Some reading → last_reading board o h ≡ Some reading
+      → ((l : BridgeLane) → AllCarry (LastOf board h) (origins_of board h) l (both (world_by Untagged board h) l)) → (reading : Reading)
+      → origin_in (origins_of board h) lane (find (is_own board on anyone o) (world_by Untagged board h lane).held) ≡ Some reading → last_reading board o h ≡ Some reading
   taken_last h on by o outcome lane run allowed carry reading is =
       let formed = valid.well_formed in
-      let at = answered_in board (untagged_world board h) h on anyone o (Take outcome) lane allowed.1 in
+      let at = answered_in board (world_by Untagged board h) h on anyone o (Take outcome) lane allowed.1 in
       let there = answered_at board h on by o (Take outcome) lane run.0.1 in
       let takes = TakesItsOwn-run board h on by o outcome lane (WellFormed-numbers board formed) (WellFormed-single board formed) run in
       let alike : Alike board on by o (world_of board h lane).held =
       presented_alike board (IsTree-valid board valid) (WellFormed-numbers board formed) (WellFormed-single board formed) well_at apart h run.1 on by o run.0.0 there.request there.is_request there.gives.0 lane there.claims in
       let taken = at.gives.1 in
-      let held_same : (untagged_world board h lane).held ≡ map unnamed (world_of board h lane).held = ap (λ (s : LaneState). s.held) (forgets h run.1 lane) in
-      let own : find (is_own board on anyone o) (untagged_world board h lane).held ≡ Some (unnamed takes.slot) =
+      let held_same : (world_by Untagged board h lane).held ≡ map unnamed (world_of board h lane).held = ap (λ (s : LaneState). s.held) (forgets h run.1 lane) in
+      let own : find (is_own board on anyone o) (world_by Untagged board h lane).held ≡ Some (unnamed takes.slot) =
       ap (find (is_own board on anyone o)) held_same ∙ own_unnamed board on by o (world_of board h lane).held alike ∙ ap (option_map unnamed) takes.is_own_slot in
       let slot_some : ◌≡◌ {A = Option Slot} (Some taken.slot) (Some (unnamed takes.slot)) = sym taken.is_own_slot ∙ own in
       let slot_same : taken.slot ≡ unnamed takes.slot = cc in
       let number : taken.slot.number ≡ takes.slot.number = ap (λ (s : Slot). s.number) slot_same in
-      let standing_same : (untagged_world board h (lane_back lane)).standing ≡ (world_of board h (lane_back lane)).standing = ap (λ (s : LaneState). s.standing) (forgets h run.1 (lane_back lane)) in
-      let done : find (is_done_for taken.slot.number) (untagged_world board h (lane_back lane)).standing ≡ Some (Done o takes.slot.number outcome) =
+      let standing_same : (world_by Untagged board h (lane_back lane)).standing ≡ (world_of board h (lane_back lane)).standing = ap (λ (s : LaneState). s.standing) (forgets h run.1 (lane_back lane)) in
+      let done : find (is_done_for taken.slot.number) (world_by Untagged board h (lane_back lane)).standing ≡ Some (Done o takes.slot.number outcome) =
       ap (find (is_done_for taken.slot.number)) standing_same ∙ ap (λ n. find (is_done_for n) (world_of board h (lane_back lane)).standing) number ∙ takes.stands in
       let dones : ◌≡◌ {A = Option Carried} (Some (Done taken.op taken.number outcome)) (Some (Done o takes.slot.number outcome)) = sym taken.stands ∙ done in
       let op_same : taken.op ≡ o = cc in
-      let good : last_reading board taken.op h ≡ Some reading = taken_good (LastOf board h) board (untagged_world board h) h (origins_of board h) carry on o outcome lane at reading is in
+      let good : last_reading board taken.op h ≡ Some reading = taken_good (LastOf board h) board (world_by Untagged board h) h (origins_of board h) carry on o outcome lane at reading is in
       subst (λ p. last_reading board p h ≡ Some reading) op_same good
 
   -- where an act has its value from is then the last reading of its operation
-  module _ (h : List Event) (on : ℕ) (by : By) (o : OpId) (carry : (l : BridgeLane) → AllCarry (LastOf board h) (origins_of board h) l (both (untagged_world board h) l)) where
+  module _ (h : List Event) (on : ℕ) (by : By) (o : OpId) (carry : (l : BridgeLane) → AllCarry (LastOf board h) (origins_of board h) l (both (world_by Untagged board h) l)) where
     older : (step : Step) (place : Place) (reading : Reading) → reading_by board h on o step place ≡ None → last_reading board o h ≡ Some reading → last_reading board o (Act on by o step place ∷ h) ≡ Some reading
     older step place reading none last =
         let P : Bool → Type 0 = λ b. reading_or (cond b (reading_by board h on o step place) None) (last_reading board o h) ≡ Some reading in
@@ -126,14 +129,14 @@ module _ (board : Board) (valid : IsValid board) (apart : Apart board) where
         elim (same_op o o) as P [ true ↦ subst F (sym none) last | false ↦ last ]
 
     place_last : (outcome : Outcome) (place : Place) → Run board (Act on by o (Take outcome) place ∷ h) → UntaggedAllowed board h (Act on by o (Take outcome) place) → (reading : Reading)
-        → taken_from board (untagged_world board h) (origins_of board h) on o place ≡ Some reading → last_reading board o h ≡ Some reading
+        → taken_from board (world_by Untagged board h) (origins_of board h) on o place ≡ Some reading → last_reading board o h ≡ Some reading
     place_last outcome (Target target) run allowed reading is = cc
     place_last outcome (Header bus) run allowed reading is = cc
     place_last outcome (Lane lane) run allowed reading is = taken_last h on by o outcome lane run allowed carry reading is
     place_last outcome Nobody run allowed reading is = cc
 
     source_last : (step : Step) (place : Place) → Run board (Act on by o step place ∷ h) → UntaggedAllowed board h (Act on by o step place) → (reading : Reading)
-        → source_of board h (untagged_world board h) (origins_of board h) on o step place ≡ Some reading → last_reading board o (Act on by o step place ∷ h) ≡ Some reading
+        → source_of board h (world_by Untagged board h) (origins_of board h) on o step place ≡ Some reading → last_reading board o (Act on by o step place ∷ h) ≡ Some reading
     source_last Land place run allowed reading is = cc
     source_last (Part phases) place run allowed reading is = cc
     source_last (Read value) place run allowed reading is =
@@ -149,12 +152,12 @@ module _ (board : Board) (valid : IsValid board) (apart : Apart board) where
     source_last MasterAbort place run allowed reading is = cc
     source_last TargetAbort place run allowed reading is = cc
 
-  makes_last : (e : Event) (h : List Event) → Run board (e ∷ h) → UntaggedAllowed board h e → ((l : BridgeLane) → AllCarry (LastOf board h) (origins_of board h) l (both (untagged_world board h) l)) → Makes (LastOf board (e ∷ h)) board h e
+  makes_last : (e : Event) (h : List Event) → Run board (e ∷ h) → UntaggedAllowed board h e → ((l : BridgeLane) → AllCarry (LastOf board h) (origins_of board h) l (both (world_by Untagged board h) l)) → Makes (LastOf board (e ∷ h)) board h e
   makes_last (Act on Master o step place) h run allowed carry = tt
   makes_last (Act on (ByLane k) o step place) h run allowed carry = λ outcome ends reading is. source_last h on (ByLane k) o carry step place run allowed reading is
   makes_last (Arrive lane mark) h run allowed carry = tt
 
-  last_run : (h : List Event) → Run board h → UntaggedRun board h → (l : BridgeLane) → AllCarry (LastOf board h) (origins_of board h) l (both (untagged_world board h) l)
+  last_run : (h : List Event) → Run board h → UntaggedRun board h → (l : BridgeLane) → AllCarry (LastOf board h) (origins_of board h) l (both (world_by Untagged board h) l)
   last_run [] run plain = λ l. (tt, tt)
   last_run (e ∷ h) run plain =
       let old = last_run h run.1 plain.1 in
@@ -164,7 +167,7 @@ module _ (board : Board) (valid : IsValid board) (apart : Apart board) where
 
   ending_last : (e : Event) (h : List Event) (r : OpId) (reading : Reading) → Run board (e ∷ h) → UntaggedRun board (e ∷ h) → is_some (ends_as r e) ≡ true → ending_reading board h e ≡ Some reading → last_reading board r (e ∷ h) ≡ Some reading
   ending_last (Act on Master o step place) h r reading run plain ends is =
-      let source : Option Reading = source_of board h (untagged_world board h) (origins_of board h) on o step place in
+      let source : Option Reading = source_of board h (world_by Untagged board h) (origins_of board h) on o step place in
       let P : Bool → Type 0 = λ b. cond b source None ≡ Some reading → source ≡ Some reading in
       let from : source ≡ Some reading = (elim (reads board o) as P [ true ↦ λ f. f | false ↦ λ f. cc ]) is in
       let last = source_last h on Master o (last_run h run.1 plain.1) step place run plain.0 reading from in

@@ -6,8 +6,6 @@ pub mod RunLemmas
 pub mod OrderLemmas
 pub mod HeardLemmas
 pub mod ToldLemmas
-pub mod MoveLemmas
-pub mod UntaggedOrderLemmas
 pub mod CarryLemmas
 pub mod ReturnLemmas
 pub mod StaleLemmas

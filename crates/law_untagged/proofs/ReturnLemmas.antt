@@ -30,7 +30,7 @@ use Rattle.history_model.specs.declared.item.Slot.{Slot}
 use Rattle.history_model.specs.declared.item.Answer.TheVariants.{Gives}
 use Rattle.history_model.specs.Lanes.{Both, is_of, is_done_for, lowest_free, reply_to, item_ends, slot_taken, Effect, Stands, Credits, Frees, Drops, effect_of, takes_effect, came_off, arrives_first, arrives}
 use Rattle.history_model.specs.declared.rule.Rule.TheVariants.{Untagged}
-use Rattle.history_model.specs.World.{anyone, World, same_lane, both, moved, is_own, slot_found, enters, at_place, lane_outcome, leaves, at_initiator}
+use Rattle.history_model.specs.World.{anyone, World, same_lane, both, moved, is_own, slot_found, enters, at_place, lane_outcome, leaves, at_initiator, world_by}
 use Rattle.history_model.specs.Program.{Ending, ending_of, ended_by, master_outcome}
 use Rattle.history_model.specs.Local.{is_ask_of}
 use Rattle.history_model.specs.Knowledge.{value_in, value_of_ending, outcome_in, ends_as, ends_with, or_else, given_value, Reading, reading_of, reading_at, reading_by, reading_or}
@@ -41,7 +41,7 @@ use Rattle.history_model.proofs.facts.AnswerLemmas.{AtLaneIn, answered_in}
 use Rattle.history_model.proofs.facts.KeptLemmas.{place_keeps}
 use Rattle.law_lanes.proofs.SlotsRunLemmas.{Slots-kept, Slots-run_by}
 use Rattle.history_model.proofs.facts.RequestLemmas.{same_op_true}
-use Rattle.law_untagged.specs.Untagged.{untagged_world, UntaggedAllowed, UntaggedRun}
+use Rattle.law_untagged.specs.Untagged.{UntaggedAllowed, UntaggedRun}
 use Rattle.law_untagged.specs.Origins.{Origins, origin_in, taken_from, taken_in, source_of, asks_for, ends_item, answers, origin_by, origins_of, ending_reading, untagged_got}
 use Rattle.law_untagged.proofs.CarryLemmas.{AllCarry, taken_good, Makes, event_carries}
 
@@ -99,18 +99,18 @@ master_ends Stall outcome is = tt
 master_ends MasterAbort outcome is = tt
 master_ends TargetAbort outcome is = tt
 
-module _ (board : Board) (h : List Event) (origins : Origins) (carry : (l : BridgeLane) → AllCarry HasValue origins l (both (untagged_world board h) l)) where
+module _ (board : Board) (h : List Event) (origins : Origins) (carry : (l : BridgeLane) → AllCarry HasValue origins l (both (world_by Untagged board h) l)) where
   place_value : (on : ℕ) (by : By) (o : OpId) (outcome : Outcome) (place : Place) → UntaggedAllowed board h (Act on by o (Take outcome) place) → (reading : Reading)
-      → taken_from board (untagged_world board h) origins on o place ≡ Some reading → outcome ≡ Value reading.value
+      → taken_from board (world_by Untagged board h) origins on o place ≡ Some reading → outcome ≡ Value reading.value
   place_value on by o outcome (Target target) allowed reading is = cc
   place_value on by o outcome (Header bus) allowed reading is = cc
   place_value on by o outcome (Lane lane) allowed reading is =
-      taken_good HasValue board (untagged_world board h) h origins carry on o outcome lane (answered_in board (untagged_world board h) h on anyone o (Take outcome) lane allowed.1) reading is
+      taken_good HasValue board (world_by Untagged board h) h origins carry on o outcome lane (answered_in board (world_by Untagged board h) h on anyone o (Take outcome) lane allowed.1) reading is
   place_value on by o outcome Nobody allowed reading is = cc
 
   -- what an act has its value from has the value with which the act ends its operation
   source_value : (on : ℕ) (by : By) (o : OpId) (step : Step) (place : Place) (outcome : Outcome) → UntaggedAllowed board h (Act on by o step place) → Ends step outcome → (reading : Reading)
-      → source_of board h (untagged_world board h) origins on o step place ≡ Some reading → outcome ≡ Value reading.value
+      → source_of board h (world_by Untagged board h) origins on o step place ≡ Some reading → outcome ≡ Value reading.value
   source_value on by o Land place outcome allowed ends reading is = cc
   source_value on by o (Part phases) place outcome allowed ends reading is = cc
   source_value on by o (Read value) place outcome allowed ends reading is =
@@ -127,13 +127,13 @@ module _ (board : Board) (h : List Event) (origins : Origins) (carry : (l : Brid
   source_value on by o MasterAbort place outcome allowed ends reading is = cc
   source_value on by o TargetAbort place outcome allowed ends reading is = cc
 
-makes_value : (board : Board) (h : List Event) (e : Event) → UntaggedAllowed board h e → ((l : BridgeLane) → AllCarry HasValue (origins_of board h) l (both (untagged_world board h) l)) → Makes HasValue board h e
+makes_value : (board : Board) (h : List Event) (e : Event) → UntaggedAllowed board h e → ((l : BridgeLane) → AllCarry HasValue (origins_of board h) l (both (world_by Untagged board h) l)) → Makes HasValue board h e
 makes_value board h (Act on Master o step place) allowed carry = tt
 makes_value board h (Act on (ByLane k) o step place) allowed carry = λ outcome ends reading is. source_value board h (origins_of board h) carry on (ByLane k) o step place outcome allowed (lane_ends board k o step outcome ends) reading is
 makes_value board h (Arrive lane mark) allowed carry = tt
 
 -- in every run
-carry_run : (board : Board) (h : List Event) → UntaggedRun board h → (l : BridgeLane) → AllCarry HasValue (origins_of board h) l (both (untagged_world board h) l)
+carry_run : (board : Board) (h : List Event) → UntaggedRun board h → (l : BridgeLane) → AllCarry HasValue (origins_of board h) l (both (world_by Untagged board h) l)
 carry_run board [] run = λ l. (tt, tt)
 carry_run board (e ∷ h) run = let old = carry_run board h run.1 in event_carries HasValue board e h run.1 run.0 (makes_value board h e run.0 old) old
 
@@ -143,7 +143,7 @@ carry_run board (e ∷ h) run = let old = carry_run board h run.1 in event_carri
 pub ending_value : (board : Board) (e : Event) (h : List Event) (r : OpId) (reading : Reading) → UntaggedRun board (e ∷ h) → is_some (ends_as r e) ≡ true → ending_reading board h e ≡ Some reading → ends_with r e ≡ Some reading.value
 ending_value board (Act on Master o step place) h r reading run ends is =
     let origins : Origins = origins_of board h in
-    let source : Option Reading = source_of board h (untagged_world board h) origins on o step place in
+    let source : Option Reading = source_of board h (world_by Untagged board h) origins on o step place in
     let P : Bool → Type 0 = λ b. cond b source None ≡ Some reading → source ≡ Some reading in
     let from : source ≡ Some reading = (elim (reads board o) as P [ true ↦ λ f. f | false ↦ λ f. cc ]) is in
     let Q : Option Outcome → Type 0 = λ given. master_outcome step ≡ given → is_some (outcome_in r (ending_or o given)) ≡ true → value_of_ending (outcome_in r (ending_or o given)) ≡ Some reading.value in

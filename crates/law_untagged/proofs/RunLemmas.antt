@@ -20,14 +20,15 @@ use Rattle.history_model.specs.declared.event.Event.TheVariants.{Act, Arrive}
 use Rattle.history_model.specs.declared.item.Carried.{Carried}
 use Rattle.history_model.specs.declared.item.Carried.TheVariants.{Post, Ask, Done, Room, Gone}
 use Rattle.history_model.specs.declared.item.Answer.TheVariants.{Gives}
+use Rattle.history_model.specs.declared.rule.Rule.TheVariants.{Untagged}
 use Rattle.history_model.specs.Lanes.{LaneState}
-use Rattle.history_model.specs.World.{anyone, World, both, enters, at_place, at_initiator, lane_outcome, after, world_of}
-use Rattle.history_model.specs.Answers.{wants, answer}
+use Rattle.history_model.specs.World.{anyone, World, both, enters, at_place, at_initiator, lane_outcome, after, world_of, world_by}
+use Rattle.history_model.specs.Answers.{wants, answer, answer_by_rule, wants_by}
 use Rattle.history_model.specs.Runs.{mark_of_first, next_mark_in, Allowed, Run}
 use Rattle.law_lanes.specs.Depths.{DifferentNumbers}
 use Rattle.law_lanes.specs.Phases.{DelayedAreSingle}
 use Rattle.history_model.proofs.facts.AnswerLemmas.{Gives_at, answered_at}
-use Rattle.law_untagged.specs.Untagged.{untagged_after, untagged_world, untagged_wants, untagged_answer, UntaggedAllowed, UntaggedRun}
+use Rattle.law_untagged.specs.Untagged.{UntaggedAllowed, UntaggedRun}
 use Rattle.law_untagged.specs.Apart.{Apart}
 use Rattle.law_untagged.specs.Forgets.{forget}
 use Rattle.law_untagged.proofs.ForgetLemmas.{Alike, Forgets, enters_forget, moved_forget, leaves_forget, arrival_forget}
@@ -48,22 +49,22 @@ next_forget board plain world lane forgets = ap (λ (s : LaneState). mark_of_fir
 module _ (board : Board) (tree : IsTree board) (distinct : DifferentNumbers board) (single : DelayedAreSingle board)
     (well : (q : OpId) (op : Op) → op_of board q ≡ Some op → is_well_formed_op op ≡ true) (apart : Apart board) where
   -- one more event
-  module _ (h : List Event) (run : Run board h) (forgets : Forgets (untagged_world board h) (world_of board h)) where
-    wants_same : (on : ℕ) (by : By) (o : OpId) → untagged_wants board h on by o ≡ wants board h on by o
-    wants_same on by o = wants_forget board (untagged_world board h) (world_of board h) forgets h on by o (λ lane ends. none_same board tree distinct single well apart h run on o lane)
+  module _ (h : List Event) (run : Run board h) (forgets : Forgets (world_by Untagged board h) (world_of board h)) where
+    wants_same : (on : ℕ) (by : By) (o : OpId) → wants_by Untagged board h on by o ≡ wants board h on by o
+    wants_same on by o = wants_forget board (world_by Untagged board h) (world_of board h) forgets h on by o (λ lane ends. none_same board tree distinct single well apart h run on o lane)
 
-    answer_same : (on : ℕ) (by : By) (o : OpId) → wants board h on by o ≡ true → untagged_answer board h on by o ≡ answer board h on by o
-    answer_same on by o wanted = answer_forget board (untagged_world board h) (world_of board h) forgets h on by o (presented_alike board tree distinct single well apart h run on by o wanted)
+    answer_same : (on : ℕ) (by : By) (o : OpId) → wants board h on by o ≡ true → answer_by_rule Untagged board h on by o ≡ answer board h on by o
+    answer_same on by o wanted = answer_forget board (world_by Untagged board h) (world_of board h) forgets h on by o (presented_alike board tree distinct single well apart h run on by o wanted)
 
     allowed : (e : Event) → UntaggedAllowed board h e → Allowed board h e
     allowed (Act on by o step place) both_hold =
         let wanted : wants board h on by o ≡ true = sym (wants_same on by o) ∙ both_hold.0 in
         (wanted, sym (answer_same on by o wanted) ∙ both_hold.1)
-    allowed (Arrive lane mark) is = sym (next_forget board (untagged_world board h) (world_of board h) lane forgets) ∙ is
+    allowed (Arrive lane mark) is = sym (next_forget board (world_by Untagged board h) (world_of board h) lane forgets) ∙ is
 
     untagged : (e : Event) → Allowed board h e → UntaggedAllowed board h e
     untagged (Act on by o step place) both_hold = (wants_same on by o ∙ both_hold.0, answer_same on by o both_hold.0 ∙ both_hold.1)
-    untagged (Arrive lane mark) is = next_forget board (untagged_world board h) (world_of board h) lane forgets ∙ is
+    untagged (Arrive lane mark) is = next_forget board (world_by Untagged board h) (world_of board h) lane forgets ∙ is
 
     taken_alike : (on : ℕ) (by : By) (o : OpId) (step : Step) (lane : BridgeLane) → wants board h on by o ≡ true → answer board h on by o ≡ Gives step (Lane lane)
         → (outcome : Outcome) → step ≡ Take outcome → Alike board on by o (world_of board h lane).held
@@ -72,11 +73,11 @@ module _ (board : Board) (tree : IsTree board) (distinct : DifferentNumbers boar
         presented_alike board tree distinct single well apart h run on by o wanted at.request at.is_request at.gives.0 lane at.claims
 
     place_forget : (on : ℕ) (by : By) (o : OpId) (step : Step) (place : Place) → wants board h on by o ≡ true → answer board h on by o ≡ Gives step place
-        → Forgets (at_place board on anyone o step place (untagged_world board h)) (at_place board on by o step place (world_of board h))
+        → Forgets (at_place board on anyone o step place (world_by Untagged board h)) (at_place board on by o step place (world_of board h))
     place_forget on by o step (Target target) wanted gives = forgets
     place_forget on by o step (Header bus) wanted gives = forgets
     place_forget on by o step (Lane lane) wanted gives =
-        moved_forget (enters board on anyone o step) (enters board on by o step) lane (untagged_world board h) (world_of board h) forgets
+        moved_forget (enters board on anyone o step) (enters board on by o step) lane (world_by Untagged board h) (world_of board h) forgets
         (enters_forget board on by o step (both (world_of board h) lane) (taken_alike on by o step lane wanted gives))
     place_forget on by o step Nobody wanted gives = forgets
 
@@ -84,16 +85,16 @@ module _ (board : Board) (tree : IsTree board) (distinct : DifferentNumbers boar
     initiator_forget Master o step plain world there = there
     initiator_forget (ByLane lane) o step plain world there = leaves_forget lane o (lane_outcome board lane o step) plain world there
 
-    after_forget : (e : Event) → Allowed board h e → Forgets (untagged_world board (e ∷ h)) (world_of board (e ∷ h))
+    after_forget : (e : Event) → Allowed board h e → Forgets (world_by Untagged board (e ∷ h)) (world_of board (e ∷ h))
     after_forget (Act on by o step place) both_hold =
-        initiator_forget by o step (at_place board on anyone o step place (untagged_world board h)) (at_place board on by o step place (world_of board h))
+        initiator_forget by o step (at_place board on anyone o step place (world_by Untagged board h)) (at_place board on by o step place (world_of board h))
         (place_forget on by o step place both_hold.0 both_hold.1)
-    after_forget (Arrive lane mark) is = arrival_forget mark lane (untagged_world board h) (world_of board h) forgets
+    after_forget (Arrive lane mark) is = arrival_forget mark lane (world_by Untagged board h) (world_of board h) forgets
 
   pub record AlikeRuns (h : List Event) : Type 0 where
     pub run : UntaggedRun board h → Run board h
     pub untagged : Run board h → UntaggedRun board h
-    pub world : Run board h → Forgets (untagged_world board h) (world_of board h)
+    pub world : Run board h → Forgets (world_by Untagged board h) (world_of board h)
 
   pub runs_alike : (h : List Event) → AlikeRuns h
   runs_alike [] = record { run = λ run. tt; untagged = λ run. tt; world = λ run lane. refl }

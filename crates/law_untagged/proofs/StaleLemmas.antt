@@ -32,9 +32,7 @@ use Rattle.safe_model.specs.Raisers.{same_dword}
 use Rattle.safe_model.specs.Ops.{ops_from, ops_by}
 use Rattle.law_untagged.specs.Stale.{StaleRead, breaks_in, breaks, Breaks, stale_by, stale_at, stale_ending, stale_in, stale_of}
 use Rattle.law_untagged.proofs.OrderLemmas.{Ends, ends_some}
-use Rattle.law_untagged.proofs.HeardLemmas.{found_any}
 use Rattle.law_untagged.proofs.ToldLemmas.{told_known, known_told}
-use Rattle.law_untagged.proofs.UntaggedOrderLemmas.{untagged_in_order}
 use Rattle.law_untagged.proofs.ReturnLemmas.{got_returned}
 
 -- Dwords.
@@ -112,7 +110,7 @@ module _ (board : Board) (h : List Event) (run : UntaggedRun board h) where
             record {
               reading = reading;
               got = got;
-              told = known_told board w h (untagged_in_order board h run).0 r outer.1;
+              told = known_told board w h run r outer.1;
               of_word = Contains-from_any dword_true reading.word (words_named board w) inner.0;
               not_landed = (elim (has_landed reading.before w) as Q [ true ↦ λ e. cc | false ↦ λ _. refl ]) inner.1;
             }
@@ -121,7 +119,7 @@ module _ (board : Board) (h : List Event) (run : UntaggedRun board h) where
   pub so_breaks : (w r : OpId) → Breaks board h w r → breaks board h w r ≡ true
   so_breaks w r it =
       let F : Option Reading → Type 0 = λ found. breaks_in board h w r found ≡ true in
-      let told = told_known board w h (untagged_in_order board h run).0 r it.told in
+      let told = told_known board w h run r it.told in
       let of_word = list_any-from_Contains dword-equiv it.reading.word (words_named board w) it.of_word in
       let landed_not = it.not_landed in
       let there : F (Some it.reading) = rw (of_word, landed_not, told) refl in

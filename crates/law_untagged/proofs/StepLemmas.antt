@@ -26,8 +26,7 @@ use Rattle.history_model.specs.Lanes.{LaneState, is_of}
 use Rattle.history_model.specs.declared.rule.Rule.TheVariants.{Untagged}
 use Rattle.history_model.specs.World.{anyone, World, is_own}
 use Rattle.history_model.specs.Words.{through, without}
-use Rattle.history_model.specs.Answers.{kind_of, goes_before_by, presents_item_by, asked, asks_same, goes_before, presents_item, presents, wants_in, posted_answer, delayed_answer, lane_answer, bridge_to, answer_by, answer_to, answer_in}
-use Rattle.law_untagged.specs.Untagged.{untagged_presents, untagged_wants_in}
+use Rattle.history_model.specs.Answers.{kind_of, goes_before_by, presents_item_by, asked, asks_same, goes_before, presents_item, presents, wants_in, posted_answer, delayed_answer, lane_answer, bridge_to, answer_by, answer_to, answer_in, presents_by, wants_in_by}
 use Rattle.law_untagged.specs.Forgets.{unnamed, forget}
 use Rattle.law_untagged.proofs.ForgetLemmas.{Alike, length_unnamed, own_unnamed, Forgets}
 
@@ -105,20 +104,20 @@ passes_goes board on item (other ∷ older) differs =
 abbrev pub NoneSame : Board → ℕ → OpId → List Carried → Type 0
 NoneSame board on o standing = (item : Carried) → find (is_of o) standing ≡ Some item → AllByRecursion (Differs board on item) (before (is_of o) standing)
 
-presents_forget : (board : Board) (on : ℕ) (o : OpId) (standing : List Carried) → NoneSame board on o standing → untagged_presents board on o standing ≡ presents board on o standing
+presents_forget : (board : Board) (on : ℕ) (o : OpId) (standing : List Carried) → NoneSame board on o standing → presents_by Untagged board on o standing ≡ presents board on o standing
 presents_forget board on o standing none =
     let older : List Carried = before (is_of o) standing in
     let P : Option Carried → Type 0 = λ found. find (is_of o) standing ≡ found → presents_item_by Untagged board on older found ≡ presents_item board on older found in
     (elim (find (is_of o) standing) as P [ None ↦ λ _. refl | Some item ↦ λ is. passes_goes board on item older (none item is) ]) refl
 
 pub wants_forget : (board : Board) (plain world : World) → Forgets plain world → (h : List Event) (on : ℕ) (by : By) (o : OpId)
-    → ((lane : BridgeLane) → end_of board lane ≡ on → NoneSame board on o (world lane).standing) → untagged_wants_in board plain h on by o ≡ wants_in board world h on by o
+    → ((lane : BridgeLane) → end_of board lane ≡ on → NoneSame board on o (world lane).standing) → wants_in_by Untagged board plain h on by o ≡ wants_in board world h on by o
 wants_forget board plain world forgets h on Master o none = refl
 wants_forget board plain world forgets h on (ByLane lane) o none =
     let standing : List Carried = (world lane).standing in
     let same : (plain lane).standing ≡ standing = ap (λ (s : LaneState). s.standing) (forgets lane) in
-    let there = ap (λ items. end_of board lane == on && untagged_presents board on o items) same in
-    let P : Bool → Type 0 = λ b. eqb (end_of board lane) on ≡ b → (b && untagged_presents board on o standing) ≡ (b && presents board on o standing) in
+    let there = ap (λ items. end_of board lane == on && presents_by Untagged board on o items) same in
+    let P : Bool → Type 0 = λ b. eqb (end_of board lane) on ≡ b → (b && presents_by Untagged board on o standing) ≡ (b && presents board on o standing) in
     let here : P (eqb (end_of board lane) on) = elim (eqb (end_of board lane) on) as P [
       | true ↦ λ is. presents_forget board on o standing (none lane (eqb-true (end_of board lane) on is))
       | false ↦ λ _. refl

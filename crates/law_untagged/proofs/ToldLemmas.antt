@@ -1,110 +1,45 @@
 -- Who was told of a write by a chain knows of it, and the other way round.
 use Rattle.std.proofs.Common.{◌≡◌, ℕ, ◌+◌, Bool, true, false, ◌&&◌, ◌||◌, ◌==◌, cond, eqb, eqb-true, List, [], ◌∷◌, ◌++◌, Option, Some, None, is_some, refl, sym, ap, subst, ◌∙◌, arith, ◌⊎◌, inl, inr, ⊎_elim}
-use Rattle.std.specs.List.{find, list_any, AllByRecursion}
+use Rattle.std.specs.List.{list_any}
 use Rattle.std.proofs.lemmas.Bool.Decides.{nat_tests}
-use Rattle.list_facts.proofs.EachLemmas.{Each-find, Each-weaker, Each-append}
+use Rattle.list_facts.proofs.EachLemmas.{Each-find}
 use Rattle.list_facts.proofs.FindLemmas.{find_passes}
-use Rattle.pci_command.specs.declared.command.Space.{Space}
-use Rattle.pci_command.specs.declared.phases.Phase.{Phase}
-use Rattle.pci_command.specs.declared.request.Request.{Request}
+use Rattle.list_facts.proofs.AnyLemmas.{any_some, found_any}
 use Rattle.pci_command.specs.declared.op_id.OpId.{OpId}
 use Rattle.pci_command.specs.declared.op_id.Outcome.{Outcome}
-use Rattle.pci_command.specs.Command.{space_of}
-use Rattle.pci_command.specs.Same.{same_op, same_space}
-use Rattle.board_model.specs.declared.bridge.Place.{Place}
-use Rattle.board_model.specs.declared.bridge.Place.TheVariants.{Target, Header, Lane, Nobody}
+use Rattle.pci_command.specs.Same.{same_op}
 use Rattle.board_model.specs.declared.op.Op.{Op}
 use Rattle.board_model.specs.declared.board.Board.{Board}
-use Rattle.board_model.specs.Requests.{op_of, request_of, reads, reads_in}
-use Rattle.board_model.specs.Ways.{Dword, address_in}
-use Rattle.history_model.specs.declared.event.Step.{Step}
+use Rattle.board_model.specs.Requests.{op_of, reads, reads_in}
 use Rattle.history_model.specs.declared.event.Event.{Event}
-use Rattle.history_model.specs.declared.event.Event.TheVariants.{Act, Arrive}
+use Rattle.history_model.specs.declared.rule.Rule.TheVariants.{Untagged}
 use Rattle.history_model.specs.Program.{Ending, ended, turn_of}
-use Rattle.history_model.specs.Words.{through, without, brings, Landing, landings_at, landings_in, landings_of, landings_by, brought, landed}
+use Rattle.history_model.specs.Words.{Landing, landed}
 use Rattle.history_model.specs.Knowledge.{ends_as, has_ended, Reading, has_landed, is_landing_of, saw_in, stands_after, later, is_write}
-use Rattle.std.proofs.lemmas.Bool.{and_parts}
-use Rattle.history_model.proofs.facts.RequestLemmas.{same_op_true, same_op_self, request_is_of}
+use Rattle.std.proofs.lemmas.Bool.{and_parts, or_left, or_right}
+use Rattle.history_model.proofs.facts.RequestLemmas.{same_op_true, same_op_self}
 use Rattle.law_untagged.specs.Origins.{ending_reading, untagged_got, untagged_saw, untagged_tells, UntaggedChain, one, more, UntaggedTold}
 use Rattle.law_untagged.specs.Heard.{Since, is_behind, knows, speaks, heard, first_known, untagged_since, untagged_was_told}
-use Rattle.law_untagged.specs.Orderly.{Begun, InOrder, Orderly, Front}
-use Rattle.law_untagged.proofs.OrderLemmas.{or_left, or_right, or_either, IsBehind, behind_next, Ends, ends_some, ends_once, front_self, front_more, front_front, front_orderly, LandingsBegun, landed_writes}
-use Rattle.law_untagged.proofs.HeardLemmas.{any_some, found_any, ending_front, got_front, got_reads, first_brought, since_kept, knows_front, knew_front, spoken, heard_before, heard_after, since_behind}
-
--- An operation of which a data phase landed is there.
-
-abbrev pub IsOf : OpId → Landing → Type 0
-IsOf o landing = landing.op ≡ o
-
-at_of : (o : OpId) (address at : ℕ) (phases : List Phase) → AllByRecursion (IsOf o) (landings_at o address at phases)
-at_of o address at [] = tt
-at_of o address at (phase ∷ phases) =
-    let P : Bool → Type 0 = λ b. AllByRecursion (IsOf o) (cond b (record { op = o; phase = phase } ∷ []) []) in
-    Each-append (IsOf o) (cond (at == address) (record { op = o; phase = phase } ∷ []) []) (landings_at o address (at + 4) phases)
-    (elim (at == address) as P [ true ↦ (refl, tt) | false ↦ tt ]) (at_of o address (at + 4) phases)
-
-in_of : (o : OpId) (word : Dword) (space : Space) (address : ℕ) (phases : List Phase) → AllByRecursion (IsOf o) (landings_in o word space address phases)
-in_of o word space address phases =
-    let P : Bool → Type 0 = λ b. AllByRecursion (IsOf o) (cond b (landings_at o word.address (address_in space address) phases) []) in
-    elim (same_space space word.space) as P [ true ↦ at_of o word.address (address_in space address) phases | false ↦ tt ]
-
-pub of_of : (o : OpId) (step : Step) (gone : ℕ) (word : Dword) (request : Option Request) → AllByRecursion (IsOf o) (landings_of o step gone word request)
-of_of o step gone word None = tt
-of_of o step gone word (Some request) =
-    let rest : Request = without gone request in
-    in_of o word (space_of rest.command) rest.address (brings step rest.phases)
-
-abbrev IsThere : Board → Landing → Type 0
-IsThere board landing = is_some (op_of board landing.op) ≡ true
-
-there_by : (board : Board) (h : List Event) (on : ℕ) (o : OpId) (step : Step) (word : Dword) (place : Place) → AllByRecursion (IsThere board) (landings_by board h on o step word place)
-there_by board h on o step word (Target target) =
-    let P : Bool → Type 0 = λ b. AllByRecursion (IsThere board) (cond b (landings_of o step (through h o) word (request_of board o on)) []) in
-    let Q : Option Request → Type 0 = λ found. request_of board o on ≡ found → AllByRecursion (IsThere board) (landings_of o step (through h o) word found) in
-    let all : AllByRecursion (IsThere board) (landings_of o step (through h o) word (request_of board o on)) = (elim (request_of board o on) as Q [
-      | None ↦ λ _. tt
-      | Some request ↦ λ is.
-          let named = request_is_of board o on request is in
-          let there : is_some (op_of board o) ≡ true = ap is_some named.is_op in
-          Each-weaker (IsOf o) (IsThere board) (λ landing of_o. subst (λ p. is_some (op_of board p) ≡ true) (sym of_o) there) (landings_of o step (through h o) word (Some request)) (of_of o step (through h o) word (Some request))
-    ]) refl in
-    elim (target == word.target) as P [ true ↦ all | false ↦ tt ]
-there_by board h on o step word (Header bus) = tt
-there_by board h on o step word (Lane lane) = tt
-there_by board h on o step word Nobody = tt
-
-there_in : (board : Board) (h : List Event) (word : Dword) (e : Event) → AllByRecursion (IsThere board) (brought board h word e)
-there_in board h word (Act on by o step place) = there_by board h on o step word place
-there_in board h word (Arrive lane mark) = tt
-
-landings_there : (board : Board) (h : List Event) (word : Dword) → AllByRecursion (IsThere board) (landed board h word)
-landings_there board [] word = tt
-landings_there board (e ∷ h) word = Each-append (IsThere board) (landed board h word) (brought board h word e) (landings_there board h word) (there_in board h word e)
-
--- What ended stays ended.
-
-ended_later : (o : OpId) (later g : List Event) → has_ended g o ≡ true → has_ended (later ++ g) o ≡ true
-ended_later o [] g is = is
-ended_later o (e ∷ later) g is = or_right (is_some (ends_as o e)) (has_ended (later ++ g) o) (ended_later o later g is)
-
-ended_front : (o : OpId) (g h : List Event) → Front g h → has_ended g o ≡ true → has_ended h o ≡ true
-ended_front o g h front is = subst (λ k. has_ended k o ≡ true) front.is (ended_later o front.later g is)
+use Rattle.law_untagged.specs.Untagged.{UntaggedRun}
+use Rattle.law_untagged.proofs.HeardLemmas.{ending_front, got_front, got_reads, first_brought, since_kept, spoken, heard_before, since_behind}
+use Rattle.law_untagged.proofs.OrderLemmas.{ends_some, ends_once, run_front}
+use Rattle.law_fresh.proofs.Laws.{behind_next, IsBehind, ends_turn, landed_writes, IsThere, landings_there, ended_later, ended_front, Front, front_self, front_more, front_front, or_either}
 
 -- what a read got at its end, it got
-pub got_along : (board : Board) (o : OpId) (e : Event) (g later : List Event) → Orderly board (later ++ e ∷ g) → is_some (ends_as o e) ≡ true → untagged_got board (later ++ e ∷ g) o ≡ ending_reading board g e
-got_along board o e g [] order is = rw is refl
-got_along board o e g (f ∷ later) order is =
+pub got_along : (board : Board) (o : OpId) (e : Event) (g later : List Event) → UntaggedRun board (later ++ e ∷ g) → is_some (ends_as o e) ≡ true → untagged_got board (later ++ e ∷ g) o ≡ ending_reading board g e
+got_along board o e g [] run is = rw is refl
+got_along board o e g (f ∷ later) run is =
     let h : List Event = later ++ e ∷ g in
-    let older = got_along board o e g later order.1 is in
+    let older = got_along board o e g later run.1 is in
     let P : Bool → Type 0 = λ b. is_some (ends_as o f) ≡ b → cond b (ending_reading board h f) (untagged_got board h o) ≡ ending_reading board g e in
     (elim (is_some (ends_as o f)) as P [
-      | true ↦ λ again. absurd (ends_once board f h o order (ended_later o later (e ∷ g) (or_left (is_some (ends_as o e)) (has_ended g o) is)) again)
+      | true ↦ λ again. absurd (ends_once board f h o run (ended_later o later (e ∷ g) (or_left (is_some (ends_as o e)) (has_ended g o) is)) again)
       | false ↦ λ _. older
     ]) refl
 
-got_at : (board : Board) (o : OpId) (e : Event) (g h : List Event) → Orderly board h → Front (e ∷ g) h → is_some (ends_as o e) ≡ true → untagged_got board h o ≡ ending_reading board g e
-got_at board o e g h order front is =
-    subst (λ k. untagged_got board k o ≡ ending_reading board g e) front.is (got_along board o e g front.later (subst (Orderly board) (sym front.is) order) is)
+got_at : (board : Board) (o : OpId) (e : Event) (g h : List Event) → UntaggedRun board h → Front (e ∷ g) h → is_some (ends_as o e) ≡ true → untagged_got board h o ≡ ending_reading board g e
+got_at board o e g h run front is =
+    subst (λ k. untagged_got board k o ≡ ending_reading board g e) front.is (got_along board o e g front.later (subst (UntaggedRun board) (sym front.is) run) is)
 
 -- an ending ends its operation
 ending_is : (e : Event) (ending : Ending) → ended e ≡ Some ending → is_some (ends_as ending.op e) ≡ true
@@ -123,13 +58,13 @@ module _ (board : Board) (w : OpId) where
   From-kept e h p old = record { first = old.first; is = since_kept board w e h p.master old.first old.is; before = old.before }
 
   -- an ending that brings it
-  end_from : (e : Event) (h : List Event) (p : OpId) (outcome : Outcome) → Orderly board (e ∷ h) → ended e ≡ Some (record { op = p; outcome = outcome })
+  end_from : (e : Event) (h : List Event) (p : OpId) (outcome : Outcome) → UntaggedRun board (e ∷ h) → ended e ≡ Some (record { op = p; outcome = outcome })
       → (same_op p w || heard board w (untagged_since board w h) (ending_reading board h e)) ≡ true → From (e ∷ h) p
-  end_from e h p outcome order ends brings_it =
+  end_from e h p outcome run ends brings_it =
       let since : Since = untagged_since board w h in
       let heard_it : Bool = heard board w since (ending_reading board h e) in
       let ending : Ending = record { op = p; outcome = outcome } in
-      let turn : turn_of board h p.master ≡ Some p = order.0.turn ending ends in
+      let turn : turn_of board h p.master ≡ Some p = ends_turn Untagged board e h ending run ends in
       let P : Option OpId → Type 0 = λ found. since p.master ≡ found → From (e ∷ h) p in
       (elim (since p.master) as P [
         | None ↦ λ none.
@@ -138,33 +73,33 @@ module _ (board : Board) (w : OpId) where
             let there : F None (Some ending) = rw (self, brings_it) refl in
             record { first = p; is = subst (λ old. F old (ended e)) (sym none) (subst (F None) (sym ends) there); before = λ q behind. behind }
         | Some first ↦ λ was.
-            let before : stands_after first p ≡ true = subst (IsBehind first) turn (since_behind board w h p.master first order.1 was).1 in
+            let before : stands_after first p ≡ true = subst (IsBehind first) turn (since_behind board w h p.master first run.1 was).1 in
             record { first = first; is = since_kept board w e h p.master first was; before = λ q behind. behind_next first p q before behind }
       ]) refl
 
   -- the write itself
-  pub write_from : (h : List Event) → Orderly board h → has_ended h w ≡ true → From h w
-  write_from [] order is = cc
-  write_from (e ∷ h) order is =
+  pub write_from : (h : List Event) → UntaggedRun board h → has_ended h w ≡ true → From h w
+  write_from [] run is = cc
+  write_from (e ∷ h) run is =
       or_either (From (e ∷ h) w) (is_some (ends_as w e)) (has_ended h w)
-      (λ here. let ends = ends_some w e here in end_from e h w ends.outcome order ends.is (or_left (same_op w w) _ (same_op_self w)))
-      (λ older. From-kept e h w (write_from h order.1 older)) is
+      (λ here. let ends = ends_some w e here in end_from e h w ends.outcome run ends.is (or_left (same_op w w) _ (same_op_self w)))
+      (λ older. From-kept e h w (write_from h run.1 older)) is
 
   -- a read that got what tells of it
-  got_from : (h : List Event) (p : OpId) (reading : Reading) → Orderly board h → untagged_got board h p ≡ Some reading → heard board w (untagged_since board w h) (Some reading) ≡ true → From h p
-  got_from [] p reading order is heard_it = cc
-  got_from (e ∷ h) p reading order is heard_it =
+  got_from : (h : List Event) (p : OpId) (reading : Reading) → UntaggedRun board h → untagged_got board h p ≡ Some reading → heard board w (untagged_since board w h) (Some reading) ≡ true → From h p
+  got_from [] p reading run is heard_it = cc
+  got_from (e ∷ h) p reading run is heard_it =
       let P : Bool → Type 0 = λ b. is_some (ends_as p e) ≡ b → cond b (ending_reading board h e) (untagged_got board h p) ≡ Some reading → From (e ∷ h) p in
       (elim (is_some (ends_as p e)) as P [
         | true ↦ λ some now.
             let ends = ends_some p e some in
             let front : Front h (e ∷ h) = front_more h h e (front_self h) in
-            let then_ : heard board w (untagged_since board w h) (Some reading) ≡ true = heard_before board w h (e ∷ h) reading front (ending_front board h e reading now) order heard_it in
+            let then_ : heard board w (untagged_since board w h) (Some reading) ≡ true = heard_before board w h (e ∷ h) reading front (ending_front board h e reading now) run heard_it in
             let brings_it : heard board w (untagged_since board w h) (ending_reading board h e) ≡ true = subst (λ r. heard board w (untagged_since board w h) r ≡ true) (sym now) then_ in
-            end_from e h p ends.outcome order ends.is (or_right (same_op p w) _ brings_it)
+            end_from e h p ends.outcome run ends.is (or_right (same_op p w) _ brings_it)
         | false ↦ λ _ older.
             let front : Front h (e ∷ h) = front_more h h e (front_self h) in
-            From-kept e h p (got_from h p reading order.1 older (heard_before board w h (e ∷ h) reading front (got_front board h p reading older) order heard_it))
+            From-kept e h p (got_from h p reading run.1 older (heard_before board w h (e ∷ h) reading front (got_front board h p reading older) run heard_it))
       ]) refl is
 
   from_knows : (h : List Event) (p q : OpId) → From h p → eqb p.master q.master ≡ true → stands_after p q ≡ true → knows (untagged_since board w h) q ≡ true
@@ -180,7 +115,7 @@ module _ (board : Board) (w : OpId) where
       let there : is_behind (since p.master) q ≡ true = (elim (since p.master) as P [ None ↦ λ f. cc | Some first ↦ λ f. behind_next first p q f behind ]) known in
       subst (λ m. is_behind (since m) q ≡ true) masters there
 
-  module _ (h : List Event) (order : Orderly board h) where
+  module _ (h : List Event) (run : UntaggedRun board h) where
     now : Since
     now = untagged_since board w h
 
@@ -214,14 +149,14 @@ module _ (board : Board) (w : OpId) where
         (λ same.
         let is_w : p ≡ w = same_op_true p w same in
         let ended_w : has_ended h w ≡ true = subst (λ r. has_ended h r ≡ true) is_w parts.ended_it in
-        from_knows h p q (subst (From h) (sym is_w) (write_from h order ended_w)) parts.masters parts.behind)
+        from_knows h p q (subst (From h) (sym is_w) (write_from h run ended_w)) parts.masters parts.behind)
         (λ rest. or_either (knows since q ≡ true) (knows since p) (heard board w since (untagged_got board h p))
         (λ known. knows_later since p q known parts.masters parts.behind)
         (λ heard_it.
         let P : Option Reading → Type 0 = λ found. untagged_got board h p ≡ found → heard board w since found ≡ true → knows since q ≡ true in
         (elim (untagged_got board h p) as P [
           | None ↦ λ _ f. cc
-          | Some reading ↦ λ got f. from_knows h p q (got_from h p reading order got f) parts.masters parts.behind
+          | Some reading ↦ λ got f. from_knows h p q (got_from h p reading run got f) parts.masters parts.behind
         ]) refl heard_it) rest)
         mark)
 
@@ -249,7 +184,7 @@ module _ (board : Board) (w : OpId) where
                 | None ↦ λ _ g. cc
                 | Some other ↦ λ got_p _.
                     let reads_it : reads board p ≡ true = got_reads board h p other got_p in
-                    let writes : reads board p ≡ false = landed_writes board before p (front_orderly board before h front order) parts.1 in
+                    let writes : reads board p ≡ false = landed_writes Untagged board before p (run_front board before h front run) parts.1 in
                     let e : true ≡ false = sym reads_it ∙ writes in
                     cc
               ]) refl heard_it) rest)
@@ -364,7 +299,7 @@ module _ (board : Board) (w : OpId) where
                 let R : Option Reading → Type 0 = λ found. ending_reading board g e ≡ found → heard board w since found ≡ true → Linked p in
                 (elim (ending_reading board g e) as R [
                   | None ↦ λ _ c. cc
-                  | Some reading ↦ λ some c. inr (heard_linked g p reading old (got_at board p e g h order front ends_it ∙ some) c)
+                  | Some reading ↦ λ some c. inr (heard_linked g p reading old (got_at board p e g h run front ends_it ∙ some) c)
                 ]) refl heard_now)
                 brought.brings_it in
                 (masters, ended_it, linked)

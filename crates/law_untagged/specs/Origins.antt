@@ -18,11 +18,11 @@ use Rattle.history_model.specs.declared.event.Event.{Event}
 use Rattle.history_model.specs.declared.event.Event.TheVariants.{Act, Arrive}
 use Rattle.history_model.specs.declared.item.Carried.{Carried}
 use Rattle.history_model.specs.declared.item.Slot.{Slot}
+use Rattle.history_model.specs.declared.rule.Rule.TheVariants.{Untagged}
 use Rattle.history_model.specs.Lanes.{is_of}
-use Rattle.history_model.specs.World.{anyone, World, same_lane, is_own, lane_outcome}
+use Rattle.history_model.specs.World.{anyone, World, same_lane, is_own, lane_outcome, world_by}
 use Rattle.history_model.specs.Local.{is_ask_of}
 use Rattle.history_model.specs.Knowledge.{ends_as, Reading, reading_by, reading_or, given_value, has_landed, words_named, is_write, later, saw_in}
-use Rattle.law_untagged.specs.Untagged.{untagged_world}
 
 -- which reading made the completion of a slot: by the lane that holds it, and its number
 abbrev pub Origins : Type 0
@@ -86,12 +86,12 @@ origin_after board h world origins (Arrive lane mark) = origins
 -- the origins of completions after a history
 abbrev pub origins_of : Board → List Event → Origins
 origins_of board [] lane number = None
-origins_of board (e ∷ h) lane number = origin_after board h (untagged_world board h) (origins_of board h) e lane number
+origins_of board (e ∷ h) lane number = origin_after board h (world_by Untagged board h) (origins_of board h) e lane number
 
 -- what the read that an event ends at its master got: the reading of a target whose value it was given
 abbrev pub ending_reading : Board → List Event → Event → Option Reading
 ending_reading board h (Act on Master o step place) =
-    if reads board o then source_of board h (untagged_world board h) (origins_of board h) on o step place else None
+    if reads board o then source_of board h (world_by Untagged board h) (origins_of board h) on o step place else None
 ending_reading board h (Act on (ByLane lane) o step place) = None
 ending_reading board h (Arrive lane mark) = None
 

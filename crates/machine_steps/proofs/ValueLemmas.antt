@@ -9,7 +9,7 @@ use Rattle.pci_command.specs.Command.{space_of}
 use Rattle.pci_command.specs.Same.{same_space}
 use Rattle.board_model.specs.declared.board.Board.{Board}
 use Rattle.board_model.specs.Ways.{Dword, address_in}
-use Rattle.board_headers.specs.device.Registers.{merge_of}
+use Rattle.board_model.specs.device.Registers.{merge_of}
 use Rattle.history_model.specs.declared.event.Event.{Event}
 use Rattle.history_model.specs.declared.event.Step.{Step}
 use Rattle.history_model.specs.Words.{Landing, without, brings, landings_at, landings_in, landings_of, merged, mask_in, landed, brought, opens_as, value_of}

@@ -2,7 +2,7 @@
 use Rattle.std.specs.Prelude.{ℕ, ◌+◌, List, [], ◌∷◌, ◌==◌, if◌then◌else◌}
 use Rattle.pci_command.specs.declared.command.Space.{Space}
 use Rattle.pci_command.specs.declared.phases.Phase.{Phase}
-use Rattle.board_headers.specs.device.Registers.{merge_of}
+use Rattle.board_model.specs.device.Registers.{merge_of}
 use Rattle.history_model.specs.Words.{mask_in}
 
 -- data phases from `at` on, four bytes apart: that at the address is merged into the value

@@ -1,18 +1,20 @@
-ghost use Rattle.std.specs.Prelude.{◌≡◌, ◌+◌, ◌*◌, ◌/◌, ◌%◌, ◌^◌, ◌≤◌, ◌<◌, length, slice_get, slice_index, if◌then◌else◌, nat_lt, true};
+ghost use Rattle.std.specs.Prelude.{◌≡◌, ◌+◌, ◌*◌, ◌/◌, ◌%◌, ◌^◌, ◌≤◌, ◌<◌, length};
+ghost use Rattle.std.specs.Prelude.{slice_get, slice_index, if◌then◌else◌, nat_lt, true};
 ghost use Rattle.std.specs.Option.{option_copied};
 ghost use Rattle.std.specs.List.{find, list_all};
 ghost use Rattle.list_facts.specs.Lists.{before};
 ghost use Rattle.pci_command.specs.declared.request.Request.{Request};
-ghost use Rattle.board_headers.specs.HeaderBytes.{header_word, header_bytes, register_2, register_4};
+ghost use Rattle.board_model.specs.HeaderBytes.{header_word, header_bytes};
+ghost use Rattle.board_model.specs.HeaderBytes.{register_2, register_4};
 ghost use Rattle.history_model.specs.Lanes.{is_done_for};
 ghost use Rattle.history_model.specs.Words.{without};
-ghost use Rattle.history_model.specs.Answers.{header_answer, posted_answer, completion_answer, completion_passes, bridge_to};
+ghost use Rattle.history_model.specs.Answers.{header_answer, posted_answer, completion_answer};
+ghost use Rattle.history_model.specs.Answers.{completion_passes, bridge_to};
 ghost use Rattle.machine_steps.specs.Verdicts.{cause_in, HoldsOfAct, HoldsOfArrival};
 
 use crate::order::completion_passes;
 use crate::standing::{before_completion, standing_completion};
-use board_headers::encode;
-use board_model::{Board, Bridge, Lane, Place, bridge_to};
+use board_model::{Board, Bridge, Lane, Place, bridge_to, encode};
 use history_model::{Answer, Carried, Cause, Mark, Step, Why};
 use pci_command::Request;
 
@@ -47,7 +49,8 @@ pub fn write_step(burst: u8, phases: usize) -> Step
 
 /// A bridge whose header is read answers with the register.
 pub fn header_answer(board: &Board, bus: u8, address: u128) -> Answer
-    ensures { (request : Request) → request.address ≡ address → result ≡ header_answer bus request (bridge_to board.now bus) }
+    ensures { (request : Request) → request.address ≡ address →
+        result ≡ header_answer bus request (bridge_to board.now bus) }
 {
     match bridge_to(board, bus) {
         Some(bridge) => Answer::Gives {
@@ -101,7 +104,8 @@ pub fn posted_answer(owed: u8, depth: u8, lane: Lane) -> Answer
 
 /// A delayed request is latched while a slot is free.
 pub fn latch_answer(held: usize, depth: u8, lane: Lane) -> Answer
-    ensures { result ≡ (if nat_lt held depth then Answer.Gives Step.Latch (Place.Lane lane) else Answer.Retry Cause.NoSlot) }
+    ensures { result ≡ (if nat_lt held depth then Answer.Gives Step.Latch (Place.Lane lane)
+        else Answer.Retry Cause.NoSlot) }
 {
     if held < depth as usize {
         Answer::Gives {
@@ -124,7 +128,8 @@ pub fn completion_answer(
     coming: &[Carried],
     slot: u8,
 ) -> Answer
-    ensures { result ≡ completion_answer board.now read lane (before (is_done_for slot) coming.now) (find (is_done_for slot) coming.now) }
+    ensures { result ≡ completion_answer board.now read lane (before (is_done_for slot) coming.now)
+        (find (is_done_for slot) coming.now) }
 {
     match standing_completion(coming, slot) {
         Some(Carried::Done { outcome, .. }) => {

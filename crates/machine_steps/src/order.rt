@@ -3,7 +3,9 @@ ghost use Rattle.std.specs.List.{find, list_all};
 ghost use Rattle.list_facts.specs.Lists.{before};
 ghost use Rattle.board_model.specs.Requests.{reads};
 ghost use Rattle.history_model.specs.Lanes.{is_of};
-ghost use Rattle.history_model.specs.Answers.{presents_by, presents_item_by, goes_before_by, kind_of, request_kind, completion_kind, completion_passes, asks_same, asked};
+ghost use Rattle.history_model.specs.Answers.{presents_by, presents_item_by, goes_before_by};
+ghost use Rattle.history_model.specs.Answers.{kind_of, request_kind, completion_kind};
+ghost use Rattle.history_model.specs.Answers.{completion_passes, asks_same, asked};
 
 use crate::presented::{reads, same_requests};
 use crate::standing::{before_request, standing_request};
@@ -31,8 +33,8 @@ fn goes_before_all(board: &Board, rule: Rule, bus: u8, item: Carried, older: &[C
 }
 
 /// Whether an item may go before an older one: where the ordering table lets it pass, but of two
-/// delayed requests that are the same on the bus the younger waits, where the rule of the bridge has
-/// it wait.
+/// delayed requests that are the same on the bus the younger waits, where the rule of the bridge
+/// has it wait.
 fn goes_before(board: &Board, rule: Rule, bus: u8, item: Carried, older: Carried) -> bool
     ensures { result ≡ goes_before_by rule board.now bus item older }
 {

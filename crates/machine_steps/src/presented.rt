@@ -72,7 +72,8 @@ pub fn own_slot(board: &Board, presented: Presented, held: &[Slot]) -> Option<Sl
 }
 
 fn own_one<'a>(board: &Board, presented: Presented, held: &'a [Slot]) -> Option<&'a Slot>
-    ensures { option_copied result ≡ find (is_own board.now presented.bus presented.by presented.op) held.now }
+    ensures { option_copied result ≡
+        find (is_own board.now presented.bus presented.by presented.op) held.now }
 {
     held.iter().find(|slot| is_own(board, presented, slot))
 }

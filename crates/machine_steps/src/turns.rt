@@ -3,7 +3,9 @@ ghost use Rattle.board_model.specs.WellFormed.{is_well_formed};
 ghost use Rattle.board_model.specs.Requests.{op_of};
 ghost use Rattle.history_model.specs.Answers.{is_on};
 ghost use Rattle.history_model.specs.Knowledge.{stands_after};
-ghost use Rattle.history_model.specs.Program.{turn_of, turn_after, ended, ending_of, ended_by, master_outcome, follows, follows_op, next_op, next_try, present, meets};
+ghost use Rattle.history_model.specs.Program.{turn_of, turn_after, ended, ending_of};
+ghost use Rattle.history_model.specs.Program.{ended_by, master_outcome, follows, follows_op};
+ghost use Rattle.history_model.specs.Program.{next_op, next_try, present, meets};
 
 use crate::endings::master_outcome;
 use board_model::{Board, Op, op_of};

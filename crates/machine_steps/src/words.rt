@@ -1,13 +1,12 @@
 ghost use Rattle.std.specs.Prelude.{◌≡◌, ◌/◌, ◌%◌, [], ◌∷◌, slice_get, take, drop, Some};
 ghost use Rattle.list_facts.specs.Lists.{changed_at};
 ghost use Rattle.board_model.specs.Ways.{address_in};
-ghost use Rattle.board_headers.specs.device.Registers.{opening_of, write_mask_of, merge_of};
+ghost use Rattle.board_model.specs.device.Registers.{opening_of, write_mask_of, merge_of};
 ghost use Rattle.history_model.specs.Words.{brings, mask_in, opening_word, opens_in, opens_as};
 ghost use Rattle.machine_steps.specs.Counts.{or_zero};
 ghost use Rattle.machine_steps.specs.Words.{word_at};
 
-use board_headers::{merge, opening, write_mask};
-use board_model::{Board, Opening, Target, Word};
+use board_model::{Board, Opening, Target, Word, merge, opening, write_mask};
 use history_model::Step;
 use pci_command::{Phase, Request, Space};
 
@@ -35,7 +34,11 @@ pub fn word_read(request: &Request, target: u16) -> Word
 
 /// What the dword of the target at the address opens as.
 pub fn opens_as(board: &Board, target: u16, space: Space, address: u128) -> u32
-    ensures { result ≡ opens_as board.now (record { target = target; space = space; address = address }) }
+    ensures { result ≡ opens_as board.now (record {
+      target = target;
+      space = space;
+      address = address;
+    }) }
 {
     match board.targets.as_slice().get(target as usize) {
         None => 0,
@@ -148,7 +151,8 @@ pub fn value_at(values: &[u32], place: usize) -> u32
 
 /// The data phase lands in the value at the place, in the bits of the mask.
 pub fn merge_at(values: &mut [u32], place: usize, phase: &Phase, mask: u32)
-    ensures { values.new ≡ changed_at (λ value. merge_of value phase.now mask) values.old (Some place) }
+    ensures { values.new ≡
+        changed_at (λ value. merge_of value phase.now mask) values.old (Some place) }
 {
     if place < values.len() {
         values[place] = merge(values[place], phase, mask);

@@ -27,7 +27,7 @@ pub(crate) fn read_board(alloc: Global, part: &[u8]) -> Result<Board, LogFault>
     match (parse(alloc, part), refused) {
         (Ok(board), None) => Ok(board),
         (Ok(_board), Some(at)) => Err(left_out(at)),
-        (Err(ParseFault::Fault { line, fault }), refused) => Err(first_fault(line, fault, refused)),
+        (Err(ParseFault::Fault(at)), refused) => Err(first_fault(at.line, at.fault, refused)),
         (Err(ParseFault::NoMemory), _) => Err(LogFault::NoMemory),
     }
 }

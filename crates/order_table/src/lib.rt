@@ -24,7 +24,8 @@ pub fn may_pass(row: Kind, column: Kind) -> bool
     }
 }
 
-/// The place, from 0, of the first of the older transactions that the item may not pass.
+/// The place, from 0, of the first of the older transactions that the item may not pass. No word of
+/// the program calls it.
 pub fn first_blocker(item: Kind, older: &[Kind]) -> Option<usize>
     ensures place { result ≡ position (λ kind. not (may_pass item kind)) older.now }
     ensures none { IsNone result ↔ All (λ kind. IsTrue (may_pass item kind)) older.now }

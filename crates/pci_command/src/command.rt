@@ -12,8 +12,8 @@ pub enum Space {
     Cfg,
 }
 
-/// A bus command (PCI Local Bus 2.2, section 3.1.1, from memory), without the reserved ones, Interrupt
-/// Acknowledge, Special Cycle and Dual Address Cycle.
+/// A bus command (PCI Local Bus 2.2, section 3.1.1, from memory), without the reserved ones,
+/// Interrupt Acknowledge, Special Cycle and Dual Address Cycle.
 #[derive(Clone, Copy, Debug, Default, PartialEq, Eq)]
 pub enum Command {
     IoRead,

@@ -1,5 +1,5 @@
-//! The commands of the PCI Local Bus Specification 2.2, section 3.1.1 (from memory), the requests that carry
-//! them, and the small lists that every other crate speaks of.
+//! The commands of the PCI Local Bus Specification 2.2, section 3.1.1 (from memory), the requests
+//! that carry them, and the small lists that every other crate speaks of.
 #![tactic(auto)]
 
 mod command;

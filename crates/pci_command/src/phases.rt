@@ -3,8 +3,9 @@ ghost use Rattle.std.specs.Prelude.{◌≡◌, ◌+◌, ◌<◌, ◌≤◌, ◌�
 use arrayvec::ArrayVec;
 use std::marker::Model;
 
-/// A data phase of a write (PCI Local Bus 2.2, section 3.3.2, from memory): a dword, and in the low four bits
-/// of `enables` which of its bytes are written (bit i enables byte i, byte 0 is bits 7 to 0).
+/// A data phase of a write (PCI Local Bus 2.2, section 3.3.2, from memory): a dword, and in the low
+/// four bits of `enables` which of its bytes are written (bit i enables byte i, byte 0 is bits 7 to
+/// 0).
 #[derive(Clone, Copy, Debug, Default, PartialEq, Eq)]
 pub struct Phase {
     pub value: u32,

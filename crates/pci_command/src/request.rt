@@ -54,6 +54,7 @@ const DUAL_ADDRESS_CYCLE: u8 = 13;
 
 /// What is driven on C/BE[3::0]# and AD[31::00] in each address phase of a request: one phase
 /// below 2^32, from there on two, the first a Dual Address Cycle (PCI Local Bus 2.2, section 3.9).
+/// No word of the program calls it.
 pub fn address_phases(request: &Request) -> ArrayVec<(u8, u32), 2>
     ensures { result.items ≡ address_phases_of request.now }
 {

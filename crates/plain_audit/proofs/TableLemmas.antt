@@ -11,6 +11,7 @@ use Rattle.board_model.specs.Requests.{op_of}
 use Rattle.board_model.specs.Ways.{Dword}
 use Rattle.board_model.specs.Valid.{IsValid}
 use Rattle.history_model.specs.declared.event.Event.{Event}
+use Rattle.history_model.specs.declared.rule.Rule.TheVariants.{Tagged}
 use Rattle.history_model.specs.Program.{Ending, ended}
 use Rattle.history_model.specs.Words.{Landing, landed}
 use Rattle.history_model.specs.Knowledge.{value_in, up_to_end, Reading, reading_in, has_landed, is_write}
@@ -44,7 +45,7 @@ module _ (board : Board) (valid : IsValid board) (w : OpId) (h : List Event) (ru
       let run_g : Run board g = front_run board g h front run in
       let landings : List Landing = landed board g word in
       let same : find (shows_by w since g) landings ≡ find (shows w (aware_of board w g) g) landings = find_same (shows_by w since g) (shows w (aware_of board w g) g) landings
-      (Each-weaker (LandingBegun board g) (λ l. shows_by w since g l ≡ shows w (aware_of board w g) g l) (same_shows g front) landings (LandingsBegun-run board g word run_g)) in
+      (Each-weaker (LandingBegun board g) (λ l. shows_by w since g l ≡ shows w (aware_of board w g) g l) (same_shows g front) landings (LandingsBegun-run Tagged board g word run_g)) in
       ap (λ found. is_some (op_in found)) same ∙ found_any (shows w (aware_of board w g) g) landings
 
   -- what an event more shows

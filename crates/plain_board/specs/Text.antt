@@ -2,9 +2,10 @@
 use Rattle.std.specs.Prelude.{◌≡◌, ℕ, ◌+◌, List, [], ◌∷◌, length, map, Option, Some, None, ◌==◌, if◌then◌else◌}
 use Rattle.std.specs.List.{slice_range}
 use Rattle.plain_board.specs.declared.text.Line.{Line}
-use Rattle.plain_board.specs.declared.text.TextFault.{TextFault}
-use Rattle.plain_board.specs.declared.text.TextFault.TheVariants.{Fault, NoMemory}
-use Rattle.board_text.specs.declared.reader.BadLine.{BadLine}
+use Rattle.text_faults.specs.declared.board_line.LineFault.{LineFault}
+use Rattle.text_faults.specs.declared.at_line.AtLine.{AtLine}
+use Rattle.text_faults.specs.declared.or_no_memory.OrNoMemory.{OrNoMemory}
+use Rattle.text_faults.specs.declared.or_no_memory.OrNoMemory.TheVariants.{Fault, NoMemory}
 use Rattle.board_text.specs.declared.tokens.Token.{Token}
 use Rattle.board_text.specs.Lines.{line_fault}
 use Rattle.board_text.specs.Tokens.{tokens_of, words_of}
@@ -34,16 +35,16 @@ word_lines count [] = []
 word_lines count (line ∷ lines) = with_words count (words_of line) (word_lines (count + 1) lines)
 
 -- the fault of the line of this number, if it has one, and else that of a later line
-abbrev pub fault_or : ℕ → Option BadLine → Option (ℕ × BadLine) → Option (ℕ × BadLine)
+abbrev pub fault_or : ℕ → Option LineFault → Option (ℕ × LineFault) → Option (ℕ × LineFault)
 fault_or number None later = later
 fault_or number (Some fault) later = Some (number, fault)
 
 -- the first line with a fault, by its number, and its fault, where the first line has this number
-abbrev pub first_fault : ℕ → List (List ℕ) → Option (ℕ × BadLine)
+abbrev pub first_fault : ℕ → List (List ℕ) → Option (ℕ × LineFault)
 first_fault number [] = None
 first_fault number (line ∷ lines) = fault_or number (line_fault line) (first_fault (number + 1) lines)
 
 -- a refusal is the first fault of the lines, or is for want of memory
-abbrev pub IsFirstFault : List (List ℕ) → TextFault → Type 0
-IsFirstFault lines (Fault line fault) = first_fault 1 lines ≡ Some (line, fault)
+abbrev pub IsFirstFault : List (List ℕ) → OrNoMemory (AtLine LineFault) → Type 0
+IsFirstFault lines (Fault found) = first_fault 1 lines ≡ Some (found.line, found.fault)
 IsFirstFault lines NoMemory = Unit {0}

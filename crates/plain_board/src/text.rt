@@ -3,10 +3,10 @@ ghost use Rattle.board_text.specs.Lines.{lines_of};
 ghost use Rattle.plain_board.specs.Text.{token_lines, word_lines, slices_of, first_fault};
 ghost use Rattle.plain_board.specs.Text.{IsFirstFault};
 
-use board_text::{BadLine, Token, check_line, next_line, tokens_of};
-use pci_command::{List, NoMemory};
-use std::alloc::{AllocFailed, Global};
-use thiserror::Error;
+use board_text::{Token, check_line, next_line, tokens_of};
+use pci_command::List;
+use std::alloc::Global;
+use text_faults::{AtLine, LineFault, OrNoMemory};
 
 /// A line that has tokens: its number, from 1, and all its tokens in order.
 #[derive(Debug, Drop)]
@@ -15,37 +15,8 @@ pub struct Line {
     pub tokens: List<Token>,
 }
 
-/// Why a text was not read as lines.
-#[derive(Clone, Copy, Debug, PartialEq, Eq, Error)]
-pub enum TextFault {
-    /// A line may not be read. Lines are numbered from 1.
-    #[error("line {line}: {fault}")]
-    Fault { line: u32, fault: BadLine },
-    #[error("no memory")]
-    NoMemory,
-}
-
-impl From<NoMemory> for TextFault {
-    ghost use Rattle.std.specs.Prelude.{◌≡◌};
-    ghost use Rattle.plain_board.specs.declared.text.TextFault.TheVariants.{NoMemory};
-
-    ghost from_gives = { λ _ fault. fault ≡ NoMemory };
-
-    fn from(_refused: NoMemory) -> TextFault {
-        TextFault::NoMemory
-    }
-}
-
-impl<T: Drop> From<AllocFailed<T>> for TextFault {
-    ghost use Rattle.std.specs.Prelude.{◌≡◌};
-    ghost use Rattle.plain_board.specs.declared.text.TextFault.TheVariants.{NoMemory};
-
-    ghost from_gives = { λ _ fault. fault ≡ NoMemory };
-
-    fn from(_refused: AllocFailed<T>) -> TextFault {
-        TextFault::NoMemory
-    }
-}
+/// Why a text was not read as lines: the first that may not be read, and its fault.
+pub type TextFault = OrNoMemory<AtLine<LineFault>>;
 
 /// The lines of a text that have tokens, in order, each with its number and all its tokens. A text
 /// has fewer than 2^31 bytes. The first line that is longer than 256 bytes or has a byte that no
@@ -63,10 +34,10 @@ pub fn lines(alloc: Global, bytes: &[u8]) -> Result<List<Line>, TextFault>
     let mut at = 0;
     while let Some((line, next)) = next_line(bytes, at) {
         if let Err(fault) = check_line(line) {
-            return Err(TextFault::Fault {
+            return Err(TextFault::Fault(AtLine {
                 line: number,
                 fault,
-            });
+            }));
         }
         let tokens = tokens_of(alloc, line, at as u32)?;
         if !tokens.as_slice().is_empty() {

@@ -6,7 +6,7 @@ ghost use Rattle.pci_command.specs.Same.{same_op, same_space};
 ghost use Rattle.pci_command.specs.Command.{space_of};
 ghost use Rattle.board_model.specs.declared.bridge.Place.TheVariants.{Target as AtTarget};
 ghost use Rattle.board_model.specs.Ways.{Dword, address_in};
-ghost use Rattle.board_headers.specs.device.Registers.{merge_of};
+ghost use Rattle.board_model.specs.device.Registers.{merge_of};
 ghost use Rattle.history_model.specs.Words.{through, parted_by, phases_parted, without, brings};
 ghost use Rattle.history_model.specs.Words.{landings_at, landings_in, landings_of, landings_by};
 ghost use Rattle.history_model.specs.Words.{brought, merged, mask_in, opens_as, value_of};
@@ -14,8 +14,7 @@ ghost use Rattle.machine_steps.specs.Values.{value_merged};
 ghost use Rattle.history_model.specs.Answers.{stalls_used, stalls_by, stalls_in};
 ghost use Rattle.history_model.specs.Runs.{history_of};
 
-use board_headers::merge;
-use board_model::{Board, Place, Word, request_of};
+use board_model::{Board, Place, Word, merge, request_of};
 use history_model::{Event, Step};
 use machine_steps::{brought_by, dword_address, left_of, mask_of, opens_as};
 use pci_command::{OpId, Phase, Request, Space, same_op};

@@ -22,7 +22,6 @@ abbrev pub making_refusal : Result Made MakeFault → Option Status
 making_refusal (Err (faults.Board line fault)) = Some (BadBoard line (Line fault))
 making_refusal (Err (faults.Device line fault)) = Some (BadBoard line (Device fault))
 making_refusal (Err (faults.NotClear line flag why)) = Some (BadBoard line (Device NotClear))
-making_refusal (Err faults.NoMemory) = None
 making_refusal (Ok made) = option_map (BadBoard 0) (tree_fault made.board)
 
 -- the same of the input

@@ -40,7 +40,6 @@ board_refusal input = reading_refusal (board_read input)
 abbrev pub trace_reading_refusal : Result (Board × List Event) TraceFault → Option Status
 trace_reading_refusal (Err (faults.Trace line fault)) = Some (BadTrace line fault)
 trace_reading_refusal (Err (faults.Board line fault)) = Some (BadBoard line (Line fault))
-trace_reading_refusal (Err faults.NoMemory) = None
 trace_reading_refusal (Ok read) = option_map (BadBoard 0) (tree_fault read.0)
 
 -- the same of the input

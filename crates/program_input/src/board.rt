@@ -20,9 +20,9 @@ pub fn read_tree(alloc: Global, input: &[u8]) -> Result<Tree, Status>
     read_is_well_formed();
     match parse(alloc, input) {
         Ok(board) => tree_of(board),
-        Err(ParseFault::Fault { line, fault }) => Err(Status::BadBoard {
-            line,
-            fault: BoardFault::Line(fault),
+        Err(ParseFault::Fault(at)) => Err(Status::BadBoard {
+            line: at.line,
+            fault: BoardFault::Line(at.fault),
         }),
         Err(ParseFault::NoMemory) => Err(Status::NoMemory),
     }

@@ -6,7 +6,7 @@ use board_tree::Tree;
 use dma_agents::{MakeFault, make};
 use program_status::{BoardFault, Status};
 use std::alloc::Global;
-use text_faults::DeviceFault;
+use text_faults::{DeviceFault, OrNoMemory};
 
 /// The valid board of the devices that these bytes tell, which are fewer than 2^31.
 #[tactic(auto, using(crate::proofs::DevicesLemmas::made_tree, crate::proofs::DevicesLemmas::tree_refused))]
@@ -17,18 +17,18 @@ pub fn read_devices(alloc: Global, input: &[u8]) -> Result<Tree, Status>
 {
     match make(alloc, input) {
         Ok(board) => tree_of(board),
-        Err(MakeFault::Board { line, fault }) => Err(Status::BadBoard {
+        Err(OrNoMemory::Fault(MakeFault::Board { line, fault })) => Err(Status::BadBoard {
             line,
             fault: BoardFault::Line(fault),
         }),
-        Err(MakeFault::Device { line, fault }) => Err(Status::BadBoard {
+        Err(OrNoMemory::Fault(MakeFault::Device { line, fault })) => Err(Status::BadBoard {
             line,
             fault: BoardFault::Device(fault),
         }),
-        Err(MakeFault::NotClear { line, .. }) => Err(Status::BadBoard {
+        Err(OrNoMemory::Fault(MakeFault::NotClear { line, .. })) => Err(Status::BadBoard {
             line,
             fault: BoardFault::Device(DeviceFault::NotClear),
         }),
-        Err(MakeFault::NoMemory) => Err(Status::NoMemory),
+        Err(OrNoMemory::NoMemory) => Err(Status::NoMemory),
     }
 }

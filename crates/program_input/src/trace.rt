@@ -7,6 +7,7 @@ use history_model::Event;
 use pci_command::List;
 use program_status::{BoardFault, Status};
 use std::alloc::Global;
+use text_faults::OrNoMemory;
 use trace_reader::{TraceFault, read_trace};
 
 /// A valid board, and the events of a trace of it.
@@ -27,11 +28,13 @@ pub fn read_tree_trace(alloc: Global, input: &[u8]) -> Result<TreeTrace, Status>
             Ok(tree) => Ok(TreeTrace { tree, events }),
             Err(status) => Err(status),
         },
-        Err(TraceFault::Trace { line, fault }) => Err(Status::BadTrace { line, fault }),
-        Err(TraceFault::Board { line, fault }) => Err(Status::BadBoard {
+        Err(OrNoMemory::Fault(TraceFault::Trace { line, fault })) => {
+            Err(Status::BadTrace { line, fault })
+        }
+        Err(OrNoMemory::Fault(TraceFault::Board { line, fault })) => Err(Status::BadBoard {
             line,
             fault: BoardFault::Line(fault),
         }),
-        Err(TraceFault::NoMemory) => Err(Status::NoMemory),
+        Err(OrNoMemory::NoMemory) => Err(Status::NoMemory),
     }
 }

@@ -19,7 +19,6 @@ pub use asked::{Asked, asked_for};
 pub use form::{InputForm, MOST_DRAWN, form_of, limit_words};
 pub use log::message_of_log;
 pub use ports::{unread, unwritten};
-pub use refused::{smallest, word_at_fault};
 pub(crate) use telling::about;
 pub use telling::{message, note};
 pub use unshown::not_shown;

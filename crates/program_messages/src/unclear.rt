@@ -8,6 +8,7 @@ use pci_command::NoMemory;
 use program_pages::{Spot, Teller, line_at, place_of};
 use std::alloc::Global;
 use std::str::from_utf8;
+use text_faults::OrNoMemory;
 
 /// The line that waits, pointed at its address, and the other lines. The sentence is said where the
 /// text is not refused so.
@@ -36,8 +37,8 @@ fn why_unclear(alloc: Global, input: &[u8]) -> Result<Option<(Flag, Unclear)>, N
         return Ok(None);
     }
     match make(alloc, input) {
-        Err(MakeFault::NotClear { flag, why, .. }) => Ok(Some((flag, why))),
-        Err(MakeFault::NoMemory) => Err(NoMemory),
+        Err(OrNoMemory::Fault(MakeFault::NotClear { flag, why, .. })) => Ok(Some((flag, why))),
+        Err(OrNoMemory::NoMemory) => Err(NoMemory),
         _ => Ok(None),
     }
 }

@@ -9,8 +9,8 @@ mod fault_tests;
 #[cfg(test)]
 mod io_ports_tests;
 #[cfg(test)]
-mod refused_text_tests;
-#[cfg(test)]
 mod shown_lines_tests;
+#[cfg(test)]
+mod spot_tests;
 #[cfg(test)]
 mod thread_tests;

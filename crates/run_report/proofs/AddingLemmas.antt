@@ -10,7 +10,7 @@ use Rattle.list_facts.proofs.TotalLemmas.{total-zero, total-plus}
 use Rattle.board_model.specs.declared.bridge.Bridge.{Bridge}
 use Rattle.board_model.specs.declared.bridge.Lane.{Lane as BridgeLane}
 use Rattle.board_model.specs.declared.board.Board.{Board}
-use Rattle.board_model.specs.Fits.{BusesFit}
+use Rattle.board_model.specs.Fits.{BoardFits}
 use Rattle.board_model.specs.Ways.{end_of}
 use Rattle.board_model.specs.Valid.{is_bus, IsValid}
 use Rattle.history_model.specs.declared.event.By.TheVariants.{Master, Lane}
@@ -36,13 +36,13 @@ record IsThere (board : Board) (bus : ℕ) : Type 0 where
   below : bus < 256
 
 -- a lane of a bridge ends on one
-lane_there : (board : Board) (lane : BridgeLane) (found : Option Bridge) → IsValid board → BusesFit board → bridge_to board lane.bus ≡ found → (found ≡ None → ⊥) → IsThere board (end_of board lane)
+lane_there : (board : Board) (lane : BridgeLane) (found : Option Bridge) → IsValid board → BoardFits board → bridge_to board lane.bus ≡ found → (found ≡ None → ⊥) → IsThere board (end_of board lane)
 lane_there board lane None valid fits is some = absurd (some refl)
 lane_there board lane (Some bridge) valid fits is some =
     record { there = end_is_bus board valid.buses lane bridge is; below = (IsOnBoard-found board lane bridge fits is).end }
 
 -- on a lane of no bridge nothing is presented, and nothing arrives
-event_there : (board : Board) (h : List Event) (e : Event) → IsValid board → BusesFit board → Run board h → Allowed board h e → IsThere board (bus_of board e)
+event_there : (board : Board) (h : List Event) (e : Event) → IsValid board → BoardFits board → Run board h → Allowed board h e → IsThere board (bus_of board e)
 event_there board h (Act on Master o step place) valid fits run allowed =
     let at = (master_wants board h on o allowed.0).0 in
     record { there = master_is_there board valid.buses o.master on (slice_get board.masters o.master) refl at; below = master_bus on board.masters o.master fits.masters at }
@@ -107,7 +107,7 @@ one_bus test bus a (suc n) from below passes =
     ]) refl
 
 -- over buses among which each bus of the board is once
-adds_over : (board : Board) (buses : List ℕ) → ((bus : ℕ) → IsThere board bus → total (λ b. one (bus == b)) buses ≡ 1) → IsValid board → BusesFit board
+adds_over : (board : Board) (buses : List ℕ) → ((bus : ℕ) → IsThere board bus → total (λ b. one (bus == b)) buses ≡ 1) → IsValid board → BoardFits board
     → (h : List Event) → Run board h → total (λ bus. total (count_of board h bus) kinds) buses ≡ length h
 adds_over board buses once valid fits [] run = total-zero (λ bus. total (count_of board [] bus) kinds) (λ bus. refl) buses
 adds_over board buses once valid fits (e ∷ h) run =
@@ -121,6 +121,6 @@ adds_over board buses once valid fits (e ∷ h) run =
     total_same here (λ bus. one (bus_of board e == bus)) (λ bus. one_kind (bus_of board e == bus) (kind_of e)) buses ∙ once (bus_of board e) (event_there board h e valid fits run.1 run.0) in
     omega (arith, total-plus here before now more buses, new, adds_over board buses once valid fits h run.1)
 
-pub adds_up : (board : Board) (h : List Event) → IsValid board → BusesFit board → Run board h → total (λ bus. total (count_of board h bus) kinds) (buses_of board) ≡ length h
+pub adds_up : (board : Board) (h : List Event) → IsValid board → BoardFits board → Run board h → total (λ bus. total (count_of board h bus) kinds) (buses_of board) ≡ length h
 adds_up board h valid fits run =
     adds_over board (buses_of board) (λ bus is. one_bus (is_bus board) bus 0 256 (omega arith) (let below : bus < 256 = is.below in omega arith) is.there) valid fits h run

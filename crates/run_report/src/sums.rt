@@ -3,7 +3,7 @@
 ghost use Rattle.std.specs.Prelude.{◌≡◌, List, length};
 ghost use Rattle.list_facts.specs.Lists.{total};
 ghost use Rattle.board_model.specs.declared.board.Board.{Board};
-ghost use Rattle.board_model.specs.Fits.{BusesFit};
+ghost use Rattle.board_model.specs.Fits.{BoardFits};
 ghost use Rattle.board_model.specs.Valid.{IsValid};
 ghost use Rattle.history_model.specs.declared.event.Event.{Event};
 ghost use Rattle.history_model.specs.Runs.{Run};
@@ -13,6 +13,6 @@ ghost use Rattle.run_report.specs.Report.{buses_of};
 /// The counts of all lines of a run's report add up to the number of its events: each event is of
 /// one kind, and on one bus of the board.
 pub fn counts_add_up()
-    ensures { (board : Board) (h : List Event) → IsValid board → BusesFit board → Run board h →
+    ensures { (board : Board) (h : List Event) → IsValid board → BoardFits board → Run board h →
         total (λ bus. total (count_of board h bus) kinds) (buses_of board) ≡ length h }
 {}

@@ -11,6 +11,7 @@ use Rattle.history_model.specs.declared.event.By.TheVariants.{Master, Lane as By
 use Rattle.history_model.specs.declared.event.Step.{Step}
 use Rattle.history_model.specs.declared.event.Event.{Event}
 use Rattle.history_model.specs.declared.event.Event.TheVariants.{Act, Arrive}
+use Rattle.history_model.specs.declared.rule.Rule.TheVariants.{Tagged}
 use Rattle.history_model.specs.Program.{ending_of, master_outcome, follows, turn_after, turn_of}
 use Rattle.history_model.specs.Knowledge.{stands_after}
 use Rattle.history_model.specs.Answers.{is_turn}
@@ -45,11 +46,11 @@ presented_begun board (Act on Master p step place ∷ h) q run is =
       | true ↦ λ same _.
           let one : p ≡ q = same_op_true p q same in
           let turn : turn_of board h q.master ≡ Some q = subst (λ (o : OpId). turn_of board h o.master ≡ Some o) one (wants-turn board h on p run.0.0) in
-          Begun-kept board e h q run (Begun-turn board h q turn)
-      | false ↦ λ _ before. Begun-kept board e h q run (presented_begun board h q run.1 before)
+          Begun-kept Tagged board e h q run (Begun-turn board h q turn)
+      | false ↦ λ _ before. Begun-kept Tagged board e h q run (presented_begun board h q run.1 before)
     ]) refl is
-presented_begun board (Act on (ByLane lane) p step place ∷ h) q run is = Begun-kept board (Act on (ByLane lane) p step place) h q run (presented_begun board h q run.1 is)
-presented_begun board (Arrive lane mark ∷ h) q run is = Begun-kept board (Arrive lane mark) h q run (presented_begun board h q run.1 is)
+presented_begun board (Act on (ByLane lane) p step place ∷ h) q run is = Begun-kept Tagged board (Act on (ByLane lane) p step place) h q run (presented_begun board h q run.1 is)
+presented_begun board (Arrive lane mark ∷ h) q run is = Begun-kept Tagged board (Arrive lane mark) h q run (presented_begun board h q run.1 is)
 
 -- what stands behind the turn was not presented
 not_presented : (board : Board) (h : List Event) (o t : OpId) → Run board h → turn_of board h o.master ≡ Some o → t.master ≡ o.master → stands_after o t ≡ true → list_any (presents_in t) h ≡ false

@@ -11,7 +11,7 @@ use Rattle.board_model.specs.declared.op.Op.{Op}
 use Rattle.board_model.specs.declared.board.Board.{Board}
 use Rattle.board_model.specs.Requests.{op_of, phases_of}
 use Rattle.board_model.specs.Ways.{Dword}
-use Rattle.board_headers.specs.device.Registers.{enabled_bits}
+use Rattle.board_model.specs.device.Registers.{enabled_bits}
 use Rattle.history_model.specs.Program.{meets}
 use Rattle.history_model.specs.Knowledge.{is_write, words_named}
 

@@ -13,7 +13,7 @@ use Rattle.board_model.specs.declared.op.Op.{Op}
 use Rattle.board_model.specs.declared.agents.Master.{Master}
 use Rattle.board_model.specs.declared.board.Board.{Board}
 use Rattle.board_model.specs.Requests.{op_of, tries_of}
-use Rattle.board_headers.specs.device.Registers.{enabled_bits, merge_of}
+use Rattle.board_model.specs.device.Registers.{enabled_bits, merge_of}
 use Rattle.history_model.specs.Knowledge.{words_on}
 use Rattle.safe_model.specs.Clocks.{at_place}
 use Rattle.law_safe.specs.largest.Tests.{wish_in, wish_of, program_of}

@@ -1,4 +1,3 @@
-pub mod Faults
 pub mod Traces
 pub mod Parts
 pub mod lines

@@ -5,7 +5,9 @@ use Rattle.board_model.specs.declared.board.Board.{Board}
 use Rattle.board_text.specs.Lines.{lines_of}
 use Rattle.text_faults.specs.declared.board_line.LineFault.{LineFault}
 use Rattle.trace_reader.specs.declared.fault.TraceFault.{TraceFault}
-use Rattle.trace_reader.specs.declared.fault.TraceFault.TheVariants.{Trace, Board as OfBoard, NoMemory}
+use Rattle.trace_reader.specs.declared.fault.TraceFault.TheVariants.{Trace, Board as OfBoard}
+use Rattle.text_faults.specs.declared.or_no_memory.OrNoMemory.{OrNoMemory}
+use Rattle.text_faults.specs.declared.or_no_memory.OrNoMemory.TheVariants.{Fault, NoMemory}
 use Rattle.text_faults.specs.declared.trace_line.TraceLineFault.TheVariants.{NoEventsLine}
 use Rattle.trace_reader.specs.declared.parts.EventsLine.{EventsLine}
 use Rattle.trace_reader.specs.Traces.{until_events}
@@ -29,8 +31,8 @@ IsWithout text from fault =
     (until_events (lines_of (drop from text)) ≡ None) × (fault ≡ Trace (length (lines_of (drop from text)) + 2) NoEventsLine)
 
 -- the board of a part that begins at the second line of the text
-abbrev pub TellsBoard : Result Board TraceFault → Result Board (ℕ × LineFault) → Type 0
+abbrev pub TellsBoard : Result Board (OrNoMemory TraceFault) → Result Board (ℕ × LineFault) → Type 0
 TellsBoard (Ok board) reading = reading ≡ Ok board
-TellsBoard (Err (OfBoard line fault)) reading = (at : ℕ) × (reading ≡ Err (at, fault)) × (line ≡ at + 1)
-TellsBoard (Err (Trace line fault)) reading = ⊥
+TellsBoard (Err (Fault (OfBoard line fault))) reading = (at : ℕ) × (reading ≡ Err (at, fault)) × (line ≡ at + 1)
+TellsBoard (Err (Fault (Trace line fault))) reading = ⊥
 TellsBoard (Err NoMemory) reading = Unit {0}

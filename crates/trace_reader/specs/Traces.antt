@@ -8,12 +8,13 @@ use Rattle.text_faults.specs.declared.board_line.LineFault.{LineFault as BoardFa
 use Rattle.board_parser.specs.Boards.{read_lines, ended}
 use Rattle.trace_reader.specs.declared.lines.line.TraceLine.{TraceLine}
 use Rattle.trace_reader.specs.declared.lines.line.TraceLine.TheVariants.{Happens, Ends}
-use Rattle.trace_reader.specs.declared.lines.line.LineFault.{LineFault}
 use Rattle.trace_reader.specs.lines.Lines.{line_of}
-use Rattle.trace_reader.specs.Faults.{fault_of_line}
+use Rattle.text_faults.specs.declared.trace_line.TraceLineFault.{TraceLineFault}
 use Rattle.text_faults.specs.declared.trace_line.TraceLineFault.TheVariants.{NoFirstLine, NoEventsLine, WrongCount, BehindEnd}
 use Rattle.trace_reader.specs.declared.fault.TraceFault.{TraceFault}
-use Rattle.trace_reader.specs.declared.fault.TraceFault.TheVariants.{Trace, Board as OfBoard, NoMemory}
+use Rattle.trace_reader.specs.declared.fault.TraceFault.TheVariants.{Trace, Board as OfBoard}
+use Rattle.text_faults.specs.declared.or_no_memory.OrNoMemory.{OrNoMemory}
+use Rattle.text_faults.specs.declared.or_no_memory.OrNoMemory.TheVariants.{Fault, NoMemory}
 
 -- Events, up to the `end` line.
 
@@ -28,10 +29,11 @@ at_end number events count lines =
     if count == length events then nothing_behind (number + 1) events lines else Err (Trace number WrongCount)
 
 -- the events of these lines behind those before, where the first line has this number
-abbrev pub events_by : (List Event → Result (List Event) TraceFault) → ℕ → List Event → List (List ℕ) → Result TraceLine LineFault → Result (List Event) TraceFault
+abbrev pub events_by : (List Event → Result (List Event) TraceFault) → ℕ → List Event → List (List ℕ)
+    → Result TraceLine TraceLineFault → Result (List Event) TraceFault
 events_by later number events lines (Ok (Happens event)) = later (events ++ event ∷ [])
 events_by later number events lines (Ok (Ends count)) = at_end number events count lines
-events_by later number events lines (Err fault) = Err (Trace number (fault_of_line fault))
+events_by later number events lines (Err fault) = Err (Trace number fault)
 
 -- the events of these lines, one after another
 abbrev pub events_read : Board → ℕ → List Event → List (List ℕ) → Result (List Event) TraceFault
@@ -78,8 +80,7 @@ abbrev pub trace_read : List ℕ → Result (Board × List Event) TraceFault
 trace_read text = by_first (lines_of text)
 
 -- an answer is what the text reads as, unless there was no memory
-abbrev pub Tells : {A : Type 0} → Result A TraceFault → Result A TraceFault → Type 0
+abbrev pub Tells : {A : Type 0} → Result A (OrNoMemory TraceFault) → Result A TraceFault → Type 0
 Tells (Ok value) reading = reading ≡ Ok value
-Tells (Err (Trace line fault)) reading = reading ≡ Err (Trace line fault)
-Tells (Err (OfBoard line fault)) reading = reading ≡ Err (OfBoard line fault)
+Tells (Err (Fault fault)) reading = reading ≡ Err fault
 Tells (Err NoMemory) reading = Unit {0}

@@ -1,21 +1,5 @@
-use text_faults::{LineFault, TraceLineFault};
+use text_faults::{LineFault, OrNoMemory, TraceLineFault};
 use thiserror::Error;
-
-impl From<crate::lines::LineFault> for TraceLineFault {
-    ghost use Rattle.std.specs.Prelude.{◌≡◌};
-    ghost use Rattle.trace_reader.specs.Faults.{fault_of_line};
-
-    ghost from_gives = { λ fault given. given ≡ fault_of_line fault };
-
-    fn from(fault: crate::lines::LineFault) -> TraceLineFault {
-        match fault {
-            crate::lines::LineFault::Unreadable => TraceLineFault::Unreadable,
-            crate::lines::LineFault::NoKind => TraceLineFault::NoKind,
-            crate::lines::LineFault::Misshapen => TraceLineFault::Misshapen,
-            crate::lines::LineFault::Unknown => TraceLineFault::Unknown,
-        }
-    }
-}
 
 /// Why a text is not read as a trace. Lines are numbered from 1, in the whole text.
 #[derive(Clone, Copy, Debug, PartialEq, Eq, Error)]
@@ -26,17 +10,15 @@ pub enum TraceFault {
     /// A fault of the board.
     #[error("line {line}: {fault}")]
     Board { line: u32, fault: LineFault },
-    #[error("no memory")]
-    NoMemory,
 }
 
-impl<T: Drop> From<std::alloc::AllocFailed<T>> for TraceFault {
+impl From<TraceFault> for OrNoMemory<TraceFault> {
     ghost use Rattle.std.specs.Prelude.{◌≡◌};
-    ghost use Rattle.trace_reader.specs.declared.fault.TraceFault.TheVariants.{NoMemory};
+    ghost use Rattle.text_faults.specs.declared.or_no_memory.OrNoMemory.TheVariants.{Fault};
 
-    ghost from_gives = { λ _ fault. fault ≡ NoMemory };
+    ghost from_gives = { λ fault given. given ≡ Fault fault };
 
-    fn from(_refused: std::alloc::AllocFailed<T>) -> TraceFault {
-        TraceFault::NoMemory
+    fn from(fault: TraceFault) -> OrNoMemory<TraceFault> {
+        OrNoMemory::Fault(fault)
     }
 }

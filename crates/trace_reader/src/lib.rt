@@ -8,5 +8,5 @@ mod parts;
 mod trace;
 
 pub use fault::TraceFault;
-pub use lines::{EventWord, LineFault, Names, TraceLine, read_line};
+pub use lines::{EventWord, Names, TraceLine, read_line};
 pub use trace::read_trace;

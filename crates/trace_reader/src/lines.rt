@@ -6,8 +6,11 @@ mod kind;
 mod line;
 mod names;
 mod operation;
+mod scan;
 mod words;
 
 pub use kind::EventWord;
-pub use line::{LineFault, TraceLine, read_line};
+pub(crate) use line::read_words;
+pub use line::{TraceLine, read_line};
 pub use names::Names;
+pub(crate) use scan::scan_line;

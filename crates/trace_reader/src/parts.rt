@@ -1,4 +1,5 @@
-ghost use Rattle.std.specs.Prelude.{◌≡◌, ◌+◌, ◌<◌, ◌≤◌, ◌^◌, length, drop, Some, None, Err, IfOk, IfErr};
+ghost use Rattle.std.specs.Prelude.{◌≡◌, ◌+◌, ◌<◌, ◌≤◌, ◌^◌, length, drop, Some, None, Err, IfOk};
+ghost use Rattle.std.specs.Prelude.{IfErr};
 ghost use Rattle.board_text.specs.Lines.{lines_of};
 ghost use Rattle.trace_reader.specs.Traces.{until_events, trace_read};
 ghost use Rattle.trace_reader.specs.Parts.{StartsBehind, Finds, IsWithout};

@@ -12,11 +12,15 @@ use board_parser::{ParseFault, parse, read_is_well_formed};
 use history_model::Event;
 use pci_command::List;
 use std::alloc::Global;
+use text_faults::OrNoMemory;
 
 /// The board and the events of a trace text, or its first fault: of the first line, then no line
 /// `events`, then of the board, then line by line behind `events`. A text has fewer than 2^31
 /// bytes.
-pub fn read_trace(alloc: Global, bytes: &[u8]) -> Result<(Board, List<Event>), TraceFault>
+pub fn read_trace(
+    alloc: Global,
+    bytes: &[u8],
+) -> Result<(Board, List<Event>), OrNoMemory<TraceFault>>
     requires { length bytes.now < 2 ^ 31 }
     ensures read { Tells result (trace_read bytes.now) }
     ensures formed { IfOk result (λ read. IsTrue (is_well_formed read.0)) }
@@ -30,7 +34,7 @@ pub fn read_trace(alloc: Global, bytes: &[u8]) -> Result<(Board, List<Event>), T
 }
 
 /// The board of this part of a text, in which it begins at the second line.
-fn read_board(alloc: Global, part: &[u8]) -> Result<Board, TraceFault>
+fn read_board(alloc: Global, part: &[u8]) -> Result<Board, OrNoMemory<TraceFault>>
     requires { length part.now < 2 ^ 31 }
     ensures read { TellsBoard result (board_read part.now) }
     ensures formed { IfOk result (λ board. IsTrue (is_well_formed board)) }
@@ -38,10 +42,10 @@ fn read_board(alloc: Global, part: &[u8]) -> Result<Board, TraceFault>
     read_is_well_formed();
     match parse(alloc, part) {
         Ok(board) => Ok(board),
-        Err(ParseFault::Fault { line, fault }) => Err(TraceFault::Board {
-            line: line + 1,
-            fault,
-        }),
-        Err(ParseFault::NoMemory) => Err(TraceFault::NoMemory),
+        Err(ParseFault::Fault(at)) => Err(OrNoMemory::Fault(TraceFault::Board {
+            line: at.line + 1,
+            fault: at.fault,
+        })),
+        Err(ParseFault::NoMemory) => Err(OrNoMemory::NoMemory),
     }
 }

@@ -9,13 +9,13 @@ use Rattle.board_model.specs.WellFormed.{is_well_formed}
 use Rattle.board_model.specs.Valid.{lacks_a_bus}
 use Rattle.history_model.specs.declared.event.Event.{Event}
 use Rattle.board_printer.specs.Lines.{Line}
-use Rattle.board_roundtrip.specs.lines.Fits.{BoardFits}
+use Rattle.board_model.specs.Fits.{BoardFits}
 use Rattle.board_roundtrip.specs.words.Printed.{has_words_alone, joined}
 use Rattle.trace_text.specs.Events.{event_line, HasLine}
 use Rattle.trace_reader.specs.declared.lines.line.TraceLine.{TraceLine}
-use Rattle.trace_reader.specs.declared.lines.line.LineFault.{LineFault}
 use Rattle.trace_reader.specs.declared.fault.TraceFault.{TraceFault}
 use Rattle.trace_reader.specs.declared.fault.TraceFault.TheVariants.{Trace}
+use Rattle.text_faults.specs.declared.trace_line.TraceLineFault.{TraceLineFault}
 use Rattle.text_faults.specs.declared.trace_line.TraceLineFault.TheVariants.{WrongCount}
 use Rattle.trace_reader.specs.Traces.{nothing_behind, events_by, events_read}
 use Rattle.trace_roundtrip.specs.events.Fits.{EventFits}
@@ -49,7 +49,7 @@ events_so events = Ok events
 -- the last line ends the events, where it tells how many they are
 ends : (board : Board) (number : ℕ) (before : List Event) → length before < 2 ^ 32 → events_read board number before (joined (end_of (length before)) ∷ []) ≡ events_so before
 ends board number before small =
-    ap (λ (r : Result TraceLine LineFault). events_by (λ more. events_read board (number + 1) more []) number before [] r) (end_read board (length before) small)
+    ap (λ (r : Result TraceLine TraceLineFault). events_by (λ more. events_read board (number + 1) more []) number before [] r) (end_read board (length before) small)
     ∙ ap (λ (b : Bool). cond b (nothing_behind (number + 1) before []) (Err (Trace number WrongCount))) (eq-eqb (length before) (length before) refl)
 
 -- the lines of events are read as these events, behind those before
@@ -62,5 +62,5 @@ events_from board number before [] all bears fit has is small =
 events_from board number before (event ∷ events) all bears fit has is small =
     let later = events_from board (number + 1) (before ++ event ∷ []) events all bears fit.1 has.1 (append_assoc before (event ∷ []) events ∙ is) small in
     let behind = map joined (lines_from board events (length all)) in
-    ap (λ (r : Result TraceLine LineFault). events_by (λ more. events_read board (number + 1) more behind) number before behind r) (event_read board event bears.fits bears.formed bears.buses fit.0 has.0)
+    ap (λ (r : Result TraceLine TraceLineFault). events_by (λ more. events_read board (number + 1) more behind) number before behind r) (event_read board event bears.fits bears.formed bears.buses fit.0 has.0)
     ∙ later

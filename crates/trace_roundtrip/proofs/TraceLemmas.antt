@@ -10,7 +10,7 @@ use Rattle.history_model.specs.declared.event.Event.{Event}
 use Rattle.board_text.specs.Lines.{lines_of}
 use Rattle.board_printer.specs.Lines.{Line, line_text, text_of}
 use Rattle.board_printer.specs.Boards.{board_lines, board_text}
-use Rattle.board_roundtrip.specs.lines.Fits.{BoardFits}
+use Rattle.board_model.specs.Fits.{BoardFits}
 use Rattle.board_roundtrip.specs.words.Printed.{joined}
 use Rattle.board_parser.specs.Boards.{read_lines, ended}
 use Rattle.board_roundtrip.proofs.BoardLemmas.{board_law}

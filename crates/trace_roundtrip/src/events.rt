@@ -9,7 +9,7 @@ ghost use Rattle.board_model.specs.declared.board.Board.{Board};
 ghost use Rattle.board_model.specs.WellFormed.{is_well_formed};
 ghost use Rattle.board_model.specs.Valid.{lacks_a_bus};
 ghost use Rattle.history_model.specs.declared.event.Event.{Event};
-ghost use Rattle.board_roundtrip.specs.lines.Fits.{BoardFits};
+ghost use Rattle.board_model.specs.Fits.{BoardFits};
 ghost use Rattle.board_roundtrip.specs.words.Printed.{has_words_alone, joined};
 ghost use Rattle.trace_text.specs.Events.{event_line, HasLine};
 ghost use Rattle.trace_reader.specs.declared.lines.line.TraceLine.TheVariants.{Happens, Ends};

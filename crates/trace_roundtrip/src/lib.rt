@@ -16,7 +16,7 @@ ghost use Rattle.board_model.specs.declared.board.Board.{Board};
 ghost use Rattle.board_model.specs.WellFormed.{is_well_formed};
 ghost use Rattle.board_model.specs.Valid.{lacks_a_bus};
 ghost use Rattle.history_model.specs.declared.event.Event.{Event};
-ghost use Rattle.board_roundtrip.specs.lines.Fits.{BoardFits};
+ghost use Rattle.board_model.specs.Fits.{BoardFits};
 ghost use Rattle.trace_text.specs.Events.{HasLine};
 ghost use Rattle.trace_text.specs.Traces.{trace_of};
 ghost use Rattle.trace_reader.specs.Traces.{trace_read};

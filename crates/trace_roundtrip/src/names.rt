@@ -7,7 +7,7 @@ ghost use Rattle.board_model.specs.declared.board.Board.{Board};
 ghost use Rattle.board_model.specs.Requests.{op_of};
 ghost use Rattle.board_model.specs.WellFormed.{is_well_formed};
 ghost use Rattle.board_roundtrip.specs.words.Printed.{is_word};
-ghost use Rattle.board_roundtrip.specs.lines.Fits.{BoardFits};
+ghost use Rattle.board_model.specs.Fits.{BoardFits};
 ghost use Rattle.trace_text.specs.Words.{op_word, target_name};
 ghost use Rattle.trace_reader.specs.lines.Words.{number_of, target_in, op_in, begins_header};
 

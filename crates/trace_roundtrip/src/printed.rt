@@ -8,8 +8,7 @@ ghost use Rattle.trace_reader.specs.Traces.{trace_read};
 
 use crate::events::events_fit;
 use crate::traces_are_read;
-use board_model::Board;
-use board_roundtrip::board_fits;
+use board_model::{Board, board_fits};
 use history_model::Event;
 
 /// What is printed of a board and events of the program is read as the same pair.

@@ -1,6 +1,7 @@
 ghost use Rattle.std.specs.Prelude.{◌≡◌, is_some};
 ghost use Rattle.board_model.specs.Requests.{op_of};
-ghost use Rattle.trace_text.specs.Events.{has_initiator, has_place, is_completion, is_step_at, has_line};
+ghost use Rattle.trace_text.specs.Events.{has_initiator, has_place};
+ghost use Rattle.trace_text.specs.Events.{is_completion, is_step_at, has_line};
 
 use board_model::{Board, Place, has_bridge_to, is_bus, op_of};
 use history_model::{By, Event, Step};

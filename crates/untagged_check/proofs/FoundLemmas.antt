@@ -19,16 +19,14 @@ use Rattle.audit_landings.proofs.Laws.{whole_has}
 use Rattle.law_untagged.specs.Untagged.{UntaggedRun}
 use Rattle.law_untagged.specs.Origins.{ending_reading, untagged_got}
 use Rattle.law_untagged.specs.Heard.{untagged_was_told}
-use Rattle.law_untagged.specs.Orderly.{Front, Orderly}
 use Rattle.safe_model.specs.Raisers.{same_dword}
 use Rattle.safe_model.specs.Ops.{ops_by}
 use Rattle.law_untagged.specs.Stale.{StaleRead, breaks, breaks_in, stale_by, stale_at, stale_ending, stale_in}
 use Rattle.law_untagged.proofs.HeardLemmas.{ending_front}
-use Rattle.law_untagged.proofs.OrderLemmas.{front_front, front_more, front_self}
 use Rattle.law_untagged.proofs.ToldLemmas.{got_along}
-use Rattle.law_untagged.proofs.UntaggedOrderLemmas.{untagged_in_order}
 use Rattle.law_untagged.specs.clocks.Clocks.{clocks_of}
-use Rattle.law_untagged.proofs.clocks.ToldLemmas.{run_along, ends_it, told_reaches}
+use Rattle.law_untagged.proofs.clocks.ToldLemmas.{ends_it, told_reaches}
+use Rattle.law_untagged.proofs.OrderLemmas.{run_along}
 use Rattle.untagged_run.specs.declared.got.Got.{Got}
 use Rattle.untagged_run.specs.Flat.{flat}
 use Rattle.untagged_run.specs.Table.{IsGot, SameGot}
@@ -39,6 +37,7 @@ use Rattle.untagged_run.proofs.told.NextLemmas.{master_within}
 use Rattle.untagged_check.specs.index.Entries.{Listing}
 use Rattle.untagged_check.specs.index.Pending.{is_before, reaches_in, names, is_pending, first_pending}
 use Rattle.untagged_check.specs.Found.{IndexesRun, is_unlanded, first_unlanded, found_by, found_with, found_at, found_ending}
+use Rattle.law_fresh.proofs.Laws.{ends_turn, Front, front_self, front_more, front_front, turn_is_there}
 
 -- what is found by tests that agree
 find_same : {X : Type 0} (f g : X → Bool) → ((x : X) → f x ≡ g x) → (xs : List X) → find f xs ≡ find g xs
@@ -146,13 +145,11 @@ module _ (board : Board) (later : List Event) (e : Event) (h : List Event) (run 
   of_ending ending got ends same =
       let H : List Event = later ++ e ∷ h in
       let r : OpId = ending.op in
-      let order : Orderly board H = (untagged_in_order board H run).0 in
-      let order_then : Orderly board (e ∷ h) = (untagged_in_order board (e ∷ h) (run_along board later (e ∷ h) run)).0 in
-      let within : r.master < length board.masters = master_within board r (Rattle.law_fresh.proofs.Laws.turn_is_there board h r (order_then.0.turn ending ends)) in
+      let within : r.master < length board.masters = master_within board r (turn_is_there board h r (ends_turn Untagged board e h ending (run_along board later (e ∷ h) run) ends)) in
       let inside : r.master < length k.known = let masters = knows.masters in omega (arith, masters, within) in
       let numbers : List ℕ = known_at k.known r.master in
       let some : slice_get k.known r.master ≡ Some numbers = slice_get-get_or k.known r.master [] inside in
-      let given : untagged_got board H r ≡ ending_reading board h e = got_along board r e h later order (ends_it e ending ends) in
+      let given : untagged_got board H r ≡ ending_reading board h e = got_along board r e h later run (ends_it e ending ends) in
       ap (found_at board H r got) some ∙ by_got got (ending_reading board h e) same refl given within
     where
       by_got : (found : Option Got) (reading : Option Reading) → SameGot found reading → ending_reading board h e ≡ reading → untagged_got board (later ++ e ∷ h) ending.op ≡ ending_reading board h e → ending.op.master < length board.masters

@@ -21,12 +21,11 @@ use Rattle.history_model.specs.declared.item.Carried.TheVariants.{Post, Ask, Don
 use Rattle.history_model.specs.declared.item.Slot.{Slot}
 use Rattle.history_model.specs.declared.rule.Rule.TheVariants.{Untagged}
 use Rattle.history_model.specs.Lanes.{LaneState, is_of}
-use Rattle.history_model.specs.World.{World, anyone, is_own, same_lane, lane_outcome}
+use Rattle.history_model.specs.World.{World, anyone, is_own, same_lane, lane_outcome, world_by}
 use Rattle.history_model.specs.Knowledge.{Reading, reading_of, reading_or}
 use Rattle.judge_state.specs.State.{KeptState, lane_in}
 use Rattle.judge_state.specs.Stands.{StandsForBy}
 use Rattle.judge_state.proofs.LookLemmas.{lane_now_by}
-use Rattle.law_untagged.specs.Untagged.{untagged_world}
 use Rattle.law_untagged.specs.Origins.{origin_in, source_of, asks_for, ends_item, origins_of, ending_reading}
 use Rattle.untagged_run.specs.declared.got.Got.{Got}
 use Rattle.untagged_run.specs.Table.{Table, SameGot, KeepsOrigins, origin_at, key_of}
@@ -35,7 +34,7 @@ use Rattle.untagged_run.specs.Course.{NotedAt, Noted}
 
 module _ (board : Board) (h : List Event) (k : KeptState) (table : Table) (event : ℕ) (stands : StandsForBy Untagged board h k) (keeps : KeepsOrigins board h table) (number : event ≡ length h + 1) where
   -- where an act has its value from
-  source_same : (on : ℕ) (o : OpId) (step : Step) (place : Place) → SameGot (source_now board table k.lanes event on o step place) (source_of board h (untagged_world board h) (origins_of board h) on o step place)
+  source_same : (on : ℕ) (o : OpId) (step : Step) (place : Place) → SameGot (source_now board table k.lanes event on o step place) (source_of board h (world_by Untagged board h) (origins_of board h) on o step place)
   source_same on o Land place = tt
   source_same on o (Part phases) place = tt
   source_same on o (Read value) (Target target) =
@@ -50,10 +49,10 @@ module _ (board : Board) (h : List Event) (k : KeptState) (table : Table) (event
   source_same on o (Take outcome) (Target target) = tt
   source_same on o (Take outcome) (Header bus) = tt
   source_same on o (Take outcome) (Lane lane) =
-      let there : lane_in board k.lanes lane ≡ untagged_world board h lane = lane_now_by Untagged board h k lane stands in
-      let P : LaneState → Type 0 = λ l. SameGot (slot_origin table lane (find (is_own board on anyone o) l.held)) (origin_in (origins_of board h) lane (find (is_own board on anyone o) (untagged_world board h lane).held)) in
+      let there : lane_in board k.lanes lane ≡ world_by Untagged board h lane = lane_now_by Untagged board h k lane stands in
+      let P : LaneState → Type 0 = λ l. SameGot (slot_origin table lane (find (is_own board on anyone o) l.held)) (origin_in (origins_of board h) lane (find (is_own board on anyone o) (world_by Untagged board h lane).held)) in
       let Q : Option Slot → Type 0 = λ found. SameGot (slot_origin table lane found) (origin_in (origins_of board h) lane found) in
-      subst P (sym there) (elim (find (is_own board on anyone o) (untagged_world board h lane).held) as Q [ None ↦ tt | Some slot ↦ keeps lane slot.number ])
+      subst P (sym there) (elim (find (is_own board on anyone o) (world_by Untagged board h lane).held) as Q [ None ↦ tt | Some slot ↦ keeps lane slot.number ])
   source_same on o (Take outcome) Nobody = tt
   source_same on o Stall place = tt
   source_same on o MasterAbort place = tt
@@ -63,7 +62,7 @@ module _ (board : Board) (h : List Event) (k : KeptState) (table : Table) (event
   pub given_same : (e : Event) → SameGot (made_now board table k.lanes event e).given (ending_reading board h e)
   given_same (Act on Master o step place) =
       let source : Option Got = source_now board table k.lanes event on o step place in
-      let reading : Option Reading = source_of board h (untagged_world board h) (origins_of board h) on o step place in
+      let reading : Option Reading = source_of board h (world_by Untagged board h) (origins_of board h) on o step place in
       let P : Bool → Type 0 = λ b. SameGot (if b then source else None) (if b then reading else None) in
       elim (reads board o) as P [ true ↦ source_same on o step place | false ↦ tt ]
   given_same (Act on (ByLane lane) o step place) = tt
@@ -108,7 +107,7 @@ module _ (board : Board) (h : List Event) (k : KeptState) (table : Table) (event
   pub origins_went : (e : Event) (new : Table) → Noted (made_now board table k.lanes event e) table new → KeepsOrigins board (e ∷ h) new
   origins_went (Act on Master o step place) new noted = same_origins new noted
   origins_went (Act on (ByLane from) o step place) new noted = λ lane number.
-      let world : World = untagged_world board h in
+      let world : World = world_by Untagged board h in
       let source : Option Got = source_now board table k.lanes event on o step place in
       let there : lane_in board k.lanes from ≡ world from = lane_now_by Untagged board h k from stands in
       let F : LaneState → Type 0 = λ l. NotedAt (if ends_item (lane_outcome board from o step) then asked_slot from (find (is_of o) l.standing) else None) source table new in

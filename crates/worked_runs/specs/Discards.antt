@@ -12,31 +12,16 @@ use Rattle.history_model.specs.declared.event.Mark.TheVariants.{Plain, Discard, 
 use Rattle.history_model.specs.declared.event.Step.TheVariants.{Land, Read, Latch, Take}
 use Rattle.history_model.specs.declared.event.Event.{Event}
 use Rattle.history_model.specs.declared.event.Event.TheVariants.{Act, Arrive}
+use Rattle.worked_runs.specs.Bursts.{burst_board}
 
 -- an operation by master, index and try
 abbrev op : ℕ → ℕ → ℕ → OpId
 op master index attempt = record { master = master; index = index; attempt = attempt }
 
--- the completion of a read
+-- the completion of a read, through the bridges of the first burst
 abbrev pub discarded_board : Board
 discarded_board =
-    record {
-      bridges =
-          record { bus = 1; parent = 0; device = 1; last = 2; mem = Some (record { base = 0x80000000; limit = 0x800fffff }); pref = None; io = None; posted = 4; delayed = 4; mode = false } ∷
-          record { bus = 2; parent = 1; device = 1; last = 2; mem = Some (record { base = 0x80000000; limit = 0x800fffff }); pref = None; io = None; posted = 4; delayed = 4; mode = false } ∷ [];
-      targets =
-          record {
-            name = codes "ram";
-            bus = 2;
-            device = 1;
-            vendor = 0x1234;
-            model = 0x1;
-            stalls = 0;
-            burst = 8;
-            ranges = record { space = Mem; base = 0x80000000; size = 0x1000 } ∷ [];
-            aborts = [];
-            openings = [];
-          } ∷ [];
+    record burst_board {
       masters =
           record {
             name = codes "cpu";
@@ -44,7 +29,6 @@ discarded_board =
             ops = ReadOp MemRead 0x80000000 ∷ [];
           } ∷ [];
       discards = record { bus = 1; up = true; count = 1 } ∷ [];
-      drops = [];
     }
 
 -- its run: the read is asked for once more, and its second completion is taken

@@ -12,6 +12,7 @@ use Rattle.history_model.specs.declared.event.Mark.TheVariants.{Plain}
 use Rattle.history_model.specs.declared.event.Step.TheVariants.{Land, Read, Accept, Latch, Take, Stall}
 use Rattle.history_model.specs.declared.event.Event.{Event}
 use Rattle.history_model.specs.declared.event.Event.TheVariants.{Act, Arrive}
+use Rattle.law_untagged.specs.Worked.{flag_target}
 
 -- an operation by master, index and try
 abbrev op : ℕ → ℕ → ℕ → OpId
@@ -37,18 +38,7 @@ flag_board =
             aborts = [];
             openings = [];
           } ∷
-          record {
-            name = codes "box";
-            bus = 1;
-            device = 1;
-            vendor = 0x1234;
-            model = 0x1;
-            stalls = 0;
-            burst = 8;
-            ranges = record { space = Mem; base = 0x80000000; size = 0x1000 } ∷ [];
-            aborts = [];
-            openings = [];
-          } ∷ [];
+          flag_target ∷ [];
       masters =
           record {
             name = codes "prod";

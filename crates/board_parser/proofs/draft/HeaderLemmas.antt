@@ -5,7 +5,7 @@ use Rattle.std.specs.List.{list_all}
 use Rattle.std.proofs.lemmas.Bool.{and_parts, and_from, not-false, ltb-true, lt-ltb, le-leb, eq-eqb}
 use Rattle.board_model.specs.WellFormed.{is_within, is_window, is_well_formed_bridge}
 use Rattle.board_headers.specs.declared.windows.Windows.{Windows}
-use Rattle.board_headers.specs.HeaderBytes.{bits, register_2, register_4}
+use Rattle.board_model.specs.HeaderBytes.{bits, register_2, register_4}
 use Rattle.board_headers.specs.Windows.{window_between, prefetchable_upper, io_upper, reading_of, windows_of, is_type_1, is_enabled, has_refused_control, has_ordered_buses, has_whole_windows}
 use Rattle.board_parser.specs.draft.Bridges.{bridge_of}
 use Rattle.board_parser.specs.draft.Formed.{is_byte}

@@ -4,7 +4,7 @@ use Rattle.std.specs.List.{flat_map}
 use Rattle.std.specs.Fmt.{decimal, digit_glyph}
 use Rattle.board_model.specs.declared.bridge.Bridge.{Bridge}
 use Rattle.board_model.specs.declared.board.Board.{Board}
-use Rattle.board_headers.specs.HeaderBytes.{header_bytes}
+use Rattle.board_model.specs.HeaderBytes.{header_bytes}
 use Rattle.board_printer.specs.Lines.{Line, text_of}
 
 -- two hexadecimal digits in lower case

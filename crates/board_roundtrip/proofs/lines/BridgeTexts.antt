@@ -16,7 +16,7 @@ use Rattle.board_statements.specs.Words.{has_mark, begins_with, decimal_of, fixe
 use Rattle.board_statements.specs.Keywords.{form_of}
 use Rattle.board_statements.specs.Bridges.{window, depth, abort_mode, bridge_form}
 use Rattle.board_statements.specs.Statements.{behind_word, statement_form, statement_of}
-use Rattle.board_roundtrip.specs.lines.Ranges.{BridgeFits}
+use Rattle.board_model.specs.Fits.{BridgeFits}
 use Rattle.board_roundtrip.proofs.lines.NumberTexts.{decimal_is_read}
 use Rattle.board_roundtrip.proofs.lines.PartTexts.{address_is_read, address_has_none}
 use Rattle.board_roundtrip.proofs.lines.TargetTexts.{first_may, second_may}

@@ -26,7 +26,7 @@ use Rattle.text_faults.specs.declared.board_line.LineFault.{LineFault}
 use Rattle.board_statements.specs.declared.statement.Statement.{Statement}
 use Rattle.board_statements.specs.declared.statement.Statement.TheVariants.{NewBridge, NewTarget, Identifies, Stalls, Bursts, Claims, Aborts, Opens, NewMaster, Does, Discards, Drops}
 use Rattle.board_statements.specs.Statements.{statement_of, first_line_of}
-use Rattle.board_roundtrip.specs.lines.Ranges.{BridgeFits, TargetFits, MasterFits, RangeFits, OpeningFits, OpFits, PlannedFits}
+use Rattle.board_model.specs.Fits.{BridgeFits, TargetFits, MasterFits, RangeFits, OpeningFits, OpFits, PlannedFits}
 use Rattle.board_roundtrip.specs.words.Printed.{is_word}
 use Rattle.board_roundtrip.specs.lines.ReadsAs.{IsReadAs}
 use Rattle.board_roundtrip.proofs.lines.BridgeTexts.{bridge_is_read}

@@ -26,7 +26,7 @@ use Rattle.board_statements.specs.Words.{fixed_of, name_of}
 use Rattle.board_statements.specs.Keywords.{form_of}
 use Rattle.board_statements.specs.Masters.{master_form, read_form, data_words, burst_words, burst_write_form, port_write_form, register_read_form, register_write_form, poll_form, planned_form, discard_form, drop_form, direction_of_word}
 use Rattle.board_statements.specs.Statements.{behind_word, statement_form, statement_of}
-use Rattle.board_roundtrip.specs.lines.Ranges.{MasterFits, OpFits, PhaseFits, PlannedFits}
+use Rattle.board_model.specs.Fits.{MasterFits, OpFits, PhaseFits, PlannedFits}
 use Rattle.board_roundtrip.proofs.lines.NumberTexts.{decimal_is_read}
 use Rattle.board_roundtrip.proofs.lines.PartTexts.{word_is_read, address_is_read, phase_is_read}
 use Rattle.board_roundtrip.proofs.lines.TargetTexts.{port_is_read, port_hex_is_read}

@@ -30,7 +30,7 @@ use Rattle.board_printer.specs.Targets.{target_line, range_line, opening_line}
 use Rattle.board_printer.specs.Masters.{master_line, op_line}
 use Rattle.board_printer.specs.Boards.{planned_line}
 use Rattle.board_roundtrip.specs.words.Printed.{is_word_byte, is_word}
-use Rattle.board_roundtrip.specs.lines.Ranges.{BridgeFits, TargetFits, MasterFits}
+use Rattle.board_model.specs.Fits.{BridgeFits, TargetFits, MasterFits}
 use Rattle.board_roundtrip.proofs.words.Laws.{hex_length, glyph_is_digit, hex_words, eight_word, decimal_word}
 
 -- a byte that passes a test is none that fails it

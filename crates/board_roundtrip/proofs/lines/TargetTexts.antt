@@ -20,7 +20,7 @@ use Rattle.board_statements.specs.Words.{hex_of, fixed_of, name_of, long_of}
 use Rattle.board_statements.specs.Keywords.{form_of}
 use Rattle.board_statements.specs.Targets.{space_of_word, target_form, id_form, stall_form, burst_form, range_form, claim_form, abort_form, opening_form}
 use Rattle.board_statements.specs.Statements.{behind_word, statement_form, statement_of}
-use Rattle.board_roundtrip.specs.lines.Ranges.{TargetFits, RangeFits, OpeningFits}
+use Rattle.board_model.specs.Fits.{TargetFits, RangeFits, OpeningFits}
 use Rattle.board_roundtrip.proofs.lines.NumberTexts.{number, decimal_is_read}
 use Rattle.board_roundtrip.proofs.lines.PartTexts.{word_is_read, half_is_read, address_is_read}
 

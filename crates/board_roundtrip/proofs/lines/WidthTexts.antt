@@ -27,7 +27,7 @@ use Rattle.board_printer.specs.Bridges.{window_words, depth_words, mode_words, o
 use Rattle.board_printer.specs.Targets.{target_line, range_line, opening_line}
 use Rattle.board_printer.specs.Masters.{master_line, op_line}
 use Rattle.board_printer.specs.Boards.{planned_line}
-use Rattle.board_roundtrip.specs.lines.Ranges.{BridgeFits, TargetFits, MasterFits}
+use Rattle.board_model.specs.Fits.{BridgeFits, TargetFits, MasterFits}
 use Rattle.board_roundtrip.proofs.lines.PartTexts.{word_length}
 use Rattle.board_roundtrip.proofs.lines.PlainTexts.{DecimalsFit}
 use Rattle.board_roundtrip.proofs.lines.AllowedTexts.{width, width-append}

@@ -13,6 +13,7 @@ use Rattle.board_model.specs.Requests.{is_posted}
 use Rattle.history_model.specs.declared.event.By.{By}
 use Rattle.history_model.specs.declared.event.Step.{Step}
 use Rattle.history_model.specs.declared.event.Step.TheVariants.{Accept, Latch, Take}
+use Rattle.history_model.specs.declared.item.Cause.{Cause}
 use Rattle.history_model.specs.declared.item.Slot.{Slot as HeldSlot}
 use Rattle.history_model.specs.Lanes.{LaneState, Both, item_ends}
 use Rattle.history_model.specs.World.{World, is_own, slot_found, both, moved, enters}
@@ -20,9 +21,9 @@ use Rattle.history_model.specs.Answers.{lane_answer, presents}
 use Rattle.history_model.proofs.facts.BridgeLemmas.{lane_back_back}
 use Rattle.law_local.proofs.Laws.{moved_here, moved_back}
 use Rattle.lane_items.specs.declared.item.Item.{Item}
-use Rattle.bus_face.specs.declared.requests.slot_table.SlotEntry.{SlotEntry}
-use Rattle.bus_face.specs.declared.completions.done_table.Done.{Done}
-use Rattle.bus_face.specs.completions.Completions.{done_at}
+use Rattle.lane_items.specs.declared.requests.slot_table.SlotEntry.{SlotEntry}
+use Rattle.lane_items.specs.declared.completions.done_table.Done.{Done}
+use Rattle.lane_items.specs.completions.Completions.{done_at}
 use Rattle.bus_face.specs.declared.reply.Reply.{Reply}
 use Rattle.bus_face.specs.declared.reply.Reply.TheVariants.{Accepted, Latched, Taken, Retry as Retried}
 use Rattle.bus_face.specs.declared.offer.Offer.{Offer}
@@ -170,6 +171,28 @@ reply_arrivals face number tag op request =
 
 pub replied_arrivals : (face : FaceState) (tag : ℕ) (op : OpId) (request : Request) (reply : Reply) (after : FaceState) → LowestReply face tag op request reply after → after.arrivals ≡ face.arrivals
 replied_arrivals face tag op request reply after kept = ap (λ (f : FaceState). f.arrivals) kept.after_is ∙ reply_arrivals face kept.number tag op request
+
+-- a Retry changes nothing
+cond_retried : (b : Bool) (x y : Reply × FaceState) (face : FaceState) (cause : Cause) → (x.0 ≡ Retried cause → x.1 ≡ face) → (y.0 ≡ Retried cause → y.1 ≡ face) → (cond b x y).0 ≡ Retried cause → (cond b x y).1 ≡ face
+cond_retried true x y face cause one other is = one is
+cond_retried false x y face cause one other is = other is
+
+taken_retried : (face : FaceState) (slot : ℕ) (read : Bool) (done : Option Done) (cause : Cause) → (taken_reply face slot read done).0 ≡ Retried cause → (taken_reply face slot read done).1 ≡ face
+taken_retried face slot read None cause is = refl
+taken_retried face slot read (Some done) cause is = cond_retried (read && is_behind done.arrival face.posts.posts) _ _ face cause (λ same. refl) (λ wrong. cc) is
+
+delayed_retried : (face : FaceState) (number tag : ℕ) (op : OpId) (request : Request) (own : Option SlotEntry) (cause : Cause) → (delayed_reply face number tag op request own).0 ≡ Retried cause → (delayed_reply face number tag op request own).1 ≡ face
+delayed_retried face number tag op request None cause is = cond_retried (nat_lt (length face.slots.slots) face.slots.depth) _ _ face cause (λ wrong. cc) (λ same. refl) is
+delayed_retried face number tag op request (Some slot) cause is = taken_retried face slot.number (is_read request.command) (done_at slot.number face.dones.dones) cause is
+
+reply_retried : (face : FaceState) (number tag : ℕ) (op : OpId) (request : Request) (cause : Cause) → (reply_to face number tag op request).0 ≡ Retried cause → (reply_to face number tag op request).1 ≡ face
+reply_retried face number tag op request cause is =
+    cond_retried (is_posted request) (posts_reply face) (delayed_reply face number tag op request (find (is_own_entry tag request) face.slots.slots)) face cause
+    (cond_retried (nat_lt face.owed face.posted) _ _ face cause (λ wrong. cc) (λ same. refl))
+    (delayed_retried face number tag op request (find (is_own_entry tag request) face.slots.slots) cause) is
+
+pub replied_retried : (face : FaceState) (tag : ℕ) (op : OpId) (request : Request) (reply : Reply) (after : FaceState) (cause : Cause) → LowestReply face tag op request reply after → reply ≡ Retried cause → after ≡ face
+replied_retried face tag op request reply after cause kept is = kept.after_is ∙ reply_retried face kept.number tag op request cause (sym kept.reply_is ∙ is)
 
 -- nor does the end of an item
 pub ended_arrivals : (face : FaceState) (offer : Offer) → (left_by face offer).arrivals ≡ face.arrivals

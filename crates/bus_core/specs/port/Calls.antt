@@ -14,6 +14,7 @@ use Rattle.history_model.specs.declared.event.Mark.{Mark}
 use Rattle.history_model.specs.declared.item.Answer.{Answer}
 use Rattle.history_model.specs.declared.item.Answer.TheVariants.{Gives, Retry}
 use Rattle.history_model.specs.declared.item.Carried.{Carried}
+use Rattle.history_model.specs.declared.item.Cause.{Cause}
 use Rattle.history_model.specs.Lanes.{Both, arrives, item_ends}
 use Rattle.history_model.specs.World.{World, moved, at_place}
 use Rattle.history_model.specs.Answers.{bridge_to, lane_answer, wants_in}
@@ -22,6 +23,7 @@ use Rattle.history_model.specs.Local.{is_lawful_on, coming}
 use Rattle.law_lanes.specs.Kinds.{RightKind}
 use Rattle.lane_items.specs.declared.item.Item.{Item}
 use Rattle.bus_face.specs.declared.reply.Reply.{Reply}
+use Rattle.bus_face.specs.declared.reply.Reply.TheVariants.{Retry as Retried}
 use Rattle.bus_face.specs.declared.offer.Offer.{Offer}
 use Rattle.bus_face.specs.Arrivals.{carried}
 use Rattle.bus_face.specs.Replies.{as_answer}
@@ -68,6 +70,10 @@ pub record Replies (board : Board) (bus : ℕ) (tags : By → OpId → ℕ) (wor
 pub record PortReplies (old : PortView) (tag : ℕ) (o : OpId) (request : Request) (reply : Reply) (new : PortView) : Type 0 where
   pub replies : (board : Board) (bus : ℕ) (tags : By → OpId → ℕ) (world : World) (by : By) → IsPresented board bus tags by o tag request
       → PortStands board bus tags old world → Replies board bus tags world by o request old.lane reply new
+
+-- a Retry leaves the port as it was
+pub record PortStaysAtRetry (old : PortView) (reply : Reply) (new : PortView) : Type 0 where
+  pub stays : (cause : Cause) → reply ≡ Retried cause → new ≡ old
 
 -- what is offered is what the lane presents
 pub record PortOffers (port : PortView) (offers : List Offer) : Type 0 where

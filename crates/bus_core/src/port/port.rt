@@ -49,7 +49,7 @@ impl Port {
     ghost use Rattle.std.specs.List.{Contains};
     ghost use Rattle.bus_face.specs.Arrivals.{is_taken, HasRequest, sent_back};
     ghost use Rattle.bus_face.specs.Offers.{offers_of, answered_with};
-    ghost use Rattle.bus_core.specs.port.Calls.{PortStandsAtFirst, PortTests, PortArrives, PortReplies, PortOffers, PortEnds};
+    ghost use Rattle.bus_core.specs.port.Calls.{PortStandsAtFirst, PortTests, PortArrives, PortReplies, PortStaysAtRetry, PortOffers, PortEnds};
 
     /// The bridge where this lane of it ends, before the first event.
     pub fn new(alloc: Global, board: &Board, bridge: &Bridge, lane: Lane) -> Result<Port, NoMemory>
@@ -57,7 +57,8 @@ impl Port {
         requires delayed { (1 ≤ bridge.now.delayed) × (bridge.now.delayed ≤ 8) }
         ensures lane { IfOk result (λ port. port.lane ≡ lane) }
         ensures none { IfOk result (λ port. port.face.arrivals ≡ 0) }
-        ensures first { IfOk result (λ port. bridge_to board.now lane.bus ≡ Some bridge.now → PortStandsAtFirst board.now (end_of board.now lane) port) }
+        ensures first { IfOk result (λ port. bridge_to board.now lane.bus ≡ Some bridge.now →
+            PortStandsAtFirst board.now (end_of board.now lane) port) }
     {
         let marks = LaneMarks::new(alloc, board, lane)?;
         Ok(Port {
@@ -92,19 +93,21 @@ impl Port {
         ensures lane { self.new.lane ≡ self.old.lane }
         ensures arrivals { self.new.face.arrivals ≡ self.old.face.arrivals + 1 }
         ensures back { result.back ≡ sent_back (carried item) result.mark stamp }
-        ensures arrives { (board : BoardTree) → PortArrives board self.old (carried item) request result.mark self.new result.back }
+        ensures arrives { (board : BoardTree) →
+            PortArrives board self.old (carried item) request result.mark self.new result.back }
     {
         let mark = self.marks.mark(carried(item));
         let back = self.face.arrive(item, request, mark, stamp);
         Arrival { mark, back }
     }
 
-    /// What the bridge answers to an operation that its lane back claims, presented by the initiator
-    /// of this tag. A Retry changes nothing.
+    /// What the bridge answers to an operation that its lane back claims, presented by the
+    /// initiator of this tag. A Retry changes nothing.
     pub fn respond(&mut self, tag: u8, op: OpId, request: &Request) -> Reply
         ensures lane { self.new.lane ≡ self.old.lane }
         ensures arrivals { self.new.face.arrivals ≡ self.old.face.arrivals }
         ensures replies { PortReplies self.old tag op request.now result self.new }
+        ensures retried { PortStaysAtRetry self.old result self.new }
     {
         self.face.respond(tag, op, request)
     }
@@ -149,5 +152,6 @@ fn carried(item: Item) -> Carried
 
 /// What moves another bridge leaves a port as it was.
 pub fn other_bridges_leave_ports()
-    ensures { (board : BoardTree) (bus : ℕ) (tags : By → OpName → ℕ) (port : PortView) (world : World) → OtherBridgesLeave board bus tags port world }
+    ensures { (board : BoardTree) (bus : ℕ) (tags : By → OpName → ℕ) (port : PortView)
+        (world : World) → OtherBridgesLeave board bus tags port world }
 {}

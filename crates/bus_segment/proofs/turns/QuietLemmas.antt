@@ -1,5 +1,5 @@
 -- A turn that did nothing: there was nothing to do.
-use Rattle.std.proofs.Common.{◌≡◌, ℕ, ◌+◌, ◌<◌, ◌≤◌, Bool, true, false, ◌==◌, List, [], ◌∷◌, length, map, Option, Some, None, refl, sym, ap, ◌∙◌, arith, slice_get}
+use Rattle.std.proofs.Common.{◌≡◌, ℕ, ◌+◌, ◌<◌, ◌≤◌, Bool, true, false, ◌==◌, List, [], ◌∷◌, length, map, Option, Some, None, refl, sym, ap, subst, ◌∙◌, arith, slice_get}
 use Rattle.std.specs.Int.{bit_at}
 use Rattle.std.proofs.lemmas.Bool.{and_parts, eqb-true}
 use Rattle.std.proofs.lemmas.Option.{slice_get_within}
@@ -24,7 +24,7 @@ use Rattle.bus_segment.specs.Segment.{Keeps, all_carried, lanes_known}
 use Rattle.bus_segment.specs.Turn.{HasNothingToDo}
 use Rattle.bus_segment.specs.Steps.{GetsRetry}
 use Rattle.bus_segment.proofs.Laws.{none_elsewhere}
-use Rattle.bus_segment.specs.turns.Works.{seen, AllRetried, NoneInHand}
+use Rattle.bus_segment.specs.turns.Works.{seen, AllRetried, GivesOnlyRetries, NoneInHand}
 
 module _ {End : Type 0} (had got : End → List Item) (board : Board) (old : BusView) (stamp : ℕ) (stopped : Bool) (few_ports : length (shape_of old).lanes ≤ 9) (few_masters : length (shape_of old).masters ≤ 8) (going : stopped ≡ false) where
   -- nothing stands on an empty lane
@@ -67,3 +67,11 @@ module _ {End : Type 0} (had got : End → List Item) (board : Board) (old : Bus
                   ]) refl
             ]) wants;
       }
+
+-- what was learnt of the bus holds of it still, and it need not be served to know it again
+module _ {End : Type 0} (board : Board) where
+  pub only_retries : (old new : BusView) (ends after : List End) → AllRetried board 0 old new ends after → GivesOnlyRetries board new
+  only_retries old new ends after all = subst (GivesOnlyRetries board) (sym all.same_bus) (record { retried = λ line low. all.retried line low (bit_at-zero line) })
+
+  pub retried_again : (s : BusView) (ends : List End) → GivesOnlyRetries board s → AllRetried board 0 s s ends ends
+  retried_again s ends only = record { same_ends = refl; same_bus = refl; retried = λ line low bit. only.retried line low }

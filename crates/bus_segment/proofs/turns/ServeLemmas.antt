@@ -23,7 +23,7 @@ use Rattle.bus_core.specs.Serves.{BusOffers}
 use Rattle.bus_segment.specs.Turn.{Does}
 use Rattle.bus_segment.specs.Steps.{StampsRise, GetsRetry, IsOfMaster, IsOfLane, Retries}
 use Rattle.bus_segment.specs.turns.Works.{seen, Works, HasLine, IsOfPort, IsRetried, AreAsked, AllRetried}
-use Rattle.bus_segment.proofs.turns.WorkLemmas.{same_arrived, still_none, still_further, retry_before, does_grows}
+use Rattle.bus_segment.proofs.turns.WorkLemmas.{same_arrived, retry_before, does_grows}
 
 -- One initiator.
 module _ {End : Type 0} (had sent got : End → List Item) (kept : End → ℕ) (paired : End → End → Type 0) (board : Board) where
@@ -69,14 +69,14 @@ found_op op offers offer found = same_op_true op offer.op (find_passes (is_offer
 
 module _ {End : Type 0} (board : Board) where
   pub retries_none : (s : BusView) (ends : List End) (shape : Shape) (place : ℕ) → Retries board s s ends ends (IsAmong shape place [])
-  retries_none s ends shape place = record { same_ends = refl; still = still_none board s; retried = λ by o is. let wrong = is.among in cc }
+  retries_none s ends shape place = record { same_ends = refl; same_bus = refl; retried = λ by o is. let wrong = is.among in cc }
 
   -- what is not offered any more is not presented
   pub not_offered : (s : BusView) (ends : List End) (place : ℕ) (op : OpId) (offers : List Offer) → BusOffers place s offers → find (is_offer_of op) offers ≡ None → Retries board s s ends ends (IsOfLane (shape_of s) place op)
   not_offered s ends place op offers all none =
       record {
         same_ends = refl;
-        still = still_none board s;
+        same_bus = refl;
         retried = λ by o is.
             record {
               retry = λ tags world p stands wants.
@@ -96,7 +96,7 @@ module _ {End : Type 0} (board : Board) where
   retries_more old mid new ends between after place index next offers offer shape more there one two =
       record {
         same_ends = two.same_ends ∙ one.same_ends;
-        still = still_further board old mid new one.still two.still;
+        same_bus = two.same_bus ∙ one.same_bus;
         retried = λ by o is.
             let taken : take next offers ≡ take index offers ++ offer ∷ [] =
             ap (λ n. take n offers) more ∙ (take_more offers index offer (slice_get_within offers index offer there) ∙ ap (λ x. take index offers ++ x ∷ []) (get_or_from_slice_get offers index offer offer there)) in
@@ -108,7 +108,7 @@ module _ {End : Type 0} (board : Board) where
               | false ↦ λ _ last.
                   let Q : Bool → Type 0 = λ b. is_offer_of o offer ≡ b → (b || false) ≡ true → o ≡ offer.op in
                   let same : o ≡ offer.op = (elim (is_offer_of o offer) as Q [ true ↦ λ passes _. same_op_true o offer.op passes | false ↦ λ _ wrong. cc ]) refl last in
-                  retry_before board old mid by o one.still shape (two.retried by o (record {
+                  retry_before board old mid by o one.same_bus (two.retried by o (record {
                     lane = is.of_port.lane;
                     there = ap (λ (s : Shape). slice_get s.lanes place) shape ∙ is.of_port.there;
                     is_by = is.of_port.is_by;
@@ -123,7 +123,7 @@ module _ {End : Type 0} (board : Board) where
   retries_port old new ends after place offers all one =
       record {
         same_ends = one.same_ends;
-        still = one.still;
+        same_bus = one.same_bus;
         retried = λ by o is.
             record {
               retry = λ tags world p stands wants.
@@ -142,7 +142,7 @@ module _ {End : Type 0} (board : Board) where
         | Master ↦ λ at. absurd (omega (arith, at.1, low))
         | ByLane lane ↦ λ at. one.retried (ByLane lane) o (record { lane = lane; there = at; is_by = refl })
       ]) is in
-      record { same_ends = one.same_ends; still = one.still; retried = has }
+      record { same_ends = one.same_ends; same_bus = one.same_bus; retried = has }
 
   pub master_line : (old new : BusView) (ends after : List End) (line place : ℕ) → line ≡ 9 + place → length (shape_of old).lanes ≤ 9 → Retries board old new ends after (IsOfMaster (shape_of old) place)
       → Retries board old new ends after (HasLine (shape_of old) line)
@@ -155,14 +155,14 @@ module _ {End : Type 0} (board : Board) where
             one.retried Master o (record { is_by = refl; master = subst (λ n. slice_get (shape_of old).masters n ≡ Some o.master) same at.2 })
         | ByLane lane ↦ λ at. absurd (let within = slice_get_within (shape_of old).lanes line lane at in omega (arith, within, few, high))
       ]) is in
-      record { same_ends = one.same_ends; still = one.still; retried = has }
+      record { same_ends = one.same_ends; same_bus = one.same_bus; retried = has }
 
   -- All initiators.
   pub all_silent : (s : BusView) (ends : List End) (lines : ℕ) → AreAsked s lines → AllRetried board lines s s ends ends
   all_silent s ends lines asked =
       record {
         same_ends = refl;
-        still = still_none board s;
+        same_bus = refl;
         retried = λ line low bit.
             record {
               retried = λ by o is.
@@ -180,7 +180,7 @@ module _ {End : Type 0} (board : Board) where
   all_further old mid new ends between after lines left line shape same one two =
       record {
         same_ends = two.same_ends ∙ one.same_ends;
-        still = still_further board old mid new one.still two.still;
+        same_bus = two.same_bus ∙ one.same_bus;
         retried = λ n low bit.
             let P : Bool → Type 0 = λ b. (n == line) ≡ b → IsRetried board old n in
             (elim (n == line) as P [
@@ -189,7 +189,7 @@ module _ {End : Type 0} (board : Board) where
                   record {
                     retried = λ by o is.
                         let at : HasLine (shape_of mid) line by o = subst (λ m. HasLine (shape_of mid) m by o) number (subst (λ s. HasLine s n by o) (sym shape) is) in
-                        retry_before board old mid by o one.still shape (two.retried by o at);
+                        retry_before board old mid by o one.same_bus (two.retried by o at);
                   }
               | false ↦ λ apart. one.retried n low (sym (same n low (eqb-false n line apart)) ∙ bit)
             ]) refl;

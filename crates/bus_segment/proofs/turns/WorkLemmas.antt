@@ -8,15 +8,13 @@ use Rattle.pci_command.specs.declared.op_id.OpId.{OpId}
 use Rattle.board_model.specs.declared.board.Board.{Board}
 use Rattle.history_model.specs.declared.event.By.{By}
 use Rattle.history_model.specs.declared.event.Stamped.{Stamped}
-use Rattle.history_model.specs.Answers.{wants_in, answer_in}
-use Rattle.law_local.specs.Quiet.{IsRetry}
 use Rattle.lane_items.specs.declared.item.Item.{Item}
 use Rattle.bus_core.specs.Bus.{BusView, Shape, shape_of, arrivals_at}
 use Rattle.bus_core.specs.Calls.{stamp_of}
 use Rattle.bus_core.specs.Serves.{OneMoreAt}
 use Rattle.bus_segment.specs.Segment.{SegmentView}
 use Rattle.bus_segment.specs.Turn.{Does}
-use Rattle.bus_segment.specs.Steps.{AllItems, StampsRise, ArrivedUpTo, StandsStill, GetsRetry}
+use Rattle.bus_segment.specs.Steps.{AllItems, StampsRise, ArrivedUpTo, GetsRetry}
 use Rattle.bus_segment.proofs.Laws.{does_none, does_further, all_front, there_at}
 use Rattle.bus_segment.specs.turns.Works.{Works}
 
@@ -47,23 +45,9 @@ one_arrived place most n old new more one old_up =
 
 -- Nothing is done.
 
-pub still_none : (board : Board) (s : BusView) → StandsStill board s s
-still_none board s = record { still = λ tags world p stands. stands }
-
-pub still_same : (board : Board) (old new : BusView) → new ≡ old → StandsStill board old new
-still_same board old new same = subst (λ s. StandsStill board old s) (sym same) (still_none board old)
-
-pub still_further : (board : Board) (a b c : BusView) → StandsStill board a b → StandsStill board b c → StandsStill board a c
-still_further board a b c one two = record { still = λ tags world p stands. two.still tags world p (one.still tags world p stands) }
-
 -- what gets a Retry after nothing was done would have got one before
-pub retry_before : (board : Board) (a b : BusView) (by : By) (o : OpId) → StandsStill board a b → shape_of b ≡ shape_of a → GetsRetry board b by o → GetsRetry board a by o
-retry_before board a b by o still shape retry =
-    record {
-      retry = λ tags world p stands wants.
-          let bus : b.bus ≡ a.bus = ap (λ (s : Shape). s.bus) shape in
-          subst (λ n. IsRetry (answer_in board world p n by o)) bus (retry.retry tags world p (still.still tags world p stands) (subst (λ n. wants_in board world p n by o ≡ true) (sym bus) wants));
-    }
+pub retry_before : (board : Board) (a b : BusView) (by : By) (o : OpId) → b ≡ a → GetsRetry board b by o → GetsRetry board a by o
+retry_before board a b by o same retry = subst (λ s. GetsRetry board s by o) same retry
 
 module _ {End : Type 0} (had sent got : End → List Item) (kept : End → ℕ) (paired : End → End → Type 0) (board : Board) where
   stamps_none : (stamp : ℕ) (ends : List End) → StampsRise sent got stamp stamp ends ends

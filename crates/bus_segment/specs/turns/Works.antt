@@ -14,7 +14,7 @@ use Rattle.lane_items.specs.declared.item.Item.{Item}
 use Rattle.lane_items.specs.Lane.{in_hand}
 use Rattle.bus_core.specs.Bus.{BusView, Shape, shape_of, BusStands}
 use Rattle.bus_segment.specs.Segment.{SegmentView}
-use Rattle.bus_segment.specs.Steps.{StampsRise, ArrivedUpTo, StandsStill, GetsRetry}
+use Rattle.bus_segment.specs.Steps.{StampsRise, ArrivedUpTo, GetsRetry}
 use Rattle.bus_segment.specs.Turn.{Does}
 
 -- what is seen of a segment
@@ -73,11 +73,15 @@ pub record AreAsked (s : BusView) (lines : ℕ) : Type 0 where
   pub served : (line : ℕ) → bit_at lines line ≡ 1 → IsServed (shape_of s) line
   pub silent : (line : ℕ) → line < 17 → bit_at lines line ≡ 0 → IsSilent s line
 
--- nothing was done: whoever has one of the lines that do not ask any more got a Retry
+-- nothing was done, and the bus is as it was: whoever has one of the lines that do not ask any more got a Retry
 pub record AllRetried {End : Type 0} (board : Board) (lines : ℕ) (old new : BusView) (ends after : List End) : Type 0 where
   pub same_ends : after ≡ ends
-  pub still : StandsStill board old new
+  pub same_bus : new ≡ old
   pub retried : (line : ℕ) → line < 17 → bit_at lines line ≡ 0 → IsRetried board old line
+
+-- whoever presents something on the bus gets a Retry
+pub record GivesOnlyRetries (board : Board) (s : BusView) : Type 0 where
+  pub retried : (line : ℕ) → line < 17 → IsRetried board s line
 
 -- nothing is in hand at any of these ends
 pub record NoneInHand {End : Type 0} (had got : End → List Item) (ends : List End) : Type 0 where

@@ -7,7 +7,8 @@ use bus_core::Bus;
 /// The first request line of a master; those below are of bridges.
 const MASTERS: usize = 9;
 
-/// The request lines of all that present something: a bit for each, bit 0 that of the bus's own bridge.
+/// The request lines of all that present something: a bit for each, bit 0 that of the bus's own
+/// bridge.
 pub(crate) fn lines(bus: &Bus) -> u32
     requires ports { length bus.now.ports ≤ 9 }
     requires masters { length bus.now.masters ≤ 8 }

@@ -17,13 +17,19 @@ pub(crate) fn receive_all<L: LaneEnd + Drop>(segment: &mut Segment<L>, board: &B
     requires going { segment.old.stopped ≡ false }
     requires ends { length segment.old.ends.items ≡ length segment.old.bus.ports }
     requires counts { ArrivedUpTo (length segment.old.events.items) segment.old.bus }
-    requires spare { vec_len segment.old.events + 32 * length segment.old.bus.ports ≤ vec_capacity segment.old.events }
-    ensures works { Works L.had L.sent L.got L.kept L.paired board.now (32 * length segment.old.bus.ports)
-        (seen segment.old.bus segment.old.stamp segment.old.stopped) (seen segment.new.bus segment.new.stamp segment.new.stopped)
-        segment.old.ends.items segment.new.ends.items segment.old.events.items segment.new.events.items }
+    requires spare { vec_len segment.old.events + 32 * length segment.old.bus.ports ≤
+        vec_capacity segment.old.events }
+    ensures works { Works L.had L.sent L.got L.kept L.paired board.now
+        (32 * length segment.old.bus.ports)
+        (seen segment.old.bus segment.old.stamp segment.old.stopped)
+        (seen segment.new.bus segment.new.stamp segment.new.stopped)
+        segment.old.ends.items segment.new.ends.items segment.old.events.items
+        segment.new.events.items }
     ensures spare { vec_capacity segment.old.events ≤ vec_capacity segment.new.events }
-    ensures same { length segment.new.events.items ≡ length segment.old.events.items → segment.new.stopped ≡ false → segment.new.bus ≡ segment.old.bus }
-    ensures quiet { length segment.new.events.items ≡ length segment.old.events.items → segment.new.stopped ≡ false → NoneInHand L.had L.got segment.new.ends.items }
+    ensures same { length segment.new.events.items ≡ length segment.old.events.items →
+        segment.new.stopped ≡ false → segment.new.bus ≡ segment.old.bus }
+    ensures quiet { length segment.new.events.items ≡ length segment.old.events.items →
+        segment.new.stopped ≡ false → NoneInHand L.had L.got segment.new.ends.items }
 {
     for place in 0..segment.bus().ports() {
         if segment.stopped() {
@@ -42,11 +48,16 @@ fn receive_from<L: LaneEnd + Drop>(segment: &mut Segment<L>, board: &Board, plac
     requires counts { ArrivedUpTo (length segment.old.events.items) segment.old.bus }
     requires spare { vec_len segment.old.events + 32 ≤ vec_capacity segment.old.events }
     ensures works { Works L.had L.sent L.got L.kept L.paired board.now 32
-        (seen segment.old.bus segment.old.stamp segment.old.stopped) (seen segment.new.bus segment.new.stamp segment.new.stopped)
-        segment.old.ends.items segment.new.ends.items segment.old.events.items segment.new.events.items }
+        (seen segment.old.bus segment.old.stamp segment.old.stopped)
+        (seen segment.new.bus segment.new.stamp segment.new.stopped)
+        segment.old.ends.items segment.new.ends.items segment.old.events.items
+        segment.new.events.items }
     ensures spare { vec_capacity segment.old.events ≤ vec_capacity segment.new.events }
-    ensures same { length segment.new.events.items ≡ length segment.old.events.items → segment.new.stopped ≡ false → segment.new.bus ≡ segment.old.bus }
-    ensures quiet { length segment.new.events.items ≡ length segment.old.events.items → segment.new.stopped ≡ false → NothingCame L.had L.got place segment.old.ends.items segment.new.ends.items }
+    ensures same { length segment.new.events.items ≡ length segment.old.events.items →
+        segment.new.stopped ≡ false → segment.new.bus ≡ segment.old.bus }
+    ensures quiet { length segment.new.events.items ≡ length segment.old.events.items →
+        segment.new.stopped ≡ false →
+        NothingCame L.had L.got place segment.old.ends.items segment.new.ends.items }
 {
     for _received in 0..ITEMS {
         if !receive_one(segment, board, place) {
@@ -67,12 +78,16 @@ fn receive_one<L: LaneEnd + Drop>(segment: &mut Segment<L>, board: &Board, place
     requires counts { ArrivedUpTo (length segment.old.events.items) segment.old.bus }
     requires spare { vec_len segment.old.events + 1 ≤ vec_capacity segment.old.events }
     ensures works { Works L.had L.sent L.got L.kept L.paired board.now 1
-        (seen segment.old.bus segment.old.stamp segment.old.stopped) (seen segment.new.bus segment.new.stamp segment.new.stopped)
-        segment.old.ends.items segment.new.ends.items segment.old.events.items segment.new.events.items }
+        (seen segment.old.bus segment.old.stamp segment.old.stopped)
+        (seen segment.new.bus segment.new.stamp segment.new.stopped)
+        segment.old.ends.items segment.new.ends.items segment.old.events.items
+        segment.new.events.items }
     ensures spare { vec_capacity segment.old.events ≤ vec_capacity segment.new.events }
-    ensures some { result ≡ true → segment.new.stopped ≡ false → length segment.new.events.items ≡ length segment.old.events.items + 1 }
+    ensures some { result ≡ true → segment.new.stopped ≡ false →
+        length segment.new.events.items ≡ length segment.old.events.items + 1 }
     ensures same { result ≡ false → segment.new.bus ≡ segment.old.bus }
-    ensures none { result ≡ false → NothingCame L.had L.got place segment.old.ends.items segment.new.ends.items }
+    ensures none { result ≡ false →
+        NothingCame L.had L.got place segment.old.ends.items segment.new.ends.items }
 {
     let _spare = segment.spare();
     segment.receive(board, place)

@@ -6,7 +6,8 @@ ghost use Rattle.board_model.specs.WellFormed.{is_well_formed};
 ghost use Rattle.bus_face.specs.Offers.{is_offer_of};
 ghost use Rattle.bus_core.specs.Bus.{shape_of};
 ghost use Rattle.bus_segment.specs.Steps.{IsOfLane, Retries};
-ghost use Rattle.bus_segment.specs.turns.Works.{seen, Works, HasLine, IsServed, IsOfPort, AllRetried, most_at};
+ghost use Rattle.bus_segment.specs.turns.Works.{seen, Works, HasLine, IsServed};
+ghost use Rattle.bus_segment.specs.turns.Works.{IsOfPort, AllRetried, most_at};
 
 use crate::Segment;
 use crate::turns::lines::lines;
@@ -19,8 +20,8 @@ use pci_command::OpId;
 /// The first request line of a master; those below are of bridges.
 const MASTERS: u8 = 9;
 
-/// Each initiator that presents something is served once, in the order of the grants, as long as the
-/// segment does not stop.
+/// Each initiator that presents something is served once, in the order of the grants, as long as
+/// the segment does not stop.
 pub(crate) fn serve_all<L: LaneEnd + Drop>(
     segment: &mut Segment<L>,
     arbiter: &mut Arbiter,
@@ -33,10 +34,14 @@ pub(crate) fn serve_all<L: LaneEnd + Drop>(
     requires masters { length segment.old.bus.masters ≤ 8 }
     requires spare { vec_len segment.old.events + 152 ≤ vec_capacity segment.old.events }
     ensures works { Works L.had L.sent L.got L.kept L.paired board.now 152
-        (seen segment.old.bus segment.old.stamp segment.old.stopped) (seen segment.new.bus segment.new.stamp segment.new.stopped)
-        segment.old.ends.items segment.new.ends.items segment.old.events.items segment.new.events.items }
-    ensures quiet { length segment.new.events.items ≡ length segment.old.events.items → segment.new.stopped ≡ false →
-        AllRetried board.now 0 segment.old.bus segment.new.bus segment.old.ends.items segment.new.ends.items }
+        (seen segment.old.bus segment.old.stamp segment.old.stopped)
+        (seen segment.new.bus segment.new.stamp segment.new.stopped)
+        segment.old.ends.items segment.new.ends.items segment.old.events.items
+        segment.new.events.items }
+    ensures quiet { length segment.new.events.items ≡ length segment.old.events.items →
+        segment.new.stopped ≡ false →
+        AllRetried board.now 0 segment.old.bus segment.new.bus segment.old.ends.items
+        segment.new.ends.items }
 {
     let mut lines = lines(segment.bus());
     'grants: while !segment.stopped() {
@@ -58,11 +63,15 @@ fn serve<L: LaneEnd + Drop>(segment: &mut Segment<L>, board: &Board, line: u8)
     requires line { IsServed (shape_of segment.old.bus) line }
     requires spare { vec_len segment.old.events + most_at line ≤ vec_capacity segment.old.events }
     ensures works { Works L.had L.sent L.got L.kept L.paired board.now (most_at line)
-        (seen segment.old.bus segment.old.stamp segment.old.stopped) (seen segment.new.bus segment.new.stamp segment.new.stopped)
-        segment.old.ends.items segment.new.ends.items segment.old.events.items segment.new.events.items }
+        (seen segment.old.bus segment.old.stamp segment.old.stopped)
+        (seen segment.new.bus segment.new.stamp segment.new.stopped)
+        segment.old.ends.items segment.new.ends.items segment.old.events.items
+        segment.new.events.items }
     ensures spare { vec_capacity segment.old.events ≤ vec_capacity segment.new.events }
-    ensures quiet { length segment.new.events.items ≡ length segment.old.events.items → segment.new.stopped ≡ false →
-        Retries board.now segment.old.bus segment.new.bus segment.old.ends.items segment.new.ends.items (HasLine (shape_of segment.old.bus) line) }
+    ensures quiet { length segment.new.events.items ≡ length segment.old.events.items →
+        segment.new.stopped ≡ false →
+        Retries board.now segment.old.bus segment.new.bus segment.old.ends.items
+        segment.new.ends.items (HasLine (shape_of segment.old.bus) line) }
 {
     if line < MASTERS {
         serve_lane(segment, board, line);
@@ -79,11 +88,15 @@ fn serve_lane<L: LaneEnd + Drop>(segment: &mut Segment<L>, board: &Board, place:
     requires place { place < length segment.old.bus.ports }
     requires spare { vec_len segment.old.events + 16 ≤ vec_capacity segment.old.events }
     ensures works { Works L.had L.sent L.got L.kept L.paired board.now 16
-        (seen segment.old.bus segment.old.stamp segment.old.stopped) (seen segment.new.bus segment.new.stamp segment.new.stopped)
-        segment.old.ends.items segment.new.ends.items segment.old.events.items segment.new.events.items }
+        (seen segment.old.bus segment.old.stamp segment.old.stopped)
+        (seen segment.new.bus segment.new.stamp segment.new.stopped)
+        segment.old.ends.items segment.new.ends.items segment.old.events.items
+        segment.new.events.items }
     ensures spare { vec_capacity segment.old.events ≤ vec_capacity segment.new.events }
-    ensures quiet { length segment.new.events.items ≡ length segment.old.events.items → segment.new.stopped ≡ false →
-        Retries board.now segment.old.bus segment.new.bus segment.old.ends.items segment.new.ends.items (IsOfPort (shape_of segment.old.bus) place) }
+    ensures quiet { length segment.new.events.items ≡ length segment.old.events.items →
+        segment.new.stopped ≡ false →
+        Retries board.now segment.old.bus segment.new.bus segment.old.ends.items
+        segment.new.ends.items (IsOfPort (shape_of segment.old.bus) place) }
 {
     let offers = segment.bus().offers(place as usize);
     for offer in offers.as_slice() {
@@ -102,11 +115,15 @@ fn serve_op<L: LaneEnd + Drop>(segment: &mut Segment<L>, board: &Board, place: u
     requires place { place < length segment.old.bus.ports }
     requires spare { vec_len segment.old.events + 1 ≤ vec_capacity segment.old.events }
     ensures works { Works L.had L.sent L.got L.kept L.paired board.now 1
-        (seen segment.old.bus segment.old.stamp segment.old.stopped) (seen segment.new.bus segment.new.stamp segment.new.stopped)
-        segment.old.ends.items segment.new.ends.items segment.old.events.items segment.new.events.items }
+        (seen segment.old.bus segment.old.stamp segment.old.stopped)
+        (seen segment.new.bus segment.new.stamp segment.new.stopped)
+        segment.old.ends.items segment.new.ends.items segment.old.events.items
+        segment.new.events.items }
     ensures spare { vec_capacity segment.old.events ≤ vec_capacity segment.new.events }
-    ensures quiet { length segment.new.events.items ≡ length segment.old.events.items → segment.new.stopped ≡ false →
-        Retries board.now segment.old.bus segment.new.bus segment.old.ends.items segment.new.ends.items (IsOfLane (shape_of segment.old.bus) place op) }
+    ensures quiet { length segment.new.events.items ≡ length segment.old.events.items →
+        segment.new.stopped ≡ false →
+        Retries board.now segment.old.bus segment.new.bus segment.old.ends.items
+        segment.new.ends.items (IsOfLane (shape_of segment.old.bus) place op) }
 {
     let offers = segment.bus().offers(place as usize);
     match offer_of(offers.as_slice(), op) {

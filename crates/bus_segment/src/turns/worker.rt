@@ -1,16 +1,17 @@
-ghost use Rattle.std.specs.Prelude.{◌≡◌, ◌+◌, ◌-◌, ◌<◌, ◌≤◌, false, length, max, slice_get, vec_len, IfOk, IfSome};
+ghost use Rattle.std.specs.Prelude.{◌≡◌, ◌+◌, ◌-◌, ◌<◌, ◌≤◌, true, false, length, max, vec_len, IfOk};
 ghost use Rattle.std.specs.Vec.{vec_capacity};
 ghost use Rattle.board_model.specs.Valid.{IsValid};
 ghost use Rattle.bus_core.specs.Bus.{shape_of};
 ghost use Rattle.bus_segment.specs.Settle.{MaySettle, SettlesAt};
 ghost use Rattle.bus_segment.specs.Steps.{StampsRise, ArrivedUpTo};
-ghost use Rattle.bus_segment.specs.Turn.{Does, HasNothingToDo, IsQuietAtZero};
-ghost use Rattle.bus_segment.specs.turns.Works.{seen, Works};
+ghost use Rattle.bus_segment.specs.Turn.{Does, IsQuietAtZero};
+ghost use Rattle.bus_segment.specs.turns.Works.{GivesOnlyRetries};
+ghost use Rattle.bus_segment.specs.turns.Again.{MayTurn, DoesTurn};
 
 use crate::Segment;
 use crate::turns::receiving::receive_all;
 use crate::turns::serving::serve_all;
-use board_model::{Board, Lane};
+use board_model::Board;
 use bus_agents::Arbiter;
 use history_model::Stamped;
 use lane_items::LaneEnd;
@@ -39,21 +40,6 @@ impl<L: LaneEnd + Drop> Worker<L> {
         ensures { result ≡ self.now.segment.bus.bus }
     {
         self.segment.bus().number()
-    }
-
-    /// How many bridges are on it.
-    pub fn ports(&self) -> usize
-        ensures { result ≡ length self.now.segment.bus.ports }
-    {
-        self.segment.bus().ports()
-    }
-
-    /// The lane that ends at the port of this place.
-    pub fn lane_of(&self, place: usize) -> Lane
-        requires { place < length self.now.segment.bus.ports }
-        ensures { IfSome (slice_get self.now.segment.bus.ports place) (λ port. result ≡ port.lane) }
-    {
-        self.segment.bus().lane_of(place)
     }
 
     /// The stamp of its last event, or the one with which it began.
@@ -91,7 +77,8 @@ impl<L: LaneEnd + Drop> Worker<L> {
         ensures ends { self.new.segment.ends.items ≡ self.old.segment.ends.items }
         ensures stopped { self.new.segment.stopped ≡ self.old.segment.stopped }
         ensures events { self.new.segment.events.items ≡ self.old.segment.events.items }
-        ensures spare { vec_capacity self.new.segment.events ≡ vec_capacity self.old.segment.events }
+        ensures spare { vec_capacity self.new.segment.events ≡
+            vec_capacity self.old.segment.events }
         ensures arbiter { self.new.arbiter ≡ self.old.arbiter }
     {
         self.segment.begin(stamp);
@@ -99,7 +86,8 @@ impl<L: LaneEnd + Drop> Worker<L> {
 
     /// Takes memory for 8,192 more events: those of many turns.
     pub fn reserve(&mut self) -> Result<(), NoMemory>
-        ensures spare { IfOk result (λ _. 8192 ≤ vec_capacity self.new.segment.events - vec_len self.new.segment.events) }
+        ensures spare { IfOk result (λ _.
+            8192 ≤ vec_capacity self.new.segment.events - vec_len self.new.segment.events) }
         ensures bus { self.new.segment.bus ≡ self.old.segment.bus }
         ensures ends { self.new.segment.ends.items ≡ self.old.segment.ends.items }
         ensures stamp { self.new.segment.stamp ≡ self.old.segment.stamp }
@@ -110,42 +98,79 @@ impl<L: LaneEnd + Drop> Worker<L> {
         self.segment.reserve()
     }
 
-    /// Receives what came over the bridges of the bus, up to 32 items from each, and then serves once
-    /// each initiator that presents something, in the order in which the arbiter grants the bus; how
-    /// many events that made. The board is that of the segment.
+    /// Receives what came over the bridges of the bus, up to 32 items from each, and then serves
+    /// once each initiator that presents something, in the order in which the arbiter grants the
+    /// bus; how many events that made. The board is that of the segment.
     pub fn turn(&mut self, board: &Board) -> u32
         requires valid { IsValid board.now }
         requires going { self.old.segment.stopped ≡ false }
         requires ends { length self.old.segment.ends.items ≡ length self.old.segment.bus.ports }
-        requires few { (length self.old.segment.bus.ports ≤ 9) × (length self.old.segment.bus.masters ≤ 8) }
+        requires few { (length self.old.segment.bus.ports ≤ 9) ×
+            (length self.old.segment.bus.masters ≤ 8) }
         requires counts { ArrivedUpTo (length self.old.segment.events.items) self.old.segment.bus }
-        requires spare { 512 ≤ vec_capacity self.old.segment.events - vec_len self.old.segment.events }
+        requires spare { 512 ≤
+            vec_capacity self.old.segment.events - vec_len self.old.segment.events }
         ensures does { Does L.had L.sent L.got L.kept L.paired board.now
-            (record { bus = self.old.segment.bus; stamp = self.old.segment.stamp; stopped = self.old.segment.stopped })
-            (record { bus = self.new.segment.bus; stamp = self.new.segment.stamp; stopped = self.new.segment.stopped })
-            self.old.segment.ends.items self.new.segment.ends.items self.old.segment.events.items self.new.segment.events.items }
+            (record {
+              bus = self.old.segment.bus;
+              stamp = self.old.segment.stamp;
+              stopped = self.old.segment.stopped;
+            }) (record {
+              bus = self.new.segment.bus;
+              stamp = self.new.segment.stamp;
+              stopped = self.new.segment.stopped;
+            }) self.old.segment.ends.items self.new.segment.ends.items self.old.segment.events.items
+            self.new.segment.events.items }
         ensures shape { shape_of self.new.segment.bus ≡ shape_of self.old.segment.bus }
         ensures ends { length self.new.segment.ends.items ≡ length self.old.segment.ends.items }
-        ensures counts { self.new.segment.stopped ≡ false → ArrivedUpTo (length self.new.segment.events.items) self.new.segment.bus }
-        ensures many { length self.new.segment.events.items ≡ length self.old.segment.events.items + result }
+        ensures counts { self.new.segment.stopped ≡ false →
+            ArrivedUpTo (length self.new.segment.events.items) self.new.segment.bus }
+        ensures many { length self.new.segment.events.items ≡
+            length self.old.segment.events.items + result }
         ensures few { result ≤ 440 }
         ensures quiet { IsQuietAtZero L.had L.got board.now
-            (record { bus = self.old.segment.bus; stamp = self.old.segment.stamp; stopped = self.old.segment.stopped })
-            (record { bus = self.new.segment.bus; stamp = self.new.segment.stamp; stopped = self.new.segment.stopped })
-            self.new.segment.ends.items result }
-        ensures stamps { StampsRise L.sent L.got self.old.segment.stamp self.new.segment.stamp self.old.segment.ends.items self.new.segment.ends.items }
+            (record {
+              bus = self.old.segment.bus;
+              stamp = self.old.segment.stamp;
+              stopped = self.old.segment.stopped;
+            }) (record {
+              bus = self.new.segment.bus;
+              stamp = self.new.segment.stamp;
+              stopped = self.new.segment.stopped;
+            }) self.new.segment.ends.items result }
+        ensures stamps { StampsRise L.sent L.got self.old.segment.stamp self.new.segment.stamp
+            self.old.segment.ends.items self.new.segment.ends.items }
+    {
+        self.turn_again(board, false)
+    }
+
+    /// The same, where the bus may be known to be idle: whoever presents something there gets a Retry,
+    /// as after a turn that made no event. So if nothing is received then, nobody is served.
+    pub fn turn_again(&mut self, board: &Board, idle: bool) -> u32
+        requires may { MayTurn board.now self.old }
+        requires idle { idle ≡ true → GivesOnlyRetries board.now self.old.segment.bus }
+        ensures turn { DoesTurn L.had L.sent L.got L.kept L.paired board.now self.old self.new result }
+        ensures idle { result ≡ 0 → self.new.segment.stopped ≡ false →
+            GivesOnlyRetries board.now self.new.segment.bus }
     {
         let before = self.segment.recorded();
-        work(&mut self.segment, &mut self.arbiter, board);
+        receive_all(&mut self.segment, board);
+        let came = (self.segment.recorded() - before) as u32;
+        let rests = self.segment.stopped() || (idle && came == 0);
+        if rests {
+            return came;
+        }
+        serve_all(&mut self.segment, &mut self.arbiter, board);
         (self.segment.recorded() - before) as u32
     }
 
-    /// Ends a phase of the bridge between this worker's port at the place and the other worker's port
-    /// at the other place, as `Segment::settle_with` does.
+    /// Ends a phase of the bridge between this worker's port at the place and the other worker's
+    /// port at the other place, as `Segment::settle_with` does.
     pub fn settle_with(&mut self, place: usize, other: &mut Worker<L>, other_place: usize)
         requires place { place < length self.old.segment.ends.items }
         requires other_place { other_place < length other.old.segment.ends.items }
-        requires may { MaySettle L.had L.sent L.got L.kept L.paired self.old.segment.ends.items place other.old.segment.ends.items other_place }
+        requires may { MaySettle L.had L.sent L.got L.kept L.paired self.old.segment.ends.items
+            place other.old.segment.ends.items other_place }
         ensures settles { SettlesAt L.had L.sent L.got L.kept L.paired self.old.segment.ends.items
             place other.old.segment.ends.items other_place self.new.segment.ends.items
             other.new.segment.ends.items }
@@ -172,27 +197,4 @@ impl<L: LaneEnd + Drop> Worker<L> {
         } = self;
         segment.take_events()
     }
-}
-
-/// What came over the bridges is received, and then all that present something are served, as long as
-/// the segment does not stop.
-fn work<L: LaneEnd + Drop>(segment: &mut Segment<L>, arbiter: &mut Arbiter, board: &Board)
-    requires valid { IsValid board.now }
-    requires going { segment.old.stopped ≡ false }
-    requires ends { length segment.old.ends.items ≡ length segment.old.bus.ports }
-    requires ports { length segment.old.bus.ports ≤ 9 }
-    requires masters { length segment.old.bus.masters ≤ 8 }
-    requires counts { ArrivedUpTo (length segment.old.events.items) segment.old.bus }
-    requires spare { vec_len segment.old.events + 440 ≤ vec_capacity segment.old.events }
-    ensures works { Works L.had L.sent L.got L.kept L.paired board.now 440
-        (seen segment.old.bus segment.old.stamp segment.old.stopped) (seen segment.new.bus segment.new.stamp segment.new.stopped)
-        segment.old.ends.items segment.new.ends.items segment.old.events.items segment.new.events.items }
-    ensures quiet { length segment.new.events.items ≡ length segment.old.events.items → segment.new.stopped ≡ false →
-        HasNothingToDo L.had L.got board.now (seen segment.old.bus segment.old.stamp segment.old.stopped) segment.new.ends.items }
-{
-    receive_all(segment, board);
-    if segment.stopped() {
-        return;
-    }
-    serve_all(segment, arbiter, board);
 }

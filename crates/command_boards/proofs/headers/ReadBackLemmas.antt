@@ -10,7 +10,7 @@ use Rattle.board_model.specs.declared.board.Board.{Board}
 use Rattle.board_model.specs.WellFormed.{is_well_formed_bridge}
 use Rattle.board_model.specs.Valid.{is_numbered, is_nested, are_beside, some_two, IsValid}
 use Rattle.board_model.proofs.Laws.{WellFormed-parts}
-use Rattle.board_headers.specs.HeaderBytes.{header_bytes}
+use Rattle.board_model.specs.HeaderBytes.{header_bytes}
 use Rattle.board_headers.specs.Windows.{reading_of, windows_in, has_whole_windows}
 
 -- what is no fault is in order

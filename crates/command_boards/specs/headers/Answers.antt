@@ -2,7 +2,7 @@
 use Rattle.std.specs.Prelude.{ℕ, ◌≡◌, List, Ok, Contains}
 use Rattle.board_model.specs.declared.bridge.Bridge.{Bridge}
 use Rattle.board_model.specs.declared.board.Board.{Board}
-use Rattle.board_headers.specs.HeaderBytes.{header_bytes}
+use Rattle.board_model.specs.HeaderBytes.{header_bytes}
 use Rattle.board_headers.specs.Windows.{reading_of, windows_in}
 use Rattle.board_printer.specs.headers.Headers.{headers_text}
 use Rattle.program_input.specs.Boards.{ReadsBoard}

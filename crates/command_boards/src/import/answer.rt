@@ -26,7 +26,10 @@ pub fn answer_import(alloc: Global, input: &[u8]) -> Result<Vec<u8>, Status>
             Ok(_) => Ok(text.into_vec()),
             Err(status) => Err(status),
         },
-        Err(ReadFault::Fault { line, fault }) => Err(Status::BadMachine { line, fault }),
+        Err(ReadFault::Fault(at)) => Err(Status::BadMachine {
+            line: at.line,
+            fault: at.fault,
+        }),
         Err(ReadFault::NoMemory) => Err(Status::NoMemory),
     }
 }

@@ -79,7 +79,6 @@ no_devices : (read : Result Made MakeFault) → making_refusal read ≡ Some Not
 no_devices (Err (faults.Board line fault)) is = cc
 no_devices (Err (faults.Device line fault)) is = cc
 no_devices (Err (faults.NotClear line flag why)) is = cc
-no_devices (Err faults.NoMemory) is = cc
 no_devices (Ok made) is = no_tree (tree_fault made.board) is
 
 no_text : (devices : Bool) (input : List ℕ) → cond devices (making_refusal (made_read input)) (reading_refusal (board_read input)) ≡ Some NotShown → ⊥

@@ -7,6 +7,7 @@ use Rattle.board_model.specs.declared.bridge.Lane.{Lane as BridgeLane}
 use Rattle.history_model.specs.World.{same_direction, same_lane}
 use Rattle.draw_items.specs.declared.journey.Journey.{Journey}
 use Rattle.draw_items.specs.Journeys.{has_stood}
+use Rattle.draw_items.specs.columns.Sums.{plus}
 use Rattle.draw_items.specs.columns.Places.{tracks_used, most}
 use Rattle.draw_items.specs.columns.Kept.{slot_of, with_item, IsMost}
 
@@ -67,19 +68,19 @@ most_none tracks is = record {
 
 -- at a lane, where the item stood
 stood_more : (items : List Journey) (item : Journey) (tracks : List ℕ) → item.lane.bus < 256 → IsMost items tracks → has_stood item ≡ true → (lane : BridgeLane) → lane.bus < 256
-    → slice_index (set tracks (slot_of item.lane) (max (slice_index tracks (slot_of item.lane)) (item.track + 1))) (slot_of lane) ≡ most (items ++ item ∷ []) lane
+    → slice_index (set tracks (slot_of item.lane) (max (slice_index tracks (slot_of item.lane)) (plus item.track 1))) (slot_of lane) ≡ most (items ++ item ∷ []) lane
 stood_more items item tracks on most_is so lane within =
     let s : ℕ = slot_of item.lane in
-    let n : ℕ = max (slice_index tracks s) (item.track + 1) in
+    let n : ℕ = max (slice_index tracks s) (plus item.track 1) in
     let there : s < length tracks = omega (arith, slot_within item.lane on, most_is.all) in
-    let pushed : most (items ++ item ∷ []) lane ≡ max (most items lane) (cond (same_lane item.lane lane) (item.track + 1) 0) =
-    greatest_push (tracks_used lane) items item ∙ ap (λ b. max (most items lane) (cond (b && same_lane item.lane lane) (item.track + 1) 0)) so in
-    let P : Bool → Type 0 = λ b. same_lane item.lane lane ≡ b → slice_index (set tracks s n) (slot_of lane) ≡ max (most items lane) (cond b (item.track + 1) 0) in
-    let by_lane : slice_index (set tracks s n) (slot_of lane) ≡ max (most items lane) (cond (same_lane item.lane lane) (item.track + 1) 0) =
+    let pushed : most (items ++ item ∷ []) lane ≡ max (most items lane) (cond (same_lane item.lane lane) (plus item.track 1) 0) =
+    greatest_push (tracks_used lane) items item ∙ ap (λ b. max (most items lane) (cond (b && same_lane item.lane lane) (plus item.track 1) 0)) so in
+    let P : Bool → Type 0 = λ b. same_lane item.lane lane ≡ b → slice_index (set tracks s n) (slot_of lane) ≡ max (most items lane) (cond b (plus item.track 1) 0) in
+    let by_lane : slice_index (set tracks s n) (slot_of lane) ≡ max (most items lane) (cond (same_lane item.lane lane) (plus item.track 1) 0) =
     (elim (same_lane item.lane lane) as P [
       | true ↦ λ same.
           let slots : s ≡ slot_of lane = slots_same item.lane.bus lane.bus item.lane.up lane.up same in
-          ap (λ k. slice_index (set tracks s n) k) (sym slots) ∙ index_set tracks s n there ∙ ap (λ k. max (slice_index tracks k) (item.track + 1)) slots ∙ ap (λ k. max k (item.track + 1)) (most_is.each lane within)
+          ap (λ k. slice_index (set tracks s n) k) (sym slots) ∙ index_set tracks s n there ∙ ap (λ k. max (slice_index tracks k) (plus item.track 1)) slots ∙ ap (λ k. max k (plus item.track 1)) (most_is.each lane within)
       | false ↦ λ other.
           index_other tracks s (slot_of lane) n (slots_by item.lane.bus lane.bus item.lane.up lane.up other) ∙ most_is.each lane within ∙ sym (max_zero (most items lane))
     ]) refl in
@@ -88,15 +89,15 @@ stood_more items item tracks on most_is so lane within =
 -- one item more
 pub most_more : (items : List Journey) (item : Journey) (tracks : List ℕ) → item.lane.bus < 256 → IsMost items tracks → IsMost (items ++ item ∷ []) (with_item item tracks)
 most_more items item tracks on most_is =
-    let P : Bool → Type 0 = λ b. has_stood item ≡ b → IsMost (items ++ item ∷ []) (cond b (set tracks (slot_of item.lane) (max (slice_index tracks (slot_of item.lane)) (item.track + 1))) tracks) in
+    let P : Bool → Type 0 = λ b. has_stood item ≡ b → IsMost (items ++ item ∷ []) (cond b (set tracks (slot_of item.lane) (max (slice_index tracks (slot_of item.lane)) (plus item.track 1))) tracks) in
     (elim (has_stood item) as P [
       | false ↦ λ not_so. record {
         all = most_is.all;
         each = λ lane within.
-            most_is.each lane within ∙ sym (greatest_push (tracks_used lane) items item ∙ ap (λ b. max (most items lane) (cond (b && same_lane item.lane lane) (item.track + 1) 0)) not_so ∙ max_zero (most items lane));
+            most_is.each lane within ∙ sym (greatest_push (tracks_used lane) items item ∙ ap (λ b. max (most items lane) (cond (b && same_lane item.lane lane) (plus item.track 1) 0)) not_so ∙ max_zero (most items lane));
       }
       | true ↦ λ so. record {
-        all = length-set tracks (slot_of item.lane) (max (slice_index tracks (slot_of item.lane)) (item.track + 1)) ∙ most_is.all;
+        all = length-set tracks (slot_of item.lane) (max (slice_index tracks (slot_of item.lane)) (plus item.track 1)) ∙ most_is.all;
         each = λ lane within. stood_more items item tracks on most_is so lane within;
       }
     ]) refl

@@ -13,6 +13,7 @@ use Rattle.draw_items.specs.declared.columns.line.ColumnLine.{ColumnLine}
 use Rattle.draw_items.specs.declared.columns.line.ColumnLine.TheVariants.{Left, Master, Target, Right}
 use Rattle.draw_items.specs.declared.columns.columns.Band.{Band}
 use Rattle.draw_items.specs.declared.columns.columns.Column.{Column}
+use Rattle.draw_items.specs.columns.Sums.{plus, times}
 use Rattle.draw_items.specs.columns.Order.{lines_on, in_order, middle_of}
 
 -- the name of a line; that of a face is the number of its bridge
@@ -24,7 +25,7 @@ name_of board (Right lane) = codes "bridge " ++ decimal lane.bus
 
 -- how many tracks are used on a lane in the whole trace
 abbrev pub tracks_used : BridgeLane → Journey → ℕ
-tracks_used lane item = if has_stood item && same_lane item.lane lane then item.track + 1 else 0
+tracks_used lane item = if has_stood item && same_lane item.lane lane then plus item.track 1 else 0
 
 -- the greatest of that over all items
 abbrev pub most : List Journey → BridgeLane → ℕ
@@ -32,7 +33,7 @@ most items lane = greatest (tracks_used lane) items
 
 -- the room for bars before a face at the left, and behind one at the right
 abbrev pub room_before : List Journey → ColumnLine → ℕ
-room_before items (Left lane) = 6 * most items lane
+room_before items (Left lane) = times 6 (most items lane)
 room_before items (Master master) = 0
 room_before items (Target target) = 0
 room_before items (Right lane) = 0
@@ -42,17 +43,17 @@ abbrev pub room_behind : List Journey → ColumnLine → ℕ
 room_behind items (Left lane) = 0
 room_behind items (Master master) = 0
 room_behind items (Target target) = 0
-room_behind items (Right lane) = 6 * most items lane
+room_behind items (Right lane) = times 6 (most items lane)
 
 -- the next line stands from here on
 abbrev pub next_x : List Journey → ℕ → ColumnLine → ℕ
-next_x items x line = x + room_before items line + 22 + room_behind items line
+next_x items x line = plus (plus (plus x (room_before items line)) 22) (room_behind items line)
 
 -- the lines of a bus from a place on, with names in rows from this one on
 abbrev pub columns_from : List Journey → ℕ → ℕ → List ColumnLine → List Column
 columns_from items x row [] = []
 columns_from items x row (line ∷ lines) =
-    record { line = line; place = x + room_before items line; row = row } ∷ columns_from items (next_x items x line) (row + 1) lines
+    record { line = line; place = plus x (room_before items line); row = row } ∷ columns_from items (next_x items x line) (row + 1) lines
 
 -- where they end, and where their names do
 abbrev pub past_lines : List Journey → ℕ → List ColumnLine → ℕ
@@ -61,7 +62,8 @@ past_lines items x (line ∷ lines) = past_lines items (next_x items x line) lin
 
 -- where the names of a bus end, with that of this line
 abbrev pub past_name : Board → List Journey → ℕ → ℕ → ColumnLine → ℕ
-past_name board items x end line = max end (x + room_before items line + (6 * length (name_of board line) + 6))
+past_name board items x end line =
+    max end (plus (plus x (room_before items line)) (plus (times 6 (length (name_of board line))) 6))
 
 -- the same of all lines of a bus
 abbrev pub past_names : Board → List Journey → ℕ → ℕ → List ColumnLine → ℕ
@@ -70,7 +72,8 @@ past_names board items x end (line ∷ lines) = past_names board items (next_x i
 
 -- where the column of a bus ends that starts here: it has room for its lines, for its title and for the names
 abbrev pub band_end : Board → List Journey → ℕ → List ColumnLine → ℕ
-band_end board items start lines = past_names board items (start + 14) (max (past_lines items (start + 14) lines - 8) (start + 48)) lines
+band_end board items start lines =
+    past_names board items (plus start 14) (max (past_lines items (plus start 14) lines - 8) (plus start 48)) lines
 
 -- the columns, the lines from left to right, the greatest number of lines on a bus, and where the next column starts
 pub record Layout : Type 0 where
@@ -84,9 +87,9 @@ abbrev pub with_bus : Board → List Journey → ℕ → List ColumnLine → Lay
 with_bus board items bus lines layout =
     record {
       bands = layout.bands ++ record { bus = bus; start = layout.past; end = band_end board items layout.past lines } ∷ [];
-      lines = layout.lines ++ columns_from items (layout.past + 14) 0 lines;
+      lines = layout.lines ++ columns_from items (plus layout.past 14) 0 lines;
       rows = max layout.rows (length lines);
-      past = band_end board items layout.past lines + 34;
+      past = plus (band_end board items layout.past lines) 34;
     }
 
 -- all these buses, from left to right
@@ -102,7 +105,7 @@ layout_of board items start =
 
 -- how wide the picture is: up to the end of the last column and a little more, a multiple of 4
 abbrev pub width_of : Layout → ℕ
-width_of layout = (layout.past - 26 + 3) / 4 * 4
+width_of layout = plus (layout.past - 26) 3 / 4 * 4
 
 -- Where a line stands.
 
@@ -153,4 +156,4 @@ face_place lane layout = if is_left lane layout then place_of (Left lane) layout
 -- the bar of a track beside it: outwards from its bus
 abbrev pub bar_place : BridgeLane → ℕ → Layout → ℕ
 bar_place lane track layout =
-    if is_left lane layout then face_place lane layout - 6 * (track + 1) else face_place lane layout + 6 * (track + 1)
+    if is_left lane layout then face_place lane layout - times 6 (plus track 1) else plus (face_place lane layout) (times 6 (plus track 1))

@@ -101,13 +101,13 @@ impl Columns {
             OnOk result (self.new ≡ with_bus board.now items bus lines.now self.old) }
     {
         let start = self.past;
-        let first = sum(start, 14)?;
+        let first = sum(start, 14);
         let past = add_columns(&mut self.lines, most, first, lines)?;
-        let end = past.saturating_sub(8).max(sum(start, 48)?);
+        let end = past.saturating_sub(8).max(sum(start, 48));
         let end = names_end(alloc, board, most, first, end, lines)?;
         self.bands.push(Band { bus, start, end })?;
         self.rows = self.rows.max(lines.len() as u64);
-        self.past = sum(end, 34)?;
+        self.past = sum(end, 34);
         Ok(())
     }
 
@@ -133,11 +133,10 @@ impl Columns {
     }
 
     /// How wide the picture is: a multiple of 4.
-    pub fn width(&self) -> Result<u64, NoMemory>
-        ensures { IfOk result (λ width. width ≡ width_of self.now) }
+    pub fn width(&self) -> u64
+        ensures { result ≡ width_of self.now }
     {
-        let right = sum(self.past.saturating_sub(26), 3)?;
-        Ok(right / 4 * 4)
+        sum(self.past.saturating_sub(26), 3) / 4 * 4
     }
 
     fn found(&self, line: ColumnLine) -> Option<u64>
@@ -191,12 +190,12 @@ impl Columns {
     }
 
     /// Where the bar of this track stands beside the face at which the lane ends.
-    pub fn bar(&self, lane: Lane, track: usize) -> Result<u64, NoMemory>
-        ensures { IfOk result (λ place. place ≡ bar_place lane track self.now) }
+    pub fn bar(&self, lane: Lane, track: usize) -> u64
+        ensures { result ≡ bar_place lane track self.now }
     {
-        let apart = product(6, sum(track as u64, 1)?)?;
+        let apart = product(6, sum(track as u64, 1));
         if self.is_left(lane) {
-            Ok(self.face(lane).saturating_sub(apart))
+            self.face(lane).saturating_sub(apart)
         } else {
             sum(self.face(lane), apart)
         }
@@ -219,10 +218,10 @@ fn add_columns(
     for (row, line) in lines.iter().enumerate() {
         columns.push(Column {
             line: *line,
-            place: sum(x, room_before(most, *line)?)?,
+            place: sum(x, room_before(most, *line)),
             row: row as u64,
         })?;
-        x = next_x(most, x, *line)?;
+        x = next_x(most, x, *line);
     }
     Ok(x)
 }
@@ -243,40 +242,37 @@ fn names_end(
     let mut end = end;
     for line in lines {
         let letters = name_length(alloc, board, *line)? as u64;
-        let place = sum(x, room_before(most, *line)?)?;
-        end = end.max(sum(place, sum(product(6, letters)?, 6)?)?);
-        x = next_x(most, x, *line)?;
+        let place = sum(x, room_before(most, *line));
+        end = end.max(sum(place, sum(product(6, letters), 6)));
+        x = next_x(most, x, *line);
     }
     Ok(end)
 }
 
 /// The next line stands from here on.
-fn next_x(most: &Most, x: u64, line: ColumnLine) -> Result<u64, NoMemory>
-    ensures { (items : List Journey) → IsMost items most.now →
-        IfOk result (λ next. next ≡ next_x items x line) }
+fn next_x(most: &Most, x: u64, line: ColumnLine) -> u64
+    ensures { (items : List Journey) → IsMost items most.now → result ≡ next_x items x line }
 {
-    let place = sum(x, room_before(most, line)?)?;
-    sum(sum(place, 22)?, room_behind(most, line)?)
+    let place = sum(x, room_before(most, line));
+    sum(sum(place, 22), room_behind(most, line))
 }
 
 /// The room for bars before a face at the left.
-fn room_before(most: &Most, line: ColumnLine) -> Result<u64, NoMemory>
-    ensures { (items : List Journey) → IsMost items most.now →
-        IfOk result (λ room. room ≡ room_before items line) }
+fn room_before(most: &Most, line: ColumnLine) -> u64
+    ensures { (items : List Journey) → IsMost items most.now → result ≡ room_before items line }
 {
     match line {
         ColumnLine::Left(lane) => product(6, most.of(lane) as u64),
-        ColumnLine::Master(_) | ColumnLine::Target(_) | ColumnLine::Right(_) => Ok(0),
+        ColumnLine::Master(_) | ColumnLine::Target(_) | ColumnLine::Right(_) => 0,
     }
 }
 
 /// The room for bars behind a face at the right.
-fn room_behind(most: &Most, line: ColumnLine) -> Result<u64, NoMemory>
-    ensures { (items : List Journey) → IsMost items most.now →
-        IfOk result (λ room. room ≡ room_behind items line) }
+fn room_behind(most: &Most, line: ColumnLine) -> u64
+    ensures { (items : List Journey) → IsMost items most.now → result ≡ room_behind items line }
 {
     match line {
         ColumnLine::Right(lane) => product(6, most.of(lane) as u64),
-        ColumnLine::Left(_) | ColumnLine::Master(_) | ColumnLine::Target(_) => Ok(0),
+        ColumnLine::Left(_) | ColumnLine::Master(_) | ColumnLine::Target(_) => 0,
     }
 }

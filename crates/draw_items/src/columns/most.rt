@@ -29,7 +29,7 @@ pub fn most_of(alloc: Global, items: &[Journey]) -> Result<Most, NoMemory>
     let mut most = Most::new(alloc)?;
     for item in items {
         let _bus = item.lane.bus;
-        most.see(item)?;
+        most.see(item);
     }
     Ok(most)
 }
@@ -61,22 +61,19 @@ impl Most {
     }
 
     /// One item more.
-    fn see(&mut self, item: &Journey) -> Result<(), NoMemory>
-        ensures { OnOk result (self.new ≡ with_item item.now self.old) }
+    #[tactic(auto, unfolding(crate::specs::columns::Sums::plus))]
+    fn see(&mut self, item: &Journey)
+        ensures { self.new ≡ with_item item.now self.old }
     {
         if !item.has_stood() {
-            return Ok(());
+            return;
         }
         let slot = slot_of(item.lane);
-        let used = match item.track.checked_add(1) {
-            Some(used) => used,
-            None => return Err(NoMemory),
-        };
+        let used = item.track.saturating_add(1);
         if slot < self.tracks.len() {
             let before = self.tracks[slot];
             self.tracks[slot] = before.max(used);
         }
-        Ok(())
     }
 
     /// How many tracks are used on the lane.

@@ -1,23 +1,18 @@
-ghost use Rattle.std.specs.Prelude.{◌≡◌, ◌+◌, ◌*◌, IfOk};
+ghost use Rattle.std.specs.Prelude.{◌≡◌};
+ghost use Rattle.draw_items.specs.columns.Sums.{plus, times};
 
-use pci_command::NoMemory;
-
-/// The sum of two places. A picture that is wider than 2^64 would not be in the memory.
-pub fn sum(a: u64, b: u64) -> Result<u64, NoMemory>
-    ensures { IfOk result (λ sum. sum ≡ a + b) }
+/// The sum of two places, or the greatest place where there is none so far out.
+#[tactic(auto, unfolding(crate::specs::columns::Sums::plus))]
+pub fn sum(a: u64, b: u64) -> u64
+    ensures { result ≡ plus a b }
 {
-    match a.checked_add(b) {
-        Some(sum) => Ok(sum),
-        None => Err(NoMemory),
-    }
+    a.saturating_add(b)
 }
 
-/// So many times a width.
-pub fn product(a: u64, b: u64) -> Result<u64, NoMemory>
-    ensures { IfOk result (λ product. product ≡ a * b) }
+/// So many times a width, or the greatest place.
+#[tactic(auto, unfolding(crate::specs::columns::Sums::times))]
+pub fn product(a: u64, b: u64) -> u64
+    ensures { result ≡ times a b }
 {
-    match a.checked_mul(b) {
-        Some(product) => Ok(product),
-        None => Err(NoMemory),
-    }
+    a.saturating_mul(b)
 }

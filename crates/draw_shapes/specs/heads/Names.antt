@@ -1,5 +1,5 @@
 -- The names of the columns and of their lines, above a picture.
-use Rattle.std.specs.Prelude.{ℕ, ◌+◌, ◌-◌, ◌*◌, List, [], ◌++◌, codes}
+use Rattle.std.specs.Prelude.{ℕ, ◌-◌, List, [], ◌++◌, codes}
 use Rattle.std.specs.Fmt.{decimal}
 use Rattle.std.specs.List.{flat_map}
 use Rattle.board_model.specs.declared.board.Board.{Board}
@@ -7,6 +7,7 @@ use Rattle.draw_items.specs.declared.columns.line.ColumnLine.{ColumnLine}
 use Rattle.draw_items.specs.declared.columns.line.ColumnLine.TheVariants.{Left, Master, Target, Right}
 use Rattle.draw_items.specs.declared.columns.columns.Band.{Band}
 use Rattle.draw_items.specs.declared.columns.columns.Column.{Column}
+use Rattle.draw_items.specs.columns.Sums.{plus, times}
 use Rattle.draw_items.specs.columns.Places.{Layout, width_of, name_of}
 use Rattle.draw_shapes.specs.heads.Sheets.{svg_open, band_path, line_path}
 
@@ -16,11 +17,11 @@ bus_text x bus = codes "\"/><text class=\"h\" x=\"" ++ (decimal x ++ (codes "\" 
 
 -- the column of a bus, with the number of the bus above it
 unfoldable pub bus_band : ℕ → Band → List ℕ
-bus_band height band = codes "<path class=\"k\" d=\"" ++ (band_path 0 height band ++ bus_text (band.start + 4) band.bus)
+bus_band height band = codes "<path class=\"k\" d=\"" ++ (band_path 0 height band ++ bus_text (plus band.start 4) band.bus)
 
 -- a line from its name down
 unfoldable pub name_line : ℕ → Column → List ℕ
-name_line height column = line_path (28 + 12 * column.row) height column
+name_line height column = line_path (plus 28 (times 12 column.row)) height column
 
 -- the lines of all columns
 unfoldable pub name_lines : ℕ → List Column → List ℕ
@@ -40,11 +41,11 @@ name_open class x y = codes "<text" ++ (class ++ (codes " x=\"" ++ (decimal x ++
 -- the name of a line at its place
 unfoldable pub line_name : Board → Column → List ℕ
 line_name board column =
-    name_open (name_class column.line) (column.place - 3) (25 + 12 * column.row) ++ (name_of board column.line ++ codes "</text>\n")
+    name_open (name_class column.line) (column.place - 3) (plus 25 (times 12 column.row)) ++ (name_of board column.line ++ codes "</text>\n")
 
 -- all names
 abbrev pub names_height : Layout → ℕ
-names_height layout = 24 + 12 * layout.rows
+names_height layout = plus 24 (times 12 layout.rows)
 
 -- the columns and the names of their lines, in this height
 unfoldable pub names_with : Board → Layout → ℕ → List ℕ

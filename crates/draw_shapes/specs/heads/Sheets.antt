@@ -1,14 +1,15 @@
 -- The begin of each part of a picture: its size, and the columns and lines behind what is drawn.
-use Rattle.std.specs.Prelude.{ℕ, ◌-◌, ◌*◌, ◌/◌, List, ◌∷◌, ◌++◌, codes}
+use Rattle.std.specs.Prelude.{ℕ, ◌-◌, ◌/◌, List, ◌∷◌, ◌++◌, codes}
 use Rattle.std.specs.Fmt.{decimal}
 use Rattle.std.specs.List.{flat_map}
 use Rattle.draw_items.specs.declared.columns.columns.Band.{Band}
 use Rattle.draw_items.specs.declared.columns.columns.Column.{Column}
+use Rattle.draw_items.specs.columns.Sums.{times}
 use Rattle.draw_items.specs.columns.Places.{Layout, width_of}
 
 -- a picture from a height on, with its width and height in units; drawn size is 5/4 of that
 abbrev pub drawn_size : ℕ → ℕ
-drawn_size units = 5 * units / 4
+drawn_size units = times 5 units / 4
 
 -- what of the picture is in view
 unfoldable pub box_text : ℕ → ℕ → ℕ → List ℕ

@@ -1,9 +1,8 @@
-ghost use Rattle.std.specs.Prelude.{◌≡◌, ◌++◌, string_bytes, IfOk, OnOk};
+ghost use Rattle.std.specs.Prelude.{◌≡◌, ◌++◌, string_bytes, OnOk};
 ghost use Rattle.std.specs.List.{flat_map};
 ghost use Rattle.draw_shapes.specs.heads.Sheets.{drawn_size, box_text, size_text, svg_open, band_path, line_path, bands_text, lines_text, sheet_text};
 
 use draw_items::{Band, Column, Columns, product};
-use pci_command::NoMemory;
 use std::alloc::AllocError;
 
 /// The begin of a strip from one height to another: its size, the columns and the lines.
@@ -13,13 +12,12 @@ pub fn print_sheet(
     columns: &Columns,
     low: u64,
     high: u64,
-) -> Result<(), NoMemory>
+) -> Result<(), AllocError>
     ensures { OnOk result (string_bytes text.new ≡ string_bytes text.old ++ sheet_text columns.now low high) }
 {
-    print_open(text, low, columns.width()?, high.saturating_sub(low))?;
+    print_open(text, low, columns.width(), high.saturating_sub(low))?;
     print_bands_text(text, low, high, columns.bands())?;
-    print_lines_text(text, low, high, columns.lines())?;
-    Ok(())
+    print_lines_text(text, low, high, columns.lines())
 }
 
 /// A picture of this size from a height on.
@@ -29,19 +27,17 @@ pub(crate) fn print_open(
     low: u64,
     width: u64,
     height: u64,
-) -> Result<(), NoMemory>
+) -> Result<(), AllocError>
     ensures { OnOk result (string_bytes text.new ≡ string_bytes text.old ++ svg_open low width height) }
 {
     print_box(text, low, width, height)?;
-    print_size(text, drawn_size(width)?, drawn_size(height)?)?;
-    Ok(())
+    print_size(text, drawn_size(width), drawn_size(height))
 }
 
-fn drawn_size(units: u64) -> Result<u64, NoMemory>
-    ensures { IfOk result (λ size. size ≡ drawn_size units) }
+fn drawn_size(units: u64) -> u64
+    ensures { result ≡ drawn_size units }
 {
-    let quarters = product(5, units)?;
-    Ok(quarters / 4)
+    product(5, units) / 4
 }
 
 #[tactic(auto, unfolding(crate::specs::heads::Sheets::box_text))]

@@ -72,15 +72,8 @@ fn run_all<L: LaneEnd + Drop + Send, R: Threads + Sync, G: Gate + Sync>(
     let mut threads = buses;
     let mut recent = 0usize;
     for phases in 0..TOO_MANY_PHASES {
-        let events = run_phase(
-            rt,
-            gate,
-            threads,
-            board,
-            workers.as_mut_slice(),
-            above,
-            phases,
-        )?;
+        let round = Round { phases, threads };
+        let events = run_phase(rt, gate, board, workers.as_mut_slice(), above, round)?;
         if events == 0 {
             return merge_all(alloc, workers);
         }
@@ -94,22 +87,28 @@ fn run_all<L: LaneEnd + Drop + Send, R: Threads + Sync, G: Gate + Sync>(
     unreachable!()
 }
 
-/// One phase, by so many threads: how many events it made. All lanes are settled then. A phase
-/// without events is settled too: only the settles show that no bus stopped.
+/// A phase that is to be worked: how many there were before it, and by how many threads.
+#[derive(Clone, Copy)]
+struct Round {
+    phases: u32,
+    threads: usize,
+}
+
+/// One phase: how many events it made. All lanes are settled then. A phase without events is
+/// settled too: only the settles show that no bus stopped.
 fn run_phase<L: LaneEnd + Drop + Send, R: Threads + Sync, G: Gate + Sync>(
     rt: &R,
     gate: &G,
-    threads: usize,
     board: &Board,
     workers: &mut [Worker<L>],
     above: &[Above],
-    phases: u32,
+    round: Round,
 ) -> Result<usize, NoMemory>
     requires valid { IsValid board.now }
     requires rounds { IsInRounds L.had L.sent L.got L.kept L.paired board.now
-        (all_seen workers.old) above.now phases }
+        (all_seen workers.old) above.now round.phases }
     ensures busy { IfOk result (λ events. 0 < events → IsInRounds L.had L.sent L.got L.kept L.paired
-        board.now (all_seen workers.new) above.now (phases + 1)) }
+        board.now (all_seen workers.new) above.now (round.phases + 1)) }
     ensures idle { IfOk result (λ events. events ≡ 0 →
         IsCompleteRun board.now (history_of_all (all_seen workers.new))) }
 {
@@ -121,7 +120,7 @@ fn run_phase<L: LaneEnd + Drop + Send, R: Threads + Sync, G: Gate + Sync>(
     let before = recorded(workers);
     let from = next_stamp(workers);
     begin_all(workers, from)?;
-    work_all(rt, gate, threads, board, workers);
+    work_all(rt, gate, round.threads, board, workers);
     let events = recorded(workers).saturating_sub(before);
     settle_all(workers, above);
     Ok(events)

@@ -11,7 +11,9 @@ use lane_items::LaneEnd;
 /// rest. So whatever the other end sent and kept, all that was got came in the order of its
 /// sending.
 pub fn got_in_order()
-    ensures front { (end : PlainState) → ⟦<PlainEnd as LaneEnd>⟧.got end ++ in_hand (⟦<PlainEnd as LaneEnd>⟧.had end) (⟦<PlainEnd as LaneEnd>⟧.got end) ≡ ⟦<PlainEnd as LaneEnd>⟧.had end }
+    ensures front { (end : PlainState) → ⟦<PlainEnd as LaneEnd>⟧.got end ++
+        in_hand (⟦<PlainEnd as LaneEnd>⟧.had end) (⟦<PlainEnd as LaneEnd>⟧.got end) ≡
+        ⟦<PlainEnd as LaneEnd>⟧.had end }
     ensures in_order { (near far : PlainState) →
         GotInOrder (⟦<PlainEnd as LaneEnd>⟧.had far) (⟦<PlainEnd as LaneEnd>⟧.got far)
         (⟦<PlainEnd as LaneEnd>⟧.sent near) (⟦<PlainEnd as LaneEnd>⟧.kept near) }

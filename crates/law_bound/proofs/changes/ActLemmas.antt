@@ -16,7 +16,7 @@ use Rattle.board_model.specs.Ways.{address_in, aborts_at, is_lane}
 use Rattle.board_model.specs.WellFormed.{is_well_formed_target}
 use Rattle.board_model.specs.Valid.{IsValid}
 use Rattle.board_model.proofs.Laws.{WellFormed-parts, Target-parts}
-use Rattle.board_headers.specs.HeaderBytes.{header_word}
+use Rattle.board_model.specs.HeaderBytes.{header_word}
 use Rattle.history_model.specs.declared.event.By.{By}
 use Rattle.history_model.specs.declared.event.Step.{Step}
 use Rattle.history_model.specs.declared.event.Step.TheVariants.{Land, Part, Read, Stall, MasterAbort, TargetAbort}

@@ -21,7 +21,7 @@ use Rattle.history_model.specs.Left.{flying_left, standing_left}
 use Rattle.law_lanes.specs.Depths.{DifferentNumbers}
 use Rattle.history_model.proofs.facts.BridgeLemmas.{same_lane_self, same_lane_back}
 use Rattle.history_model.proofs.facts.MovedLemmas.{moved_each}
-use Rattle.law_bound.proofs.posted.SumLemmas.{over-moved}
+use Rattle.law_lanes.proofs.order.Laws.{over-moved}
 use Rattle.law_bound.proofs.posted.AlikeLemmas.{Alike, AlikeWorlds, Alike-self}
 use Rattle.law_bound.proofs.posted.ProgramLemmas.{lane_weight, world_weight}
 use Rattle.list_facts.proofs.AnyLemmas.{any-push_other, any-less_found}

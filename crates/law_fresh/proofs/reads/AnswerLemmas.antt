@@ -13,7 +13,7 @@ use Rattle.board_model.specs.Requests.{op_of, request_on, request_of, is_posted}
 use Rattle.board_model.specs.Claims.{claim}
 use Rattle.board_model.specs.Ways.{address_in, aborts_at, is_lane}
 use Rattle.board_model.specs.Valid.{IsValid}
-use Rattle.board_headers.specs.HeaderBytes.{header_word}
+use Rattle.board_model.specs.HeaderBytes.{header_word}
 use Rattle.history_model.specs.declared.event.By.{By}
 use Rattle.history_model.specs.declared.event.Step.{Step}
 use Rattle.history_model.specs.declared.event.Step.TheVariants.{Land, Part, Read, Accept, Latch, Take, Stall, MasterAbort, TargetAbort}

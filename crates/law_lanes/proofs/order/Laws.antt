@@ -33,4 +33,4 @@ pub use Rattle.law_lanes.proofs.order.LandLemmas.{Short, Short-run, claims_from,
 -- a target that claims a write takes it, in a part or whole, and a part begins at a word of its own
 pub use Rattle.law_lanes.proofs.order.WordLemmas.{OnlyTakes, takes_only, part_word}
 -- sums over the lanes of a board
-pub use Rattle.law_lanes.proofs.order.LaneSums.{over-one, over-plus, over-same}
+pub use Rattle.law_lanes.proofs.order.LaneSums.{over-moved, over-one, over-plus}

@@ -13,7 +13,7 @@ use Rattle.board_model.specs.WellFormed.{has_bus}
 use Rattle.board_model.specs.Valid.{has_bridge_to}
 use Rattle.board_model.specs.Ways.{primary_in, end_of}
 use Rattle.history_model.specs.Answers.{bridge_to}
-use Rattle.board_model.specs.Fits.{BridgeFits, BusesFit}
+use Rattle.board_model.specs.Fits.{BridgeFits, BoardFits}
 use Rattle.history_model.specs.Next.{first_below, first_bus, down_to, up_from, ends_on, given_on, first_lane}
 use Rattle.law_lanes.proofs.progress.NextFirstLemmas.{below_or}
 
@@ -71,12 +71,12 @@ found_there test (x ∷ xs) bridge some =
     (elim (test x) as P [ true ↦ λ e. refl | false ↦ λ e. found_there test xs bridge e ]) some
 
 -- so are the lanes of a bridge that is found
-pub IsOnBoard-found : (board : Board) (lane : BridgeLane) (bridge : Bridge) → BusesFit board → bridge_to board lane.bus ≡ Some bridge → IsOnBoard board lane
+pub IsOnBoard-found : (board : Board) (lane : BridgeLane) (bridge : Bridge) → BoardFits board → bridge_to board lane.bus ≡ Some bridge → IsOnBoard board lane
 IsOnBoard-found board lane bridge fits is =
     let both : BridgeFits bridge = Each-find BridgeFits (has_bus lane.bus) board.bridges bridge fits.bridges is in
     let same : bridge.bus ≡ lane.bus = eqb-true bridge.bus lane.bus (find_passes (has_bus lane.bus) board.bridges bridge is) in
-    let bus : lane.bus < 256 = subst (λ (b : ℕ). b < 256) same both.0 in
-    let above : primary_in (bridge_to board lane.bus) < 256 = subst (λ (found : Option Bridge). primary_in found < 256) (sym is) both.1 in
+    let bus : lane.bus < 256 = subst (λ (b : ℕ). b < 256) same both.bus in
+    let above : primary_in (bridge_to board lane.bus) < 256 = subst (λ (found : Option Bridge). primary_in found < 256) (sym is) both.parent in
     let P : Bool → Type 0 = λ direction. cond direction (primary_in (bridge_to board lane.bus)) lane.bus < 256 in
     record {
       there = found_there (has_bus lane.bus) board.bridges bridge is;

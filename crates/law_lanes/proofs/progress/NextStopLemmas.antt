@@ -21,7 +21,7 @@ use Rattle.law_lanes.specs.progress.Next.{Next}
 use Rattle.law_lanes.proofs.progress.SoundLemmas.{Sound-valid}
 use Rattle.law_lanes.proofs.progress.ArrivalLemmas.{no_bridge_empty}
 use Rattle.law_lanes.proofs.progress.GoOnLemmas.{goes_on}
-use Rattle.board_model.specs.Fits.{BusesFit}
+use Rattle.board_model.specs.Fits.{BoardFits}
 use Rattle.history_model.specs.Next.{next_of}
 use Rattle.law_lanes.proofs.progress.NextSoundLemmas.{next_allowed}
 use Rattle.law_lanes.proofs.progress.NextWantLemmas.{at_master, master_wants, lane_wants}
@@ -61,7 +61,7 @@ module _ (board : Board) (h : List Event) (run : Run board h) where
       cc
 
   -- the run is complete where there is no next event
-  stops_complete : IsValid board → BusesFit board → next_of board h ≡ None → Complete board h
+  stops_complete : IsValid board → BoardFits board → next_of board h ≡ None → Complete board h
   stops_complete valid fits none =
       ⊎_elim {C = Complete board h}
       (λ (next : Next board h). absurd (none_allowed board h run fits none next.event next.allowed))
@@ -75,5 +75,5 @@ module _ (board : Board) (h : List Event) (run : Run board h) where
       (elim (next_of board h) as P [ None ↦ λ _. refl | Some e ↦ λ is. absurd (complete_stops complete e is) ]) (next_allowed board h)
 
 -- there is no next event exactly where the run is complete
-pub next_complete : (board : Board) (h : List Event) → IsValid board → BusesFit board → Run board h → (next_of board h ≡ None) ↔ Complete board h
+pub next_complete : (board : Board) (h : List Event) → IsValid board → BoardFits board → Run board h → (next_of board h ≡ None) ↔ Complete board h
 next_complete board h valid fits run = (stops_complete board h run valid fits, complete_none board h run)

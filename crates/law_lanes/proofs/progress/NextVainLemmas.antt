@@ -24,7 +24,7 @@ use Rattle.history_model.specs.Answers.{bridge_to, presents, wants, answer}
 use Rattle.history_model.specs.Runs.{Run, Allowed, mark_of_first, next_mark}
 use Rattle.history_model.proofs.facts.RequestLemmas.{same_op_true}
 use Rattle.law_lanes.proofs.progress.ArrivalLemmas.{no_bridge_empty}
-use Rattle.board_model.specs.Fits.{BusesFit}
+use Rattle.board_model.specs.Fits.{BoardFits}
 use Rattle.history_model.specs.Next.{first_in, first_lane, arrival_of, arrival_at, first_arrival, act_given, act_of, act_of_item, act_of_lane, act_of_turn, act_of_masters, act_on, first_act, next_of}
 use Rattle.law_lanes.proofs.progress.NextNoneLemmas.{or_none_both, below_none, bus_gives_none, IsOnBoard, IsOnBoard-found, lanes_give_none}
 use Rattle.law_lanes.proofs.progress.NextWantLemmas.{presents_some, at_master, master_bus, master_wants, lane_wants}
@@ -61,7 +61,7 @@ module _ (board : Board) (h : List Event) (run : Run board h) where
   no_bridge lane none = no_bridge_empty board h lane run none
 
   -- an arrival that is allowed is on a lane of the board
-  arrives_on_board : (lane : BridgeLane) (mark : Mark) → BusesFit board → next_mark board h lane ≡ Some mark → IsOnBoard board lane
+  arrives_on_board : (lane : BridgeLane) (mark : Mark) → BoardFits board → next_mark board h lane ≡ Some mark → IsOnBoard board lane
   arrives_on_board lane mark fits is =
       let P : Option Bridge → Type 0 = λ found. bridge_to board lane.bus ≡ found → IsOnBoard board lane in
       (elim (bridge_to board lane.bus) as P [
@@ -72,7 +72,7 @@ module _ (board : Board) (h : List Event) (run : Run board h) where
       ]) refl
 
   -- what a lane presents is on a lane of the board
-  presents_on_board : (on : ℕ) (o : OpId) (lane : BridgeLane) → BusesFit board → presents board on o (world_of board h lane).standing ≡ true → IsOnBoard board lane
+  presents_on_board : (on : ℕ) (o : OpId) (lane : BridgeLane) → BoardFits board → presents board on o (world_of board h lane).standing ≡ true → IsOnBoard board lane
   presents_on_board on o lane fits is =
       let P : Option Bridge → Type 0 = λ found. bridge_to board lane.bus ≡ found → IsOnBoard board lane in
       (elim (bridge_to board lane.bus) as P [
@@ -83,7 +83,7 @@ module _ (board : Board) (h : List Event) (run : Run board h) where
       ]) refl
 
   -- where the look finds nothing, no event is allowed
-  pub none_allowed : BusesFit board → next_of board h ≡ None → (e : Event) → Allowed board h e → ⊥
+  pub none_allowed : BoardFits board → next_of board h ≡ None → (e : Event) → Allowed board h e → ⊥
   none_allowed fits none (Arrive lane mark) is =
       let both = or_none_both (first_arrival board h) (first_act board h) none in
       let on_bus : (bus : ℕ) → bus < 256 → first_lane board bus (arrival_at board h) ≡ None =

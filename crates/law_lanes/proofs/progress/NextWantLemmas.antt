@@ -17,7 +17,7 @@ use Rattle.history_model.specs.Program.{turn_of}
 use Rattle.history_model.specs.Answers.{is_on, is_turn, presents_item, presents, wants}
 use Rattle.history_model.proofs.facts.RequestLemmas.{same_op_true}
 use Rattle.list_facts.proofs.EachLemmas.{Each-slice_get}
-use Rattle.board_model.specs.Fits.{MasterFits}
+use Rattle.board_model.specs.Fits.{ProgramFits}
 
 -- what is presented stands
 pub presents_some : (board : Board) (on : ℕ) (o : OpId) (xs : List Carried) → presents board on o xs ≡ true → (item : Carried) × (find (is_of o) xs ≡ Some item)
@@ -32,12 +32,12 @@ at_master on (x ∷ xs) zero is = omega arith
 at_master on (x ∷ xs) (suc k) is = omega (arith, at_master on xs k is)
 
 -- and its bus is one of 256
-pub master_bus : (on : ℕ) (masters : List MasterAgent) (k : ℕ) → AllByRecursion MasterFits masters → is_on on (slice_get masters k) ≡ true → on < 256
+pub master_bus : (on : ℕ) (masters : List MasterAgent) (k : ℕ) → AllByRecursion ProgramFits masters → is_on on (slice_get masters k) ≡ true → on < 256
 master_bus on masters k fit is =
     let P : Option MasterAgent → Type 0 = λ found. slice_get masters k ≡ found → is_on on found ≡ true → on < 256 in
     (elim (slice_get masters k) as P [
       | None ↦ λ _ e. cc
-      | Some master ↦ λ at e. subst (λ (bus : ℕ). bus < 256) (eqb-true master.bus on e) (Each-slice_get MasterFits masters k master fit at)
+      | Some master ↦ λ at e. subst (λ (bus : ℕ). bus < 256) (eqb-true master.bus on e) (Each-slice_get ProgramFits masters k master fit at).begins.bus
     ]) refl is
 
 -- the turn of a master that presents its turn

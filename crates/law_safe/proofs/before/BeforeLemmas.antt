@@ -13,6 +13,7 @@ use Rattle.board_model.specs.Ways.{Dword}
 use Rattle.board_model.specs.Valid.{IsValid}
 use Rattle.history_model.specs.declared.event.By.{By}
 use Rattle.history_model.specs.declared.event.Event.{Event}
+use Rattle.history_model.specs.declared.rule.Rule.TheVariants.{Tagged}
 use Rattle.history_model.specs.Program.{ended, turn_of}
 use Rattle.history_model.specs.Answers.{wants}
 use Rattle.history_model.specs.Words.{landed}
@@ -101,7 +102,7 @@ module _ (board : Board) (valid : IsValid board) (w : OpId) (writes : is_write b
       let taught : Bool = (aware_of board w (up_to_end r h)).taught r in
       let either : (knows (aware_of board w h) r || taught) ≡ true = or_left (knows (aware_of board w h) r) taught now in
       let told : was_told board h w r ≡ true = rw (writes, there) either in
-      known_told board valid w h run r told
+      known_told board w h run r told
 
   -- and what is presented and comes after it knows of it
   pub wanted_knows : (table : Table) → IsConsistent board table → (h : List Event) (on : ℕ) (by : By) (q : OpId) → Run board h → Sound board table h → wants board h on by q ≡ true → IsBefore board table w q → Known h q
@@ -119,7 +120,7 @@ module _ (board : Board) (valid : IsValid board) (w : OpId) (writes : is_write b
       let taught : Bool = (aware_of board w (up_to_end x h)).taught x in
       let either : (knows (aware_of board w h) x || taught) ≡ true = or_left (knows (aware_of board w h) x) taught now in
       let told : was_told board h w x ≡ true = rw (writes, there) either in
-      known_told board valid w h run x told
+      known_told board w h run x told
 
 -- A read: what comes after it lands after its reading.
 
@@ -160,7 +161,7 @@ ends_anew board e h o run with_value old X =
     (elim (ends_as o e) as P [
       | None ↦ λ _ f. cc
       | Some outcome ↦ λ ends _.
-          let turn : turn_of board h o.master ≡ Some o = ends_turn board e h (record { op = o; outcome = outcome }) run (ends_as_ended o e outcome ends) in
+          let turn : turn_of board h o.master ≡ Some o = ends_turn Tagged board e h (record { op = o; outcome = outcome }) run (ends_as_ended o e outcome ends) in
           let none = turn_not_ended board h o run.1 turn in
           let some = any_times (ends_at_master o) h old in
           absurd (omega (arith, none, some))

@@ -15,6 +15,7 @@ use Rattle.history_model.specs.declared.event.By.{By}
 use Rattle.history_model.specs.declared.event.By.TheVariants.{Master, Lane as ByLane}
 use Rattle.history_model.specs.declared.event.Event.{Event}
 use Rattle.history_model.specs.declared.event.Event.TheVariants.{Act, Arrive}
+use Rattle.history_model.specs.declared.rule.Rule.TheVariants.{Tagged}
 use Rattle.history_model.specs.Lanes.{has_number}
 use Rattle.history_model.specs.Program.{ended, turn_of}
 use Rattle.history_model.specs.Answers.{wants}
@@ -90,7 +91,7 @@ module _ (board : Board) (valid : IsValid board) (a : OpId) (writes : is_write b
 
   own_done : (e : Event) (h : List Event) (p q : OpId) (outcome : Outcome) → Run board (e ∷ h) → ended e ≡ Some (record { op = p; outcome = outcome }) → is_some (op_of board p) ≡ true → p.master ≡ (behind a).master → p.index ≡ (behind a).index → p.master ≡ q.master → stands_after p q ≡ true → Done (e ∷ h) q
   own_done e h p q outcome run ends there masters indices others after =
-      let turn : turn_of board h p.master ≡ Some p = ends_turn board e h (record { op = p; outcome = outcome }) run ends in
+      let turn : turn_of board h p.master ≡ Some p = ends_turn Tagged board e h (record { op = p; outcome = outcome }) run ends in
       let below : a.index < p.index = omega (arith, indices) in
       or_right (is_some (ends_as a e)) (has_ended h a) (turn_done h p run.1 turn masters below)
 

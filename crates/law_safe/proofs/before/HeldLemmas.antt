@@ -15,6 +15,7 @@ use Rattle.history_model.specs.declared.event.Event.{Event}
 use Rattle.history_model.specs.declared.event.Event.TheVariants.{Act, Arrive}
 use Rattle.history_model.specs.declared.item.Carried.{Carried}
 use Rattle.history_model.specs.declared.item.Carried.TheVariants.{Post, Ask, Done, Room, Gone}
+use Rattle.history_model.specs.declared.rule.Rule.TheVariants.{Tagged}
 use Rattle.history_model.specs.Lanes.{is_of}
 use Rattle.history_model.specs.World.{lane_outcome, world_of}
 use Rattle.history_model.specs.Program.{turn_of}
@@ -63,7 +64,7 @@ module _ (board : Board) (F : List Event → OpId → Type 0) (kept : (e : Event
   presented h on Master o held wanted = held.turns o (wants-turn board h on o wanted)
   presented h on (ByLane k) o held wanted =
       let standing : List Carried = (world_of board h k).standing in
-      let here = (presented_at board h on k o wanted).1 in
+      let here = (presented_at Tagged board h on k o wanted).1 in
       of_item h o here.item (find_passes (is_of o) standing here.item here.found) (Each-find (OfItem h) (is_of o) standing here.item (held.items k).1 here.found)
 
   enters_held : (h : List Event) (o : OpId) (step : Step) → F h o → Enters (OfItem h) o step
@@ -96,11 +97,11 @@ module _ (board : Board) (F : List Event → OpId → Type 0) (kept : (e : Event
   items_after (Act on by o step place) h run held =
       let e : Event = Act on by o step place in
       let has : F (e ∷ h) o = kept e h o run (presented h on by o held run.0.0) in
-      act_has (OfItem (e ∷ h)) tt (λ slot. tt) board on by o step place (world_of board h)
+      act_has (OfItem (e ∷ h)) tt (λ slot. tt) Tagged board on by o step place (world_of board h)
       (enters_held (e ∷ h) o step has) (replies_by_held (e ∷ h) o step by has) (world_kept e h run held.items)
   items_after (Arrive lane mark) h run held =
       let e : Event = Arrive lane mark in
-      arrival_has (OfItem (e ∷ h)) tt (λ slot. tt) board lane mark (world_of board h) (world_kept e h run held.items)
+      arrival_has (OfItem (e ∷ h)) tt (λ slot. tt) Tagged board lane mark (world_of board h) (world_kept e h run held.items)
 
   brought_held : (e : Event) (h : List Event) (word : Dword) → Run board (e ∷ h) → Held h → AllByRecursion (OfLanding (e ∷ h)) (brought board h word e)
   brought_held (Act on by o step place) h word run held =

@@ -5,7 +5,7 @@ use Rattle.std.proofs.lemmas.Nat.{and_comm, or_comm, and_assoc, and_or_apart}
 use Rattle.pci_command.specs.declared.command.Space.{Space}
 use Rattle.pci_command.specs.declared.command.Space.TheVariants.{Mem, Io, Cfg}
 use Rattle.pci_command.specs.declared.phases.Phase.{Phase}
-use Rattle.board_headers.specs.device.Registers.{enabled_bits, merge_of}
+use Rattle.board_model.specs.device.Registers.{enabled_bits, merge_of}
 use Rattle.history_model.specs.Words.{mask_in}
 
 abbrev pub bits : Bool → Bool → Bool → Bool → ℕ

@@ -17,7 +17,7 @@ use Rattle.board_model.specs.declared.board.Board.{Board}
 use Rattle.board_model.specs.Requests.{op_of, command_of, phases_of, request_on, request_of, is_posted}
 use Rattle.board_model.specs.Ways.{Dword, address_in, dwords_from}
 use Rattle.board_model.specs.Valid.{IsValid}
-use Rattle.board_headers.specs.device.Registers.{enabled_bits, merge_of}
+use Rattle.board_model.specs.device.Registers.{enabled_bits, merge_of}
 use Rattle.history_model.specs.declared.event.By.{By}
 use Rattle.history_model.specs.declared.event.Step.TheVariants.{Part}
 use Rattle.history_model.specs.declared.event.Event.{Event}

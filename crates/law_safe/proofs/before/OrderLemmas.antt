@@ -17,6 +17,7 @@ use Rattle.board_model.specs.Ways.{Dword}
 use Rattle.board_model.specs.Valid.{IsValid}
 use Rattle.history_model.specs.declared.event.By.{By}
 use Rattle.history_model.specs.declared.event.Event.{Event}
+use Rattle.history_model.specs.declared.rule.Rule.TheVariants.{Tagged}
 use Rattle.history_model.specs.Program.{Ending, ended, present, next_op, next_try, meets, follows_op, follows_in, follows, turn_after, turn_of}
 use Rattle.history_model.specs.Answers.{wants}
 use Rattle.history_model.specs.Words.{landed, value_of}
@@ -218,7 +219,7 @@ module _ (board : Board) (valid : IsValid board) (table : Table) (consistent : I
   -- what is known where an operation has ended
   module _ (e : Event) (g : List Event) (run : Run board (e ∷ g)) (goods : Goods g) (sound : SoundAt board table e g) (p : OpId) (outcome : Outcome) (ends : ended e ≡ Some (record { op = p; outcome = outcome })) (op : Op) (is_op : op_of board p ≡ Some op) where
     turn : turn_of board g p.master ≡ Some p
-    turn = ends_turn board e g (record { op = p; outcome = outcome }) run ends
+    turn = ends_turn Tagged board e g (record { op = p; outcome = outcome }) run ends
 
     -- what the clock of it counts
     by_it : (q : OpId) → p.master ≡ q.master → stands_after p q ≡ true → c.index < clock_of board table p c.master → X (e ∷ g) q

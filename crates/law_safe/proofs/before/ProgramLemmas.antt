@@ -12,6 +12,7 @@ use Rattle.board_model.specs.Ways.{Dword}
 use Rattle.board_model.specs.Valid.{IsValid}
 use Rattle.history_model.specs.declared.event.Event.{Event}
 use Rattle.history_model.specs.declared.event.Event.TheVariants.{Act, Arrive}
+use Rattle.history_model.specs.declared.rule.Rule.TheVariants.{Tagged}
 use Rattle.history_model.specs.Program.{turn_of}
 use Rattle.history_model.specs.Words.{brought, landed}
 use Rattle.history_model.specs.Knowledge.{has_ended, is_landing_of, stands_after}
@@ -79,7 +80,7 @@ program_last board valid a b op is_op delayed other masters below word h run = t
         let turn : turn_of board g b.master ≡ Some a = subst (λ m. turn_of board g m ≡ Some a) masters is_turn in
         let some = any_some (is_landing_of b) (landed board g word) lands_b in
         let one : some.0.op ≡ b = same_op_true some.0.op b (find_passes (is_landing_of b) (landed board g word) some.0 some.1) in
-        let begun : Begun board g b = subst (Begun board g) one (Each-find (LandingBegun board g) (is_landing_of b) (landed board g word) some.0 (LandingsBegun-run board g word run_g) some.1) in
+        let begun : Begun board g b = subst (Begun board g) one (Each-find (LandingBegun board g) (is_landing_of b) (landed board g word) some.0 (LandingsBegun-run Tagged board g word run_g) some.1) in
         let none : stands_after a b ≡ false = begun a turn in
         let after : stands_after a b ≡ true = grind (arith, nat_tests) in
         let e : true ≡ false = sym after ∙ none in

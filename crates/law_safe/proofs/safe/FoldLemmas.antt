@@ -4,7 +4,7 @@ use Rattle.std.specs.List.{list_any, AllByRecursion}
 use Rattle.pci_command.specs.declared.op_id.OpId.{OpId}
 use Rattle.pci_command.specs.Same.{same_op}
 use Rattle.board_model.specs.Ways.{Dword}
-use Rattle.board_headers.specs.device.Registers.{merge_of}
+use Rattle.board_model.specs.device.Registers.{merge_of}
 use Rattle.history_model.specs.Words.{Landing, mask_in, merged}
 use Rattle.history_model.specs.Knowledge.{is_landing_of}
 use Rattle.list_facts.proofs.EachLemmas.{Each-weaker}

@@ -12,6 +12,7 @@ use Rattle.history_model.specs.declared.event.By.{By}
 use Rattle.history_model.specs.declared.event.Step.{Step}
 use Rattle.history_model.specs.declared.event.Event.{Event}
 use Rattle.history_model.specs.declared.event.Event.TheVariants.{Act}
+use Rattle.history_model.specs.declared.rule.Rule.TheVariants.{Tagged}
 use Rattle.history_model.specs.Program.{ended, meets, turn_of}
 use Rattle.history_model.specs.Words.{landed}
 use Rattle.history_model.specs.Knowledge.{Reading, got, has_landed, is_landing_of, stands_after, is_write}
@@ -82,7 +83,7 @@ module _ (board : Board) (valid : IsValid board) (table : Table) (consistent : I
       (subst (Begins h) one (Each-find (λ l. Begins h l.op) (is_landing_of f) (landed board h word) some.0 ((Begins-run h run).landings word) some.1)) masters indices
 
   own_was : (e : Event) (h : List Event) (p q : OpId) (outcome : Outcome) → Run board (e ∷ h) → ended e ≡ Some (record { op = p; outcome = outcome }) → is_some (op_of board p) ≡ true → p.master ≡ c.master → p.index ≡ c.index → p.master ≡ q.master → stands_after p q ≡ true → WasBefore (e ∷ h) q
-  own_was e h p q outcome run ends there masters indices others behind = was_now h (p, ends_turn board e h (record { op = p; outcome = outcome }) run ends, masters, indices)
+  own_was e h p q outcome run ends there masters indices others behind = was_now h (p, ends_turn Tagged board e h (record { op = p; outcome = outcome }) run ends, masters, indices)
 
   seen_was : (e : Event) (h : List Event) (p q : OpId) (reading : Reading) (f : OpId) → Run board (e ∷ h) → got board (e ∷ h) p ≡ Some reading → is_write board f ≡ true
       → list_any (is_landing_of f) (landed board reading.before reading.word) ≡ true → has_landed reading.before f ≡ true → Front reading.before h

@@ -17,6 +17,7 @@ use Rattle.history_model.specs.declared.event.By.{By}
 use Rattle.history_model.specs.declared.event.Step.{Step}
 use Rattle.history_model.specs.declared.event.Event.{Event}
 use Rattle.history_model.specs.declared.event.Event.TheVariants.{Act, Arrive}
+use Rattle.history_model.specs.declared.rule.Rule.TheVariants.{Tagged}
 use Rattle.history_model.specs.Words.{through, landings_of, landings_by, brought}
 use Rattle.history_model.specs.Knowledge.{up_to_end, has_landed, is_landing_of, is_write, Told, words_on, words_named}
 use Rattle.history_model.specs.Runs.{Run}
@@ -117,6 +118,6 @@ module _ (board : Board) (valid : IsValid board) (w : OpId) (writes : is_write b
       let reads_it = taught_reads board w upto x (front_run board upto all (front_end x all) run_all) taught in
       let f : true ≡ false = sym reads_it ∙ other_read in
       cc)
-      (told_knows board valid w all run_all x told.1) in
-      let known_then : knows (aware_of board w h) x ≡ true = knew_before board w x h all before run_all (Begun-wanted board h on by x run_x.1 run_x.0.0) known in
+      (told_knows board w all run_all x told.1) in
+      let known_then : knows (aware_of board w h) x ≡ true = knew_before board w x h all before run_all (Begun-wanted Tagged board h on by x run_x.1 run_x.0.0) known in
       act_after h on by x step place run_x other known_then lands_x

@@ -12,28 +12,23 @@ use Rattle.board_model.specs.declared.board.Board.{Board}
 use Rattle.history_model.specs.declared.event.By.TheVariants.{Master, Lane as ByLane}
 use Rattle.history_model.specs.declared.event.Event.{Event}
 use Rattle.history_model.specs.declared.event.Event.TheVariants.{Act, Arrive}
+use Rattle.history_model.specs.declared.rule.Rule.TheVariants.{Untagged}
 use Rattle.history_model.specs.Program.{Ending, ended, turn_of}
 use Rattle.history_model.specs.Words.{Landing, landed}
 use Rattle.history_model.specs.Knowledge.{Reading, has_landed, has_ended}
 use Rattle.history_model.proofs.facts.RequestLemmas.{same_op_true}
+use Rattle.history_model.proofs.facts.WantsLemmas.{wants-turn}
 use Rattle.law_untagged.specs.Untagged.{UntaggedRun}
 use Rattle.law_untagged.specs.Origins.{ending_reading}
 use Rattle.law_untagged.specs.Heard.{Since, is_behind, knows, speaks, heard, first_known, untagged_since}
-use Rattle.law_untagged.specs.Orderly.{Begun, Orderly, Front}
-use Rattle.law_untagged.proofs.OrderLemmas.{or_either, IsBehind, Begun-kept, Begun-turn, front_self, front_more}
 use Rattle.law_untagged.proofs.HeardLemmas.{knows_front, knew_front, heard_before, heard_after, since_behind}
 use Rattle.law_untagged.proofs.ToldLemmas.{write_from}
-use Rattle.law_untagged.proofs.UntaggedOrderLemmas.{master_turn, untagged_in_order}
 use Rattle.law_audit.specs.Clocks.{own, reaches}
 use Rattle.law_audit.proofs.ClockLemmas.{bool_same, or_comm, lt_none, lt_max, lt_greatest, any_same, own_parts, own_same}
-use Rattle.law_fresh.proofs.Laws.{WriteOp, TurnsEnd, turns_ended}
+use Rattle.law_fresh.proofs.Laws.{WriteOp, turns_ended, IsBehind, Begun, Begun-turn, ends_turn, Begun-kept, Front, front_self, front_more, run_turns, or_either}
 use Rattle.law_untagged.specs.clocks.Clocks.{Clocks, number_in, landing_tells, reads_at, told_by, got_tells, known_after, first_start, clocks_of}
 use Rattle.law_untagged.proofs.clocks.NamedLemmas.{Started, landings_started}
 use Rattle.law_untagged.proofs.clocks.ReadLemmas.{IsRead, ending_read}
-
-orderly_turns : (board : Board) (h : List Event) → Orderly board h → TurnsEnd board h
-orderly_turns board [] order = tt
-orderly_turns board (e ∷ h) order = (order.0.turn, orderly_turns board h order.1)
 
 more_than : (later : List Event) (e : Event) (before : List Event) → nat_lt (length before) (length (later ++ e ∷ before)) ≡ true
 more_than [] e before = grind (arith, nat_tests)
@@ -41,40 +36,40 @@ more_than (f ∷ later) e before = let older = more_than later e before in grind
 
 module _ (board : Board) (w : OpId) (write : WriteOp board w) where
   -- where a master's turn is behind the write, the master knows it
-  own_knows : (h : List Event) (o : OpId) → Orderly board h → turn_of board h o.master ≡ Some o → reaches (own o) w ≡ true → (is_some (untagged_since board w h o.master) || same_op o w) ≡ true
-  own_knows h o order turn is =
+  own_knows : (h : List Event) (o : OpId) → UntaggedRun board h → turn_of board h o.master ≡ Some o → reaches (own o) w ≡ true → (is_some (untagged_since board w h o.master) || same_op o w) ≡ true
+  own_knows h o run turn is =
       let since : Since = untagged_since board w h in
       let parts = own_parts w o is in
       let P : Bool → Type 0 = λ b. same_op o w ≡ b → (is_some (since o.master) || b) ≡ true in
       (elim (same_op o w) as P [
         | true ↦ λ _. or_right (is_some (since o.master)) true refl
         | false ↦ λ other.
-            let ended_it : has_ended h w ≡ true = turns_ended board w write h o (orderly_turns board h order) turn parts.0 parts.1 other in
-            let from = write_from board w h order ended_it in
+            let ended_it : has_ended h w ≡ true = turns_ended board w write h o (run_turns Untagged board h run) turn parts.0 parts.1 other in
+            let from = write_from board w h run ended_it in
             let some : is_some (since w.master) ≡ true = ap is_some from.is in
             or_left (is_some (since o.master)) false (subst (λ m. is_some (since m) ≡ true) (sym parts.0) some)
       ]) refl
 
   -- the turn knows what its master knows
-  pub turn_knows : (h : List Event) (o : OpId) → Orderly board h → turn_of board h o.master ≡ Some o → knows (untagged_since board w h) o ≡ is_some (untagged_since board w h o.master)
-  turn_knows h o order turn =
+  pub turn_knows : (h : List Event) (o : OpId) → UntaggedRun board h → turn_of board h o.master ≡ Some o → knows (untagged_since board w h) o ≡ is_some (untagged_since board w h o.master)
+  turn_knows h o run turn =
       let since : Since = untagged_since board w h in
       let P : Option OpId → Type 0 = λ found. since o.master ≡ found → is_behind found o ≡ is_some found in
       (elim (since o.master) as P [
         | None ↦ λ _. refl
-        | Some p ↦ λ is. subst (IsBehind p) turn (since_behind board w h o.master p order is).1
+        | Some p ↦ λ is. subst (IsBehind p) turn (since_behind board w h o.master p run is).1
       ]) refl
 
   -- what an operation that began knows it knows later, and nothing more
-  pub knows_same : (before h : List Event) (q : OpId) → Front before h → Orderly board h → Begun board before q → knows (untagged_since board w h) q ≡ knows (untagged_since board w before) q
-  knows_same before h q front order begun =
-      bool_same (knows (untagged_since board w h) q) (knows (untagged_since board w before) q) (knew_front board w before h q front order begun) (knows_front board w before h q front)
+  pub knows_same : (before h : List Event) (q : OpId) → Front before h → UntaggedRun board h → Begun board before q → knows (untagged_since board w h) q ≡ knows (untagged_since board w before) q
+  knows_same before h q front run begun =
+      bool_same (knows (untagged_since board w h) q) (knows (untagged_since board w before) q) (knew_front board w before h q front run begun) (knows_front board w before h q front)
 
   -- and what a reading tells
-  pub heard_same : (before h : List Event) (reading : Reading) → Front before h → Front reading.before before → Orderly board h → heard board w (untagged_since board w h) (Some reading) ≡ heard board w (untagged_since board w before) (Some reading)
-  heard_same before h reading front inner order =
+  pub heard_same : (before h : List Event) (reading : Reading) → Front before h → Front reading.before before → UntaggedRun board h → heard board w (untagged_since board w h) (Some reading) ≡ heard board w (untagged_since board w before) (Some reading)
+  heard_same before h reading front inner run =
       bool_same (heard board w (untagged_since board w h) (Some reading)) (heard board w (untagged_since board w before) (Some reading))
-      (heard_before board w before h reading front inner order) (heard_after board w before h reading front)
+      (heard_before board w before h reading front inner run) (heard_after board w before h reading front)
 
   -- what an operation knew as its master first presented it
   record StartLaw (h : List Event) (q : OpId) (start : ℕ → ℕ) : Type 0 where
@@ -87,16 +82,13 @@ module _ (board : Board) (w : OpId) (write : WriteOp board w) where
     told : (reading : Reading) → IsRead board h reading → heard board w (untagged_since board w h) (Some reading) ≡ reaches ((clocks_of board h).told (length reading.before)) w
 
   module _ (e : Event) (h : List Event) (run : UntaggedRun board (e ∷ h)) (old : Law h) where
-    abbrev order : Orderly board (e ∷ h)
-    order = (untagged_in_order board (e ∷ h) run).0
-
     abbrev one_more : Front h (e ∷ h)
     one_more = front_more h h e (front_self h)
 
     law_kept : (q : OpId) (start : ℕ → ℕ) → StartLaw h q start → StartLaw (e ∷ h) q start
     law_kept q start was = record {
-      begun = Begun-kept board e h q order.0 was.begun;
-      law = ap (λ b. b || same_op q w) (knows_same h (e ∷ h) q one_more order was.begun) ∙ was.law;
+      begun = Begun-kept Untagged board e h q run was.begun;
+      law = ap (λ b. b || same_op q w) (knows_same h (e ∷ h) q one_more run was.begun) ∙ was.law;
     }
 
     -- as a master first presents an operation
@@ -105,18 +97,18 @@ module _ (board : Board) (w : OpId) (write : WriteOp board w) where
         let begun : Begun board h o = Begun-turn board h o turn in
         let now : Bool = knows (untagged_since board w (e ∷ h)) o in
         let some : Bool = is_some (untagged_since board w h o.master) in
-        let stable : now ≡ some = knows_same h (e ∷ h) o one_more order begun ∙ turn_knows h o order.1 turn in
+        let stable : now ≡ some = knows_same h (e ∷ h) o one_more run begun ∙ turn_knows h o run.1 turn in
         let starts_it : Bool = reaches ((clocks_of board h).known o.master) w in
         let same_start : some ≡ starts_it = old.known o.master in
         record {
-          begun = Begun-kept board e h o order.0 begun;
+          begun = Begun-kept Untagged board e h o run begun;
           law = bool_same (now || same_op o w) (starts_it || reaches (own o) w)
               (λ is. or_either ((starts_it || reaches (own o) w) ≡ true) now (same_op o w)
               (λ known. or_left starts_it (reaches (own o) w) (sym same_start ∙ (sym stable ∙ known)))
               (λ same. or_right starts_it (reaches (own o) w) (own_same w o same)) is)
               (λ is. or_either ((now || same_op o w) ≡ true) starts_it (reaches (own o) w)
               (λ known. or_left now (same_op o w) (stable ∙ (same_start ∙ known)))
-              (λ is_own. or_either ((now || same_op o w) ≡ true) some (same_op o w) (λ f. or_left now (same_op o w) (stable ∙ f)) (λ f. or_right now (same_op o w) f) (own_knows h o order.1 turn is_own)) is);
+              (λ is_own. or_either ((now || same_op o w) ≡ true) some (same_op o w) (λ f. or_left now (same_op o w) (stable ∙ f)) (λ f. or_right now (same_op o w) f) (own_knows h o run.1 turn is_own)) is);
         }
 
     -- a landing tells of the write where it speaks of it
@@ -218,7 +210,7 @@ module _ (board : Board) (w : OpId) (write : WriteOp board w) where
               (λ is. or_either ((some || (same_op o w || heard_it)) ≡ true) (some || heard_it) (nat_lt w.index mine)
               (λ f. or_either ((some || (same_op o w || heard_it)) ≡ true) some heard_it (λ g. or_left some (same_op o w || heard_it) g) (λ g. or_right some (same_op o w || heard_it) (or_right (same_op o w) heard_it g)) f)
               (λ f.
-              let knows_it : (is_some (untagged_since board w h o.master) || same_op o w) ≡ true = own_knows h o order.1 turn f in
+              let knows_it : (is_some (untagged_since board w h o.master) || same_op o w) ≡ true = own_knows h o run.1 turn f in
               or_either ((some || (same_op o w || heard_it)) ≡ true) (is_some (untagged_since board w h o.master)) (same_op o w)
               (λ g. or_left some (same_op o w || heard_it) (subst (λ m. is_some (untagged_since board w h m) ≡ true) masters g))
               (λ g. or_right some (same_op o w || heard_it) (or_left (same_op o w) heard_it g)) knows_it) is)
@@ -235,14 +227,14 @@ module _ (board : Board) (w : OpId) (write : WriteOp board w) where
         let S : Option OpId → Type 0 = λ found. is_some (first_known found master w heard_it None) ≡ is_some found in
         (elim (ended e) as P [
           | None ↦ λ _. (elim since as S [ None ↦ refl | Some p ↦ refl ]) ∙ old.known master
-          | Some ending ↦ λ is. ending_law master heard_it tells ending (order.0.turn ending is) got_law
+          | Some ending ↦ λ is. ending_law master heard_it tells ending (ends_turn Untagged board e h ending run is) got_law
         ]) refl
 
   starts_law : (e : Event) (h : List Event) → UntaggedRun board (e ∷ h) → Law h → (q : OpId) (start : ℕ → ℕ) → (clocks_of board (e ∷ h)).start q ≡ Some start → StartLaw (e ∷ h) q start
   starts_law (Act on Master o step place) h run old q start is =
       let e : Event = Act on Master o step place in
       let clocks : Clocks = clocks_of board h in
-      let turn : turn_of board h o.master ≡ Some o = master_turn board h on o run.0.0 in
+      let turn : turn_of board h o.master ≡ Some o = wants-turn board h on o run.0.0 in
       let P : Bool → Type 0 = λ b. same_op o q ≡ b → cond b (first_start (clocks.start q) (clocks.known q.master)) (clocks.start q) ≡ Some start → StartLaw (e ∷ h) q start in
       let Q : Option (ℕ → ℕ) → Type 0 = λ found. clocks.start q ≡ found → first_start found (clocks.known q.master) ≡ Some start → StartLaw (e ∷ h) q start in
       let G : Option (ℕ → ℕ) → Type 0 = λ found. (x : ℕ → ℕ) → found ≡ Some x → StartLaw (e ∷ h) q x in
@@ -267,9 +259,8 @@ module _ (board : Board) (w : OpId) (write : WriteOp board w) where
 
   told_law : (e : Event) (h : List Event) → UntaggedRun board (e ∷ h) → Law h → (reading : Reading) → IsRead board (e ∷ h) reading → heard board w (untagged_since board w (e ∷ h)) (Some reading) ≡ reaches ((clocks_of board (e ∷ h)).told (length reading.before)) w
   told_law e h run old reading it =
-      let order : Orderly board (e ∷ h) = (untagged_in_order board (e ∷ h) run).0 in
       let one : Front h (e ∷ h) = front_more h h e (front_self h) in
-      heard_same h (e ∷ h) reading one (inner it.front.later it.front.is) order ∙ told_now e h run old reading it
+      heard_same h (e ∷ h) reading one (inner it.front.later it.front.is) run ∙ told_now e h run old reading it
     where
       rest_of : List Event → List Event
       rest_of [] = []

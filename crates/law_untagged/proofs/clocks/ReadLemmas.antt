@@ -15,14 +15,12 @@ use Rattle.history_model.specs.declared.event.Step.TheVariants.{Land, Part, Read
 use Rattle.history_model.specs.declared.event.Event.{Event}
 use Rattle.history_model.specs.declared.event.Event.TheVariants.{Act, Arrive}
 use Rattle.history_model.specs.declared.item.Slot.{Slot}
-use Rattle.history_model.specs.World.{anyone, World, same_lane, is_own}
+use Rattle.history_model.specs.declared.rule.Rule.TheVariants.{Untagged}
+use Rattle.history_model.specs.World.{anyone, World, same_lane, is_own, world_by}
 use Rattle.history_model.specs.Knowledge.{Reading, reading_by, reading_in, reading_or}
 use Rattle.history_model.proofs.facts.RequestLemmas.{same_op_self}
-use Rattle.law_fresh.proofs.Laws.{before_in}
-use Rattle.law_untagged.specs.Untagged.{untagged_world}
+use Rattle.law_fresh.proofs.Laws.{before_in, Front, front_self, front_more}
 use Rattle.law_untagged.specs.Origins.{Origins, origin_in, taken_from, taken_in, source_of, answers, origins_of, ending_reading}
-use Rattle.law_untagged.specs.Orderly.{Front}
-use Rattle.law_untagged.proofs.OrderLemmas.{front_self, front_more}
 use Rattle.law_untagged.specs.clocks.Clocks.{reads_at}
 
 -- an event of the run read it
@@ -85,7 +83,7 @@ origins_after : (board : Board) (e : Event) (h : List Event) → AreReads board 
 origins_after board (Act on Master o step place) h old lane number reading is = read_more board (Act on Master o step place) h reading (old lane number reading is)
 origins_after board (Act on (ByLane k) o step place) h old lane number reading is =
     let e : Event = Act on (ByLane k) o step place in
-    let world : World = untagged_world board h in
+    let world : World = world_by Untagged board h in
     let origins : Origins = origins_of board h in
     let P : Bool → Type 0 = λ b. cond b (source_of board h world origins on o step place) (origins lane number) ≡ Some reading → IsRead board (e ∷ h) reading in
     (elim (same_lane k lane && answers board world k o step number) as P [
@@ -101,7 +99,7 @@ origins_read board (e ∷ h) = origins_after board e h (origins_read board h)
 -- what a read got that an event ends
 pub ending_read : (board : Board) (h : List Event) (e : Event) (reading : Reading) → ending_reading board h e ≡ Some reading → IsRead board (e ∷ h) reading
 ending_read board h (Act on Master o step place) reading is =
-    let world : World = untagged_world board h in
+    let world : World = world_by Untagged board h in
     let origins : Origins = origins_of board h in
     let P : Bool → Type 0 = λ b. cond b (source_of board h world origins on o step place) None ≡ Some reading → IsRead board (Act on Master o step place ∷ h) reading in
     (elim (reads board o) as P [ true ↦ λ f. source_read board h world origins (origins_read board h) on Master o step place reading f | false ↦ λ f. cc ]) is

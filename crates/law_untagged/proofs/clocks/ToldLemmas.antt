@@ -7,25 +7,20 @@ use Rattle.pci_command.specs.Same.{same_op}
 use Rattle.board_model.specs.declared.board.Board.{Board}
 use Rattle.board_model.specs.Requests.{op_of, reads}
 use Rattle.history_model.specs.declared.event.Event.{Event}
+use Rattle.history_model.specs.declared.rule.Rule.TheVariants.{Untagged}
 use Rattle.history_model.specs.Program.{Ending, ended, turn_of}
 use Rattle.history_model.specs.Knowledge.{outcome_in, ends_as, Reading, is_write}
 use Rattle.history_model.proofs.facts.RequestLemmas.{same_op_true, same_op_self}
 use Rattle.law_untagged.specs.Untagged.{UntaggedRun}
 use Rattle.law_untagged.specs.Origins.{ending_reading, untagged_got}
 use Rattle.law_untagged.specs.Heard.{Since, knows, heard, first_known, untagged_since, untagged_was_told}
-use Rattle.law_untagged.specs.Orderly.{Begun, Orderly, Front}
-use Rattle.law_untagged.proofs.OrderLemmas.{Begun-turn, front_self, front_more, front_front}
 use Rattle.law_untagged.proofs.HeardLemmas.{ending_front, got_reads}
 use Rattle.law_untagged.proofs.ToldLemmas.{got_along}
-use Rattle.law_untagged.proofs.UntaggedOrderLemmas.{untagged_in_order}
 use Rattle.law_audit.specs.Clocks.{reaches}
-use Rattle.law_fresh.proofs.Laws.{write_op, turn_is_there}
+use Rattle.law_fresh.proofs.Laws.{write_op, turn_is_there, Begun, Begun-turn, ends_turn, Front, front_self, front_more, front_front}
 use Rattle.law_untagged.specs.clocks.Clocks.{clocks_of}
 use Rattle.law_untagged.proofs.clocks.ClockLemmas.{Law, Law-run, turn_knows, knows_same, heard_same}
-
-pub run_along : (board : Board) (later h : List Event) → UntaggedRun board (later ++ h) → UntaggedRun board h
-run_along board [] h run = run
-run_along board (e ∷ later) h run = run_along board later h run.1
+use Rattle.law_untagged.proofs.OrderLemmas.{run_along}
 
 -- the ending of an operation is one of it
 pub ends_it : (e : Event) (ending : Ending) → ended e ≡ Some ending → is_some (ends_as ending.op e) ≡ true
@@ -40,19 +35,17 @@ told_reaches board later e h ending reading w run writes ends read =
     let r : OpId = ending.op in
     let now : Since = untagged_since board w whole in
     let then_ : Since = untagged_since board w h in
-    let order : Orderly board whole = (untagged_in_order board whole run).0 in
     let run_then : UntaggedRun board (e ∷ h) = run_along board later (e ∷ h) run in
-    let order_then : Orderly board (e ∷ h) = (untagged_in_order board (e ∷ h) run_then).0 in
     let front : Front h whole = front_front h (e ∷ h) whole (front_more h h e (front_self h)) (record { later = later; is = refl }) in
-    let turn : turn_of board h r.master ≡ Some r = order_then.0.turn ending ends in
+    let turn : turn_of board h r.master ≡ Some r = ends_turn Untagged board e h ending run_then ends in
     let begun : Begun board h r = Begun-turn board h r turn in
     let law : Law board w (write_op board w writes) (e ∷ h) = Law-run board w (write_op board w writes) (e ∷ h) run_then in
-    let got : untagged_got board whole r ≡ Some reading = got_along board r e h later order (ends_it e ending ends) ∙ read in
+    let got : untagged_got board whole r ≡ Some reading = got_along board r e h later run (ends_it e ending ends) ∙ read in
     let reads_it : reads board r ≡ true = got_reads board whole r reading got in
     let there : is_some (op_of board r) ≡ true = turn_is_there board h r turn in
-    let known : knows now r ≡ is_some (then_ r.master) = knows_same board w (write_op board w writes) h whole r front order begun ∙ turn_knows board w (write_op board w writes) h r order_then.1 turn in
+    let known : knows now r ≡ is_some (then_ r.master) = knows_same board w (write_op board w writes) h whole r front run begun ∙ turn_knows board w (write_op board w writes) h r run_then.1 turn in
     let heard_it : heard board w now (untagged_got board whole r) ≡ heard board w then_ (ending_reading board h e) =
-    ap (heard board w now) got ∙ (heard_same board w (write_op board w writes) h whole reading front (ending_front board h e reading read) order ∙ ap (heard board w then_) (sym read)) in
+    ap (heard board w now) got ∙ (heard_same board w (write_op board w writes) h whole reading front (ending_front board h e reading read) run ∙ ap (heard board w then_) (sym read)) in
     let other : same_op r w ≡ false = not_same (same_op r w) (λ same. read_writes reads_it (same_op_true r w same)) in
     let mine : eqb r.master r.master ≡ true = grind (arith, nat_tests) in
     let F : Option OpId → Option Ending → Type 0 = λ since found. (is_some since || heard board w then_ (ending_reading board h e)) ≡ is_some (first_known since r.master w (heard board w then_ (ending_reading board h e)) found) in

@@ -11,7 +11,7 @@ use Rattle.pci_command.specs.declared.phases.Phase.{Phase}
 use Rattle.pci_command.specs.declared.op_id.OpId.{OpId}
 use Rattle.board_model.specs.declared.board.Board.{Board}
 use Rattle.board_model.specs.Ways.{Dword}
-use Rattle.board_headers.specs.device.Registers.{merge_of}
+use Rattle.board_model.specs.device.Registers.{merge_of}
 use Rattle.history_model.specs.Words.{Landing, mask_in, opens_as, merged}
 use Rattle.safe_model.specs.Raisers.{phases_to}
 use Rattle.safe_model.specs.Clocks.{Table}

@@ -1,7 +1,7 @@
 ghost use Rattle.std.specs.Prelude.{◌≡◌, bit_and};
 ghost use Rattle.std.specs.Option.{option_map};
 ghost use Rattle.board_tree.specs.Decodable.{IsDecodable};
-ghost use Rattle.board_headers.specs.device.Registers.{enabled_bits};
+ghost use Rattle.board_model.specs.device.Registers.{enabled_bits};
 ghost use Rattle.history_model.specs.Words.{opens_as};
 ghost use Rattle.safe_model.specs.Raisers.{is_met_by, is_whole, is_plain, brings_met};
 ghost use Rattle.law_safe.specs.largest.Tests.{wish_of};
@@ -9,8 +9,7 @@ ghost use Rattle.audit_landings.specs.Hits.{dword};
 ghost use Rattle.safe_table.specs.Polls.{wish_for, raises_it, is_clean_write};
 
 use crate::writers::{WordWrite, first_named};
-use board_headers::merge;
-use board_model::{Board, Op, Word, op_of};
+use board_model::{Board, Op, Word, merge, op_of};
 use machine_steps::opens_as;
 use pci_command::{OpId, Phase, Space};
 

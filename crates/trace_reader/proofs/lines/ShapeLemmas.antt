@@ -6,8 +6,8 @@ use Rattle.board_model.specs.declared.board.Board.{Board}
 use Rattle.trace_reader.specs.declared.lines.kind.EventWord.{EventWord}
 use Rattle.trace_reader.specs.declared.lines.kind.EventWord.TheVariants.{Land, Part, Read, Accept, Latch, Take, Stall, Nobody, Abort, Arrive}
 use Rattle.trace_reader.specs.declared.lines.line.TraceLine.{TraceLine}
-use Rattle.trace_reader.specs.declared.lines.line.LineFault.{LineFault}
-use Rattle.trace_reader.specs.declared.lines.line.LineFault.TheVariants.{NoKind, Misshapen}
+use Rattle.text_faults.specs.declared.trace_line.TraceLineFault.{TraceLineFault}
+use Rattle.text_faults.specs.declared.trace_line.TraceLineFault.TheVariants.{NoKind, Misshapen}
 use Rattle.trace_reader.specs.lines.Events.{has_words_for, event_in}
 use Rattle.trace_reader.specs.lines.Lines.{second_word, begins_end, is_regular, has_shape, end_line, happens, event_line_by, kind_by, pieces_line}
 
@@ -25,7 +25,7 @@ no_line_of Abort pieces none = grind (arith, nat_tests)
 no_line_of Arrive pieces none = grind (arith, nat_tests)
 
 -- read so
-abbrev pub fault_so : LineFault → Result TraceLine LineFault
+abbrev pub fault_so : TraceLineFault → Result TraceLine TraceLineFault
 fault_so fault = Err fault
 
 -- nor is one that ends

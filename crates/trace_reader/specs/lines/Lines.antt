@@ -7,8 +7,8 @@ use Rattle.history_model.specs.declared.event.Event.{Event}
 use Rattle.trace_reader.specs.declared.lines.kind.EventWord.{EventWord}
 use Rattle.trace_reader.specs.declared.lines.line.TraceLine.{TraceLine}
 use Rattle.trace_reader.specs.declared.lines.line.TraceLine.TheVariants.{Happens, Ends}
-use Rattle.trace_reader.specs.declared.lines.line.LineFault.{LineFault}
-use Rattle.trace_reader.specs.declared.lines.line.LineFault.TheVariants.{Unreadable, NoKind, Misshapen, Unknown}
+use Rattle.text_faults.specs.declared.trace_line.TraceLineFault.{TraceLineFault}
+use Rattle.text_faults.specs.declared.trace_line.TraceLineFault.TheVariants.{Unreadable, NoKind, Misshapen, Unknown}
 use Rattle.trace_reader.specs.lines.Words.{number_of}
 use Rattle.trace_reader.specs.lines.Events.{kind_of, has_words_for, word_as, event_in}
 
@@ -57,22 +57,22 @@ abbrev pub has_shape : List (List ℕ) → Bool
 has_shape pieces = is_regular pieces && nat_le (length pieces) 6
 
 -- the number of the `end` line, if it is one
-abbrev pub ends_with : Option ℕ → Result TraceLine LineFault
+abbrev pub ends_with : Option ℕ → Result TraceLine TraceLineFault
 ends_with None = Err Unknown
 ends_with (Some count) = Ok (Ends count)
 
 -- `end N`
-abbrev pub end_line : List (List ℕ) → Result TraceLine LineFault
+abbrev pub end_line : List (List ℕ) → Result TraceLine TraceLineFault
 end_line pieces =
     if is_regular pieces && length pieces == 2 then ends_with (word_as number_of pieces 1) else Err Misshapen
 
 -- an event, if the words name one
-abbrev pub happens : Option Event → Result TraceLine LineFault
+abbrev pub happens : Option Event → Result TraceLine TraceLineFault
 happens None = Err Unknown
 happens (Some event) = Ok (Happens event)
 
 -- the event of a line of this kind, or its fault
-abbrev pub event_line_by : Board → List (List ℕ) → Option EventWord → Result TraceLine LineFault
+abbrev pub event_line_by : Board → List (List ℕ) → Option EventWord → Result TraceLine TraceLineFault
 event_line_by board pieces None = Err NoKind
 event_line_by board pieces (Some kind) =
     if is_regular pieces && has_words_for kind pieces then happens (event_in board kind pieces) else Err Misshapen
@@ -83,10 +83,10 @@ kind_by None = None
 kind_by (Some word) = kind_of word
 
 -- a line by its pieces: the end, or an event
-abbrev pub pieces_line : Board → List (List ℕ) → Result TraceLine LineFault
+abbrev pub pieces_line : Board → List (List ℕ) → Result TraceLine TraceLineFault
 pieces_line board pieces =
     if begins_end pieces then end_line pieces else event_line_by board pieces (kind_by (second_word pieces))
 
 -- a line, without its newline
-abbrev pub line_of : Board → List ℕ → Result TraceLine LineFault
+abbrev pub line_of : Board → List ℕ → Result TraceLine TraceLineFault
 line_of board line = if is_unreadable line then Err Unreadable else pieces_line board (pieces_of line)

@@ -1,5 +1,5 @@
 -- What is looked up once for all lines of a trace: where each name stands, and the bridges.
-use Rattle.std.specs.Prelude.{◌≡◌, ℕ, ◌<◌, List, Option, Some, None, Bool, slice_index_or}
+use Rattle.std.specs.Prelude.{◌≡◌, ℕ, ◌<◌, List, Option, Some, None, Bool, slice_index_or, IfSome}
 use Rattle.std.specs.Borrow.{Bor}
 use Rattle.std.specs.Option.{option_map}
 use Rattle.std.specs.List.{position, find}
@@ -28,8 +28,20 @@ also_at None here last = only_where here (Some last)
 abbrev pub above : Board → ℕ → Option ℕ
 above board bus = option_map (λ (bridge : Bridge). bridge.parent) (find (has_bus bus) board.bridges)
 
--- each name of the board is found where it stands first, and each bridge by its secondary bus
-pub record Knows (board : Board) (by_master by_target : Places) (by_bus : List (Option ℕ)) : Type 0 where
+-- names with their places, some of those that a table has
+abbrev pub Guesses : Type 0
+Guesses = List (Option (Bor (List ℕ) × ℕ))
+
+-- each of 256 guesses is right of its own name
+abbrev pub AreRight : Places → Guesses → Type 0
+AreRight places guesses =
+    (at : ℕ) → at < 256 → IfSome (slice_index_or guesses at None) (λ guess. place_of places guess.0.now ≡ Some guess.1)
+
+-- each name of the board is found where it stands first, each guess is right, and each bridge is found by its
+-- secondary bus
+pub record Knows (board : Board) (by_master by_target : Places) (likely_masters likely_targets : Guesses) (by_bus : List (Option ℕ)) : Type 0 where
   pub masters : (word : List ℕ) → place_of by_master word ≡ position (is_master_named word) board.masters
   pub targets : (word : List ℕ) → place_of by_target word ≡ position (is_target_named word) board.targets
+  pub right_masters : AreRight by_master likely_masters
+  pub right_targets : AreRight by_target likely_targets
   pub bridges : (bus : ℕ) → bus < 256 → slice_index_or by_bus bus None ≡ above board bus

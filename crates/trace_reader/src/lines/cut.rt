@@ -1,17 +1,20 @@
 ghost use Rattle.std.specs.Prelude.{◌≡◌, false, true, map, is_some, Err, MatchOption};
 ghost use Rattle.std.specs.Option.{option_map};
 ghost use Rattle.board_model.specs.declared.board.Board.{Board};
-ghost use Rattle.trace_reader.specs.lines.Lines.{pieces_of, first_word, second_word, begins_end, is_regular, has_shape, kind_by, pieces_line};
+ghost use Rattle.trace_reader.specs.lines.Lines.{pieces_of, first_word, second_word, begins_end};
+ghost use Rattle.trace_reader.specs.lines.Lines.{is_regular, has_shape, kind_by, pieces_line};
 
-use crate::lines::LineFault;
 use crate::lines::kind::kind_of;
 use arrayvec::ArrayVec;
 use board_statements::parts;
+use text_faults::TraceLineFault;
 
 /// The words of a line, where single spaces alone stand between them, and there are no more than
 /// the longest line of an event has.
 pub(crate) fn words_of(line: &[u8]) -> Option<ArrayVec<&[u8], 6>>
-    ensures { MatchOption result (has_shape (pieces_of line.now) ≡ false) (λ words. (map (λ word. word.now) words.items ≡ pieces_of line.now) × (is_regular (pieces_of line.now) ≡ true)) }
+    ensures { MatchOption result (has_shape (pieces_of line.now) ≡ false)
+        (λ words. (map (λ word. word.now) words.items ≡ pieces_of line.now) ×
+        (is_regular (pieces_of line.now) ≡ true)) }
 {
     let mut words = ArrayVec::new();
     let mut rest = line;
@@ -38,17 +41,17 @@ pub(crate) fn words_of(line: &[u8]) -> Option<ArrayVec<&[u8], 6>>
 
 /// The fault of a line whose words are too many or stand otherwise: its second word may be no kind
 /// of event.
-pub(crate) fn fault_of_shape(line: &[u8]) -> LineFault
+pub(crate) fn fault_of_shape(line: &[u8]) -> TraceLineFault
     requires { has_shape (pieces_of line.now) ≡ false }
     ensures { (board : Board) → pieces_line board (pieces_of line.now) ≡ Err result }
 {
     if begins_end(line) {
-        return LineFault::Misshapen;
+        return TraceLineFault::Misshapen;
     }
     if has_kind(line) {
-        return LineFault::Misshapen;
+        return TraceLineFault::Misshapen;
     }
-    LineFault::NoKind
+    TraceLineFault::NoKind
 }
 
 fn begins_end(line: &[u8]) -> bool

@@ -1,7 +1,10 @@
 ghost use Rattle.std.specs.Prelude.{◌≡◌, map, is_some, slice_get};
 ghost use Rattle.std.specs.Option.{option_map};
-ghost use Rattle.trace_reader.specs.lines.Words.{value_of, bus_in, lane_in, by_in, target_in, op_in, outcome_in, phases_in};
-ghost use Rattle.trace_reader.specs.lines.Events.{mark_of, mark_at_end, has_words_for, word_as, at_target, reader_in, at_reader, at_lane, done_by, act_in, arrival_in, event_in};
+ghost use Rattle.trace_reader.specs.lines.Words.{value_of, bus_in, lane_in, by_in, target_in};
+ghost use Rattle.trace_reader.specs.lines.Words.{op_in, outcome_in, phases_in};
+ghost use Rattle.trace_reader.specs.lines.Events.{mark_of, mark_at_end, has_words_for, word_as};
+ghost use Rattle.trace_reader.specs.lines.Events.{at_target, reader_in, at_reader, at_lane};
+ghost use Rattle.trace_reader.specs.lines.Events.{done_by, act_in, arrival_in, event_in};
 
 use crate::lines::kind::EventWord;
 use crate::lines::line::piece;

@@ -3,7 +3,9 @@ ghost use Rattle.std.specs.Option.{option_map};
 ghost use Rattle.std.specs.List.{list_all};
 ghost use Rattle.trace_reader.specs.lines.Words.{number_of};
 ghost use Rattle.trace_reader.specs.lines.Events.{word_as};
-ghost use Rattle.trace_reader.specs.lines.Lines.{is_printing, is_unreadable, begins_end, is_regular, end_line, event_line_by, pieces_line, line_of};
+ghost use Rattle.trace_reader.specs.lines.Lines.{is_printing, is_unreadable, begins_end};
+ghost use Rattle.trace_reader.specs.lines.Lines.{is_regular, end_line, event_line_by, pieces_line};
+ghost use Rattle.trace_reader.specs.lines.Lines.{line_of};
 
 use crate::lines::cut::{fault_of_shape, words_of};
 use crate::lines::event::{event_in, has_words_for};
@@ -11,7 +13,7 @@ use crate::lines::kind::{EventWord, kind_of};
 use crate::lines::names::Names;
 use crate::lines::words::number_of;
 use history_model::Event;
-use thiserror::Error;
+use text_faults::TraceLineFault;
 
 /// What a line behind `events` says.
 #[derive(Clone, Copy, Debug, PartialEq, Eq)]
@@ -22,26 +24,13 @@ pub enum TraceLine {
     Ends(u32),
 }
 
-/// Why a line of a trace is not read.
-#[derive(Clone, Copy, Debug, PartialEq, Eq, Error)]
-pub enum LineFault {
-    #[error("a line longer than 256 bytes, or with a byte outside 20 to 7e")]
-    Unreadable,
-    #[error("its second word is no kind of event")]
-    NoKind,
-    #[error("a word is missing or too many, or spaces stand otherwise")]
-    Misshapen,
-    #[error("a word names nothing of the board, or is no number of its kind as printed")]
-    Unknown,
-}
-
 /// A line of a trace behind `events`, without its newline: an event of the board or the end, and
 /// else its first fault.
-pub fn read_line(names: &Names, line: &[u8]) -> Result<TraceLine, LineFault>
+pub fn read_line(names: &Names, line: &[u8]) -> Result<TraceLine, TraceLineFault>
     ensures { result ≡ line_of names.now line.now }
 {
     if is_unreadable(line) {
-        return Err(LineFault::Unreadable);
+        return Err(TraceLineFault::Unreadable);
     }
     match words_of(line) {
         Some(words) => read_words(names, words.as_slice()),
@@ -49,7 +38,8 @@ pub fn read_line(names: &Names, line: &[u8]) -> Result<TraceLine, LineFault>
     }
 }
 
-fn read_words(names: &Names, words: &[&[u8]]) -> Result<TraceLine, LineFault>
+/// The same of a line by its words, between which single spaces alone stand.
+pub(crate) fn read_words(names: &Names, words: &[&[u8]]) -> Result<TraceLine, TraceLineFault>
     requires { is_regular (map (λ word. word.now) words.now) ≡ true }
     ensures { result ≡ pieces_line names.now (map (λ word. word.now) words.now) }
 {
@@ -58,7 +48,7 @@ fn read_words(names: &Names, words: &[&[u8]]) -> Result<TraceLine, LineFault>
     }
     match piece(words, 1) {
         Some(word) => read_event(names, words, kind_of(word)),
-        None => Err(LineFault::NoKind),
+        None => Err(TraceLineFault::NoKind),
     }
 }
 
@@ -66,32 +56,32 @@ fn read_event(
     names: &Names,
     words: &[&[u8]],
     kind: Option<EventWord>,
-) -> Result<TraceLine, LineFault>
+) -> Result<TraceLine, TraceLineFault>
     requires { is_regular (map (λ word. word.now) words.now) ≡ true }
     ensures { result ≡ event_line_by names.now (map (λ word. word.now) words.now) kind }
 {
     let Some(kind) = kind else {
-        return Err(LineFault::NoKind);
+        return Err(TraceLineFault::NoKind);
     };
     if !has_words_for(kind, words) {
-        return Err(LineFault::Misshapen);
+        return Err(TraceLineFault::Misshapen);
     }
     match event_in(names, kind, words) {
         Some(event) => Ok(TraceLine::Happens(event)),
-        None => Err(LineFault::Unknown),
+        None => Err(TraceLineFault::Unknown),
     }
 }
 
-fn read_end(words: &[&[u8]]) -> Result<TraceLine, LineFault>
+fn read_end(words: &[&[u8]]) -> Result<TraceLine, TraceLineFault>
     requires { is_regular (map (λ word. word.now) words.now) ≡ true }
     ensures { result ≡ end_line (map (λ word. word.now) words.now) }
 {
     if words.len() != 2 {
-        return Err(LineFault::Misshapen);
+        return Err(TraceLineFault::Misshapen);
     }
     match number_at(words, 1) {
         Some(number) => Ok(TraceLine::Ends(number)),
-        None => Err(LineFault::Unknown),
+        None => Err(TraceLineFault::Unknown),
     }
 }
 
@@ -104,7 +94,8 @@ fn number_at(words: &[&[u8]], place: usize) -> Option<u32>
 
 /// The piece at a place, from 0.
 pub(crate) fn piece<'a>(pieces: &[&'a [u8]], place: usize) -> Option<&'a [u8]>
-    ensures { option_map (λ piece. piece.now) result ≡ slice_get (map (λ piece. piece.now) pieces.now) place }
+    ensures { option_map (λ piece. piece.now) result ≡
+        slice_get (map (λ piece. piece.now) pieces.now) place }
 {
     pieces.get(place).copied()
 }

@@ -2,13 +2,16 @@ ghost use Rattle.std.specs.Prelude.{◌≡◌, ◌<◌, ℕ, List, None, slice_i
 ghost use Rattle.std.specs.Str.{bytes_eq};
 ghost use Rattle.std.specs.List.{position};
 ghost use Rattle.board_model.specs.WellFormed.{is_master_named, is_target_named};
-ghost use Rattle.trace_reader.specs.lines.Names.{place_of, also_at, above};
+ghost use Rattle.trace_reader.specs.lines.Names.{place_of, also_at, above, AreRight};
 
 use board_model::{Board, Lane, bridge_to};
 use pci_command::NoMemory;
 use std::alloc::Global;
 use std::collections::BTreeMap;
 use std::marker::Model;
+
+/// Of each sum of bytes a name that has it, with its place: a guess for words of that sum.
+type Guesses<'a> = [Option<(&'a [u8], usize)>; 256];
 
 /// A board whose names and bridges were looked up once for all lines of a trace. Clauses see the
 /// board.
@@ -17,6 +20,9 @@ pub struct Names<'a> {
     board: &'a Board,
     masters: BTreeMap<&'a [u8], usize>,
     targets: BTreeMap<&'a [u8], usize>,
+    // What the two tables are asked before, as it takes one step.
+    likely_masters: Guesses<'a>,
+    likely_targets: Guesses<'a>,
     // By secondary bus: the bus above the bridge to it.
     above: [Option<u8>; 256],
 }
@@ -29,7 +35,9 @@ impl<'a> Model for Names<'a> {
 
     ghost view = { λ names. names.board.now };
 
-    ghost invariant = { λ names. Knows names.board.now names.masters names.targets names.above };
+    ghost invariant = { λ names.
+        Knows names.board.now names.masters names.targets
+        names.likely_masters names.likely_targets names.above };
 }
 
 impl<'a> Names<'a> {
@@ -45,11 +53,15 @@ impl<'a> Names<'a> {
     {
         let masters = masters_of(alloc, board)?;
         let targets = targets_of(alloc, board)?;
+        let likely_masters = guesses_of(&masters);
+        let likely_targets = guesses_of(&targets);
         let above = bridges_of(board);
         Ok(Names {
             board,
             masters,
             targets,
+            likely_masters,
+            likely_targets,
             above,
         })
     }
@@ -65,14 +77,14 @@ impl<'a> Names<'a> {
     pub(crate) fn master(&self, word: &[u8]) -> Option<usize>
         ensures { result ≡ position (is_master_named word.now) self.now.masters }
     {
-        place_of(&self.masters, word)
+        place_in(&self.masters, &self.likely_masters, word)
     }
 
     /// The place of the target of this name.
     pub(crate) fn target(&self, word: &[u8]) -> Option<usize>
         ensures { result ≡ position (is_target_named word.now) self.now.targets }
     {
-        place_of(&self.targets, word)
+        place_in(&self.targets, &self.likely_targets, word)
     }
 
     /// Whether there is a bridge to this secondary bus.
@@ -94,6 +106,41 @@ impl<'a> Names<'a> {
     }
 }
 
+/// The place of a name: that of the guess, if it has this name, and else as the table has it.
+fn place_in(places: &BTreeMap<&[u8], usize>, likely: &Guesses<'_>, word: &[u8]) -> Option<usize>
+    requires { AreRight places.now likely.now }
+    ensures { result ≡ place_of places.now word.now }
+{
+    if let Some((name, place)) = likely[usize::from(sum_of(word))] {
+        if name == word {
+            return Some(place);
+        }
+    }
+    place_of(places, word)
+}
+
+/// A number by which names differ as a rule: nothing rests on it.
+fn sum_of(word: &[u8]) -> u8 {
+    let mut sum = 0u8;
+    for byte in word {
+        sum = sum.wrapping_mul(31).wrapping_add(*byte);
+    }
+    sum
+}
+
+/// The guesses for the names of a table.
+fn guesses_of<'a>(places: &BTreeMap<&'a [u8], usize>) -> Guesses<'a>
+    ensures { AreRight places.now result }
+{
+    let mut guesses = [None; 256];
+    for name in places.keys() {
+        if let Some(place) = place_of(places, *name) {
+            guesses[usize::from(sum_of(*name))] = Some((*name, place));
+        }
+    }
+    guesses
+}
+
 fn place_of(places: &BTreeMap<&[u8], usize>, word: &[u8]) -> Option<usize>
     ensures { result ≡ place_of places.now word.now }
 {
@@ -106,7 +153,9 @@ fn note<'a>(
     name: &'a [u8],
     place: usize,
 ) -> Result<(), NoMemory>
-    ensures { OnOk result ((word : List ℕ) → place_of places.new word ≡ also_at (place_of places.old word) (bytes_eq name.now word) place) }
+    ensures { OnOk result ((word : List ℕ) →
+        place_of places.new word ≡
+        also_at (place_of places.old word) (bytes_eq name.now word) place) }
 {
     if place_of(places, name).is_some() {
         return Ok(());
@@ -116,7 +165,8 @@ fn note<'a>(
 }
 
 fn masters_of<'a>(alloc: Global, board: &'a Board) -> Result<BTreeMap<&'a [u8], usize>, NoMemory>
-    ensures { IfOk result (λ places. (word : List ℕ) → place_of places word ≡ position (is_master_named word) board.now.masters) }
+    ensures { IfOk result (λ places. (word : List ℕ) →
+        place_of places word ≡ position (is_master_named word) board.now.masters) }
 {
     let mut places = BTreeMap::new(alloc);
     let masters = board.masters.as_slice();
@@ -127,7 +177,8 @@ fn masters_of<'a>(alloc: Global, board: &'a Board) -> Result<BTreeMap<&'a [u8], 
 }
 
 fn targets_of<'a>(alloc: Global, board: &'a Board) -> Result<BTreeMap<&'a [u8], usize>, NoMemory>
-    ensures { IfOk result (λ places. (word : List ℕ) → place_of places word ≡ position (is_target_named word) board.now.targets) }
+    ensures { IfOk result (λ places. (word : List ℕ) →
+        place_of places word ≡ position (is_target_named word) board.now.targets) }
 {
     let mut places = BTreeMap::new(alloc);
     let targets = board.targets.as_slice();

@@ -1,6 +1,7 @@
 ghost use Rattle.std.specs.Prelude.{◌≡◌};
 ghost use Rattle.std.specs.Option.{option_map};
-ghost use Rattle.trace_reader.specs.lines.Words.{at_most, number_of, master_in, at_dot, named, index_and_try, op_by, op_in};
+ghost use Rattle.trace_reader.specs.lines.Words.{at_most, number_of, master_in, at_dot, named};
+ghost use Rattle.trace_reader.specs.lines.Words.{index_and_try, op_by, op_in};
 ghost use Rattle.trace_text.specs.Words.{names_poll};
 
 use crate::lines::names::Names;

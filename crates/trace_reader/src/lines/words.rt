@@ -1,16 +1,38 @@
-ghost use Rattle.std.specs.Prelude.{◌≡◌, ◌<◌, ◌≤◌, length, take, slice_index, nat_le, Some, None};
+ghost use Rattle.std.specs.Prelude.{◌≡◌, ◌<◌, ◌≤◌, [], ◌∷◌, length, take, slice_index, nat_le};
+ghost use Rattle.std.specs.Prelude.{Some, None};
 ghost use Rattle.std.specs.Option.{option_map, option_and_then};
 ghost use Rattle.std.specs.List.{list_all};
-ghost use Rattle.trace_reader.specs.lines.Words.{only_where, answered, has_no_zero_before, number_of, at_most, is_lower_case, value_of, bus_in, bridge_in, towards, without_last, last_byte, lane_in, by_in, target_in, begins_header, header_in, outcome_in, phases_in};
+ghost use Rattle.trace_reader.specs.lines.Words.{only_where, answered, has_no_zero_before};
+ghost use Rattle.trace_reader.specs.lines.Words.{number_of, at_most, is_lower_case, value_of};
+ghost use Rattle.trace_reader.specs.lines.Words.{bus_in, bridge_in, towards, without_last};
+ghost use Rattle.trace_reader.specs.lines.Words.{last_byte, lane_in, by_in, target_in};
+ghost use Rattle.trace_reader.specs.lines.Words.{begins_header, header_in, outcome_in, phases_in};
 
 use crate::lines::names::Names;
 use board_model::Lane;
-use board_text::{decimal, hex};
+use board_text::{decimal, hex, value_of_digit};
 use history_model::By;
 use pci_command::Outcome;
 
 /// A decimal number below 2^32, as it is printed.
 pub(crate) fn number_of(word: &[u8]) -> Option<u32>
+    ensures { result ≡ number_of word.now }
+{
+    match word {
+        [byte] => number_of_digit(*byte),
+        _ => number_of_digits(word),
+    }
+}
+
+/// The same of one byte.
+fn number_of_digit(byte: u8) -> Option<u32>
+    ensures { result ≡ number_of (byte ∷ []) }
+{
+    let value = value_of_digit(byte);
+    if value < 10 { Some(value) } else { None }
+}
+
+fn number_of_digits(word: &[u8]) -> Option<u32>
     ensures { result ≡ number_of word.now }
 {
     if has_no_zero_before(word) {

@@ -14,7 +14,7 @@ use Rattle.history_model.specs.declared.event.By.{By}
 use Rattle.history_model.specs.declared.event.Step.{Step}
 use Rattle.history_model.specs.declared.event.Step.TheVariants.{Land, Part, Read, Accept, Latch, Take, Stall, MasterAbort, TargetAbort}
 use Rattle.history_model.specs.declared.event.Event.TheVariants.{Act}
-use Rattle.board_roundtrip.specs.lines.Fits.{BoardFits}
+use Rattle.board_model.specs.Fits.{BoardFits}
 use Rattle.board_roundtrip.proofs.lines.AllowedTexts.{width}
 use Rattle.board_roundtrip.specs.words.Printed.{has_words_alone, joined}
 use Rattle.trace_text.specs.Words.{by_word, op_word, place_words}

@@ -16,7 +16,7 @@ use Rattle.board_model.specs.Valid.{has_bridge_to, is_bus, lacks_a_bus}
 use Rattle.history_model.specs.declared.event.Mark.{Mark}
 use Rattle.history_model.specs.declared.event.Mark.TheVariants.{Plain, Discard, Drop}
 use Rattle.history_model.specs.declared.event.Event.TheVariants.{Arrive}
-use Rattle.board_roundtrip.specs.lines.Fits.{BoardFits}
+use Rattle.board_model.specs.Fits.{BoardFits}
 use Rattle.board_roundtrip.proofs.lines.AllowedTexts.{width}
 use Rattle.board_roundtrip.specs.words.Printed.{is_word, has_words_alone, joined}
 use Rattle.trace_text.specs.Words.{lane_word}

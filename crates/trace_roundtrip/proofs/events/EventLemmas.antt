@@ -5,7 +5,7 @@ use Rattle.board_model.specs.WellFormed.{is_well_formed}
 use Rattle.board_model.specs.Valid.{lacks_a_bus}
 use Rattle.history_model.specs.declared.event.Event.{Event}
 use Rattle.history_model.specs.declared.event.Event.TheVariants.{Act, Arrive}
-use Rattle.board_roundtrip.specs.lines.Fits.{BoardFits}
+use Rattle.board_model.specs.Fits.{BoardFits}
 use Rattle.board_roundtrip.specs.words.Printed.{has_words_alone, joined}
 use Rattle.trace_text.specs.Events.{event_line, HasLine}
 use Rattle.trace_reader.specs.declared.lines.line.TraceLine.TheVariants.{Happens}

@@ -16,8 +16,8 @@ use Rattle.board_model.specs.WellFormed.{has_bus}
 use Rattle.board_model.specs.Valid.{has_bridge_to, is_bus}
 use Rattle.history_model.specs.declared.event.By.{By}
 use Rattle.history_model.specs.declared.event.By.TheVariants.{Master, Lane as FromLane}
-use Rattle.board_roundtrip.specs.lines.Ranges.{BridgeFits}
-use Rattle.board_roundtrip.specs.lines.Fits.{BoardFits}
+use Rattle.board_model.specs.Fits.{BridgeFits}
+use Rattle.board_model.specs.Fits.{BoardFits}
 use Rattle.board_roundtrip.specs.words.Printed.{is_word_byte, is_word}
 use Rattle.trace_text.specs.Words.{lane_word, by_word}
 use Rattle.trace_text.specs.Events.{has_initiator}

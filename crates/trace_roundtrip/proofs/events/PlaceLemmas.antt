@@ -14,7 +14,7 @@ use Rattle.board_model.specs.Valid.{has_bridge_to}
 use Rattle.history_model.specs.declared.event.Step.{Step}
 use Rattle.history_model.specs.declared.event.Step.TheVariants.{Land, Part, Read, Accept, Latch, Take, Stall, MasterAbort, TargetAbort}
 use Rattle.board_printer.specs.Numbers.{word_text}
-use Rattle.board_roundtrip.specs.lines.Fits.{BoardFits}
+use Rattle.board_model.specs.Fits.{BoardFits}
 use Rattle.board_roundtrip.proofs.lines.AllowedTexts.{width}
 use Rattle.board_roundtrip.proofs.lines.PartTexts.{word_length}
 use Rattle.board_roundtrip.specs.words.Printed.{is_word}

@@ -12,7 +12,7 @@ use Rattle.board_model.specs.declared.board.Board.{Board}
 use Rattle.board_model.specs.Requests.{op_of}
 use Rattle.board_model.specs.WellFormed.{is_well_formed}
 use Rattle.board_roundtrip.specs.words.Printed.{is_word_byte, is_word}
-use Rattle.board_roundtrip.specs.lines.Fits.{ProgramFits, BoardFits}
+use Rattle.board_model.specs.Fits.{ProgramFits, BoardFits}
 use Rattle.trace_text.specs.Words.{master_name, names_poll, try_text, op_word}
 use Rattle.trace_reader.specs.lines.Words.{at_most, at_dot, number_of, named, index_and_try, op_by, master_in, op_in}
 use Rattle.trace_roundtrip.proofs.names.NumberLemmas.{number_is_read, number_is_short}

@@ -3,7 +3,7 @@ use Rattle.std.proofs.Common.{◌≡◌, ℕ, ◌^◌, ◌<◌, true, length, So
 use Rattle.board_model.specs.declared.agents.Target.{Target}
 use Rattle.board_model.specs.declared.board.Board.{Board}
 use Rattle.board_model.specs.WellFormed.{is_well_formed}
-use Rattle.board_roundtrip.specs.lines.Fits.{DetailsFit, BoardFits}
+use Rattle.board_model.specs.Fits.{DetailsFit, BoardFits}
 use Rattle.trace_text.specs.Words.{target_name}
 use Rattle.trace_reader.specs.lines.Words.{target_in}
 use Rattle.trace_roundtrip.proofs.names.NameLemmas.{NameWord, name_is_word}

@@ -19,17 +19,17 @@ use Rattle.history_model.specs.declared.event.Step.{Step}
 use Rattle.history_model.specs.declared.event.Step.TheVariants.{Land, Part, Read, Accept, Latch, Take, Stall, MasterAbort, TargetAbort}
 use Rattle.history_model.specs.declared.event.Event.{Event}
 use Rattle.history_model.specs.declared.event.Event.TheVariants.{Act, Arrive}
+use Rattle.history_model.specs.declared.rule.Rule.TheVariants.{Untagged}
 use Rattle.history_model.specs.Program.{Ending, ended, turn_of}
 use Rattle.history_model.specs.Words.{Landing, landed}
 use Rattle.history_model.specs.Knowledge.{Reading, reading_of, reading_by, has_landed}
 use Rattle.history_model.proofs.facts.RequestLemmas.{same_op_true}
+use Rattle.history_model.proofs.facts.WantsLemmas.{wants-turn}
 use Rattle.law_fresh.proofs.reads.Laws.{master_there}
 use Rattle.law_untagged.specs.Untagged.{UntaggedRun}
 use Rattle.law_untagged.specs.Origins.{ending_reading}
-use Rattle.law_untagged.specs.Orderly.{Orderly}
-use Rattle.law_untagged.proofs.UntaggedOrderLemmas.{master_turn, untagged_in_order}
 use Rattle.law_audit.specs.Clocks.{own}
-use Rattle.law_fresh.proofs.Laws.{turn_is_there}
+use Rattle.law_fresh.proofs.Laws.{turn_is_there, ends_turn}
 use Rattle.board_model.specs.declared.word.Word.{Word}
 use Rattle.audit_clocks.specs.Rows.{number}
 use Rattle.audit_clocks.specs.Tables.{value_of, list_in, numbers_of, writes_in}
@@ -221,15 +221,12 @@ module _ (board : Board) (h : List Event) (k : KnowerState) (old : Knows board h
 
   event_starts : (e : Event) (new : List (OpId × List ℕ)) → UntaggedRun board (e ∷ h) → Presents e k.known k.starts new → Started e new
   event_starts (Act on Master p step place) new run is =
-      let turn : turn_of board h p.master ≡ Some p = master_turn board h on p run.0.0 in
+      let turn : turn_of board h p.master ≡ Some p = wants-turn board h on p run.0.0 in
       master_starts on p step place new (master_within board p (turn_is_there board h p turn)) is
   event_starts (Act on (ByLane lane) p step place) new run is = started_still (Act on (ByLane lane) p step place) new (λ o. refl) is
   event_starts (Arrive lane mark) new run is = started_still (Arrive lane mark) new (λ o. refl) is
 
   module _ (e : Event) (got : Option Got) (new : KnowerState) (run : UntaggedRun board (e ∷ h)) (same_got : SameGot got (ending_reading board h e)) (it : Happens board e got k new) where
-    abbrev order : Orderly board (e ∷ h)
-    order = (untagged_in_order board (e ∷ h) run).0
-
     told_is : (place author : ℕ) → author < M → number (list_in (flat (slice_get new.told place))) author ≡ (clocks_of board (e ∷ h)).told place author
     told_is place author below = ap (λ xs. number (list_in (flat (slice_get xs place))) author) it.told ∙ told_next e it.read place author below it.read_is
 
@@ -264,7 +261,7 @@ module _ (board : Board) (h : List Event) (k : KnowerState) (old : Knows board h
     one_ended : (ending : Ending) → ended e ≡ Some ending → Learns ending.op (list_in (told_at new.told got)) k.known new.known → Learned
     one_ended ending is learns =
         let o : OpId = ending.op in
-        let within_o : o.master < M = master_within board o (turn_is_there board h o (order.0.turn ending is)) in
+        let within_o : o.master < M = master_within board o (turn_is_there board h o (ends_turn Untagged board e h ending run is)) in
         let inside : o.master < length k.known = let masters = old.masters in omega (arith, masters, within_o) in
         let tells : ℕ → ℕ = got_tells ((clocks_of board (e ∷ h)).told) (ending_reading board h e) in
         let raises = learns.mine inside in

@@ -2,21 +2,22 @@ use Rattle.std.proofs.Common.{Bool, ◌+◌, subst}
 use Rattle.engine_phases.specs.Phase.{AllTurned}
 use Rattle.engine_runs.specs.Loop.{all_seen}
 use Rattle.engine_runs.proofs.SteadyLemmas.{laid_worked, above_worked, steady_settled}
+use Rattle.engine_runs.proofs.IdleLemmas.{idle_settled}
 use Rattle.engine_runs.proofs.steady.run_phase.Goals as goal
 
 pub settle_all-requires-clause-laid : goal.settle_all-requires-clause-laid
 settle_all-requires-clause-laid g c =
     let E = g.L.LaneEnd in
-    laid_worked E.had E.sent E.got E.kept E.paired c.args.board.now (all_seen c.args.workers.now) (all_seen c.work_all.new.workers) c.args.above.now c.args.phases c.in_ok-busy.busy c.requires.steady c.in_ok-busy.ensures
+    laid_worked E.had E.sent E.got E.kept E.paired c.args.board.now (all_seen c.args.workers.now) (all_seen c.work_all.new.workers) c.args.above.now c.args.phases c.in_ok-busy.busy c.requires.steady c.in_ok-busy.ensures.worked
 
 pub settle_all-requires-clause-above : goal.settle_all-requires-clause-above
 settle_all-requires-clause-above g c =
     let E = g.L.LaneEnd in
-    above_worked E.had E.sent E.got E.kept E.paired c.args.board.now (all_seen c.args.workers.now) (all_seen c.work_all.new.workers) c.args.above.now c.args.phases c.in_ok-busy.busy c.requires.steady c.in_ok-busy.ensures
+    above_worked E.had E.sent E.got E.kept E.paired c.args.board.now (all_seen c.args.workers.now) (all_seen c.work_all.new.workers) c.args.above.now c.args.phases c.in_ok-busy.busy c.requires.steady c.in_ok-busy.ensures.worked
 
 pub settle_all-requires-clause-may : goal.settle_all-requires-clause-may
 settle_all-requires-clause-may g c =
-    c.turns_stop_no_worker.ensures.settle c.args.board.now (all_seen c.args.workers.now) (all_seen c.work_all.new.workers) c.args.phases c.in_ok-busy.busy c.requires.valid c.requires.steady.after c.in_ok-busy.ensures.turned
+    c.turns_stop_no_worker.ensures.settle c.args.board.now (all_seen c.args.workers.now) (all_seen c.work_all.new.workers) c.args.phases c.in_ok-busy.busy c.requires.valid c.requires.steady.after c.in_ok-busy.ensures.worked.turned
 
 pub returns-then-busy-clause-busy : goal.returns-then-busy-clause-busy
 returns-then-busy-clause-busy g c =
@@ -25,7 +26,7 @@ returns-then-busy-clause-busy g c =
     let old = all_seen c.args.workers.now in
     let new = all_seen c.work_all.new.workers in
     let settled = all_seen c.settle_all.new.workers in
-    let worked = c.in_ok-busy.ensures in
+    let worked = c.in_ok-busy.ensures.worked in
     let after = c.requires.steady.after in
     let none = c.turns_stop_no_worker.ensures.going board old new c.args.phases c.in_ok-busy.busy c.requires.valid after worked.turned c.requires.crosses in
     let turned = subst (λ (b : Bool). AllTurned E.had E.sent E.got E.kept E.paired board (c.args.phases + 1) old new b) c.if-busy.true worked.turned in
@@ -39,5 +40,13 @@ returns-else-busy-clause-idle g c =
     let old = all_seen c.args.workers.now in
     let new = all_seen c.work_all.new.workers in
     λ idle.
-    let turned = subst (λ (b : Bool). AllTurned E.had E.sent E.got E.kept E.paired board (c.args.phases + 1) old new b) idle c.in_ok-busy.ensures.turned in
+    let turned = subst (λ (b : Bool). AllTurned E.had E.sent E.got E.kept E.paired board (c.args.phases + 1) old new b) idle c.in_ok-busy.ensures.worked.turned in
     c.idle_phases_end_the_run.ensures board old new c.args.phases c.requires.valid c.requires.steady.after turned c.requires.crosses
+
+pub returns-then-busy-clause-marked : goal.returns-then-busy-clause-marked
+returns-then-busy-clause-marked g c =
+    let E = g.L.LaneEnd in
+    idle_settled E.had E.sent E.got E.kept E.paired c.args.board.now (all_seen c.work_all.new.workers) (all_seen c.settle_all.new.workers) c.work_all.new.idle c.settle_all.ensures c.in_ok-busy.ensures.marked
+
+pub returns-else-busy-clause-marked : goal.returns-else-busy-clause-marked
+returns-else-busy-clause-marked g c = c.in_ok-busy.ensures.marked

@@ -4,5 +4,5 @@ use Rattle.engine_runs.proofs.steady.run_phases.Goals as goal
 
 pub unreachable-requires : goal.unreachable-requires
 unreachable-requires g c =
-    let few = c.phases_are_few.ensures c.args.board.now (all_seen c.loop-phases.workers) c.loop-phases.phases c.requires.valid c.loop-phases.invariant.after in
+    let few = c.phases_are_few.ensures c.args.board.now (all_seen c.loop-phases.workers) c.loop-phases.phases c.requires.valid c.loop-phases.invariant.steady.after in
     omega (arith, few)

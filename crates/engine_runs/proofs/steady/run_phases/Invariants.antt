@@ -1,4 +1,4 @@
-use Rattle.engine_runs.specs.Loop.{all_seen}
+use Rattle.engine_runs.specs.Loop.{all_seen, AreMarkedIdle}
 use Rattle.engine_runs.specs.Steady.{IsSteady}
 use Rattle.engine_runs.proofs.steady.run_phases.Given as goal
 
@@ -6,4 +6,7 @@ use Rattle.engine_runs.proofs.steady.run_phases.Given as goal
 abbrev pub invariant-loop-phases : goal.invariant-loop-phases
 invariant-loop-phases g l =
     let E = g.L.LaneEnd in
-    IsSteady {End = g.row.L.Denot} E.had E.sent E.got E.kept E.paired l.board (all_seen l.workers) l.above l.phases
+    record {
+      steady : IsSteady {End = g.row.L.Denot} E.had E.sent E.got E.kept E.paired l.board (all_seen l.workers) l.above l.phases;
+      marked : AreMarkedIdle {End = g.row.L.Denot} l.board (all_seen l.workers) l.idle;
+    }

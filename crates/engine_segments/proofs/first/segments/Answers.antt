@@ -6,7 +6,7 @@ use Rattle.board_model.specs.declared.board.Board.{Board}
 use Rattle.bus_segment.specs.declared.segment.Segment.{Segment}
 use Rattle.bus_segment.specs.Stands.{WorkerView}
 use Rattle.engine_segments.specs.First.{lanes_to, buses_of, worker_of, IsAtFirst}
-use Rattle.engine_segments.specs.Parts.{BridgeFits}
+use Rattle.board_model.specs.Fits.{BridgeFits, BoardFits}
 use Rattle.engine_segments.proofs.SegmentLemmas.{AreSoFar, any_default, one_left, ends_fit, one_more, all_made, nothing_left}
 use Rattle.engine_segments.proofs.first.segments.Goals as goal
 
@@ -82,5 +82,6 @@ returns g c =
     let all : List (List g.row.L.Denot) = map items c.args.ends.items in
     let none = nothing_left (into_iter_items c.loop-at.at-iterator) (sym c.loop-at.invariant.1 ∙ c.in-None.ensures.steps.0) in
     let so_far = subst (λ (l : List (Vec g.row.L.Denot Global)). AreSoFar board all (map items l) made) none c.loop-at.invariant.0 in
-    let bridges : AllByRecursion BridgeFits board.bridges = subst (AllByRecursion BridgeFits) (c.as_slice.ensures ∙ ap (λ (b : Board). b.bridges) c.board-board.ensures.value) c.bridges_fit.ensures in
+    let fits : BoardFits board = subst BoardFits c.board-board.ensures.value c.board_fits.ensures in
+    let bridges : AllByRecursion BridgeFits board.bridges = fits.bridges in
     all_made board all c.requires made bridges so_far

@@ -1,4 +1,4 @@
-use Rattle.std.proofs.Common.{◌≡◌, Some, None, subst, sym, ◌∙◌}
+use Rattle.std.proofs.Common.{◌≡◌, Some, None, refl, subst, sym, ◌∙◌}
 use Rattle.board_model.specs.Requests.{request_of}
 use Rattle.bus_core.specs.declared.given.Given.{Given}
 use Rattle.bus_core.specs.Bus.{BusView}
@@ -26,3 +26,6 @@ returns-in-None-clause-answers c =
     let none = subst (λ (s : BusView). request_of c.args.board.now c.args.op s.bus ≡ None) c.self.view_is (sym c.request_of.ensures ∙ c.in-None.is) in
     subst (λ (g : Given). BusAnswers c.args.board.now c.args.self.now c.args.line c.args.op g.answer g.over c.args.self.now) (sym c.nobody.ensures)
     (no_request c.args.board.now c.args.self.now c.args.line c.args.op none)
+
+pub returns-in-None-clause-retried : goal.returns-in-None-clause-retried
+returns-in-None-clause-retried c = record { stays = λ cause is. refl }

@@ -1,4 +1,4 @@
-use Rattle.std.proofs.Common.{◌≡◌, Option, None, subst, sym, ◌∙◌}
+use Rattle.std.proofs.Common.{◌≡◌, Option, None, refl, subst, sym, ◌∙◌}
 use Rattle.board_model.specs.declared.bridge.Place.TheVariants.{Target, Header, Lane, Nobody}
 use Rattle.board_model.specs.Claims.{claim}
 use Rattle.history_model.specs.declared.item.Answer.{Answer}
@@ -58,3 +58,9 @@ returns-in-Nobody-clause-answers c =
     (nobody_claims c.args.board.now c.args.self.now c.args.line c.args.op c.args.request.now c.rest_of-rest.result) in
     request_answers c.args.board.now c.args.self.now Nobody c.args.line c.args.op c.args.request.now c.rest_of-rest.result c.nobody.result.answer c.nobody.result.over c.args.self.now
     c.requires left claims answers
+
+pub returns-in-Header-clause-retried : goal.returns-in-Header-clause-retried
+returns-in-Header-clause-retried c = record { stays = λ cause is. refl }
+
+pub returns-in-Nobody-clause-retried : goal.returns-in-Nobody-clause-retried
+returns-in-Nobody-clause-retried c = record { stays = λ cause is. refl }

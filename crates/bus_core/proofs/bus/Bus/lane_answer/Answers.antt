@@ -1,4 +1,4 @@
-use Rattle.std.proofs.Common.{◌≡◌, List, Option, Some, None, ap, subst, sym, ◌∙◌, arith}
+use Rattle.std.proofs.Common.{◌≡◌, List, Option, Some, None, refl, ap, subst, sym, ◌∙◌, arith}
 use Rattle.std.proofs.lemmas.List.{with_items_is}
 use Rattle.std.specs.List.{position}
 use Rattle.board_model.specs.Ways.{lane_back}
@@ -11,7 +11,7 @@ use Rattle.bus_core.specs.declared.given.Sent.{Sent}
 use Rattle.bus_core.specs.Bus.{BusView, shape_of, arrivals_at}
 use Rattle.bus_core.specs.Parts.{PlaceAnswers, PlaceTurns}
 use Rattle.bus_core.specs.Places.{RespondsAt, sent_over}
-use Rattle.bus_core.proofs.LaneLemmas.{lane_nobody, lane_turns, lane_replies, ports_shape, ports_arrivals}
+use Rattle.bus_core.proofs.LaneLemmas.{lane_nobody, lane_turns, lane_replies, ports_shape, ports_arrivals, ports_stay}
 use Rattle.bus_core.proofs.bus.Bus.lane_answer.Goals as goal
 
 pub returns-in-None-clause-answers : goal.returns-in-None-clause-answers
@@ -63,3 +63,17 @@ returns-in-Some-2-clause-answers c = λ board rest.
     let one = subst (λ answer. P was answer (sent_over c.in-Some.place c.args.op c.args.stamp c.respond_at-reply.result)) (sym c.as_answer.ensures) base in
     let two = subst (λ over. P was c.as_answer.result over) (sym c.sent_over.ensures) one in
     subst (λ ports. Q c.args.self.now c.as_answer.result c.sent_over.result (new ports)) (sym items) (subst (λ s. P s c.as_answer.result c.sent_over.result) c.self.view_is two)
+
+pub returns-in-None-clause-retried : goal.returns-in-None-clause-retried
+returns-in-None-clause-retried c = record { stays = λ cause is. refl }
+
+pub returns-in-Some-2-clause-retried : goal.returns-in-Some-2-clause-retried
+returns-in-Some-2-clause-retried c =
+    let responds = subst (λ (old : List PortView). RespondsAt c.in-Some.place old c.args.line c.args.op c.args.request.now c.respond_at-reply.result c.respond_at-reply.new.ports) c.as_mut_slice.ensures.value c.respond_at-reply.ensures in
+    let new : List PortView → BusView = λ ports. record { bus = c.self.inside.bus; ports = ports; masters = c.self.inside.masters.items; targets = c.self.inside.targets.items; through = c.self.inside.through } in
+    let items = with_items_is c.self.inside.ports c.respond_at-reply.new.ports (omega arith) in
+    record {
+      stays = λ cause is.
+          let same = ports_stay c.in-Some.place c.args.line c.args.op c.args.request.now c.args.lane c.respond_at-reply.result cause c.self.inside.ports.items c.respond_at-reply.new.ports responds (sym c.as_answer.ensures ∙ is) in
+          ap new (items ∙ same) ∙ c.self.view_is;
+    }

@@ -6,6 +6,7 @@ use Rattle.history_model.specs.declared.event.Event.TheVariants.{Act}
 use Rattle.history_model.specs.declared.item.Answer.{Answer}
 use Rattle.bus_face.specs.Offers.{offers_of}
 use Rattle.bus_core.specs.port.Port.{PortView}
+use Rattle.bus_core.specs.declared.given.Served.TheVariants.{Retried, TurnsBack as Back}
 use Rattle.bus_core.specs.Bus.{BusView, Shape}
 use Rattle.bus_core.specs.Calls.{BusAnswers}
 use Rattle.bus_core.proofs.OfferLemmas.{offer_turns, offer_retried, offer_did}
@@ -37,3 +38,12 @@ returns-in-Gives-clause-serves c = λ port there.
       presents = offer_did c.args.board.now c.args.self.now c.answer.new.self c.tell_lane-back.new.self c.args.place port c.args.offer.now c.in-Gives.step c.in-Gives.at c.in-Some.given.over c.tell_lane-back.result there offered answers
           c.in-Some.ensures.shape c.in-Some.ensures.masters c.in-Some.ensures.presenter c.tell_lane-back.ensures.shape c.tell_lane-back.ensures.tells;
     }
+
+pub returns-in-None-clause-retried : goal.returns-in-None-clause-retried
+returns-in-None-clause-retried c = λ is. let wrong : Back ≡ Retried = is in cc
+
+pub returns-in-Retry-clause-retried : goal.returns-in-Retry-clause-retried
+returns-in-Retry-clause-retried c = λ is. c.in-Some.ensures.retried.stays c.in-Retry.cause c.in-Retry.is
+
+pub returns-in-Gives-clause-retried : goal.returns-in-Gives-clause-retried
+returns-in-Gives-clause-retried c = λ is. cc

@@ -5,6 +5,7 @@ use Rattle.history_model.specs.declared.event.Event.TheVariants.{Act}
 use Rattle.history_model.specs.declared.item.Answer.{Answer}
 use Rattle.history_model.specs.declared.item.Answer.TheVariants.{Gives}
 use Rattle.bus_agents.specs.Turns.{MasterView}
+use Rattle.bus_core.specs.declared.given.Served.TheVariants.{Retried, TurnsBack as Back}
 use Rattle.bus_core.specs.Bus.{BusView, Shape}
 use Rattle.bus_core.specs.Calls.{BusAnswers}
 use Rattle.bus_core.specs.Places.{TellsMaster}
@@ -38,3 +39,12 @@ returns-in-Gives-clause-serves c = λ master there turn.
       event = ap (λ n. Act n Master c.args.op c.in-Gives.step c.in-Gives.at) bus;
       presents = subst (λ (masters : List MasterView). BusPresents c.args.board.now Master c.args.op c.args.self.now (Gives c.in-Gives.step c.in-Gives.at) c.in-Some.given.over None (new masters)) (sym items) base;
     }
+
+pub returns-in-None-clause-retried : goal.returns-in-None-clause-retried
+returns-in-None-clause-retried c = λ is. let wrong : Back ≡ Retried = is in cc
+
+pub returns-in-Retry-clause-retried : goal.returns-in-Retry-clause-retried
+returns-in-Retry-clause-retried c = λ is. c.in-Some.ensures.retried.stays c.in-Retry.cause c.in-Retry.is
+
+pub returns-in-Gives-clause-retried : goal.returns-in-Gives-clause-retried
+returns-in-Gives-clause-retried c = λ is. cc

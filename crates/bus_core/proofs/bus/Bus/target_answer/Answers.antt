@@ -1,9 +1,9 @@
-use Rattle.std.proofs.Common.{◌≡◌, ◌==◌, List, Some, None, ap, subst, sym, ◌∙◌, arith}
+use Rattle.std.proofs.Common.{◌≡◌, ◌==◌, List, Some, None, refl, ap, subst, sym, ◌∙◌, arith}
 use Rattle.std.proofs.lemmas.List.{with_items_is}
 use Rattle.std.specs.List.{position}
 use Rattle.board_model.specs.declared.bridge.Place.TheVariants.{Target}
 use Rattle.history_model.specs.declared.event.Step.{Step}
-use Rattle.history_model.specs.declared.item.Answer.TheVariants.{Gives}
+use Rattle.history_model.specs.declared.item.Answer.TheVariants.{Gives, Retry}
 use Rattle.bus_targets.specs.State.{TargetView}
 use Rattle.bus_core.specs.declared.given.Given.{Given}
 use Rattle.bus_core.specs.Bus.{BusView, shape_of}
@@ -42,3 +42,9 @@ returns-in-Some-clause-answers c = λ line request.
     let P : BusView → Step → BusView → Type 0 = λ s step after. PlaceAnswers c.args.board.now s (Target c.args.target) line c.args.op request c.args.rest.now (Gives step (Target c.args.target)) None after in
     let one = subst (λ step. P was step (new c.access_at-access.new.targets)) (sym c.step_of.ensures) base in
     subst (λ targets. P c.args.self.now c.step_of.result (new targets)) (sym items) (subst (λ s. P s c.step_of.result (new c.access_at-access.new.targets)) c.self.view_is one)
+
+pub returns-in-None-clause-retried : goal.returns-in-None-clause-retried
+returns-in-None-clause-retried c = record { stays = λ cause is. refl }
+
+pub returns-in-Some-clause-retried : goal.returns-in-Some-clause-retried
+returns-in-Some-clause-retried c = record { stays = λ cause is. let wrong : Gives c.step_of.result (Target c.args.target) ≡ Retry cause = is in cc }

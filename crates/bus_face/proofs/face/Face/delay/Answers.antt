@@ -1,5 +1,5 @@
 use Rattle.std.proofs.Common.{subst, refl}
-use Rattle.bus_face.specs.requests.Slots.{IsOwnNumber, HasNoOwn}
+use Rattle.lane_items.specs.requests.Slots.{IsOwnNumber, HasNoOwn}
 use Rattle.bus_face.specs.State.{FaceState}
 use Rattle.bus_face.proofs.DelayLemmas.{delay_some, delay_none}
 use Rattle.bus_face.proofs.face.Face.delay.Goals as goal

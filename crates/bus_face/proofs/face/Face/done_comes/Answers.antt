@@ -1,8 +1,8 @@
 use Rattle.std.proofs.Common.{ℕ, ◌<◌, length, refl, subst, sym, arith}
-use Rattle.bus_face.specs.declared.completions.done_table.Done.{Done}
+use Rattle.lane_items.specs.declared.completions.done_table.Done.{Done}
 use Rattle.bus_face.specs.State.{FaceState}
-use Rattle.bus_face.specs.requests.Slots.{IsHeld}
-use Rattle.bus_face.specs.completions.Completions.{IsStanding}
+use Rattle.lane_items.specs.requests.Slots.{IsHeld}
+use Rattle.lane_items.specs.completions.Completions.{IsStanding}
 use Rattle.bus_face.proofs.HeldLemmas.{one_more_fits}
 use Rattle.bus_face.proofs.face.Face.done_comes.Goals as goal
 

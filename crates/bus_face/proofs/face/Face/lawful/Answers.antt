@@ -1,5 +1,5 @@
 use Rattle.std.proofs.Common.{subst}
-use Rattle.bus_face.specs.requests.Slots.{IsOneForEachNumber}
+use Rattle.lane_items.specs.requests.Slots.{IsOneForEachNumber}
 use Rattle.bus_face.specs.State.{FaceState}
 use Rattle.bus_face.specs.Arrivals.{carried}
 use Rattle.bus_face.proofs.LawfulLemmas.{lawful_on_lanes}

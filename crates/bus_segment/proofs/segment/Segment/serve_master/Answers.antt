@@ -39,4 +39,4 @@ returns-clause-quiet g c = λ same on.
     let served = c.serve_master-presented in
     let serves = subst (λ (s : BusView). ServesMaster c.args.board.now c.args.place c.args.self.now.bus served.result s) (sym c.finish.ensures.bus) served.ensures.serves in
     master_retries {End = End} E.had E.sent E.got E.kept E.paired c.args.board.now c.args.self.now.bus c.finish.new.self.bus c.args.place served.result c.args.self.now.stamp c.args.self.now.ends.items c.finish.new.self.ends.items
-    c.args.self.now.events.items c.finish.new.self.events.items c.finish.new.self.stopped serves c.finish.ensures.finishes same on
+    c.args.self.now.events.items c.finish.new.self.events.items c.finish.new.self.stopped serves (λ is. c.finish.ensures.bus ∙ served.ensures.retried is) c.finish.ensures.finishes same on

@@ -42,4 +42,4 @@ returns-clause-quiet g c = λ same on.
     let port = there_at c.args.self.now.bus.ports c.args.place c.requires.place in
     let serves = subst (λ (s : BusView). Serves c.args.board.now (ByLane port.0.lane) c.args.offer.now.op c.args.self.now.bus served.result s) (sym c.finish.ensures.bus) (served.ensures.serves port.0 port.1) in
     offer_retries {End = End} E.had E.sent E.got E.kept E.paired c.args.board.now c.args.self.now.bus c.finish.new.self.bus c.args.place port.0 c.args.offer.now.op served.result c.args.self.now.stamp c.args.self.now.ends.items c.finish.new.self.ends.items
-    c.args.self.now.events.items c.finish.new.self.events.items c.finish.new.self.stopped port.1 serves c.finish.ensures.finishes same on
+    c.args.self.now.events.items c.finish.new.self.events.items c.finish.new.self.stopped port.1 serves (λ is. c.finish.ensures.bus ∙ served.ensures.retried is) c.finish.ensures.finishes same on

@@ -1,7 +1,7 @@
 use Rattle.std.proofs.Common.{List, subst}
 use Rattle.std.proofs.lemmas.Result.{IfOk-weaker}
 use Rattle.board_model.specs.declared.board.Board.{Board}
-use Rattle.board_model.specs.Fits.{BusesFit}
+use Rattle.board_model.specs.Fits.{BoardFits}
 use Rattle.board_model.specs.Valid.{IsValid}
 use Rattle.history_model.specs.declared.event.Event.{Event}
 use Rattle.history_model.specs.Runs.{history_of}
@@ -14,7 +14,7 @@ returns c =
     let events : List Event = c.args.events.now in
     let h : List Event = history_of events in
     let valid : IsValid board = c.board-board.ensures.valid in
-    let fits : BusesFit board = subst BusesFit c.board-board.ensures.value c.board_fits.ensures in
+    let fits : BoardFits board = subst BoardFits c.board-board.ensures.value c.board_fits.ensures in
     let fresh = c.runs_are_fresh.ensures board h valid c.requires in
     let left = c.reads_return_what_was_left.ensures.left board h valid c.requires in
     let held = c.reads_return_what_was_left.ensures.held board h valid c.requires in

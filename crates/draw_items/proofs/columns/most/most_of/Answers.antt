@@ -19,4 +19,4 @@ loop-item-preserved c =
     let on : item.lane.bus < 256 = omega arith in
     let so : IsMost (take (i + 1) items) (with_item item c.loop-item.most) =
     subst (λ (l : List Journey). IsMost l (with_item item c.loop-item.most)) (sym (take_more items i d c.loop-item-test.true)) (most_more (take i items) item c.loop-item.most on c.loop-item.invariant) in
-    subst (λ (l : List ℕ). IsMost (take (i + 1) items) l) (sym c.in_ok-see.ensures) so
+    subst (λ (l : List ℕ). IsMost (take (i + 1) items) l) (sym c.see.ensures) so

@@ -1,5 +1,5 @@
 use Rattle.std.proofs.Common.{◌≡◌, Bool, true, false, List, replicate, Some, length, sym, ap, slice_get, subst}
-use Rattle.board_model.specs.Fits.{BusesFit}
+use Rattle.board_model.specs.Fits.{BoardFits}
 use Rattle.judge_next.specs.Lines.{AreLines}
 use Rattle.judge_next.specs.Flights.{KnowsFlights}
 use Rattle.judge_next.proofs.RowLemmas.{none_stands}
@@ -12,7 +12,7 @@ returns c = λ h stands.
     let none : c.in_ok-quiet.quiet.items ≡ replicate 256 false = c.in_ok-quiet.ensures.items_if_clones_equal (λ _ e. e) in
     record {
       stands = stands;
-      fits = subst BusesFit c.board-board.ensures.value c.board_fits.ensures;
+      fits = subst BoardFits c.board-board.ensures.value c.board_fits.ensures;
       lines = lines;
       all_buses = ap length none;
       quiet = λ bus is. absurd (none_stands 256 bus (subst (λ (flags : List Bool). slice_get flags bus ≡ Some true) none is));

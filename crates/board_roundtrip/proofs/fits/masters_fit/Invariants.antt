@@ -1,8 +1,0 @@
-use Rattle.std.proofs.Common.{take}
-use Rattle.std.specs.List.{AllByRecursion}
-use Rattle.board_roundtrip.specs.lines.Fits.{ProgramFits}
-use Rattle.board_roundtrip.proofs.fits.masters_fit.Given as goal
-
--- the masters so far
-abbrev pub invariant-loop-master : goal.invariant-loop-master
-invariant-loop-master l = AllByRecursion ProgramFits (take l.master-index l.masters)

@@ -1,7 +1,0 @@
-use Rattle.std.proofs.Common.{◌≡◌, drop}
-use Rattle.bus_face.specs.requests.Slots.{slot_at}
-use Rattle.bus_face.proofs.requests.slot_table.SlotTable.operation.Given as goal
-
--- what is found among the slots that are left is what is found among all
-abbrev pub invariant-loop-held : goal.invariant-loop-held
-invariant-loop-held l = slot_at l.slot l.held-items ≡ slot_at l.slot (drop l.held-index l.held-items)

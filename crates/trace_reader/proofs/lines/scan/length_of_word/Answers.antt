@@ -1,0 +1,10 @@
+use Rattle.std.proofs.Common.{◌∙◌, rules, tests}
+use Rattle.std.proofs.lemmas.Iterator.{YieldsList-from_slice}
+use Rattle.std.proofs.lemmas.Iterator.Search.{position_from_yields_List}
+use Rattle.board_text.proofs.CutLemmas.{first_or_length}
+use Rattle.trace_reader.specs.lines.Scanned.{ends_word}
+use Rattle.trace_reader.proofs.lines.scan.length_of_word.Goals as goal
+
+pub returns-clause-value : goal.returns-clause-value
+returns-clause-value c =
+    c.unwrap_or.ensures ∙ first_or_length ends_word c.args.text.now _ (position_from_yields_List ends_word _ _ _ c.position.ensures.ran (YieldsList-from_slice c.args.text.now cc) (λ x b q k. search (rules, tests)))
