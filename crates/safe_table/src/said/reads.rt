@@ -1,5 +1,5 @@
-ghost use Rattle.std.specs.Prelude.{◌≡◌, ◌≤◌, true, length, map, get_or, IfOk, not, ◌&&◌};
-ghost use Rattle.std.specs.List.{find, filter, list_any, prefix_len, AllByRecursion};
+ghost use Rattle.std.specs.Prelude.{◌≡◌, ◌≤◌, true, length, map, get_or, IfOk, IfSome};
+ghost use Rattle.std.specs.List.{find, filter, prefix_len, AllByRecursion};
 ghost use Rattle.law_safe.specs.largest.Tests.{is_before};
 ghost use Rattle.law_safe.specs.said.Said.{safe, left_by, is_beside, is_open};
 ghost use Rattle.law_safe.specs.said.Said.{first_beside, said_beside};
@@ -39,14 +39,33 @@ pub(crate) fn said_of_read(
         looks.now.table.now) (dword word) read (first_beside looks.now.tree.now (table_of
         looks.now.table.now) (dword word) read)) }
 {
-    if let Some(beside) = first_beside(looks, read, reached.runs()) {
+    if let Some(said) = said_if_chained(looks, word, read, reached) {
+        Ok(said)
+    } else if let Some(beside) = first_beside(looks, read, reached.runs()) {
         Ok(Said::Unsafe { word, beside })
-    } else if reached.is_chained() {
-        Ok(said_in_chain(looks, word, read, reached))
     } else if are_all_before(looks, read, reached.runs()) {
         said_behind_all(alloc, looks, word, reached)
     } else {
         said_by_order(alloc, looks, word, read, reached.writes())
+    }
+}
+
+/// Where they land in one order and none of them is beside the read.
+fn said_if_chained(looks: &Looks, word: Word, read: OpId, reached: &Reached) -> Option<Said>
+    requires seen { IsSeen looks.now.tree.now looks.now.table.now looks.now.writers.now
+        looks.now.polls.now }
+    requires members { AreMembers looks.now.tree.now (table_of looks.now.table.now) (dword word)
+        reached.now }
+    ensures { IfSome result (λ said. verdict said ≡ said_beside looks.now.tree.now (table_of
+        looks.now.table.now) (dword word) read (first_beside looks.now.tree.now (table_of
+        looks.now.table.now) (dword word) read)) }
+{
+    if !reached.is_chained() {
+        return None;
+    }
+    match beside_in(looks, read, reached.list()) {
+        Some(_) => None,
+        None => Some(said_in_chain(looks, word, read, reached)),
     }
 }
 

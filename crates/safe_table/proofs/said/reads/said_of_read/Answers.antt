@@ -13,17 +13,7 @@ use Rattle.safe_table.specs.Landing.{joined}
 use Rattle.safe_table.specs.AllSaid.{verdict}
 use Rattle.safe_table.specs.Members.{said_open}
 use Rattle.safe_table.proofs.said.MemberLemmas.{read_is}
-use Rattle.safe_table.proofs.said.ChainLemmas.{chain_read}
 use Rattle.safe_table.proofs.said.reads.said_of_read.Goals as goal
-
-pub returns-then-is_chained : goal.returns-then-is_chained
-returns-then-is_chained c =
-    let board : Board = c.args.looks.now.tree.now in
-    let table : Table = table_of c.args.looks.now.table.now in
-    let joins = ap (λ (rs : List (List WordWrite)). joined rs) c.runs.ensures ∙ c.requires.members.runs.all in
-    let same = ap (λ (ws : List WordWrite). find (is_beside board table c.args.read) (map op_in ws)) joins in
-    let none : None ≡ find (is_beside board table c.args.read) (map op_in c.args.reached.now.writes) = cc (c.in_default.ensures, same) in
-    c.said_in_chain.ensures ∙ chain_read board table c.requires.seen.largest (dword c.args.word) c.args.read c.args.reached.now c.requires.members (sym c.is_chained.ensures ∙ c.if-is_chained.true) none
 
 pub returns-then-are_all_before : goal.returns-then-are_all_before
 returns-then-are_all_before c =
@@ -33,7 +23,7 @@ returns-then-are_all_before c =
     let joins = ap (λ (rs : List (List WordWrite)). joined rs) c.runs.ensures ∙ c.requires.members.runs.all in
     let again = ap (λ (rs : List (List WordWrite)). joined rs) c.runs-2.ensures ∙ c.requires.members.runs.all in
     let same = ap (λ (ws : List WordWrite). find (is_beside board table c.args.read) (map op_in ws)) joins in
-    let none : None ≡ find (is_beside board table c.args.read) (map op_in c.args.reached.now.writes) = cc (c.in_default.ensures, same) in
+    let none : None ≡ find (is_beside board table c.args.read) (map op_in c.args.reached.now.writes) = cc (c.in_default-2.ensures, same) in
     let all : earlier (map op_in c.args.reached.now.writes) ≡ map op_in c.args.reached.now.writes =
     subst (λ (ws : List WordWrite). earlier (map op_in ws) ≡ map op_in ws) again (c.are_all_before.ensures c.if-are_all_before.true) in
     let is : said_open board table (dword c.args.word) (map op_in c.args.reached.now.writes) ≡ said_beside board table (dword c.args.word) c.args.read (first_beside board table (dword c.args.word) c.args.read) =
