@@ -1,6 +1,6 @@
 -- Which writes of runs are not settled with others, and which runs come before a read.
 use Rattle.std.proofs.Common.{◌≡◌, ℕ, zero, suc, ◌+◌, ◌-◌, ◌<◌, ◌≤◌, Bool, true, false, not, ◌&&◌, ◌||◌, cond, List, [], ◌∷◌, ◌++◌, nat_lt, length, drop, get_or, slice_get, map, Option, Some, None, refl, sym, ap, subst, ◌∙◌, arith}
-use Rattle.std.specs.List.{filter, find, list_any, prefix_len, AllByRecursion}
+use Rattle.std.specs.List.{filter, list_any, prefix_len, AllByRecursion}
 use Rattle.std.specs.Option.{option_map}
 use Rattle.std.specs.List.Sorted.{IsPartitionedBy}
 use Rattle.std.proofs.Math.Seq.{drop-cons}

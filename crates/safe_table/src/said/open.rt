@@ -1,5 +1,5 @@
-ghost use Rattle.std.specs.Prelude.{◌≡◌, ◌≤◌, ◌-◌, true, length, map, slice_get, not,
-    ◌&&◌, None};
+ghost use Rattle.std.specs.Prelude.{◌≡◌, ◌≤◌, ◌-◌, true, length, map, slice_get};
+ghost use Rattle.std.specs.Prelude.{not, ◌&&◌, None};
 ghost use Rattle.std.specs.List.{find, filter, prefix_len};
 ghost use Rattle.std.specs.Option.{option_map};
 ghost use Rattle.pci_command.specs.Same.{same_op};

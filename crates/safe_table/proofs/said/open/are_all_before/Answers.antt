@@ -1,4 +1,4 @@
-use Rattle.std.proofs.Common.{Bool, sym, ◌∙◌}
+use Rattle.std.proofs.Common.{Bool}
 use Rattle.pci_command.specs.declared.op_id.OpId.{OpId}
 use Rattle.law_safe.specs.largest.Tests.{is_before}
 use Rattle.safe_table.specs.Rows.{table_of}

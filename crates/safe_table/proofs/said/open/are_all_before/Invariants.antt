@@ -1,4 +1,4 @@
-use Rattle.std.proofs.Common.{drop, map}
+use Rattle.std.proofs.Common.{drop}
 use Rattle.law_safe.specs.largest.Tests.{is_before}
 use Rattle.safe_table.specs.Rows.{table_of}
 use Rattle.safe_table.proofs.said.OpenLemmas.{KeptIf}

@@ -1,4 +1,4 @@
-use Rattle.std.proofs.Common.{rules, of_calls, Bool, map}
+use Rattle.std.proofs.Common.{rules, of_calls, Bool}
 use Rattle.std.proofs.lemmas.Fn.{always_returns_same}
 use Rattle.board_model.specs.declared.board.Board.{Board}
 use Rattle.safe_model.specs.Clocks.{Table}

@@ -1,7 +1,6 @@
-use Rattle.std.proofs.Common.{◌≡◌, List, None, map, sym, ap, subst, ◌∙◌}
+use Rattle.std.proofs.Common.{◌≡◌, List, None, map, sym, ap, ◌∙◌}
 use Rattle.std.specs.List.{find}
 use Rattle.board_model.specs.declared.board.Board.{Board}
-use Rattle.pci_command.specs.declared.op_id.OpId.{OpId}
 use Rattle.safe_model.specs.Clocks.{Table}
 use Rattle.law_safe.specs.said.Said.{is_beside}
 use Rattle.audit_landings.specs.Hits.{dword}
