@@ -1,3 +1,4 @@
+ghost use Rattle.std.specs.Prelude.{◌==◌, ◌&&◌, ◌||◌};
 ghost use Rattle.std.specs.Prelude.{◌≡◌, ◌+◌, ◌-◌, ◌<◌, ◌≤◌, true, false, length, max, vec_len, IfOk};
 ghost use Rattle.std.specs.Vec.{vec_capacity};
 ghost use Rattle.board_model.specs.Valid.{IsValid};
@@ -156,8 +157,7 @@ impl<L: LaneEnd + Drop> Worker<L> {
         let before = self.segment.recorded();
         receive_all(&mut self.segment, board);
         let came = (self.segment.recorded() - before) as u32;
-        let rests = self.segment.stopped() || (idle && came == 0);
-        if rests {
+        if rests(self.segment.stopped(), idle, came) {
             return came;
         }
         serve_all(&mut self.segment, &mut self.arbiter, board);
@@ -197,4 +197,11 @@ impl<L: LaneEnd + Drop> Worker<L> {
         } = self;
         segment.take_events()
     }
+}
+
+/// Whether nobody is served: the segment stopped, or is idle and nothing came.
+fn rests(stopped: bool, idle: bool, came: u32) -> bool
+    ensures { result ≡ (stopped || (idle && (came == 0))) }
+{
+    stopped || (idle && came == 0)
 }
