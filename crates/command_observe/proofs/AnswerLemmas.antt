@@ -10,7 +10,7 @@ use Rattle.observe_told.specs.Told.{AreToldBy, Tells as IsToldOf}
 use Rattle.observe_told.specs.declared.seen.Log.{Log}
 use Rattle.observe_log.specs.declared.fault.LogFault.{LogFault}
 use Rattle.observe_log.specs.declared.fault.LogFault.TheVariants as faults
-use Rattle.observe_log.specs.Logs.{log_read, Tells}
+use Rattle.observe_log.specs.Logs.{log_read, Tells, TellsBoardOf}
 use Rattle.program_status.specs.declared.status.Status.{Status}
 use Rattle.program_status.specs.declared.status.Status.TheVariants.{BadBoard, BadLog, NotTold, TooMuch}
 use Rattle.program_status.specs.declared.status.BoardFault.{BoardFault}
@@ -26,7 +26,7 @@ use Rattle.command_observe.specs.declared.drafting.Untold.{Untold}
 use Rattle.command_observe.specs.declared.drafting.Untold.TheVariants as untolds
 use Rattle.observe_order.specs.declared.judging.ActsVerdict.{ActsVerdict}
 use Rattle.observe_order.specs.declared.judging.ActsVerdict.TheVariants.{IsRun, Refused}
-use Rattle.command_observe.specs.Logs.{log_refusal, log_reading_refusal, RefusesLog, IsLogText, ReadsLog, ReadsLogTree, TellsFault}
+use Rattle.command_observe.specs.Logs.{log_refusal, log_reading_refusal, RefusesLog, IsLogText, ReadsLog, TellsFault}
 use Rattle.command_observe.specs.Answers.{RefusesObserve, AnswersObserve, AnswersActs, TellsRun, TellsActs}
 use Rattle.command_observe.specs.Judging.{untold_status, ending_of, IsRunOf, IsJudged, AreActsOf, HoldsActs}
 
@@ -46,22 +46,31 @@ tree_refuses input log status reads refuses =
     let same : log_refusal input ≡ Some (BadBoard 0 refuses.fault) = ap log_reading_refusal reads ∙ ap (option_map (BadBoard 0)) refuses.fault_is in
     subst (λ s. RefusesLog input s) (sym refuses.told) same
 
--- the tree of a log
-pub reads_log_tree : (input : List ℕ) (log : Log) (tree : Board) → log_read input ≡ Ok log → IsTreeOf log.board tree → ReadsLogTree input tree
-reads_log_tree input log tree reads is = record { log = log; reads = reads; tree_is = is.board_is; faultless = is.faultless }
+-- nor is there another board where a log was read
+pub no_board_refuses : (input : List ℕ) (log : Log) (fault : LogFault) (status : Status) → log_read input ≡ Ok log → TellsBoardOf (Err fault) (log_read input)
+    → TellsFault fault status → RefusesLog input status
+no_board_refuses input log (faults.Log line word fault) status is reads told = fault_refuses input (faults.Log line word fault) status reads told
+no_board_refuses input log (faults.Board line fault) status is reads told = fault_refuses input (faults.Board line fault) status reads told
+no_board_refuses input log faults.NoMemory status is reads told = fault_refuses input faults.NoMemory status reads told
 
-same_log : (one other : Log) (read : Result Log LogFault) → read ≡ Ok one → read ≡ Ok other → one ≡ other
-same_log one other read is also = cc
+same_board : (board : Board) (log : Log) (read : Result Log LogFault) → read ≡ Ok log → TellsBoardOf (Ok board) read → board ≡ log.board
+same_board board log (Ok other) is tells = cc
+same_board board log (Err fault) is tells = cc
 
--- read twice it is the same
-pub reads_log : (input : List ℕ) (tree : Board) (log : Log) → ReadsLogTree input tree → log_read input ≡ Ok log → IsTrue (is_well_formed log.board)
+-- the tree of the board that was read again is that of the log
+pub is_log_tree : (input : List ℕ) (board tree : Board) (log : Log) → log_read input ≡ Ok log → TellsBoardOf (Ok board) (log_read input) → IsTreeOf board tree
+    → IsTreeOf log.board tree
+is_log_tree input board tree log is tells of_board = subst (λ b. IsTreeOf b tree) (same_board board log (log_read input) is tells) of_board
+
+pub log_tree_refuses : (input : List ℕ) (board : Board) (log : Log) (status : Status) → log_read input ≡ Ok log → TellsBoardOf (Ok board) (log_read input)
+    → RefusesTree board status → RefusesLog input status
+log_tree_refuses input board log status is tells refuses =
+    tree_refuses input log status is (subst (λ b. RefusesTree b status) (same_board board log (log_read input) is tells) refuses)
+
+-- a log with the tree of its board
+pub reads_log : (input : List ℕ) (tree : Board) (log : Log) → log_read input ≡ Ok log → IsTreeOf log.board tree → IsTrue (is_well_formed log.board)
     → ReadsLog input (record { tree = tree; log = log })
-reads_log input tree log of_tree reads formed =
-    record {
-      reads = reads;
-      faultless = subst (λ (l : Log). tree_fault l.board ≡ None) (same_log of_tree.log log (log_read input) of_tree.reads reads) of_tree.faultless;
-      formed = formed;
-    }
+reads_log input tree log reads is formed = record { reads = reads; faultless = is.faultless; formed = formed }
 
 -- no text is refused by how a log is refused that is read
 

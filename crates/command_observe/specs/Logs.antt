@@ -38,13 +38,6 @@ pub record IsLogText (input : List ℕ) : Type 0 where
   pub reads : log_read input ≡ Ok log
   pub tree : tree_fault log.board ≡ None
 
--- a tree is that of the board of a log whose text the input is
-pub record ReadsLogTree (input : List ℕ) (tree : Board) : Type 0 where
-  pub log : Log
-  pub reads : log_read input ≡ Ok log
-  pub tree_is : tree ≡ log.board
-  pub faultless : tree_fault log.board ≡ None
-
 -- what was read of the text of a log of a valid board
 pub record ReadsLog (input : List ℕ) (read : TreeLog) : Type 0 where
   pub reads : log_read input ≡ Ok read.log

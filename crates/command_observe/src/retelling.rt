@@ -1,8 +1,9 @@
 //! What a log tells, where it is refused: found again from the log alone.
+use crate::drafting::{Told, tell};
 use crate::reading::{TreeLog, read_tree_log};
 use board_tree::Tree;
-use observe_found::{LogFound, find};
-use observe_order::{Ordered, order};
+use observe_found::Times;
+use observe_order::Ordered;
 use observe_told::{Log, RefusedLog, Retold, Unfound};
 use pci_command::NoMemory;
 use program_status::Status;
@@ -41,11 +42,10 @@ pub fn retell(alloc: Global, input: &[u8]) -> Result<Option<Retelling>, NoMemory
 
 fn retold(alloc: Global, read: TreeLog) -> Result<Retelling, NoMemory> {
     let TreeLog { tree, log } = read;
-    let lines = log.lines.as_slice();
-    match find(alloc, &tree, lines, log.phases.as_slice()) {
-        Ok(found) => {
-            let Ordered { told, .. } = order(alloc, &found.tree, found.acts.as_slice(), lines)?;
-            let LogFound { tree, .. } = found;
+    match tell(alloc, &tree, &log, Times::Meet) {
+        Ok(told) => {
+            let Told { tree, ordered, .. } = told;
+            let Ordered { told, .. } = ordered;
             Ok(Retelling {
                 tree,
                 told: Retold::Acts(told),

@@ -2,22 +2,19 @@ use crate::ground::Ground;
 use crate::programs::{Draft, Programs};
 use crate::words::{Further, Openings, further_of};
 use board_model::{Board, Bridge, Master, Name, Opening, Planned, Range, Target};
-use board_parser::{ParseFault, parse, read_is_well_formed};
 use board_printer::print_board;
-use board_tree::{Tree, TreeRefusal, validate};
-use observe_told::Unfound;
 use pci_command::{List, NoMemory};
 use std::alloc::Global;
 
-/// The tree of the board that was found. Its text is read again, so that what it may have is judged
-/// in one place.
-pub(crate) fn found_tree(
+/// The text of the board that was found. It is read again, so that what it may have is judged in one
+/// place.
+pub(crate) fn found_text(
     ground: &Ground,
     bridges: Vec<Bridge>,
     openings: &Openings,
     programs: Programs,
     discards: Vec<Planned>,
-) -> Result<Tree, Unfound> {
+) -> Result<List<u8>, NoMemory> {
     let Programs { masters, .. } = programs;
     let board = Board {
         bridges: List::from_vec(bridges),
@@ -26,28 +23,7 @@ pub(crate) fn found_tree(
         discards: List::from_vec(discards),
         drops: List::from_vec(Vec::new(ground.alloc)),
     };
-    let text = print_board(ground.alloc, &board)?;
-    read_tree(ground.alloc, text.as_slice(), last_line(ground))
-}
-
-fn last_line(ground: &Ground) -> u32 {
-    crate::ground::number(ground.lines.len()).saturating_sub(1)
-}
-
-fn read_tree(alloc: Global, text: &[u8], line: u32) -> Result<Tree, Unfound> {
-    read_is_well_formed();
-    if text.len() >= 1 << 31 {
-        return Err(Unfound::TooManyOperations { line });
-    }
-    match parse(alloc, text) {
-        Ok(board) => match validate(board) {
-            Ok(tree) => Ok(tree),
-            Err(TreeRefusal::Fault { .. }) => Err(Unfound::NoTree),
-            Err(TreeRefusal::AboveBound { bound, .. }) => Err(Unfound::TooManyEvents { bound }),
-        },
-        Err(ParseFault::Fault(_)) => Err(Unfound::TooManyOperations { line }),
-        Err(ParseFault::NoMemory) => Err(Unfound::NoMemory),
-    }
+    print_board(ground.alloc, &board)
 }
 
 fn all_masters(alloc: Global, drafts: Vec<Draft>) -> Result<Vec<Master>, NoMemory> {

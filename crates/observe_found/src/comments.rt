@@ -6,7 +6,12 @@ use std::alloc::{AllocError, Global};
 use trace_text::{LaneWord, master_name, print_operation};
 
 /// What was done and cannot be seen in the trace: lines of comments.
-pub(crate) fn comments(alloc: Global, log: &Log, found: &LogFound) -> Result<String, NoMemory> {
+pub(crate) fn comments(
+    alloc: Global,
+    log: &Log,
+    board: &Board,
+    found: &LogFound,
+) -> Result<String, NoMemory> {
     let mut text = String::new(alloc);
     let Counts {
         lines,
@@ -18,7 +23,7 @@ pub(crate) fn comments(alloc: Global, log: &Log, found: &LogFound) -> Result<Str
         "# {lines} lines, {acts} acts, {fruitless} Retries without effect"
     )?;
     for note in found.notes.as_slice() {
-        add_note(alloc, &mut text, log, found.tree.board(), *note)?;
+        add_note(alloc, &mut text, log, board, *note)?;
     }
     Ok(text)
 }

@@ -20,6 +20,8 @@ pub(crate) struct Errand {
     pub(crate) shown: Option<u32>,
     /// By when that was, seen by all that had to wait for it.
     pub(crate) deadline: u64,
+    /// From when on it can have ended, seen by all that it had to wait for.
+    pub(crate) release: u64,
     /// Of one that a lane drives: the errand that the lane claimed and for which this was made, the
     /// one that was made for it before, and the line that latched it.
     pub(crate) near: Option<u32>,
@@ -54,7 +56,7 @@ impl Errands {
         let mut errands = Errands {
             all: Vec::new(ground.alloc),
             lines: Vec::new(ground.alloc),
-            of_lines: Vec::new(ground.alloc),
+            of_lines: Vec::with_capacity(ground.alloc, ground.lines.len())?,
         };
         let mut open = HashMap::new(ground.alloc);
         for (line, seen) in ground.lines.iter().enumerate() {
@@ -87,6 +89,7 @@ impl Errands {
                 errand.ended = Some(line);
                 errand.shown = Some(line);
                 errand.deadline = seen.end;
+                errand.release = seen.start;
                 open.remove(&asked);
             }
         }
@@ -202,6 +205,19 @@ impl Errands {
         }
         if let Some(near) = self.all.get_mut(near as usize) {
             near.last_far = Some(far);
+        }
+    }
+
+    /// Nothing was made for any, as before the pairing.
+    pub(crate) fn part_all(&mut self, ground: &Ground) {
+        for errand in self.all.iter_mut() {
+            errand.near = None;
+            errand.before = None;
+            errand.latch = None;
+            errand.last_far = None;
+            errand.shown = errand.ended;
+            errand.deadline = errand.ended.map_or(NO_TIME, |line| ground.end(line));
+            errand.release = errand.ended.map_or(0, |line| ground.start(line));
         }
     }
 

@@ -1,8 +1,8 @@
 use crate::acts::Told;
-use crate::agents::found_tree;
+use crate::agents::found_text;
 use crate::depths::{bridges, discards};
 use crate::errands::Errands;
-use crate::ground::{Ground, number};
+use crate::ground::{Ground, Times, number};
 use crate::pairing::pair;
 use crate::programs::Programs;
 use crate::streams::Streams;
@@ -52,11 +52,11 @@ pub struct Counts {
     pub fruitless: u32,
 }
 
-/// What a log tells: the board with the programs of the masters, and the acts, bus by bus and there
-/// in the order of the lines.
+/// What a log tells: the text of the board with the programs of the masters, and the acts, bus by
+/// bus and there in the order of the lines.
 #[derive(Debug, Drop)]
 pub struct LogFound {
-    pub tree: Tree,
+    pub board: List<u8>,
     pub acts: List<SeenAct>,
     pub notes: List<Note>,
     pub counts: Counts,
@@ -72,8 +72,9 @@ pub fn find(
     tree: &Tree,
     lines: &[Seen],
     phases: &[Phase],
+    times: Times,
 ) -> Result<LogFound, Unfound> {
-    let ground = Ground::new(alloc, tree, lines, phases)?;
+    let ground = Ground::new(alloc, tree, lines, phases, times)?;
     let lanes = ground.lanes()?;
     find_on(&ground, lanes.as_slice())
 }
@@ -90,9 +91,9 @@ fn find_on(ground: &Ground, lanes: &[Lane]) -> Result<LogFound, Unfound> {
     let acts = told_acts(ground, &streams, &errands, &programs)?;
     note_rest(ground, &errands, &mut notes)?;
     let counts = counts_of(ground, acts.as_slice());
-    let tree = found_tree(ground, bridges, &openings, programs, discards)?;
+    let board = found_text(ground, bridges, &openings, programs, discards)?;
     Ok(LogFound {
-        tree,
+        board,
         acts: List::from_vec(acts),
         notes: List::from_vec(notes),
         counts,

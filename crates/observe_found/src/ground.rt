@@ -14,6 +14,15 @@ pub(crate) const NO_TIME: u64 = u64::MAX;
 /// Above each address of configuration space: of a device that is not there.
 const NO_DEVICE: u64 = 1 << 40;
 
+/// Whether a Retry may have latched a request that went on at the very time at which the Retry
+/// began.
+#[derive(Clone, Copy, Debug, PartialEq, Eq)]
+pub enum Times {
+    Meet,
+    /// It did not, where another may have latched it.
+    Apart,
+}
+
 /// A log and its board, with who claims each line and the place of each line on its bus. Lines and
 /// data phases are named by their places in the log, from 0.
 #[derive(Debug, Drop)]
@@ -22,6 +31,7 @@ pub(crate) struct Ground<'a> {
     pub(crate) board: &'a Board,
     pub(crate) lines: &'a [Seen],
     pub(crate) phases: &'a [Phase],
+    pub(crate) times: Times,
     claimants: Vec<Place>,
     on_buses: OnBuses,
     /// Of each data phase its line.
@@ -57,6 +67,7 @@ impl<'a> Ground<'a> {
         tree: &'a Tree,
         lines: &'a [Seen],
         phases: &'a [Phase],
+        times: Times,
     ) -> Result<Ground<'a>, NoMemory> {
         let board = tree.board();
         let claimants = claimants(alloc, board, lines)?;
@@ -67,6 +78,7 @@ impl<'a> Ground<'a> {
             board,
             lines,
             phases,
+            times,
             claimants,
             on_buses,
             of_phases,
@@ -327,7 +339,7 @@ fn driven_address(address: Addressed) -> u64 {
 fn claimants(alloc: Global, board: &Board, lines: &[Seen]) -> Result<Vec<Place>, NoMemory>
     requires { IsTrue (is_well_formed board.now) }
 {
-    let mut claimants = Vec::new(alloc);
+    let mut claimants = Vec::with_capacity(alloc, lines.len())?;
     for seen in lines {
         claimants.push(seen.claimant(board))?;
     }

@@ -1,6 +1,6 @@
 use crate::errands::{Errand, Errands};
-use crate::ground::{Ground, NO_PLACE};
-use crate::slots::{Slots, list_changes, slots_of};
+use crate::ground::{Ground, NO_PLACE, Times};
+use crate::slots::Held;
 use crate::streams::Stream;
 use observe_told::{Ending, Seen};
 use pci_command::{NoMemory, Outcome};
@@ -31,11 +31,9 @@ impl Sides<'_> {
     /// The place from which on a latch for it may stand, where this far errand was made for the
     /// near one before: behind its end, since its completion was discarded.
     pub(crate) fn low_place(&self, errands: &Errands, near: &Errand, before: Option<u32>) -> u32 {
-        let ended = before.and_then(|before| errands.get(before).ended);
-        match (ended, self.ground.seen(errands.first_line(near))) {
-            (Some(ended), Some(seen)) => {
-                self.ground.first_behind(seen.bus, self.ground.start(ended))
-            }
+        let before = before.map_or(Errand::default(), |before| errands.get(before));
+        match (before.ended, self.ground.seen(errands.first_line(near))) {
+            (Some(_ended), Some(seen)) => self.ground.first_behind(seen.bus, before.release),
             _ => 0,
         }
     }
@@ -77,10 +75,11 @@ impl Sides<'_> {
     }
 
     /// The latest latches of these far errands, which stand in the order in which they were shown,
-    /// if they suffice: then they are noted down.
+    /// if they suffice: then they are noted down, and their slots are held.
     pub(crate) fn settle(
         &self,
         errands: &mut Errands,
+        held: &mut Held,
         fars: &[u32],
         nears: &[u32],
         strictness: Strictness,
@@ -93,31 +92,19 @@ impl Sides<'_> {
                 far.latch = Some(*latch);
             }
         }
-        if strictness != Strictness::Loose
-            && !(self.suffices(errands, nears, strictness) && self.slots_suffice(errands, fars)?)
-        {
+        let is_loose = strictness == Strictness::Loose;
+        if !is_loose && !self.suffices(errands, nears, strictness) {
+            return Ok(false);
+        }
+        if !held.hold(self.ground, errands, fars) && !is_loose {
+            held.free(self.ground, errands, fars);
             return Ok(false);
         }
         for far in fars {
             self.note_shown(errands, *far);
         }
-        Ok(true)
-    }
-
-    /// Whether at no time more slots are held for these than there are.
-    fn slots_suffice(&self, errands: &Errands, fars: &[u32]) -> Result<bool, NoMemory> {
-        let mut changes = Vec::new(self.ground.alloc);
-        for far in fars {
-            list_changes(self.ground, errands, 0, *far, &mut changes)?;
-        }
-        changes.sort_unstable();
-        let most = slots_of(self.ground, self.stream.lane);
-        let mut slots = Slots::default();
-        for change in &changes {
-            slots = slots.after(change);
-            if slots.held > most {
-                return Ok(false);
-            }
+        for near in nears {
+            note_release(errands, *near);
         }
         Ok(true)
     }
@@ -152,10 +139,30 @@ impl Sides<'_> {
         let near = errands.get(far.near?);
         let low = self.low_place(errands, &near, far.before);
         let high = bound.min(self.high_place(far));
-        match self.last_line(errands, &near, high, far.deadline) {
+        match self.last_in_time(errands, &near, (low, high), far.deadline) {
             Some(line) if low <= self.ground.place(line) => Some(line),
             _ if strictness != Strictness::Loose => None,
             _ => Some(self.latch_behind_writes(errands, far, &near, low, bound)),
+        }
+    }
+
+    /// The last line before a place that began by this time; where times are kept apart, one that
+    /// began before it, if there is one from the other place on.
+    fn last_in_time(
+        &self,
+        errands: &Errands,
+        near: &Errand,
+        between: (u32, u32),
+        time: u64,
+    ) -> Option<u32> {
+        let (low, high) = between;
+        let earlier = match self.ground.times {
+            Times::Meet => None,
+            Times::Apart => self.last_line(errands, near, high, time.saturating_sub(1)),
+        };
+        match earlier {
+            Some(line) if low <= self.ground.place(line) => Some(line),
+            _ => self.last_line(errands, near, high, time),
         }
     }
 
@@ -258,6 +265,18 @@ impl Sides<'_> {
             Outcome::Nobody => Outcome::Written,
             told => told,
         }
+    }
+}
+
+/// A near errand cannot have ended before the completion that it took was there.
+fn note_release(errands: &mut Errands, near: u32) {
+    let given = errands.get(near);
+    let (Some(_ended), Some(far)) = (given.ended, given.last_far) else {
+        return;
+    };
+    let release = given.release.max(errands.get(far).release);
+    if let Some(near) = errands.all.get_mut(near as usize) {
+        near.release = release;
     }
 }
 

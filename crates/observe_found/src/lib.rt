@@ -4,6 +4,7 @@
 
 mod acts;
 mod agents;
+mod choices;
 mod comments;
 mod depths;
 mod errands;
@@ -20,4 +21,5 @@ mod trial;
 mod words;
 
 pub use found::{Counts, LogFound, Note, find};
+pub use ground::Times;
 pub use text::text_of;

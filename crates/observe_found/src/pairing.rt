@@ -1,11 +1,19 @@
+use crate::choices::{Choices, PartOf};
 use crate::errands::Errands;
 use crate::ground::{Ground, Wanted, number};
 use crate::latches::{Sides, Strictness};
+use crate::slots::Held;
 use crate::streams::Streams;
 use crate::trial::Trial;
 use board_model::{Lane, bridge_to};
 use observe_told::Unfound;
 use pci_command::NoMemory;
+
+/// How often the pairing is tried at most, each time with other orders of trying: of many errands
+/// less often, so that it is not done for more than so many in all.
+const MOST_TIMES: usize = 64;
+
+const MOST_ERRANDS: usize = 2_000_000;
 
 /// An errand at one end of a lane, in the order in which errands are paired: lane by lane, request
 /// by request, by when they began.
@@ -21,11 +29,31 @@ struct Entry {
 /// Errands of one request at one lane that are open together: behind them nothing of it is open.
 #[derive(Debug, Drop)]
 struct Part {
-    rank: u32,
-    wanted: Wanted,
-    reach: u64,
+    of: PartOf,
     fars: Vec<u32>,
     nears: Vec<u32>,
+}
+
+/// Where a part stands among the entries of its lane, and how many near errands it has: in the
+/// order in which parts are paired, those with few choices first.
+#[derive(Clone, Copy, Debug, Default, PartialEq, Eq, PartialOrd, Ord)]
+struct Span {
+    nears: u32,
+    first: usize,
+    end: usize,
+    fars: u32,
+    reach: u64,
+}
+
+/// What all lanes are paired by.
+#[derive(Clone, Copy, Debug)]
+struct Lanes<'a> {
+    ground: &'a Ground<'a>,
+    lanes: &'a [Lane],
+    streams: &'a Streams,
+    entries: &'a [Entry],
+    /// Whether a part that has no choice that suffices gets one that shows what is wrong.
+    tells: bool,
 }
 
 /// For which near errand each far one was made, and which line latched it: lane by lane, in the
@@ -37,19 +65,28 @@ pub(crate) fn pair(
     errands: &mut Errands,
 ) -> Result<(), Unfound> {
     let entries = entries(ground, lanes, errands)?;
-    let mut part = Part::new(ground);
-    for entry in &entries {
-        let errand = errands.get(entry.errand);
-        if entry.is_far && errand.shown.is_none() {
-            continue;
+    let mut all = Lanes {
+        ground,
+        lanes,
+        streams,
+        entries: entries.as_slice(),
+        tells: false,
+    };
+    let mut choices = Choices::new(ground.alloc);
+    let times = MOST_TIMES.min(1 + MOST_ERRANDS / entries.len().max(1));
+    for _ in 0..times {
+        if all.pair(errands, &mut choices)? {
+            return Ok(());
         }
-        if !part.goes_on(entry) {
-            part.pair(ground, lanes, streams, errands)?;
-            part.begin(entry);
+        errands.part_all(ground);
+        if !choices.change()? {
+            break;
         }
-        part.add(entry, errands.open_until(ground, &errand))?;
     }
-    part.pair(ground, lanes, streams, errands)
+    choices.restore()?;
+    all.tells = true;
+    all.pair(errands, &mut choices)?;
+    Ok(())
 }
 
 fn entries(ground: &Ground, lanes: &[Lane], errands: &Errands) -> Result<Vec<Entry>, NoMemory> {
@@ -85,63 +122,184 @@ fn wanted(ground: &Ground, line: u32) -> Wanted {
 impl Part {
     fn new(ground: &Ground) -> Part {
         Part {
-            rank: 0,
-            wanted: Wanted::default(),
-            reach: 0,
+            of: PartOf::default(),
             fars: Vec::new(ground.alloc),
             nears: Vec::new(ground.alloc),
         }
     }
 
-    fn goes_on(&self, entry: &Entry) -> bool {
-        self.rank == entry.rank && self.wanted == entry.wanted && entry.start <= self.reach
-    }
-
-    fn begin(&mut self, entry: &Entry) {
-        self.rank = entry.rank;
-        self.wanted = entry.wanted;
-        self.reach = 0;
+    /// The part that stands there.
+    fn fill(&mut self, own: &[Entry], span: &Span, errands: &Errands) -> Result<(), NoMemory> {
         self.fars.clear();
         self.nears.clear();
-    }
-
-    fn add(&mut self, entry: &Entry, until: u64) -> Result<(), NoMemory> {
-        self.reach = self.reach.max(until);
-        if entry.is_far {
-            self.fars.push(entry.errand)?;
-        } else {
-            self.nears.push(entry.errand)?;
+        for entry in own.get(span.first..span.end).unwrap_or(&[]) {
+            if !entry.is_far {
+                self.nears.push(entry.errand)?;
+            } else if errands.get(entry.errand).shown.is_some() {
+                self.fars.push(entry.errand)?;
+            }
+        }
+        if let Some(entry) = own.get(span.first) {
+            self.of = PartOf {
+                rank: entry.rank,
+                first: entry.errand,
+                wanted: entry.wanted,
+                start: entry.start,
+                reach: span.reach,
+            };
         }
         Ok(())
     }
+}
 
-    fn pair(
-        &mut self,
-        ground: &Ground,
-        lanes: &[Lane],
-        streams: &Streams,
+impl Span {
+    fn goes_on(&self, before: &Entry, entry: &Entry) -> bool {
+        before.wanted == entry.wanted && entry.start <= self.reach
+    }
+
+    /// With the entry at this place.
+    fn with(self, place: usize, is_far: bool, until: u64) -> Span {
+        Span {
+            nears: self.nears.saturating_add(u32::from(!is_far)),
+            first: self.first,
+            end: place.saturating_add(1),
+            fars: self.fars.saturating_add(u32::from(is_far)),
+            reach: self.reach.max(until),
+        }
+    }
+}
+
+impl Lanes<'_> {
+    /// Whether each part has a choice that suffices, which then is made.
+    fn pair(&self, errands: &mut Errands, choices: &mut Choices) -> Result<bool, Unfound> {
+        choices.begin();
+        for rank in 0..self.lanes.len() {
+            let rank = number(rank);
+            let first = self.entries.partition_point(|entry| entry.rank < rank);
+            let end = self.entries.partition_point(|entry| entry.rank <= rank);
+            let own = self.entries.get(first..end).unwrap_or(&[]);
+            if !self.pair_lane(rank, own, errands, choices)? {
+                return Ok(false);
+            }
+        }
+        Ok(true)
+    }
+
+    fn pair_lane(
+        &self,
+        rank: u32,
+        own: &[Entry],
         errands: &mut Errands,
-    ) -> Result<(), Unfound> {
-        let Some(lane) = lanes.get(self.rank as usize).copied() else {
-            return Ok(());
+        choices: &mut Choices,
+    ) -> Result<bool, Unfound> {
+        let Some(sides) = self.sides(rank) else {
+            return Ok(true);
         };
+        let spans = self.spans(own, errands)?;
+        let mut held = Held::new(self.ground, sides.stream.lane)?;
+        let mut part = Part::new(self.ground);
+        for span in &spans {
+            part.fill(own, span, errands)?;
+            sort_by_shown(self.ground, errands, &mut part.fars);
+            if !self.pair_part(sides, &part, &mut held, errands, choices)? {
+                return Ok(false);
+            }
+        }
+        Ok(true)
+    }
+
+    fn sides(&self, rank: u32) -> Option<Sides<'_>> {
+        let lane = self.lanes.get(rank as usize).copied()?;
         let back = Lane {
             up: !lane.up,
             ..lane
         };
-        let (Some(stream), Some(back)) = (streams.of(lane), streams.of(back)) else {
-            return Ok(());
-        };
-        let mode = bridge_to(ground.board, lane.bus).is_some_and(|bridge| bridge.mode);
-        sort_by_shown(ground, errands, &mut self.fars);
-        let sides = Sides {
-            ground,
-            stream,
-            back,
-            mode,
-        };
-        choose(sides, errands, self.fars.as_slice(), self.nears.as_slice())
+        Some(Sides {
+            ground: self.ground,
+            stream: self.streams.of(lane)?,
+            back: self.streams.of(back)?,
+            mode: bridge_to(self.ground.board, lane.bus).is_some_and(|bridge| bridge.mode),
+        })
     }
+
+    /// The parts of a lane that have far errands. Of these only such count as have an effect.
+    fn spans(&self, own: &[Entry], errands: &Errands) -> Result<Vec<Span>, NoMemory> {
+        let mut spans = Vec::new(self.ground.alloc);
+        let mut span = Span::default();
+        for (place, entry) in own.iter().enumerate() {
+            let errand = errands.get(entry.errand);
+            if entry.is_far && errand.shown.is_none() {
+                continue;
+            }
+            let goes_on = own
+                .get(span.first)
+                .is_some_and(|before| span.goes_on(before, entry));
+            if !goes_on {
+                list_span(&mut spans, span)?;
+                span = Span {
+                    first: place,
+                    ..Span::default()
+                };
+            }
+            let until = errands.open_until(self.ground, &errand);
+            span = span.with(place, entry.is_far, until);
+        }
+        list_span(&mut spans, span)?;
+        spans.sort_unstable();
+        Ok(spans)
+    }
+
+    fn pair_part(
+        &self,
+        sides: Sides,
+        part: &Part,
+        held: &mut Held,
+        errands: &mut Errands,
+        choices: &mut Choices,
+    ) -> Result<bool, Unfound> {
+        let trying = choices.of(&part.of);
+        let (fars, nears) = (part.fars.as_slice(), part.nears.as_slice());
+        let mut trial = Trial::new(sides, trying, errands, fars, nears)?;
+        let unasked = trial.unasked(errands)?;
+        let may_fail = !self.tells && choices.are_changed();
+        if unasked.is_none() && suffices(&mut trial, errands, held, may_fail)? {
+            choices.pass(part.of, nears.len())?;
+            return Ok(true);
+        }
+        if !self.tells {
+            choices.fail(part.of)?;
+            return Ok(false);
+        }
+        if let Some(line) = unasked {
+            let bridge = sides.stream.lane.bus;
+            return Err(Unfound::NotAsked { line, bridge });
+        }
+        if !trial.run(errands, held, Strictness::NoOrderBack, false)? {
+            trial.run(errands, held, Strictness::Loose, false)?;
+        }
+        Ok(true)
+    }
+}
+
+/// Whether the part has a choice that suffices; where too many would have to be tried it has none,
+/// if others are tried otherwise.
+fn suffices(
+    trial: &mut Trial,
+    errands: &mut Errands,
+    held: &mut Held,
+    may_fail: bool,
+) -> Result<bool, Unfound> {
+    match trial.run(errands, held, Strictness::Whole, may_fail) {
+        Err(Unfound::TooManyPairings { .. }) if may_fail => Ok(false),
+        found => found,
+    }
+}
+
+fn list_span(spans: &mut Vec<Span>, span: Span) -> Result<(), NoMemory> {
+    if span.fars > 0 {
+        spans.push(span)?;
+    }
+    Ok(())
 }
 
 /// Far errands in the order in which they were shown.
@@ -152,26 +310,4 @@ fn sort_by_shown(ground: &Ground, errands: &Errands, fars: &mut Vec<u32>) {
 fn shown_at(ground: &Ground, errands: &Errands, far: u32) -> u32 {
     let shown = errands.get(far).shown;
     shown.map_or(0, |line| ground.place(line))
-}
-
-/// The first choice that suffices; where none does, one that shows what is wrong.
-fn choose(sides: Sides, errands: &mut Errands, fars: &[u32], nears: &[u32]) -> Result<(), Unfound> {
-    if fars.is_empty() {
-        return Ok(());
-    }
-    let mut trial = Trial::new(sides, errands, fars, nears)?;
-    if let Some(line) = trial.unasked(errands)? {
-        let bridge = sides.stream.lane.bus;
-        return Err(Unfound::NotAsked { line, bridge });
-    }
-    for strictness in [
-        Strictness::Whole,
-        Strictness::NoOrderBack,
-        Strictness::Loose,
-    ] {
-        if trial.run(errands, strictness)? {
-            break;
-        }
-    }
-    Ok(())
 }

@@ -5,26 +5,28 @@ ghost use Rattle.trace_text.specs.Events.{HasLine};
 use crate::LogFound;
 use crate::comments::comments;
 use board_model::Board;
+use board_tree::Tree;
 use history_model::Event;
 use observe_told::Log;
 use pci_command::NoMemory;
 use std::alloc::Global;
 use trace_text::{has_line, print_trace};
 
-/// The text of the board that was found, with what is said of it, and of these events; none where
-/// one of them has no line.
+/// The text of the board that was found, whose tree this is, with what is said of it, and of these
+/// events; none where one of them has no line.
 pub fn text_of(
     alloc: Global,
     log: &Log,
+    tree: &Tree,
     found: &LogFound,
     events: &[Event],
 ) -> Result<Option<Vec<u8>>, NoMemory> {
-    let board = found.tree.board();
+    let board = tree.board();
     if !are_printable(board, events) {
         return Ok(None);
     }
     let text = print_trace(alloc, board, events)?;
-    let said = comments(alloc, log, found)?;
+    let said = comments(alloc, log, board, found)?;
     let whole = with_comments(alloc, text.as_slice(), said.as_bytes())?;
     Ok(Some(whole))
 }

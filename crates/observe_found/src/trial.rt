@@ -1,23 +1,47 @@
 use crate::errands::{Errand, Errands};
 use crate::ground::{NO_PLACE, number};
 use crate::latches::{Sides, Strictness};
+use crate::slots::Held;
 use observe_told::Unfound;
 use pci_command::NoMemory;
 
-/// How many steps the trying of pairings takes at most, beside one for each errand.
+/// How many steps the trying of pairings takes at most, beside one for each errand; and where others
+/// are tried otherwise than usual.
 const MOST_STEPS: usize = 20_000;
 
-/// How the near errands that a far one may have been made for are tried: one for which nothing was
-/// made yet before one for which something was; one that ended as the far one before another; the
-/// one that ends first; of those that never end the one that may be latched last.
+const FEW_STEPS: usize = 1_000;
+
+/// In which order the near errands that a far one may have been made for are tried.
+#[derive(Clone, Copy, Debug, Default, PartialEq, Eq)]
+pub(crate) enum Trying {
+    /// One for which nothing was made yet before one for which something was; one that ended as the
+    /// far one before another; the one that ends first; of those that never end the one that may be
+    /// latched last.
+    #[default]
+    Usual,
+    /// The same, but one for which something was made before what its initiator asked for later.
+    Staying,
+    /// One for which nothing was made yet before one for which something was; the one that began
+    /// first.
+    FirstBegun,
+}
+
+/// The place of a near errand in that order.
 #[derive(Clone, Copy, Debug, PartialEq, Eq, PartialOrd, Ord)]
 struct Rank {
-    is_served: bool,
+    stage: u8,
     is_other: bool,
     until: u64,
     behind: u32,
     near: u32,
 }
+
+/// Stages of it: nothing was made for it yet; something was; it stands behind such a one.
+const UNSERVED: u8 = 0;
+
+const SERVED: u8 = 1;
+
+const BEHIND: u8 = 2;
 
 /// The near errands that are tried for a far one: those from a place of the queue on, the next of
 /// them, and the place from which on a latch may stand.
@@ -32,6 +56,7 @@ struct Level {
 #[derive(Debug, Drop)]
 pub(crate) struct Trial<'a> {
     sides: Sides<'a>,
+    trying: Trying,
     /// The far ones, in the order in which they were shown.
     fars: &'a [u32],
     /// The near ones, by when they began.
@@ -49,6 +74,7 @@ pub(crate) struct Trial<'a> {
 impl<'a> Trial<'a> {
     pub(crate) fn new(
         sides: Sides<'a>,
+        trying: Trying,
         errands: &Errands,
         fars: &'a [u32],
         nears: &'a [u32],
@@ -56,6 +82,7 @@ impl<'a> Trial<'a> {
         let alloc = sides.ground.alloc;
         let mut trial = Trial {
             sides,
+            trying,
             fars,
             nears,
             endless: Vec::new(alloc),
@@ -110,14 +137,17 @@ impl<'a> Trial<'a> {
     pub(crate) fn run(
         &mut self,
         errands: &mut Errands,
+        held: &mut Held,
         strictness: Strictness,
+        is_brief: bool,
     ) -> Result<bool, Unfound> {
         let (sides, fars, nears) = (self.sides, self.fars, self.nears);
         self.queue.clear();
         self.levels.clear();
         self.open(errands, strictness, 0)?;
         let mut steps = 0usize;
-        let most = MOST_STEPS.saturating_add(fars.len().saturating_mul(2));
+        let most = if is_brief { FEW_STEPS } else { MOST_STEPS };
+        let most = most.saturating_add(fars.len().saturating_mul(2));
         for _ in 0..most.saturating_mul(2) {
             let Some(far) = self.current() else {
                 return Ok(false);
@@ -131,7 +161,7 @@ impl<'a> Trial<'a> {
             if self.levels.len() < fars.len() {
                 let floor = self.floor_behind(errands, far);
                 self.open(errands, strictness, floor)?;
-            } else if sides.settle(errands, fars, nears, strictness)? {
+            } else if sides.settle(errands, held, fars, nears, strictness)? {
                 return Ok(true);
             } else {
                 steps = steps.saturating_add(fars.len() / 64);
@@ -281,8 +311,44 @@ impl<'a> Trial<'a> {
         for near in &self.endless {
             self.rank_in(errands, far, *near, (strictness, floor), &mut ranks)?;
         }
+        if self.trying == Trying::Staying {
+            self.put_behind(errands, &mut ranks)?;
+        }
         ranks.sort_unstable();
         Ok(ranks)
+    }
+
+    /// Those for which nothing was made yet stand behind all others where something was made for
+    /// what their initiator asked for before.
+    fn put_behind(&self, errands: &Errands, ranks: &mut Vec<Rank>) -> Result<(), NoMemory> {
+        let mut served = Vec::new(self.sides.ground.alloc);
+        for rank in ranks.iter() {
+            if rank.stage == SERVED {
+                served.push(rank.near)?;
+            }
+        }
+        for rank in ranks.iter_mut() {
+            let near = rank.near;
+            let is_behind = served
+                .iter()
+                .any(|before| self.is_before(errands, *before, near));
+            if rank.stage == UNSERVED && is_behind {
+                rank.stage = BEHIND;
+            }
+        }
+        Ok(())
+    }
+
+    /// Whether both are of one initiator, and this one began before the other.
+    fn is_before(&self, errands: &Errands, before: u32, near: u32) -> bool {
+        let ground = self.sides.ground;
+        let (before, near) = (errands.get(before), errands.get(near));
+        let first = ground.seen(errands.first_line(&before));
+        let other = ground.seen(errands.first_line(&near));
+        match (first, other) {
+            (Some(first), Some(other)) => first.who == other.who && first.start < other.start,
+            _ => false,
+        }
     }
 
     fn rank_in(
@@ -316,7 +382,7 @@ impl<'a> Trial<'a> {
         let in_time = match (near.ended, far.ended) {
             (None, _) => true,
             (Some(_), None) => false,
-            (Some(taken), Some(made)) => ground.start(made) <= ground.end(taken),
+            (Some(taken), Some(_made)) => far.release <= ground.end(taken),
         };
         let is_free = match near.last_far {
             Some(before) => errands.get(before).ended.is_some(),
@@ -335,6 +401,26 @@ impl<'a> Trial<'a> {
     }
 
     fn rank(&self, errands: &Errands, far: &Errand, near: u32) -> Rank {
+        let errand = errands.get(near);
+        let stage = if errand.last_far.is_some() {
+            SERVED
+        } else {
+            UNSERVED
+        };
+        if self.trying == Trying::FirstBegun {
+            let until = errands.start(self.sides.ground, &errand);
+            return Rank {
+                stage,
+                is_other: false,
+                until,
+                behind: 0,
+                near,
+            };
+        }
+        self.rank_by_end(errands, far, near, stage)
+    }
+
+    fn rank_by_end(&self, errands: &Errands, far: &Errand, near: u32, stage: u8) -> Rank {
         let sides = &self.sides;
         let errand = errands.get(near);
         let is_other = match (far.ended, errand.ended) {
@@ -345,7 +431,7 @@ impl<'a> Trial<'a> {
         let latest = sides.last_line(errands, &errand, high, far.deadline);
         let place = latest.map_or(0, |line| sides.ground.place(line));
         Rank {
-            is_served: errand.last_far.is_some(),
+            stage,
             is_other,
             until: self.open_until(errands, near),
             behind: NO_PLACE - place,

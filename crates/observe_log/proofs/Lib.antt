@@ -2,4 +2,5 @@ pub mod WordLemmas
 pub mod DataLemmas
 pub mod EndLemmas
 pub mod PartLemmas
+pub mod BoardLemmas
 pub mod LineLemmas

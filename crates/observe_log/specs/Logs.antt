@@ -121,6 +121,15 @@ by_first (line ∷ lines) =
 abbrev pub log_read : List ℕ → Result Log LogFault
 log_read text = by_first (lines_of text)
 
+-- an answer is the board of what the text reads as, or its first fault, which may also stand behind the board; unless there was
+-- no memory
+abbrev pub TellsBoardOf : Result Board LogFault → Result Log LogFault → Type 0
+TellsBoardOf (Ok board) (Ok log) = board ≡ log.board
+TellsBoardOf (Ok board) (Err fault) = Unit {0}
+TellsBoardOf (Err (OfLog line word fault)) reading = reading ≡ Err (OfLog line word fault)
+TellsBoardOf (Err (OfBoard line fault)) reading = reading ≡ Err (OfBoard line fault)
+TellsBoardOf (Err NoMemory) reading = Unit {0}
+
 -- an answer is what the text reads as, unless there was no memory
 abbrev pub Tells : {A : Type 0} → Result A LogFault → Result A LogFault → Type 0
 Tells (Ok value) reading = reading ≡ Ok value

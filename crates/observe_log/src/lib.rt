@@ -11,4 +11,4 @@ mod reading;
 mod text;
 
 pub use fault::LogFault;
-pub use text::read_log;
+pub use text::{read_log, read_log_board};

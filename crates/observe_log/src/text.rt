@@ -1,12 +1,13 @@
 ghost use Rattle.std.specs.Prelude.{◌<◌, ◌^◌, length, IfOk, IsTrue};
 ghost use Rattle.board_model.specs.WellFormed.{is_well_formed};
-ghost use Rattle.observe_log.specs.Logs.{log_read, Tells};
+ghost use Rattle.observe_log.specs.Logs.{log_read, Tells, TellsBoardOf};
 
 use crate::LogFault;
 use crate::board::read_board;
 use crate::lines::read_lines;
 use crate::parts::{behind_first_line, find_log};
 use crate::reading::Reading;
+use board_model::Board;
 use observe_told::Log;
 use std::alloc::Global;
 
@@ -28,4 +29,18 @@ pub fn read_log(alloc: Global, bytes: &[u8]) -> Result<Log, LogFault>
         lines,
         phases,
     })
+}
+
+/// The board of a log text alone; its lines may have faults. Else the first fault, as before. A text
+/// has fewer than 2^31 bytes.
+#[tactic(auto, using(crate::proofs::BoardLemmas::tells_board))]
+pub fn read_log_board(alloc: Global, bytes: &[u8]) -> Result<Board, LogFault>
+    requires { length bytes.now < 2 ^ 31 }
+    ensures read { TellsBoardOf result (log_read bytes.now) }
+    ensures formed { IfOk result (λ board. IsTrue (is_well_formed board)) }
+{
+    let at = behind_first_line(bytes)?;
+    let found = find_log(bytes, at)?;
+    let board = read_board(alloc, &bytes[at..found.start])?;
+    Ok(board)
 }

@@ -52,6 +52,11 @@ impl<'a> Heads<'a> {
         self.lines.get(line as usize)
     }
 
+    /// The lines before this one.
+    pub(crate) fn before(&self, line: u32) -> &'a [Seen] {
+        self.lines.get(..line as usize).unwrap_or(&[])
+    }
+
     /// How many acts there are in all.
     pub(crate) fn total(&self) -> usize {
         self.acts.len()

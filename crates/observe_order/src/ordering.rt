@@ -56,7 +56,7 @@ fn order_all(
     ensures { OnOk result (IsGoing tree.now going.new.events.items going.new.course) }
 {
     let mut heads = Heads::new(alloc, acts, lines)?;
-    let mut taken = Vec::new(alloc);
+    let mut taken = Vec::with_capacity(alloc, acts.len())?;
     let mut candidates = Vec::new(alloc);
     go_on(going, tree, &mut heads, &mut taken, &mut candidates)?;
     tell(alloc, going, tree, &heads, taken)
@@ -161,7 +161,7 @@ fn list_left(
 }
 
 fn events_of(alloc: Global, heads: &Heads, acts: &[SeenAct]) -> Result<Vec<Event>, NoMemory> {
-    let mut events = Vec::new(alloc);
+    let mut events = Vec::with_capacity(alloc, acts.len())?;
     for act in acts {
         if let Some(seen) = heads.seen(act.line) {
             events.push(event_of(seen, *act))?;
@@ -171,7 +171,7 @@ fn events_of(alloc: Global, heads: &Heads, acts: &[SeenAct]) -> Result<Vec<Event
 }
 
 fn lines_of(alloc: Global, heads: &Heads, acts: &[SeenAct]) -> Result<Vec<u32>, NoMemory> {
-    let mut lines = Vec::new(alloc);
+    let mut lines = Vec::with_capacity(alloc, acts.len())?;
     for act in acts {
         if heads.seen(act.line).is_some() {
             lines.push(act.line)?;

@@ -6,7 +6,7 @@ use board_model::{Board, Bridge, Lane, Place, bridge_to, end_of, request_of};
 use history_model::{Answer, By, Carried, Cause, Event, Step, Why};
 use judge_state::Kept;
 use machine_steps::Presented;
-use observe_told::{Brought, Seen, SeenAct, Who, WhyNot};
+use observe_told::{Brought, Ending, Seen, SeenAct, Who, WhyNot};
 use pci_command::{OpId, Outcome, same_request};
 
 /// What the reasons are told by: what is kept of the run, the acts that were taken, and those that
@@ -177,19 +177,56 @@ impl<'a> Past<'a> {
         }
     }
 
-    /// No completion is there that was made for it: that of an equal request, where there is one.
+    /// No completion is there that was made for it: the last that was made for an equal request of
+    /// who still asks, where there is one. It may have been discarded.
     fn no_completion(&self, lane: Lane, presented: Presented) -> WhyNot {
         let bridge = lane.bus;
-        for item in self.standing(back_of(lane)) {
-            if let Carried::Done { op, .. } = *item {
-                if self.are_equal(presented.bus, op, presented.op) {
-                    let read = self.made_at(lane, op);
-                    let item = self.item(lane, op);
-                    return WhyNot::MadeFor { bridge, read, item };
-                }
-            }
+        let mut acts = self.taken.iter().rev();
+        match acts.find(|act| self.is_made_for_other(act, lane, presented)) {
+            Some(made) => WhyNot::MadeFor {
+                bridge,
+                read: made.line,
+                item: self.asking(lane, made.op),
+            },
+            None => WhyNot::NoCompletion { bridge },
         }
-        WhyNot::NoCompletion { bridge }
+    }
+
+    /// Whether by the act the lane made a completion for an equal request, which did not take one.
+    fn is_made_for_other(&self, act: &SeenAct, lane: Lane, presented: Presented) -> bool {
+        act.op != presented.op
+            && ends(act)
+            && self.is_by(act, lane)
+            && self.are_equal(presented.bus, act.op, presented.op)
+            && !self.has_taken(lane, act.op)
+    }
+
+    fn has_taken(&self, lane: Lane, op: OpId) -> bool {
+        self.taken
+            .iter()
+            .any(|act| act.op == op && takes(act, lane))
+    }
+
+    /// The operation with the first line at which its initiator asked for it: behind what ended of
+    /// the same before.
+    fn asking(&self, lane: Lane, op: OpId) -> Brought {
+        let Brought { line: latched, .. } = self.item(lane, op);
+        let Some(seen) = self.heads.seen(latched) else {
+            return Brought { op, line: latched };
+        };
+        let mut first = latched;
+        for (line, other) in self.heads.before(latched).iter().enumerate() {
+            if !asks_for_the_same(seen, other) {
+                continue;
+            }
+            let is_first = first == latched;
+            first = match other.ending {
+                Ending::Retry if is_first => u32::try_from(line).unwrap_or(latched),
+                Ending::Retry => first,
+                _ => latched,
+            };
+        }
+        Brought { op, line: first }
     }
 
     /// The line at which the lane ended the operation.
@@ -269,6 +306,17 @@ impl<'a> Past<'a> {
 /// Whether the lane took its operation by the act.
 fn enters(act: &SeenAct, lane: Lane) -> bool {
     act.place == Place::Lane(lane) && matches!(act.step, Step::Accept | Step::Latch)
+}
+
+/// Whether the operation took its completion from the lane by the act.
+fn takes(act: &SeenAct, lane: Lane) -> bool {
+    act.place == Place::Lane(lane) && matches!(act.step, Step::Take(_))
+}
+
+/// Whether two lines ask for the same, as far as their addresses tell.
+fn asks_for_the_same(a: &Seen, b: &Seen) -> bool {
+    let is_same_command = a.command.plain().code() == b.command.plain().code();
+    a.bus == b.bus && a.who == b.who && is_same_command && a.address == b.address
 }
 
 /// Whether an act ends its operation on the bus.

@@ -1,7 +1,7 @@
-mod CutLemmas
+pub mod CutLemmas
 mod ShapeLemmas
 mod NameLemmas
 mod GuessLemmas
 mod DigitLemmas
 mod ScanLemmas
-mod ReadLemmas
+pub mod ReadLemmas

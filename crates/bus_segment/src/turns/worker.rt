@@ -1,5 +1,5 @@
-ghost use Rattle.std.specs.Prelude.{◌==◌, ◌&&◌, ◌||◌};
-ghost use Rattle.std.specs.Prelude.{◌≡◌, ◌+◌, ◌-◌, ◌<◌, ◌≤◌, true, false, length, max, vec_len, IfOk};
+ghost use Rattle.std.specs.Prelude.{◌≡◌, ◌+◌, ◌-◌, ◌<◌, ◌≤◌, ◌==◌, ◌&&◌, ◌||◌};
+ghost use Rattle.std.specs.Prelude.{true, false, length, max, vec_len, IfOk};
 ghost use Rattle.std.specs.Vec.{vec_capacity};
 ghost use Rattle.board_model.specs.Valid.{IsValid};
 ghost use Rattle.bus_core.specs.Bus.{shape_of};
@@ -199,7 +199,7 @@ impl<L: LaneEnd + Drop> Worker<L> {
     }
 }
 
-/// Whether nobody is served: the segment stopped, or is idle and nothing came.
+/// Nobody is served where the segment stopped, or where the bus is idle and nothing came.
 fn rests(stopped: bool, idle: bool, came: u32) -> bool
     ensures { result ≡ (stopped || (idle && (came == 0))) }
 {

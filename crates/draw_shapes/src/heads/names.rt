@@ -1,5 +1,6 @@
 ghost use Rattle.std.specs.Prelude.{◌≡◌, ◌++◌, string_bytes, OnOk};
 ghost use Rattle.std.specs.List.{flat_map};
+ghost use Rattle.draw_items.specs.columns.Sums.{plus};
 ghost use Rattle.draw_shapes.specs.heads.Names.{bus_text, bus_band, name_line, name_lines, name_class, name_open, line_name, names_height, names_with, names_text};
 
 use crate::heads::sheet::{print_band, print_line, print_open};
@@ -51,10 +52,17 @@ fn print_buses(text: &mut String, height: u64, bands: &[Band]) -> Result<(), All
 fn print_bus_band(text: &mut String, height: u64, band: &Band) -> Result<(), AllocError>
     ensures { OnOk result (string_bytes text.new ≡ string_bytes text.old ++ bus_band height band.now) }
 {
-    let x = sum(band.start, 4);
     text.push_str("<path class=\"k\" d=\"")?;
     print_band(text, 0, height, band)?;
-    print_bus(text, x, band.bus)
+    print_title(text, band)
+}
+
+/// The number of a bus, beside where its column begins.
+fn print_title(text: &mut String, band: &Band) -> Result<(), AllocError>
+    ensures { OnOk result (string_bytes text.new ≡
+        string_bytes text.old ++ bus_text (plus band.now.start 4) band.now.bus) }
+{
+    print_bus(text, sum(band.start, 4), band.bus)
 }
 
 #[tactic(auto, unfolding(crate::specs::heads::Names::bus_text))]

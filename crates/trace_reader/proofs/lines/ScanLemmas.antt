@@ -96,6 +96,12 @@ begins_with text word from behind stop n empty is front back cut told some =
       filled = rw here refl;
     }
 
+-- what stands behind a word is shorter
+pub begins_shorter : (text word behind : List ℕ) (stop : ℕ) → BeginsWith text word stop behind → length behind < length text
+begins_shorter text word behind stop begins =
+    let size : length text ≡ length word + length (stop ∷ behind) = ap length begins.whole ∙ length-append word (stop ∷ behind) in
+    omega (arith, size)
+
 -- one word more that has bytes
 regular_more : (words more : List (List ℕ)) (word : List ℕ) → more ≡ words ++ word ∷ [] → is_regular words ≡ true → has_bytes word ≡ true → is_regular more ≡ true
 regular_more words more word is regular filled =

@@ -11,4 +11,4 @@ returns-in-Some-clause-line c =
 pub returns-in-Some-clause-read : goal.returns-in-Some-clause-read
 returns-in-Some-clause-read c =
     scanned_read c.args.names.now c.in-Some.line.now (nows c.in-Some.words.items) c.read_words-read.result c.in-Some.ensures.readable c.in-Some.ensures.pieces
-    (c.read_words-read.ensures ∙ ap (λ (words : List (Bor (List ℕ))). pieces_line c.args.names.now (nows words)) c.as_slice.ensures)
+    (c.read_words-read.ensures ∙ ap (λ (words : List (Bor (List ℕ))). pieces_line c.args.names.now (nows words)) c.as_slice.ensures.value)

@@ -16,7 +16,7 @@ returns-clause-turn g c =
     let may = c.requires.may in
     let r = c.receive_all.ensures in
     let s = c.serve_all.ensures in
-    let on : c.receive_all.new.segment.stopped ≡ false = sym c.stopped.ensures ∙ or_neither c.stopped.result (c.args.idle && (c.recorded.result - c.recorded-before.result == 0)) (sym c.rests.ensures ∙ c.if-rests.false) in
+    let on : c.receive_all.new.segment.stopped ≡ false = sym c.stopped.ensures ∙ or_neither _ _ (sym c.rests.ensures ∙ c.if-rests.false) in
     let few_ports = may.few_ports in
     let both = works_further {End = End} E.had E.sent E.got E.kept E.paired c.args.board.now (32 * length was.segment.bus.ports) 152 (seen was.segment.bus was.segment.stamp was.segment.stopped)
     (seen c.receive_all.new.segment.bus c.receive_all.new.segment.stamp c.receive_all.new.segment.stopped) (seen c.serve_all.new.segment.bus c.serve_all.new.segment.stamp c.serve_all.new.segment.stopped)
@@ -51,14 +51,14 @@ returns-then-rests-clause-turn g c =
     let agents : length (shape_of was.segment.bus).masters ≤ 8 = omega (arith, masters_many was.segment.bus, few_masters) in
     works_turn {End = End} E.had E.sent E.got E.kept E.paired c.args.board.now (32 * length was.segment.bus.ports) was (record { segment = c.receive_all.new.segment; arbiter = was.arbiter }) _ (omega (arith, few_ports)) r.works may.counts (omega arith)
     (λ same still.
-    let rests = or_second c.stopped.result (c.args.idle && (c.recorded.result - c.recorded-before.result == 0)) (sym c.rests.ensures ∙ c.if-rests.true) (c.stopped.ensures ∙ still) in
-    let idle = and_parts c.args.idle (c.recorded.result - c.recorded-before.result == 0) rests in
+    let rests = or_second _ _ (sym c.rests.ensures ∙ c.if-rests.true) (c.stopped.ensures ∙ still) in
+    let idle = and_parts _ _ rests in
     let all = retried_again {End = End} c.args.board.now was.segment.bus c.receive_all.new.segment.ends.items (c.requires.idle idle.0) in
     nothing_to_do {End = End} E.had E.got c.args.board.now was.segment.bus was.segment.stamp was.segment.stopped few agents may.going was.segment.bus c.receive_all.new.segment.ends.items c.receive_all.new.segment.ends.items (r.quiet same still) all)
 
 pub returns-then-rests-clause-idle : goal.returns-then-rests-clause-idle
 returns-then-rests-clause-idle g c = λ none still.
     let r = c.receive_all.ensures in
-    let rests = or_second c.stopped.result (c.args.idle && (c.recorded.result - c.recorded-before.result == 0)) (sym c.rests.ensures ∙ c.if-rests.true) (c.stopped.ensures ∙ still) in
-    let idle = and_parts c.args.idle (c.recorded.result - c.recorded-before.result == 0) rests in
+    let rests = or_second _ _ (sym c.rests.ensures ∙ c.if-rests.true) (c.stopped.ensures ∙ still) in
+    let idle = and_parts _ _ rests in
     subst (λ (s : BusView). GivesOnlyRetries c.args.board.now s) (sym (r.same (omega (arith, none, r.works.grows)) still)) (c.requires.idle idle.0)
