@@ -113,7 +113,7 @@ fn told_by(alloc: Global, read: &TreeLog) -> Result<Told, Untold> {
 fn told_with(alloc: Global, read: &TreeLog, times: Times) -> Result<Told, Untold> {
     match tell(alloc, &read.tree, &read.log, times) {
         Ok(told) => Ok(told),
-        Err(unfound) => Err(untold(&read.log, read.tree.board(), unfound)),
+        Err(unfound) => Err(not_told(&read.log, read.tree.board(), unfound)),
     }
 }
 
@@ -164,7 +164,7 @@ fn counted(alloc: Global, found: LogFound) -> LogFound {
 }
 
 /// How it is told that a log names no acts, or is too much.
-fn untold(log: &Log, board: &Board, unfound: Unfound) -> Untold
+fn not_told(log: &Log, board: &Board, unfound: Unfound) -> Untold
     requires { IsTrue (is_well_formed board.now) }
 {
     match unfound {

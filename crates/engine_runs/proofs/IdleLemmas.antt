@@ -1,9 +1,11 @@
 -- The buses that are marked idle.
-use Rattle.std.proofs.Common.{◌≡◌, ◌≢◌, ℕ, zero, suc, ◌+◌, ◌<◌, ◌==◌, Bool, true, false, List, [], ◌∷◌, length, max, set, replicate, Some, refl, sym, ap, subst, ◌∙◌, arith, slice_get}
+use Rattle.std.proofs.Common.{◌≡◌, ◌≢◌, ℕ, zero, suc, ◌+◌, ◌<◌, ◌==◌, ◌-◌, ◌≤◌, not, Bool, true, false, List, [], ◌∷◌, length, max, set, replicate, Some, vec_len, refl, sym, ap, subst, ◌∙◌, arith, slice_get}
+use Rattle.std.specs.Vec.{vec_capacity}
 use Rattle.std.proofs.lemmas.Bool.{eqb-true, eqb-false}
 use Rattle.std.proofs.lemmas.List.{length-set}
 use Rattle.std.proofs.lemmas.Option.{slice_get_within}
 use Rattle.board_model.specs.declared.board.Board.{Board}
+use Rattle.board_model.specs.Valid.{IsValid}
 use Rattle.history_model.specs.declared.event.Stamped.{Stamped}
 use Rattle.lane_items.specs.declared.item.Item.{Item}
 use Rattle.bus_core.specs.Bus.{BusView}
@@ -11,11 +13,12 @@ use Rattle.bus_segment.specs.Segment.{SegmentView}
 use Rattle.bus_segment.specs.Stands.{WorkerView}
 use Rattle.bus_segment.specs.declared.turns.worker.Worker.{Worker}
 use Rattle.bus_segment.specs.turns.Works.{GivesOnlyRetries}
-use Rattle.bus_segment.specs.turns.Again.{DoesTurn}
+use Rattle.bus_segment.specs.Steps.{ArrivedUpTo}
+use Rattle.bus_segment.specs.turns.Again.{MayTurn, DoesTurn}
 use Rattle.bus_segment.proofs.Laws.{there_at}
 use Rattle.engine_phases.specs.Phase.{Turned, AllSettled, begun}
 use Rattle.engine_phases.proofs.Laws.{same_there}
-use Rattle.engine_runs.specs.Loop.{seen, AreMarkedIdle, Worked}
+use Rattle.engine_runs.specs.Loop.{seen, IsReady, AreMarkedIdle, Worked}
 use Rattle.engine_runs.proofs.OneLemmas.{set_here, set_other}
 
 -- At first none is.
@@ -68,7 +71,19 @@ idle_settled {End} had sent got kept paired board new settled idle settles marke
           subst (λ (x : WorkerView End). GivesOnlyRetries board x.segment.bus) one (subst (GivesOnlyRetries board) (sym bus) (marked.retried k was.0 was.1 on));
     }
 
--- A worker that began a phase and did a turn has worked.
+-- A worker that took memory and began a phase may do a turn, and has worked then.
+pub not_true : (b : Bool) → not b ≡ true → b ≡ false
+not_true true is = cc
+not_true false is = refl
+
+pub room_left : {End : Type 0} (old mid : Worker End) → vec_capacity mid.segment.events ≡ vec_capacity old.segment.events → mid.segment.events.items ≡ old.segment.events.items → 8192 ≤ vec_capacity old.segment.events - vec_len old.segment.events
+    → 512 ≤ vec_capacity mid.segment.events - vec_len mid.segment.events
+room_left old mid capacity items room =
+    let mine : vec_len mid.segment.events ≡ length mid.segment.events.items = mid.segment.events.ok.0 in
+    let other : vec_len old.segment.events ≡ length old.segment.events.items = old.segment.events.ok.0 in
+    let same = ap length items in
+    omega (arith, mine, other, same, capacity, room)
+
 module _ {End : Type 0} (had sent got : End → List Item) (kept : End → ℕ) (paired : End → End → Type 0) (board : Board) (phase : ℕ) (old mid new : Worker End) (bus : mid.segment.bus ≡ old.segment.bus) (stamp : mid.segment.stamp ≡ max old.segment.stamp phase)
     (stopped : mid.segment.stopped ≡ old.segment.stopped) (ends : mid.segment.ends.items ≡ old.segment.ends.items) (events : mid.segment.events.items ≡ old.segment.events.items) where
   is_begun : seen mid ≡ begun phase (seen old)
@@ -79,6 +94,23 @@ module _ {End : Type 0} (had sent got : End → List Item) (kept : End → ℕ) 
       ∙ (ap (λ t. W old.segment.bus (max old.segment.stamp phase) t mid.segment.ends.items mid.segment.events.items) stopped
       ∙ (ap (λ e. W old.segment.bus (max old.segment.stamp phase) old.segment.stopped e mid.segment.events.items) ends
       ∙ ap (λ l. W old.segment.bus (max old.segment.stamp phase) old.segment.stopped old.segment.ends.items l) events)))
+
+  pub begun_may : IsValid board → IsReady (seen old) → 512 ≤ vec_capacity mid.segment.events - vec_len mid.segment.events → MayTurn board mid
+  begun_may valid ready room =
+      let ports : length mid.segment.bus.ports ≡ length old.segment.bus.ports = ap (λ (s : BusView). length s.ports) bus in
+      let masters : length mid.segment.bus.masters ≡ length old.segment.bus.masters = ap (λ (s : BusView). length s.masters) bus in
+      let few_ports = ready.few_ports in
+      let few_masters = ready.few_masters in
+      let up : ArrivedUpTo (length mid.segment.events.items) old.segment.bus = subst (λ (n : ℕ). ArrivedUpTo n old.segment.bus) (sym (ap length events)) ready.counts in
+      record {
+        valid = valid;
+        going = stopped ∙ ready.going;
+        ends = ap length ends ∙ (ready.one_a_port ∙ sym ports);
+        few_ports = omega (arith, ports, few_ports);
+        few_masters = omega (arith, masters, few_masters);
+        counts = subst (λ (s : BusView). ArrivedUpTo (length mid.segment.events.items) s) (sym bus) up;
+        spare = room;
+      }
 
   pub has_worked : (count : ℕ) (busy : Bool) → DoesTurn had sent got kept paired board mid new count → (busy ≡ false → count ≡ 0) → (busy ≡ true → 0 < count) → Worked had sent got kept paired board phase (seen old) (seen new) busy
   has_worked count busy turn idle some =

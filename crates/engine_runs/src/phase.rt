@@ -1,4 +1,4 @@
-ghost use Rattle.std.specs.Prelude.{◌≡◌, true, IfOk};
+ghost use Rattle.std.specs.Prelude.{◌≡◌, ◌==◌, ◌&&◌, not, true, IfOk};
 ghost use Rattle.board_model.specs.Valid.{IsValid};
 ghost use Rattle.bus_segment.specs.turns.Works.{GivesOnlyRetries};
 ghost use Rattle.engine_runs.specs.Loop.{seen, all_seen, IsReady, AreReady, Worked, AllWorked};
@@ -51,6 +51,13 @@ fn work<L: LaneEnd + Drop>(
     worker.reserve()?;
     worker.begin(phase);
     let count = worker.turn_again(board, *idle);
-    *idle = count == 0 && !worker.stopped();
+    *idle = is_idle(count, worker.stopped());
     Ok(count > 0)
+}
+
+/// Whether a turn of so many events leaves the bus idle.
+fn is_idle(events: u32, stopped: bool) -> bool
+    ensures { result ≡ ((events == 0) && not stopped) }
+{
+    events == 0 && !stopped
 }

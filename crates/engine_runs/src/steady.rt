@@ -1,4 +1,4 @@
-ghost use Rattle.std.specs.Prelude.{◌≡◌, ◌+◌, ◌≤◌, ◌<◌, true, false, length, map, IfOk, OnOk};
+ghost use Rattle.std.specs.Prelude.{◌≡◌, ◌+◌, ◌≤◌, ◌<◌, true, false, length, map, replicate, IfOk, OnOk};
 ghost use Rattle.board_model.specs.Valid.{IsValid};
 ghost use Rattle.board_model.specs.Ways.{bound_of};
 ghost use Rattle.history_model.specs.Runs.{Run, Complete, history_of};
@@ -57,9 +57,17 @@ fn run_all<L: LaneEnd + Drop>(
         (all_seen workers.items) above.now 0 }
     ensures { IfOk result (λ events. IsCompleteRun board.now (history_of events)) }
 {
-    let mut idle = vec![in alloc; false; workers.len()]?;
+    let mut idle = none_idle(alloc, workers.len())?;
     run_phases(workers.as_mut_slice(), idle.as_mut_slice(), board, above)?;
     merge_all(alloc, workers)
+}
+
+/// None of so many buses is marked idle.
+fn none_idle(alloc: Global, buses: usize) -> Result<Vec<bool>, NoMemory>
+    ensures { IfOk result (λ idle. idle.items ≡ replicate buses false) }
+{
+    let idle = vec![in alloc; false; buses]?;
+    Ok(idle)
 }
 
 /// The phases, up to the first that makes no event.

@@ -43,6 +43,8 @@ pub record WordMembers : Type 0 where
   pub values : List ℕ
   -- each of them lands no more once the next one does, so that no two are open
   pub chained : Bool
+  -- the first that some other of them is not settled with
+  pub first_open : Option OpId
 
 -- what is kept of a word is so
 pub record AreMembers (board : Board) (table : Table) (word : Dword) (kept : WordMembers) : Type 0 where
@@ -51,6 +53,7 @@ pub record AreMembers (board : Board) (table : Table) (word : Dword) (kept : Wor
   pub list : Sorts board table kept.writes kept.list
   pub values : AreLeft board word kept.list kept.values
   pub chained : kept.chained ≡ is_chained board table (map op_in kept.list)
+  pub first_open : kept.first_open ≡ find (is_open board table (map op_in kept.writes)) (map op_in kept.writes)
 
 -- of each word of which something is kept
 pub record KeepsMembers (board : Board) (table : Table) (entries : List (Word × WordMembers)) : Type 0 where

@@ -4,6 +4,7 @@ mod landing;
 mod looks;
 mod lost;
 mod members;
+mod open;
 mod ops;
 mod order;
 mod polls;

@@ -1,7 +1,8 @@
 -- Writes of a word that land in one order: no two of them are open, and those before a read stand in it as they do among all.
-use Rattle.std.proofs.Common.{◌≡◌, Bool, true, false, not, ◌&&◌, ◌||◌, cond, List, [], ◌∷◌, map, None, refl, sym, ap, subst, ◌∙◌}
+use Rattle.std.proofs.Common.{◌≡◌, Bool, true, false, not, ◌&&◌, ◌||◌, cond, List, [], ◌∷◌, map, Some, None, refl, sym, ap, subst, ◌∙◌}
 use Rattle.std.specs.List.{filter, find, list_any, AllByRecursion}
 use Rattle.std.proofs.lemmas.Bool.{and_parts, or_left, or_right}
+use Rattle.std.proofs.lemmas.Option.{none-some}
 use Rattle.list_facts.proofs.AnyLemmas.{any_none}
 use Rattle.list_facts.proofs.EachLemmas.{Each-weaker, Each-both}
 use Rattle.pci_command.specs.declared.op_id.OpId.{OpId}
@@ -51,6 +52,21 @@ module _ (board : Board) (table : Table) where
   order_back : (P : OpId → Type 0) (xs : List OpId) → AllByRecursion P (in_order board table xs) → AllByRecursion P xs
   order_back P [] each = tt
   order_back P (x ∷ xs) each = let two = put_back P x (in_order board table xs) each in (two.0, order_back P xs two.1)
+
+  none_each : (test : OpId → Bool) (xs : List OpId) → find test xs ≡ None → AllByRecursion (λ (x : OpId). test x ≡ false) xs
+  none_each test [] none = tt
+  none_each test (x ∷ xs) none =
+      let P : Bool → Type 0 = λ b. test x ≡ b → cond b (Some x) (find test xs) ≡ None → (test x ≡ false) × AllByRecursion (λ (y : OpId). test y ≡ false) xs in
+      (elim (test x) as P [
+        | true ↦ λ _ found. absurd (none-some x (sym found))
+        | false ↦ λ is later. (is, none_each test xs later)
+      ]) refl none
+
+  -- one that is not among them in their order is not among them
+  pub order_none : (test : OpId → Bool) (xs : List OpId) → None ≡ find test (in_order board table xs) → None ≡ find test xs
+  order_none test xs none =
+      let each : AllByRecursion (λ (x : OpId). test x ≡ false) xs = order_back (λ (x : OpId). test x ≡ false) xs (none_each test (in_order board table xs) (sym none)) in
+      sym (any_none test xs (none_any test xs each))
 
   chain_back : (a : OpId) (xs : List OpId) → Chain (put board table a xs) → Chain xs
   chain_back a [] chain = tt

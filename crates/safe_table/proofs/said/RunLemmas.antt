@@ -40,12 +40,12 @@ ops_take zero xs = refl
 ops_take (suc n) [] = refl
 ops_take (suc n) (x ∷ xs) = ap (λ (os : List OpId). x.op ∷ os) (ops_take n xs)
 
-op_at : (run : List WordWrite) (count : ℕ) (w : WordWrite) → count < length run → w ≡ get_or run count w → slice_get (map op_in run) count ≡ Some w.op
+pub op_at : (run : List WordWrite) (count : ℕ) (w : WordWrite) → count < length run → w ≡ get_or run count w → slice_get (map op_in run) count ≡ Some w.op
 op_at [] count w within is = absurd (omega (arith, within))
 op_at (x ∷ run) zero w within is = ap (λ (v : WordWrite). Some v.op) (sym is)
 op_at (x ∷ run) (suc count) w within is = op_at run count w (omega (arith, within)) is
 
-no_op_at : (run : List WordWrite) (count : ℕ) → length run ≤ count → slice_get (map op_in run) count ≡ None
+pub no_op_at : (run : List WordWrite) (count : ℕ) → length run ≤ count → slice_get (map op_in run) count ≡ None
 no_op_at [] count past = refl
 no_op_at (x ∷ run) zero past = absurd (omega (arith, past))
 no_op_at (x ∷ run) (suc count) past = no_op_at run count (omega (arith, past))

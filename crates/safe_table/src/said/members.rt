@@ -7,19 +7,20 @@ ghost use Rattle.safe_table.specs.Members.{AreMembers, IsSeen};
 
 use crate::said::landing::{in_order, is_chained};
 use crate::said::looks::Looks;
+use crate::said::open::open_unless;
 use crate::said::order::is_reached;
 use crate::said::runs::runs_of;
 use crate::said::values::all_left;
 use crate::writers::{WordWrite, WordWrites};
 use audit_clocks::WordTable;
 use board_model::Word;
-use pci_command::NoMemory;
+use pci_command::{NoMemory, OpId};
 use std::alloc::Global;
 use std::marker::Model;
 
 /// The writes of a word that some run may come to; the same as runs, and in the order in which they
-/// land; what the first so many of these leave in the word; and whether each of these lands no more
-/// once the next does.
+/// land; what the first so many of these leave in the word; whether each of these lands no more once
+/// the next does; and the first that some other of them is not settled with.
 #[derive(Debug, Drop)]
 pub(crate) struct Reached {
     writes: Vec<WordWrite>,
@@ -27,6 +28,7 @@ pub(crate) struct Reached {
     list: Vec<WordWrite>,
     values: Vec<u32>,
     chained: bool,
+    first_open: Option<OpId>,
 }
 
 impl Model for Reached {
@@ -41,6 +43,7 @@ impl Model for Reached {
           list = k.list.items;
           values = k.values.items;
           chained = k.chained;
+          first_open = k.first_open;
         } };
 }
 
@@ -78,6 +81,13 @@ impl Reached {
         ensures { result ≡ self.now.chained }
     {
         self.chained
+    }
+
+    /// The first that some other of them is not settled with.
+    pub(crate) fn first_open(&self) -> Option<OpId>
+        ensures { result ≡ self.now.first_open }
+    {
+        self.first_open
     }
 }
 
@@ -148,12 +158,14 @@ fn reached_of(alloc: Global, looks: &Looks, word: Word) -> Result<Reached, NoMem
     let list = in_order(alloc, board, looks.table, runs.as_slice())?;
     let values = all_left(alloc, board, word, list.as_slice())?;
     let chained = is_chained(board, looks.table, list.as_slice());
+    let first_open = open_unless(looks, chained, runs.as_slice());
     Ok(Reached {
         writes,
         runs,
         list,
         values,
         chained,
+        first_open,
     })
 }
 

@@ -3,7 +3,6 @@ ghost use Rattle.board_model.specs.declared.board.Board.{Board};
 ghost use Rattle.law_lanes.specs.order.Order.{is_posted_op};
 ghost use Rattle.safe_model.specs.Clocks.{behind};
 ghost use Rattle.law_safe.specs.largest.Tests.{is_before, is_reached, lands_no_more};
-ghost use Rattle.law_safe.specs.said.Said.{is_beside, is_settled};
 ghost use Rattle.safe_table.specs.Rows.{table_of, KeepsPolls};
 
 use crate::known::ClockTable;
@@ -16,22 +15,6 @@ pub(crate) fn is_reached(table: &ClockTable, op: OpId) -> bool
         result ≡ is_reached board (table_of table.now) op }
 {
     !table.is_before(op, op)
-}
-
-/// Whether the write is neither before the read nor behind it.
-pub(crate) fn is_beside(table: &ClockTable, read: OpId, write: OpId) -> bool
-    ensures { (board : Board) → KeepsPolls board table.now →
-        result ≡ is_beside board (table_of table.now) read write }
-{
-    !table.is_before(write, read) && !table.is_before(read, write)
-}
-
-/// Whether one of two writes lands no more once the other does.
-pub(crate) fn is_settled(board: &Board, table: &ClockTable, a: OpId, b: OpId) -> bool
-    requires { KeepsPolls board.now table.now }
-    ensures { result ≡ is_settled board.now (table_of table.now) a b }
-{
-    lands_no_more(board, table, a, b) || lands_no_more(board, table, b, a)
 }
 
 /// Whether a write lands no more once the other does.

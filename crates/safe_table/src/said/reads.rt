@@ -1,6 +1,5 @@
-ghost use Rattle.std.specs.Prelude.{◌≡◌, ◌≤◌, true, length, map, get_or, IfOk, not, ◌&&◌};
-ghost use Rattle.std.specs.List.{find, filter, list_any, prefix_len, AllByRecursion};
-ghost use Rattle.pci_command.specs.Same.{same_op};
+ghost use Rattle.std.specs.Prelude.{◌≡◌, ◌≤◌, true, length, map, get_or, IfOk, IfSome};
+ghost use Rattle.std.specs.List.{find, filter, prefix_len, AllByRecursion};
 ghost use Rattle.law_safe.specs.largest.Tests.{is_before};
 ghost use Rattle.law_safe.specs.said.Said.{safe, left_by, is_beside, is_open};
 ghost use Rattle.law_safe.specs.said.Said.{first_beside, said_beside};
@@ -9,19 +8,19 @@ ghost use Rattle.safe_table.specs.Rows.{table_of, KeepsPolls};
 ghost use Rattle.safe_table.specs.Writes.{op_in, IsWordWrite};
 ghost use Rattle.safe_table.specs.AllSaid.{verdict};
 ghost use Rattle.safe_table.specs.Landing.{is_chained, joined, AreChained};
-ghost use Rattle.safe_table.specs.Members.{AreMembers, IsSeen, said_open};
+ghost use Rattle.safe_table.specs.Members.{AreMembers, IsSeen, said_open, said_with};
 
 use crate::polls::is_before;
 use crate::said::landing::{in_order, is_chained};
 use crate::said::looks::Looks;
 use crate::said::members::Reached;
-use crate::said::order::{is_beside, is_settled};
+use crate::said::open::{are_all_before, open_unless};
 use crate::said::runs::runs_of;
 use crate::said::values::value_of;
 use crate::said::verdict::Said;
 use crate::writers::{WordWrite, WordWrites};
 use board_model::Word;
-use pci_command::{NoMemory, OpId, same_op};
+use pci_command::{NoMemory, OpId};
 use std::alloc::Global;
 
 /// What is said of a read of the word, by the writes of the word that some run may come to.
@@ -40,13 +39,51 @@ pub(crate) fn said_of_read(
         looks.now.table.now) (dword word) read (first_beside looks.now.tree.now (table_of
         looks.now.table.now) (dword word) read)) }
 {
-    if let Some(beside) = first_beside(looks, read, reached.runs()) {
+    if let Some(said) = said_if_chained(looks, word, read, reached) {
+        Ok(said)
+    } else if let Some(beside) = first_beside(looks, read, reached.runs()) {
         Ok(Said::Unsafe { word, beside })
-    } else if reached.is_chained() {
-        Ok(said_in_chain(looks, word, read, reached))
+    } else if are_all_before(looks, read, reached.runs()) {
+        said_behind_all(alloc, looks, word, reached)
     } else {
         said_by_order(alloc, looks, word, read, reached.writes())
     }
+}
+
+/// Where they land in one order and none of them is beside the read.
+fn said_if_chained(looks: &Looks, word: Word, read: OpId, reached: &Reached) -> Option<Said>
+    requires seen { IsSeen looks.now.tree.now looks.now.table.now looks.now.writers.now
+        looks.now.polls.now }
+    requires members { AreMembers looks.now.tree.now (table_of looks.now.table.now) (dword word)
+        reached.now }
+    ensures { IfSome result (λ said. verdict said ≡ said_beside looks.now.tree.now (table_of
+        looks.now.table.now) (dword word) read (first_beside looks.now.tree.now (table_of
+        looks.now.table.now) (dword word) read)) }
+{
+    if !reached.is_chained() {
+        return None;
+    }
+    match beside_in(looks, read, reached.list()) {
+        Some(_) => None,
+        None => Some(said_in_chain(looks, word, read, reached)),
+    }
+}
+
+/// Of a read behind all of them.
+fn said_behind_all(
+    alloc: Global,
+    looks: &Looks,
+    word: Word,
+    reached: &Reached,
+) -> Result<Said, NoMemory>
+    requires seen { IsSeen looks.now.tree.now looks.now.table.now looks.now.writers.now
+        looks.now.polls.now }
+    requires members { AreMembers looks.now.tree.now (table_of looks.now.table.now) (dword word)
+        reached.now }
+    ensures { IfOk result (λ said. verdict said ≡ said_open looks.now.tree.now (table_of
+        looks.now.table.now) (dword word) (map op_in reached.now.writes)) }
+{
+    said_with(alloc, looks, word, reached.writes(), reached.first_open())
 }
 
 /// Of a read that no write stands beside, where these land in one order.
@@ -170,7 +207,25 @@ fn said_of_before(
     ensures { IfOk result (λ said. verdict said ≡ said_open looks.now.tree.now (table_of
         looks.now.table.now) (dword word) (map op_in before.now)) }
 {
-    match open_among(alloc, looks, before)? {
+    let beside = open_among(alloc, looks, before)?;
+    said_with(alloc, looks, word, before, beside)
+}
+
+/// By the first of them that some other is not settled with.
+fn said_with(
+    alloc: Global,
+    looks: &Looks,
+    word: Word,
+    before: &[WordWrite],
+    beside: Option<OpId>,
+) -> Result<Said, NoMemory>
+    requires seen { IsSeen looks.now.tree.now looks.now.table.now looks.now.writers.now
+        looks.now.polls.now }
+    requires writes { AllByRecursion (IsWordWrite looks.now.tree.now (dword word)) before.now }
+    ensures { IfOk result (λ said. verdict said ≡ said_with looks.now.tree.now (table_of
+        looks.now.table.now) (dword word) (map op_in before.now) beside) }
+{
+    match beside {
         Some(beside) => Ok(Said::Unsafe { word, beside }),
         None => {
             let board = looks.tree.board();
@@ -190,32 +245,6 @@ fn open_among(alloc: Global, looks: &Looks, writes: &[WordWrite]) -> Result<Opti
     let board = looks.tree.board();
     let runs = runs_of(alloc, board, looks.table, writes)?;
     let list = in_order(alloc, board, looks.table, runs.as_slice())?;
-    if is_chained(board, looks.table, list.as_slice()) {
-        Ok(None)
-    } else {
-        Ok(first_open(looks, writes))
-    }
-}
-
-/// The first that some other of them is not settled with.
-fn first_open(looks: &Looks, writes: &[WordWrite]) -> Option<OpId>
-    requires { KeepsPolls looks.now.tree.now looks.now.table.now }
-    ensures { result ≡ find (is_open looks.now.tree.now (table_of looks.now.table.now) (map op_in
-        writes.now)) (map op_in writes.now) }
-{
-    writes
-        .iter()
-        .map(|write| write.op)
-        .find(|write| is_open(looks, writes, *write))
-}
-
-/// Whether some other of the writes is not settled with this one.
-fn is_open(looks: &Looks, writes: &[WordWrite], write: OpId) -> bool
-    requires { KeepsPolls looks.now.tree.now looks.now.table.now }
-    ensures { result ≡ is_open looks.now.tree.now (table_of looks.now.table.now) (map op_in
-        writes.now) write }
-{
-    let board = looks.tree.board();
-    writes.iter().map(|other| other.op).any(|other| !same_op(write, other)
-        && !is_settled(board, looks.table, write, other))
+    let chained = is_chained(board, looks.table, list.as_slice());
+    Ok(open_unless(looks, chained, runs.as_slice()))
 }

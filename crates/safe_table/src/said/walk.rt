@@ -22,10 +22,11 @@ use std::alloc::Global;
 /// index; nothing of those of which nothing is said.
 ///
 /// The writes of a word that some run may come to are listed once, as runs, and put in the order in
-/// which they land, by one walk for each run. A read takes a binary search in each run; where no
-/// write stands beside it, one more where they land in one order. Where they do not, those before
-/// it are put in their order once more; and where they land in none either, it takes a look at each
-/// two of them, up to the first that makes it unsafe.
+/// which they land, by one walk for each run; where they land in none, each is looked at beside each
+/// run, up to the first that another is not settled with. Where they land in one order a read takes
+/// two binary searches, and one in each run where a write stands beside it. Where they do not, it
+/// takes one in each run, and no more if all come before it; else those before it are put in their
+/// order once more, and looked at beside their runs.
 pub fn said_of_all(alloc: Global, tree: &Tree, table: &ClockTable) -> Result<Vec<OpSaid>, NoMemory>
     requires largest { IsLargest tree.now (table_of table.now) }
     requires polls { KeepsPolls tree.now table.now }

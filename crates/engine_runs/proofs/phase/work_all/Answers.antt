@@ -31,7 +31,7 @@ pub work-requires-clause-marked : goal.work-requires-clause-marked
 work-requires-clause-marked g c = λ on.
     let i = c.loop-place.place in
     let here = seen_there c.loop-place.workers i c.index-workers-place.result (omega (arith, c.loop-place.invariant.same)) in
-    let mark = slice_get-get_or c.loop-place.idle i c.index-idle-place.result (omega (arith, c.loop-place.invariant.marks)) in
+    let mark = slice_get-get_or c.loop-place.idle i _ (omega (arith, c.loop-place.invariant.marks)) in
     c.loop-place.invariant.marked.retried i (seen (get_or c.loop-place.workers i c.index-workers-place.result)) here (mark ∙ ap Some on)
 
 pub loop-place-preserved : goal.loop-place-preserved

@@ -1,0 +1,12 @@
+use Rattle.std.proofs.Common.{◌≡◌, drop, map}
+use Rattle.law_safe.specs.said.Said.{is_open}
+use Rattle.safe_table.specs.Rows.{table_of}
+use Rattle.safe_table.specs.Writes.{op_in}
+use Rattle.safe_table.specs.Landing.{joined}
+use Rattle.safe_table.proofs.said.open.is_open.Given as goal
+
+-- none of the runs so far has one
+abbrev pub invariant-loop-run : goal.invariant-loop-run
+invariant-loop-run l =
+    is_open l.looks.tree.now (table_of l.looks.table.now) (map op_in (joined (drop l.run-index l.runs))) l.write
+    ≡ is_open l.looks.tree.now (table_of l.looks.table.now) (map op_in (joined l.runs)) l.write
