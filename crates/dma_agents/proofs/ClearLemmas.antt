@@ -1,5 +1,5 @@
 -- Whether a flag is clear, as it is looked up.
-use Rattle.std.proofs.Common.{◌≡◌, ℕ, zero, suc, ◌+◌, ◌-◌, ◌%◌, ◌^◌, ◌<◌, ◌≤◌, Bool, true, false, ◌&&◌, ◌||◌, ◌==◌, cond, eqb, min, bit_and, filter, List, [], ◌∷◌, ◌++◌, length, take, drop, slice_index_or, refl, sym, ap, subst, ◌∙◌, arith}
+use Rattle.std.proofs.Common.{◌≡◌, ℕ, zero, suc, ◌+◌, ◌-◌, ◌%◌, ◌^◌, ◌<◌, ◌≤◌, Bool, true, false, ◌||◌, ◌==◌, cond, eqb, min, bit_and, filter, List, [], ◌∷◌, ◌++◌, length, take, drop, slice_index_or, refl, sym, ap, subst, ◌∙◌, arith}
 use Rattle.std.specs.List.{list_all, list_any}
 use Rattle.std.proofs.lemmas.Bool.Decides.{nat_tests}
 use Rattle.std.proofs.lemmas.Nat.{and_mask}
@@ -11,7 +11,7 @@ use Rattle.pci_command.specs.Same.{same_command}
 use Rattle.board_model.specs.declared.agents.Target.{Target}
 use Rattle.board_model.specs.declared.op.Op.{Op}
 use Rattle.board_model.specs.Requests.{command_of, address_on, phases_of}
-use Rattle.history_model.specs.Clear.{phases_at, written_at, brings_value, rings, is_whole, rings_whole, holds, opens_otherwise}
+use Rattle.history_model.specs.Clear.{phases_at, written_at, brings_value, rings, is_whole, holds, opens_otherwise}
 
 -- Counts up to two.
 
@@ -98,17 +98,6 @@ write_is_whole address op is = ap (list_all is_whole) (written address op true i
 
 pub no_write_is_whole : (address : ℕ) (op : Op) → same_command (command_of op) MemWrite ≡ false → list_all is_whole (written_at address op) ≡ true
 no_write_is_whole address op is = ap (list_all is_whole) (written address op false is)
-
-pub write_rings_whole : (address value : ℕ) (op : Op) → same_command (command_of op) MemWrite ≡ true
-    → rings_whole address value op ≡ (list_all is_whole (phases_at address (address_on op 0) (phases_of op)) && (total (brings value) (phases_at address (address_on op 0) (phases_of op)) == 0 || length (phases_of op) == 1))
-write_rings_whole address value op is =
-    let F : List Phase → Bool = λ phases. list_all is_whole phases && (total (brings value) phases == 0 || length (phases_of op) == 1) in
-    ap F (written address op true is)
-
-pub no_write_rings_whole : (address value : ℕ) (op : Op) → same_command (command_of op) MemWrite ≡ false → rings_whole address value op ≡ true
-no_write_rings_whole address value op is =
-    let F : List Phase → Bool = λ phases. list_all is_whole phases && (total (brings value) phases == 0 || length (phases_of op) == 1) in
-    ap F (written address op false is)
 
 -- The first of some targets, and the others.
 

@@ -9,3 +9,4 @@ pub mod SaidLemmas
 pub mod StepLemmas
 pub mod FlagLemmas
 pub mod UnclearLemmas
+pub mod WrittenLemmas

@@ -2,6 +2,7 @@ pub mod Put
 pub mod DeviceLines
 pub mod Adding
 pub mod Unclear
+pub mod Written
 pub mod Made
 pub mod Parts
 pub mod Worked

@@ -1,30 +1,29 @@
 //! Whether a flag is clear on a board.
 
-ghost use Rattle.std.specs.Prelude.{◌≡◌, ◌==◌, ◌+◌, ◌*◌, ◌<◌, ◌≤◌, ◌^◌, ◌∷◌, [], min, filter, not};
-ghost use Rattle.std.specs.Prelude.{◌&&◌, length, if◌then◌else◌};
+ghost use Rattle.std.specs.Prelude.{◌≡◌, ◌+◌, ◌*◌, ◌<◌, ◌≤◌, ◌^◌, ◌∷◌, [], filter, not, length};
+ghost use Rattle.std.specs.Prelude.{if◌then◌else◌};
 ghost use Rattle.std.specs.List.{list_all, list_any};
 ghost use Rattle.list_facts.specs.Lists.{total};
 ghost use Rattle.pci_command.specs.declared.command.Space.TheVariants.{Mem};
 ghost use Rattle.pci_command.specs.declared.phases.Phase.{Phase as DataPhase};
-ghost use Rattle.board_model.specs.declared.agents.Master.{Master as MasterAgent};
-ghost use Rattle.history_model.specs.Words.{opens_in, opening_word};
+ghost use Rattle.history_model.specs.Words.{opening_word};
 ghost use Rattle.history_model.specs.Clear.{is_value, phases_at, written_at, brings_value, rings};
-ghost use Rattle.history_model.specs.Clear.{is_whole, rings_whole, holds, opens_otherwise};
-ghost use Rattle.history_model.specs.Clear.{is_clear};
+ghost use Rattle.history_model.specs.Clear.{is_whole, holds, opens_otherwise, is_clear};
+ghost use Rattle.dma_agents.specs.Written.{IsWritten};
 
-use board_model::{Board, Master, Op, Opening, Target, is_in_ranges, request_on};
+use crate::written::Written;
+use board_model::{Board, Op, Opening, Target, is_in_ranges, request_on};
 use pci_command::{Command, Phase, Space};
 
 /// Whether the address is held by one target, which opens otherwise, every write there writes whole
-/// dwords, and one write of one data phase brings the value.
-#[tactic(auto, using(crate::proofs::ClearLemmas::one_of_capped))]
-pub(crate) fn is_clear(board: &Board, address: u64, value: u32) -> bool
+/// dwords, and one write of one data phase brings the value: by what the masters write.
+pub(crate) fn is_clear(board: &Board, written: &Written, address: u32, value: u32) -> bool
+    requires { IsWritten board.now.masters written.now }
     ensures { result ≡ is_clear board.now address value }
 {
-    let masters = board.masters.as_slice();
-    opens_otherwise(board.targets.as_slice(), address, value)
-        && write_whole(masters, address, value)
-        && rings_up_to_two(masters, address, value) == 1
+    let opens = opens_otherwise(board.targets.as_slice(), u64::from(address), value);
+    let rung = written.is_rung_once(address, value);
+    opens && rung
 }
 
 pub(crate) fn holds(target: &Target, address: u64) -> bool
@@ -84,36 +83,6 @@ pub(crate) fn is_value(word: u32, value: u32) -> bool
     ensures { result ≡ is_value value word }
 {
     word == value
-}
-
-// Every write at the address writes whole dwords there, and brings the value alone.
-fn write_whole(masters: &[Master], address: u64, value: u32) -> bool
-    ensures { result ≡ list_all
-        (λ (master : MasterAgent). list_all (rings_whole address value) master.ops) masters.now }
-{
-    masters
-        .iter()
-        .all(|master| are_whole(master.ops.as_slice(), address, value))
-}
-
-fn are_whole(ops: &[Op], address: u64, value: u32) -> bool
-    ensures { result ≡ list_all (rings_whole address value) ops.now }
-{
-    ops.iter().all(|op| rings_whole(op, address, value))
-}
-
-#[tactic(auto, using(crate::proofs::ClearLemmas::no_write_rings_whole, crate::proofs::ClearLemmas::write_rings_whole))]
-fn rings_whole(op: &Op, address: u64, value: u32) -> bool
-    ensures { result ≡ rings_whole address value op.now }
-{
-    let request = request_on(op, 0);
-    if request.command != Command::MemWrite {
-        return true;
-    }
-    let phases = request.phases.as_slice();
-    let at = u128::from(request.address);
-    are_dwords_whole(phases, at, address)
-        && (rings_in(phases, at, address, value) == 0 || phases.len() == 1)
 }
 
 // Whether an operation writes at the address, and not all bytes.
@@ -180,28 +149,4 @@ fn rings_in(phases: &[Phase], at: u128, address: u64, value: u32) -> u64
             }
         }
     }
-}
-
-// How often the masters bring the value to the address, where more than twice counts as twice.
-#[tactic(auto, using(crate::proofs::ClearLemmas::capped))]
-fn rings_up_to_two(masters: &[Master], address: u64, value: u32) -> u64
-    ensures { result ≡ min
-        (total (λ (master : MasterAgent). total (rings address value) master.ops) masters.now) 2 }
-{
-    let mut found = 0;
-    for master in masters {
-        found = (found + ops_ring_up_to_two(master.ops.as_slice(), address, value)).min(2);
-    }
-    found
-}
-
-#[tactic(auto, using(crate::proofs::ClearLemmas::capped))]
-fn ops_ring_up_to_two(ops: &[Op], address: u64, value: u32) -> u64
-    ensures { result ≡ min (total (rings address value) ops.now) 2 }
-{
-    let mut found = 0;
-    for op in ops {
-        found = (found + rings(op, address, value)).min(2);
-    }
-    found
 }

@@ -16,6 +16,7 @@ mod parts;
 mod put;
 mod text;
 mod unclear;
+mod written;
 
 pub use fault::MakeFault;
 pub use laws::{

@@ -5,6 +5,7 @@ ghost use Rattle.board_parser.specs.Boards.{sheet_read};
 ghost use Rattle.history_model.specs.Clear.{is_clear};
 ghost use Rattle.dma_agents.specs.Made.{made_read, by_lines, unclear, Tells};
 ghost use Rattle.dma_agents.specs.Parts.{TellsSheet};
+ghost use Rattle.dma_agents.specs.Written.{IsWritten};
 ghost use Rattle.std.specs.Prelude.{Ok};
 
 use crate::clear::is_clear;
@@ -12,10 +13,11 @@ use crate::laws::made_boards_are_well_formed;
 use crate::making::{Making, lines_read, misshapen};
 use crate::parts::{behind_first_line, find_devices};
 use crate::unclear::why_unclear;
+use crate::written::{Written, written_on};
 use crate::{DeviceOwner, Flag, MakeFault, Waiting};
 use board_model::Board;
 use board_parser::{ParseFault, Sheet, parse_sheet};
-use pci_command::List;
+use pci_command::{List, NoMemory};
 use std::alloc::Global;
 use text_faults::OrNoMemory;
 
@@ -83,7 +85,7 @@ fn with_clear_flags(
     } = making;
     let _first = first;
     let board = sheet.into_board(alloc)?;
-    match unclear(&board, waits.as_slice()) {
+    match unclear(alloc, &board, waits.as_slice())? {
         None => Ok(board),
         Some(wait) => Err(OrNoMemory::Fault(MakeFault::NotClear {
             line: wait.line,
@@ -93,17 +95,26 @@ fn with_clear_flags(
     }
 }
 
-fn unclear(board: &Board, waits: &[Waiting]) -> Option<Waiting>
+fn unclear(alloc: Global, board: &Board, waits: &[Waiting]) -> Result<Option<Waiting>, NoMemory>
+    ensures { IfOk result (λ found. found ≡ unclear board.now waits.now) }
+{
+    let written = written_on(alloc, board)?;
+    Ok(first_unclear(board, &written, waits))
+}
+
+fn first_unclear(board: &Board, written: &Written, waits: &[Waiting]) -> Option<Waiting>
+    requires { IsWritten board.now.masters written.now }
     ensures { result ≡ unclear board.now waits.now }
 {
     waits
         .iter()
         .copied()
-        .find(|wait| is_unclear(board, wait.flag))
+        .find(|wait| is_unclear(board, written, wait.flag))
 }
 
-fn is_unclear(board: &Board, flag: Flag) -> bool
+fn is_unclear(board: &Board, written: &Written, flag: Flag) -> bool
+    requires { IsWritten board.now.masters written.now }
     ensures { result ≡ not (is_clear board.now flag.address flag.value) }
 {
-    !is_clear(board, u64::from(flag.address), flag.value)
+    !is_clear(board, written, flag.address, flag.value)
 }
