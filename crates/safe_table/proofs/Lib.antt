@@ -9,4 +9,6 @@ pub mod PollLemmas
 pub mod KeptLemmas
 pub mod ReachLemmas
 pub mod RaiserLemmas
+pub mod StretchLemmas
+pub mod ListedLemmas
 pub mod RiseLemmas

@@ -19,7 +19,7 @@ use Rattle.safe_table.proofs.ReachLemmas.{greater_none, greater_assoc, left_belo
 
 -- What writes know together.
 
-known_append : (rows : List ProgramRows) (xs ys : List WordWrite) (most other : ℕ) → known_to rows (xs ++ ys) most other ≡ known_to rows ys (known_to rows xs most other) other
+pub known_append : (rows : List ProgramRows) (xs ys : List WordWrite) (most other : ℕ) → known_to rows (xs ++ ys) most other ≡ known_to rows ys (known_to rows xs most other) other
 known_append rows [] ys most other = refl
 known_append rows (x ∷ xs) ys most other = known_append rows xs ys (cond (nat_lt (clock_past rows x.op other) most) (clock_past rows x.op other) most) other
 
@@ -28,13 +28,13 @@ behind_core : (here : Bool) (early late known more : ℕ) → early < late → k
 behind_core true early late known more before rises = grind (arith, nat_tests)
 behind_core false early late known more before rises = rises
 
-behind_same : (g f : WordWrite) → is_behind g f ≡ true → g.op.master ≡ f.op.master
+pub behind_same : (g f : WordWrite) → is_behind g f ≡ true → g.op.master ≡ f.op.master
 behind_same g f is = eqb-true g.op.master f.op.master (and_parts (eqb g.op.master f.op.master) (nat_lt g.op.index f.op.index) is).0
 
-behind_less : (g f : WordWrite) → is_behind g f ≡ true → g.op.index < f.op.index
+pub behind_less : (g f : WordWrite) → is_behind g f ≡ true → g.op.index < f.op.index
 behind_less g f is = ltb-true g.op.index f.op.index (and_parts (eqb g.op.master f.op.master) (nat_lt g.op.index f.op.index) is).1
 
-behind_knows : (rows : List ProgramRows) (g f : WordWrite) (other : ℕ) → RisesIn rows → is_behind g f ≡ true → clock_past rows g.op other ≤ clock_past rows f.op other
+pub behind_knows : (rows : List ProgramRows) (g f : WordWrite) (other : ℕ) → RisesIn rows → is_behind g f ≡ true → clock_past rows g.op other ≤ clock_past rows f.op other
 behind_knows rows g f other rises is =
     let same = behind_same g f is in
     let less = behind_less g f is in
@@ -42,7 +42,7 @@ behind_knows rows g f other rises is =
     let P : ℕ → Type 0 = λ m. cond (other == m) (greater (known_in rows m g.op.index other) (g.op.index + 1)) (known_in rows m g.op.index other) ≤ clock_past rows f.op other in
     subst P (sym same) (behind_core (other == f.op.master) g.op.index f.op.index (known_in rows f.op.master g.op.index other) (known_in rows f.op.master f.op.index other) less known)
 
-no_less : (clock late least : ℕ) → least ≤ clock → clock ≤ late → cond (nat_lt late least) late least ≡ least
+pub no_less : (clock late least : ℕ) → least ≤ clock → clock ≤ late → cond (nat_lt late least) late least ≡ least
 no_less clock late least low high = grind (arith, nat_tests)
 
 least_low : (clock most : ℕ) → cond (nat_lt clock most) clock most ≤ clock
@@ -144,7 +144,7 @@ stay_alike rows p awaited lasts writes these alike =
 -- How far writes reach.
 
 module _ (rows : List ProgramRows) (p : OpId) (master : ℕ) (posted : Bool) where
-  reach_append : (o : OpId) (xs ys : List WordWrite) → limit_without rows p master posted o (xs ++ ys) ≡ greater (limit_without rows p master posted o xs) (limit_without rows p master posted o ys)
+  pub reach_append : (o : OpId) (xs ys : List WordWrite) → limit_without rows p master posted o (xs ++ ys) ≡ greater (limit_without rows p master posted o xs) (limit_without rows p master posted o ys)
   reach_append o [] ys = sym (greater_none (limit_without rows p master posted o ys))
   reach_append o (x ∷ xs) ys =
       let own : ℕ = cond (same_op x.op o) 0 (limit_of rows p master posted x) in
@@ -196,7 +196,7 @@ module _ (rows : List ProgramRows) (p : OpId) (master : ℕ) (posted : Bool) whe
   none_over n = sym (greater_none n)
 
   -- of three the first reaches no further than one of the others does
-  third_reaches : (a b w : WordWrite) (o : OpId) (rest : List WordWrite) → RisesIn rows → is_behind a b ≡ true → is_behind b w ≡ true → before_in rows w.op p ≡ true
+  pub third_reaches : (a b w : WordWrite) (o : OpId) (rest : List WordWrite) → RisesIn rows → is_behind a b ≡ true → is_behind b w ≡ true → before_in rows w.op p ≡ true
       → limit_without rows p master posted o (b ∷ w ∷ rest) ≡ limit_without rows p master posted o (a ∷ b ∷ w ∷ rest)
   third_reaches a b w o rest rises first second before =
       let lim : WordWrite → ℕ = limit_of rows p master posted in

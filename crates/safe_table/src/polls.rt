@@ -5,6 +5,8 @@ mod kept;
 mod looks;
 mod polls;
 mod reach;
+mod stays;
 
+pub(crate) use awaited::{Awaited, awaited_by};
 pub(crate) use looks::is_before;
 pub use polls::Polls;

@@ -1,4 +1,5 @@
 ghost use Rattle.std.specs.Prelude.{◌≡◌, bit_and};
+ghost use Rattle.std.specs.List.{list_all};
 ghost use Rattle.std.specs.Option.{option_map};
 ghost use Rattle.board_tree.specs.Decodable.{IsDecodable};
 ghost use Rattle.board_model.specs.device.Registers.{enabled_bits};
@@ -14,7 +15,7 @@ use machine_steps::opens_as;
 use pci_command::{OpId, Phase, Space};
 
 /// What a poll waits for: a value of a dword, under a mask.
-#[derive(Clone, Copy, Debug)]
+#[derive(Clone, Copy, Debug, PartialEq, Eq, Hash)]
 pub(crate) struct Awaited {
     pub word: Word,
     pub mask: u32,
@@ -68,6 +69,13 @@ impl Awaited {
         ensures { result ≡ raises_it self.now write.now }
     {
         self.is_met_by(write.phase.value & 0xffff_ffff)
+    }
+
+    /// Whether data phases like these write all that the mask looks at.
+    pub(crate) fn are_whole(&self, kinds: &[Phase]) -> bool
+        ensures { result ≡ list_all (is_whole self.now.mask) kinds.now }
+    {
+        kinds.iter().all(|kind| is_whole(self.mask, *kind))
     }
 
     /// Whether the write writes all that the mask looks at, and where it brings a value that meets

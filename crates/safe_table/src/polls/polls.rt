@@ -96,13 +96,21 @@ impl Polls {
     }
 
     /// Whether some run may come to one of the poll's raisers, by the table.
-    pub fn is_raised(&self, table: &ClockTable, writers: &Writers, op: OpId) -> bool
-        requires { op.attempt ≡ 0 }
-        ensures { (board : Board) → KnowsPolls board self.now → KeepsPolls board table.now →
-            ListsWrites board writers.now →
-            result ≡ is_raised board (table_of table.now) op (wish_of board op) }
+    pub fn is_raised(
+        &self,
+        alloc: Global,
+        table: &ClockTable,
+        writers: &Writers,
+        op: OpId,
+    ) -> Result<bool, NoMemory>
+        requires first { op.attempt ≡ 0 }
+        requires rises { RisesIn table.now }
+        ensures { IfOk result (λ yes. (board : Board) → KnowsPolls board self.now →
+            KeepsPolls board table.now → ListsWrites board writers.now →
+            yes ≡ is_raised board (table_of table.now) op (wish_of board op)) }
     {
-        is_raised(self.of(op), table, writers, op)
+        let raised = is_raised(alloc, self.of(op), table, writers, op)?;
+        Ok(raised)
     }
 
     /// What is kept of the operation.
@@ -178,12 +186,20 @@ fn is_told(poll: Option<&KeptPoll>, table: &ClockTable, writers: &Writers, op: O
     }
 }
 
-fn is_raised(poll: Option<&KeptPoll>, table: &ClockTable, writers: &Writers, op: OpId) -> bool
-    ensures { result ≡ raised_at table.now op writers.now (option_copied poll.entry) }
+fn is_raised(
+    alloc: Global,
+    poll: Option<&KeptPoll>,
+    table: &ClockTable,
+    writers: &Writers,
+    op: OpId,
+) -> Result<bool, NoMemory>
+    requires { RisesIn table.now }
+    ensures { IfOk result
+        (λ yes. yes ≡ raised_at table.now op writers.now (option_copied poll.entry)) }
 {
     match poll {
-        Some(poll) => poll.is_raised(table, writers, op),
-        None => false,
+        Some(poll) => poll.is_raised(alloc, table, writers, op),
+        None => Ok(false),
     }
 }
 

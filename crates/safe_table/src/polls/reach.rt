@@ -1,16 +1,17 @@
 ghost use Rattle.std.specs.Prelude.{◌≡◌, ◌++◌, ◌∷◌, [], IfOk, OnOk, not, true, false};
 ghost use Rattle.std.specs.Prelude.{◌&&◌, if◌then◌else◌};
 ghost use Rattle.std.specs.List.{list_any};
-ghost use Rattle.safe_table.specs.Looks.{before_in, is_reached_in, KnowAlike, is_behind, IsKnown};
+ghost use Rattle.safe_table.specs.Looks.{before_in, is_reached_in, KnowAlike, IsKnown};
 ghost use Rattle.safe_table.specs.Polls.{raises_it, staying};
 ghost use Rattle.safe_table.specs.Reaches.{IsReach, ReachAlike, MakesWay, PutsLast};
 ghost use Rattle.safe_table.specs.Reaches.{limit_of, leaves_out_by, taken_in};
 ghost use Rattle.safe_table.specs.Rows.{RisesIn};
+ghost use Rattle.safe_table.specs.Stretches.{bound_in};
 
 use crate::known::{ClockTable, greater};
 use crate::polls::awaited::Awaited;
 use crate::polls::looks::is_before;
-use crate::writers::WordWrite;
+use crate::writers::{WordWrite, is_behind};
 use pci_command::{NoMemory, OpId, same_op};
 use std::alloc::Global;
 
@@ -87,13 +88,6 @@ fn is_known(raisers: &[WordWrite], write: &WordWrite) -> bool
         Some(last) => is_behind(last, write),
         None => false,
     }
-}
-
-/// Whether a write is an earlier one of the same master.
-fn is_behind(first: &WordWrite, second: &WordWrite) -> bool
-    ensures { result ≡ is_behind first.now second.now }
-{
-    first.op.master == second.op.master && first.op.index < second.op.index
 }
 
 /// Of the writes that come before the poll the last two of each master, where those of a master
@@ -205,7 +199,7 @@ fn is_next_reached(
 }
 
 /// Whether the raiser is not left out, and some run may come to it.
-fn is_reached(reach: Reach, table: &ClockTable, raiser: &WordWrite) -> bool
+pub(crate) fn is_reached(reach: Reach, table: &ClockTable, raiser: &WordWrite) -> bool
     ensures { result ≡ (not (leaves_out_by reach raiser.now)
         && not (before_in table.now raiser.now.op raiser.now.op)) }
 {
@@ -248,7 +242,7 @@ fn reach_for(
 }
 
 /// That of a master, by one look at each of the writes.
-fn reach_of(
+pub(crate) fn reach_of(
     table: &ClockTable,
     poll: OpId,
     writes: &[WordWrite],
@@ -311,8 +305,20 @@ impl Reach {
         }
     }
 
+    /// Below which index all later ones of a program are left out, if the first is.
+    pub(crate) fn bound(&self, first: &WordWrite) -> usize
+        ensures { result ≡ bound_in self.now first.now }
+    {
+        let furthest = usize::from(self.furthest.index);
+        if usize::from(first.op.index) < furthest && furthest < self.most {
+            furthest
+        } else {
+            self.most
+        }
+    }
+
     /// Whether a write of the master is left out.
-    fn leaves_out(&self, raiser: &WordWrite) -> bool
+    pub(crate) fn leaves_out(&self, raiser: &WordWrite) -> bool
         ensures { result ≡ leaves_out_by self.now raiser.now }
     {
         let limit = if same_op(raiser.op, self.furthest) {

@@ -1,6 +1,6 @@
 use Rattle.std.proofs.Common.{◌≡◌, drop}
 use Rattle.safe_table.specs.Looks.{known_to}
-use Rattle.safe_table.proofs.polls.looks.known_to.Given as goal
+use Rattle.safe_table.proofs.polls.looks.known_over.Given as goal
 
 -- with the raisers that are left it is what all know
 abbrev pub invariant-loop-raiser : goal.invariant-loop-raiser

@@ -2,7 +2,7 @@ use Rattle.std.proofs.Common.{cond, subst, [], ◌∷◌}
 use Rattle.audit_clocks.specs.Tables.{same_word}
 use Rattle.safe_table.specs.Writes.{Adds}
 use Rattle.safe_table.proofs.WriteLemmas.{put_back}
-use Rattle.safe_table.proofs.writers.table.Writers.put.Goals as goal
+use Rattle.safe_table.proofs.writers.words.Words.put.Goals as goal
 
 pub returns : goal.returns
 returns c =
