@@ -22,6 +22,7 @@ use Rattle.safe_table.specs.Rows.{ProgramRows, ops_at}
 use Rattle.safe_table.specs.Looks.{clock_past, known_to, most_in}
 use Rattle.safe_table.specs.Polls.{PollFacts, IsPollOrNone, poll_at, KnowsPolls, KnowsProgram, AreMost}
 use Rattle.safe_table.proofs.StartLemmas.{FilledTo, filled_none, filled_next}
+use Rattle.safe_table.proofs.RaiserLemmas.{known_falls}
 
 -- The bits that a data phase writes.
 
@@ -155,16 +156,6 @@ most_all board rows p told raisers numbers other past within filled =
 pub ruleset most_filled = (most_none, most_next, most_all)
 
 -- What is known anyway.
-
-least_falls : (clock most : ℕ) → cond (nat_lt clock most) clock most ≤ most
-least_falls clock most = grind (arith, nat_tests)
-
-known_falls : (rows : List ProgramRows) (raisers : List WordWrite) (most other : ℕ) → known_to rows raisers most other ≤ most
-known_falls rows [] most other = omega arith
-known_falls rows (f ∷ raisers) most other =
-    let one = least_falls (clock_past rows f.op other) most in
-    let rest = known_falls rows raisers (cond (nat_lt (clock_past rows f.op other) most) (clock_past rows f.op other) most) other in
-    omega (arith, one, rest)
 
 greater_known : (known n : ℕ) → n ≤ known → known ≡ greater known n
 greater_known known n low = grind (arith, nat_tests)

@@ -54,7 +54,7 @@ known_most board table p other =
     omega (arith, clock, most)
 
 -- what is known falls with the numbers
-known_less : (board : Board) (old new : Table) (master other : ℕ) → ((index : ℕ) → new master index other ≤ old master index other)
+pub known_less : (board : Board) (old new : Table) (master other : ℕ) → ((index : ℕ) → new master index other ≤ old master index other)
     → (index : ℕ) → known_by board new master index other ≤ known_by board old master index other
 known_less board old new master other less zero = omega arith
 known_less board old new master other less (suc index) =

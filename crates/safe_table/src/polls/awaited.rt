@@ -1,5 +1,4 @@
 ghost use Rattle.std.specs.Prelude.{◌≡◌, bit_and};
-ghost use Rattle.std.specs.List.{list_all};
 ghost use Rattle.std.specs.Option.{option_map};
 ghost use Rattle.board_tree.specs.Decodable.{IsDecodable};
 ghost use Rattle.board_model.specs.device.Registers.{enabled_bits};
@@ -7,6 +6,7 @@ ghost use Rattle.history_model.specs.Words.{opens_as};
 ghost use Rattle.safe_model.specs.Raisers.{is_met_by, is_whole, is_plain, brings_met};
 ghost use Rattle.law_safe.specs.largest.Tests.{wish_of};
 ghost use Rattle.audit_landings.specs.Hits.{dword};
+ghost use Rattle.safe_table.specs.Lists.{any_of, met_by, is_whole_at};
 ghost use Rattle.safe_table.specs.Polls.{wish_for, raises_it, is_clean_write};
 
 use crate::writers::{WordWrite, first_named};
@@ -37,6 +37,17 @@ pub(crate) fn awaited_by(board: &Board, op: OpId) -> Option<Awaited>
             })
         }
         _ => None,
+    }
+}
+
+/// What is waited for where no bit of the dword is looked at.
+pub(crate) fn any_of(word: Word) -> Awaited
+    ensures { result ≡ any_of word }
+{
+    Awaited {
+        word,
+        mask: 0,
+        wanted: 0,
     }
 }
 
@@ -71,11 +82,19 @@ impl Awaited {
         self.is_met_by(write.phase.value & 0xffff_ffff)
     }
 
-    /// Whether data phases like these write all that the mask looks at.
-    pub(crate) fn are_whole(&self, kinds: &[Phase]) -> bool
-        ensures { result ≡ list_all (is_whole self.now.mask) kinds.now }
+    /// The value that the write brings under the mask, as what is waited for.
+    pub(crate) fn met_by(self, write: &WordWrite) -> Awaited
+        ensures { result ≡ met_by self write.now }
     {
-        kinds.iter().all(|kind| is_whole(self.mask, *kind))
+        let wanted = write.phase.value & 0xffff_ffff & self.mask;
+        Awaited { wanted, ..self }
+    }
+
+    /// Whether the write enables all bytes that the mask looks at.
+    pub(crate) fn is_whole(&self, write: &WordWrite) -> bool
+        ensures { result ≡ is_whole_at self.now write.now }
+    {
+        is_whole(self.mask, write.phase)
     }
 
     /// Whether the write writes all that the mask looks at, and where it brings a value that meets

@@ -2,18 +2,16 @@ ghost use Rattle.std.specs.Prelude.{◌≡◌, ◌&&◌, IfOk};
 ghost use Rattle.std.specs.List.{list_all, list_any};
 ghost use Rattle.board_tree.specs.Decodable.{IsDecodable};
 ghost use Rattle.safe_model.specs.Raisers.{is_plain};
-ghost use Rattle.safe_table.specs.Looks.{KnowAlike, any_before, is_reached_in};
+ghost use Rattle.safe_table.specs.Looks.{IsOrdered, TellAlike, any_before, is_reached_in};
 ghost use Rattle.safe_table.specs.Polls.{IsPollOrNone, told_in, raisers_in, raised_in};
 ghost use Rattle.safe_table.specs.Polls.{is_clean_write, raises_it, staying};
-ghost use Rattle.safe_table.specs.Rows.{RisesIn};
 ghost use Rattle.safe_table.specs.Writes.{ListsWrites, writes_at};
 
 use crate::known::ClockTable;
-use crate::polls::awaited::{Awaited, awaited_by};
+use crate::polls::awaited::{Awaited, any_of, awaited_by};
 use crate::polls::looks::is_any_before;
-use crate::polls::reach::{is_any_reached, raisers_of};
-use crate::polls::stays::{is_any_first_before, is_any_reached_among, raisers_among};
-use crate::writers::{WordWrite, Writers};
+use crate::polls::stays::{is_any_first_before, is_any_reached, raisers_among};
+use crate::writers::{WordWrite, Writers, stretches_of};
 use board_model::Board;
 use pci_command::{NoMemory, OpId};
 use std::alloc::Global;
@@ -65,17 +63,13 @@ fn is_firm(awaited: &Awaited, writers: &Writers) -> bool
     awaited.is_plain() && are_clean(awaited, writers)
 }
 
-/// Whether each write of the dword is clean, by its lists where there are some.
+/// Whether each write of the dword is clean, as it is kept where it is.
 fn are_clean(awaited: &Awaited, writers: &Writers) -> bool
     ensures { result ≡
         list_all (is_clean_write awaited.now) (writes_at awaited.now.word writers.now) }
 {
-    match writers.lists(*awaited) {
-        Some(listed) => {
-            let whole = awaited.are_whole(listed.writes.kinds());
-            let last = listed.raising.are_last();
-            whole && last
-        }
+    match writers.are_clean(*awaited) {
+        Some(clean) => clean,
         None => is_each_clean(awaited, writers.of_word(awaited.word)),
     }
 }
@@ -91,53 +85,54 @@ fn is_behind_some(awaited: &Awaited, table: &ClockTable, writers: &Writers, poll
     ensures { result ≡ any_before table.now poll (writes_at awaited.now.word writers.now) }
 {
     match writers.lists(*awaited) {
-        Some(listed) => is_any_first_before(table, poll, listed.writes.runs()),
+        Some(listed) => is_any_first_before(table, poll, listed.writes),
         None => is_any_before(table, poll, writers.of_word(awaited.word)),
     }
 }
 
-/// Of the raisers of a poll those that know what all do.
+/// Of the raisers of a poll those that tell it what all do. Where the writes of its dword are too
+/// many to be listed under its mask they are put together anew.
 fn raisers_for(
     alloc: Global,
-    awaited: &Awaited,
+    awaited: Awaited,
     table: &ClockTable,
     writers: &Writers,
     poll: OpId,
 ) -> Result<Vec<WordWrite>, NoMemory>
-    requires { RisesIn table.now }
-    ensures { IfOk result (λ found. KnowAlike table.now found.items
-        (staying table.now poll awaited.now (writes_at awaited.now.word writers.now)
-        (writes_at awaited.now.word writers.now))) }
+    requires { IsOrdered table.now }
+    ensures { IfOk result (λ found. TellAlike table.now poll found.items
+        (staying table.now poll awaited (writes_at awaited.word writers.now)
+        (writes_at awaited.word writers.now))) }
 {
-    match writers.lists(*awaited) {
-        Some(listed) => {
-            let (writes, raising) = (listed.writes.runs(), listed.raising.runs());
-            raisers_among(alloc, table, poll, writes, raising)
-        }
-        None => raisers_of(alloc, table, poll, awaited, writers.of_word(awaited.word)),
+    if let Some(listed) = writers.lists(awaited) {
+        return raisers_among(alloc, table, poll, listed.writes, listed.raising);
     }
+    let words = writers.of_word(awaited.word);
+    let writes = stretches_of(alloc, any_of(awaited.word), words)?;
+    let raising = stretches_of(alloc, awaited, words)?;
+    raisers_among(alloc, table, poll, writes.as_slice(), raising.as_slice())
 }
 
 /// Whether some run may come to one of them.
 fn is_raised_for(
     alloc: Global,
-    awaited: &Awaited,
+    awaited: Awaited,
     table: &ClockTable,
     writers: &Writers,
     poll: OpId,
 ) -> Result<bool, NoMemory>
-    requires { RisesIn table.now }
-    ensures { IfOk result (λ yes. yes ≡ list_any (λ f. raises_it awaited.now f && is_reached_in
-        table.now poll (writes_at awaited.now.word writers.now) f)
-        (writes_at awaited.now.word writers.now)) }
+    requires { IsOrdered table.now }
+    ensures { IfOk result (λ yes. yes ≡ list_any (λ f. raises_it awaited f && is_reached_in
+        table.now poll (writes_at awaited.word writers.now) f)
+        (writes_at awaited.word writers.now)) }
 {
-    match writers.lists(*awaited) {
-        Some(listed) => {
-            let (writes, raising) = (listed.writes.runs(), listed.raising.runs());
-            is_any_reached_among(alloc, table, poll, writes, raising)
-        }
-        None => Ok(is_any_reached(table, poll, awaited, writers.of_word(awaited.word))),
+    if let Some(listed) = writers.lists(awaited) {
+        return Ok(is_any_reached(table, poll, listed.writes, listed.raising));
     }
+    let words = writers.of_word(awaited.word);
+    let writes = stretches_of(alloc, any_of(awaited.word), words)?;
+    let raising = stretches_of(alloc, awaited, words)?;
+    Ok(is_any_reached(table, poll, writes.as_slice(), raising.as_slice()))
 }
 
 impl KeptPoll {
@@ -149,7 +144,7 @@ impl KeptPoll {
         self.firm && (!self.opens || is_behind_some(&self.awaited, table, writers, poll))
     }
 
-    /// Of its raisers those that know what all do: the first of each master that is not left out.
+    /// Of its raisers those that tell it what all do that are not left out.
     pub(crate) fn raisers(
         &self,
         alloc: Global,
@@ -157,11 +152,11 @@ impl KeptPoll {
         writers: &Writers,
         poll: OpId,
     ) -> Result<Vec<WordWrite>, NoMemory>
-        requires { RisesIn table.now }
-        ensures { IfOk result (λ found. KnowAlike table.now found.items
+        requires { IsOrdered table.now }
+        ensures { IfOk result (λ found. TellAlike table.now poll found.items
             (raisers_in table.now poll (writes_at self.now.awaited.word writers.now) self.now)) }
     {
-        raisers_for(alloc, &self.awaited, table, writers, poll)
+        raisers_for(alloc, self.awaited, table, writers, poll)
     }
 
     /// Whether some run may come to one of them.
@@ -172,10 +167,10 @@ impl KeptPoll {
         writers: &Writers,
         poll: OpId,
     ) -> Result<bool, NoMemory>
-        requires { RisesIn table.now }
+        requires { IsOrdered table.now }
         ensures { IfOk result (λ yes. yes ≡
             raised_in table.now poll (writes_at self.now.awaited.word writers.now) self.now) }
     {
-        is_raised_for(alloc, &self.awaited, table, writers, poll)
+        is_raised_for(alloc, self.awaited, table, writers, poll)
     }
 }

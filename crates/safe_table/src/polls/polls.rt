@@ -3,8 +3,8 @@ ghost use Rattle.std.specs.Option.{option_copied};
 ghost use Rattle.board_tree.specs.Decodable.{IsDecodable};
 ghost use Rattle.safe_table.specs.Polls.{KnowsPolls, KnowsProgram, AreMost};
 ghost use Rattle.safe_table.specs.Polls.{told_at, raisers_at, raised_at};
-ghost use Rattle.safe_table.specs.Rows.{KeepsPolls, RisesIn, table_of};
-ghost use Rattle.safe_table.specs.Looks.{KnowAlike};
+ghost use Rattle.safe_table.specs.Rows.{KeepsPolls, table_of};
+ghost use Rattle.safe_table.specs.Looks.{IsOrdered, TellAlike};
 ghost use Rattle.safe_table.specs.Writes.{ListsWrites};
 
 use crate::known::ClockTable;
@@ -74,7 +74,7 @@ impl Polls {
         requires first { op.attempt ≡ 0 }
         requires polls { KnowsPolls tree.now self.now }
         requires table { KeepsPolls tree.now table.now }
-        requires rises { RisesIn table.now }
+        requires ordered { IsOrdered table.now }
         requires writers { ListsWrites tree.now writers.now }
         ensures { IfOk result (λ numbers. IsMost tree.now (table_of table.now) op numbers.items) }
     {
@@ -104,7 +104,7 @@ impl Polls {
         op: OpId,
     ) -> Result<bool, NoMemory>
         requires first { op.attempt ≡ 0 }
-        requires rises { RisesIn table.now }
+        requires ordered { IsOrdered table.now }
         ensures { IfOk result (λ yes. (board : Board) → KnowsPolls board self.now →
             KeepsPolls board table.now → ListsWrites board writers.now →
             yes ≡ is_raised board (table_of table.now) op (wish_of board op)) }
@@ -193,7 +193,7 @@ fn is_raised(
     writers: &Writers,
     op: OpId,
 ) -> Result<bool, NoMemory>
-    requires { RisesIn table.now }
+    requires { IsOrdered table.now }
     ensures { IfOk result
         (λ yes. yes ≡ raised_at table.now op writers.now (option_copied poll.entry)) }
 {
@@ -203,7 +203,7 @@ fn is_raised(
     }
 }
 
-/// Of the raisers of a poll that is told something those that know what all do.
+/// Of the raisers of a poll that is told something those that tell it what all do.
 fn raisers(
     alloc: Global,
     poll: Option<&KeptPoll>,
@@ -211,8 +211,8 @@ fn raisers(
     writers: &Writers,
     op: OpId,
 ) -> Result<Vec<WordWrite>, NoMemory>
-    requires { RisesIn table.now }
-    ensures { IfOk result (λ found. KnowAlike table.now found.items
+    requires { IsOrdered table.now }
+    ensures { IfOk result (λ found. TellAlike table.now op found.items
         (raisers_at table.now op writers.now (option_copied poll.entry))) }
 {
     match poll {

@@ -1,42 +1,39 @@
-ghost use Rattle.std.specs.Prelude.{◌≡◌, ◌≤◌, IfOk, OnOk, length};
-ghost use Rattle.std.specs.List.{filter};
+ghost use Rattle.std.specs.Prelude.{◌≡◌, ◌≤◌, OnOk, IfOk, length};
+ghost use Rattle.std.specs.List.{list_all};
 ghost use Rattle.board_tree.specs.Decodable.{IsDecodable};
-ghost use Rattle.safe_table.specs.Lists.{KeepsLists};
-ghost use Rattle.safe_table.specs.Groups.{AreValueGroups};
-ghost use Rattle.safe_table.specs.Polls.{raises_it};
-ghost use Rattle.safe_table.specs.Writes.{writes_at};
+ghost use Rattle.audit_clocks.specs.Tables.{list_in};
+ghost use Rattle.safe_table.specs.Lists.{AddsFor, AddsUnder, KeepsLists};
+ghost use Rattle.safe_table.specs.Lists.{any_of, mask_of, is_whole_at};
 
-use crate::polls::{Awaited, awaited_by};
-use crate::writers::groups::{ValueGroup, groups_of, raising_in, raising_of, value_under};
+use crate::polls::{Awaited, any_of, awaited_by};
+use crate::writers::by_awaited::ByAwaited;
 use crate::writers::stretches::Stretches;
 use crate::writers::words::Words;
-use crate::writers::write::WordWrite;
-use audit_clocks::WordTable;
+use crate::writers::write::{WordWrite, WordWrites};
 use board_model::{Board, Op, Word};
 use board_tree::Tree;
 use pci_command::{NoMemory, OpId};
 use std::alloc::Global;
-use std::collections::HashMap;
 use std::marker::Model;
 
-/// How many writes are listed at most for all that polls wait for. Under one mask each write of a
-/// dword brings one value, so it takes many masks to need more.
-const MOST_LISTED: usize = 262_144;
+/// How many writes are listed at most. Under one mask each write of a dword brings one value, so it
+/// takes several masks to need more.
+const MOST_LISTED: usize = 131_072;
 
-/// The writes of a dword at which a poll waits, and those of them that bring what it waits for.
+/// As stretches the writes of a dword, and those of them that bring what is waited for.
 #[derive(Clone, Copy, Drop)]
 pub(crate) struct Listed<'a> {
-    pub writes: &'a Stretches,
-    pub raising: &'a Stretches,
+    pub writes: &'a [WordWrites],
+    pub raising: &'a [WordWrites],
 }
 
-/// Of dwords at which polls wait the writes, and of what is waited for those that bring it; which
-/// masks were met at a dword; and how many more writes may be listed.
+/// For what polls wait for the writes that bring it; for masks under which all writes of a dword are
+/// listed, each for the value that it brings, whether each enables all bytes that the mask looks at;
+/// and how many more writes may be listed.
 #[derive(Debug, Drop)]
 pub(crate) struct Lists {
-    words: WordTable<Stretches>,
-    raising: HashMap<Awaited, Stretches>,
-    masks: HashMap<Awaited, bool>,
+    lists: ByAwaited<Stretches>,
+    masks: ByAwaited<bool>,
     room: usize,
 }
 
@@ -45,204 +42,199 @@ impl Model for Lists {
 
     ghost Value = { ListsFacts };
 
-    ghost view = { λ k. record { words = k.words; raising = k.raising.entries } };
+    ghost view = { λ k. record { lists = k.lists; masks = k.masks } };
 }
 
 impl Lists {
-    ghost use Rattle.std.specs.Prelude.{[], IfSome};
-    ghost use Rattle.std.specs.Option.{option_copied};
-    ghost use Rattle.audit_clocks.specs.Tables.{found_in, PutsWord};
-    ghost use Rattle.safe_table.specs.Lists.{found_for, AreFound, PutsAwaited};
+    ghost use Rattle.std.specs.Prelude.{List, [], IfSome, true, false, ◌&&◌};
+    ghost use Rattle.std.specs.List.{filter};
+    ghost use Rattle.board_model.specs.declared.word.Word.{Word};
+    ghost use Rattle.safe_table.specs.declared.writers.write.WordWrite.{WordWrite};
+    ghost use Rattle.safe_table.specs.Lists.{list_for, is_listed, AreListed};
+    ghost use Rattle.safe_table.specs.Polls.{raises_it, is_clean_write};
+    ghost use Rattle.safe_table.specs.Stretches.{AreStretchesOf, is_last_of};
+    ghost use Rattle.safe_table.specs.Writes.{writes_at};
 
-    /// None yet.
+    /// None is listed.
     fn new(alloc: Global) -> Lists
-        ensures { result ≡ record { words = []; raising = [] } }
+        ensures { result ≡ record { lists = []; masks = [] } }
     {
         Lists {
-            words: WordTable::new(alloc),
-            raising: HashMap::new(alloc),
-            masks: HashMap::new(alloc),
+            lists: ByAwaited::new(alloc),
+            masks: ByAwaited::new(alloc),
             room: MOST_LISTED,
         }
     }
 
-    /// Those for what is waited for.
+    /// The writes of the dword and those that bring what is waited for, where they are listed.
     pub(crate) fn of(&self, awaited: Awaited) -> Option<Listed>
-        ensures { IfSome result
-            (λ listed. AreFound self.now awaited listed.writes.now listed.raising.now) }
+        ensures { IfSome result (λ listed. (entries : List (Word × List WordWrite)) →
+            KeepsLists entries self.now →
+            AreListed entries awaited listed.writes.now listed.raising.now) }
     {
-        let writes = self.writes_of(awaited.word)?;
-        let raising = self.raising_for(awaited)?;
+        let writes = self.listed(any_of(awaited.word))?;
+        let raising = self.listed(awaited)?;
         Some(Listed { writes, raising })
     }
 
-    /// The writes of the dword, where they are listed.
-    fn writes_of(&self, word: Word) -> Option<&Stretches>
-        ensures { option_copied result ≡ found_in word self.now.words }
+    /// Whether each write of the dword is clean, where they are listed.
+    pub(crate) fn are_clean(&self, awaited: Awaited) -> Option<bool>
+        ensures { IfSome result (λ clean. (entries : List (Word × List WordWrite)) →
+            KeepsLists entries self.now →
+            clean ≡ list_all (is_clean_write awaited) (writes_at awaited.word entries)) }
     {
-        self.words.get(word)
+        let whole = self.masks.get(mask_of(awaited))?;
+        Some(self.are_last(awaited, *whole))
     }
 
-    /// Those that bring what is waited for, where they are listed.
-    fn raising_for(&self, awaited: Awaited) -> Option<&Stretches>
-        ensures { option_copied result ≡ found_for awaited self.now.raising }
+    /// Those that bring what is waited for, where all writes are listed under the mask.
+    fn listed(&self, awaited: Awaited) -> Option<&[WordWrites]>
+        ensures { IfSome result (λ runs. (is_listed awaited self.now ≡ true)
+            × AreStretchesOf (list_for awaited self.now.lists) runs.now) }
     {
-        self.raising.get(&awaited)
+        if self.has(awaited) {
+            Some(self.runs(awaited))
+        } else {
+            None
+        }
     }
 
-    /// Those are listed, where they were not yet.
+    /// Whether all writes of the dword are listed, each for the value that it brings under the mask.
+    fn has(&self, awaited: Awaited) -> bool
+        ensures { result ≡ is_listed awaited self.now }
+    {
+        match self.masks.get(mask_of(awaited)) {
+            Some(_) => true,
+            None => false,
+        }
+    }
+
+    /// The list for what is waited for.
+    fn runs(&self, awaited: Awaited) -> &[WordWrites]
+        ensures { AreStretchesOf (list_for awaited self.now.lists) result.now }
+    {
+        match self.lists.get(awaited) {
+            Some(list) => list.runs(),
+            None => &[],
+        }
+    }
+
+    /// Whether the dword is the last of each of the list, and this is so too.
+    fn are_last(&self, awaited: Awaited, too: bool) -> bool
+        ensures { result ≡ (list_all is_last_of (list_for awaited self.now.lists) && too) }
+    {
+        match self.lists.get(awaited) {
+            Some(list) => list.are_last() && too,
+            None => too,
+        }
+    }
+
+    /// The writes of a dword are listed, and those of them that bring what is waited for.
     fn keep(&mut self, alloc: Global, words: &Words, awaited: Awaited) -> Result<(), NoMemory>
         requires { KeepsLists words.now self.old }
         ensures { OnOk result (KeepsLists words.now self.new) }
     {
-        self.keep_word(alloc, words, awaited.word)?;
-        self.keep_masked(alloc, words, awaited)?;
-        self.keep_raising(alloc, words, awaited)
+        self.keep_under(alloc, words, any_of(awaited.word))?;
+        self.keep_under(alloc, words, mask_of(awaited))
     }
 
-    /// Where the mask was not met yet at the dword, those under it.
-    fn keep_masked(&mut self, alloc: Global, words: &Words, awaited: Awaited) -> Result<(), NoMemory>
-        requires { KeepsLists words.now self.old }
-        ensures { OnOk result (KeepsLists words.now self.new) }
-    {
-        let is_new = self.is_new_mask(awaited)?;
-        if !is_new {
-            return Ok(());
-        }
-        self.keep_mask(alloc, words, awaited)
-    }
-
-    /// Whether the mask was not met yet at the dword.
-    fn is_new_mask(&mut self, awaited: Awaited) -> Result<bool, NoMemory>
-        ensures { self.new ≡ self.old }
-    {
-        let mask = Awaited {
-            wanted: 0,
-            ..awaited
-        };
-        let is_new = self.room > 0 && !self.masks.contains_key(&mask);
-        if is_new {
-            self.masks.insert(mask, true)?;
-        }
-        Ok(is_new)
-    }
-
-    /// Under the mask those that bring each value that is written.
-    fn keep_mask(&mut self, alloc: Global, words: &Words, awaited: Awaited) -> Result<(), NoMemory>
-        requires { KeepsLists words.now self.old }
-        ensures { OnOk result (KeepsLists words.now self.new) }
-    {
-        let writes = words.of_word(awaited.word);
-        let groups = groups_of(alloc, awaited.mask, writes)?;
-        for write in writes {
-            let wanted = value_under(awaited.mask, write);
-            let awaited = Awaited { wanted, ..awaited };
-            self.keep_value(alloc, words, awaited, groups.as_slice())?;
-        }
-        Ok(())
-    }
-
-    /// Those that bring what is waited for, by the groups of the writes of its dword.
-    fn keep_value(
-        &mut self,
-        alloc: Global,
-        words: &Words,
-        awaited: Awaited,
-        groups: &[ValueGroup],
-    ) -> Result<(), NoMemory>
+    /// The writes of a dword are listed, each for the value that it brings under the mask, if they
+    /// were not yet, and there is room.
+    fn keep_under(&mut self, alloc: Global, words: &Words, mask: Awaited) -> Result<(), NoMemory>
+        requires mask { mask.wanted ≡ 0 }
         requires kept { KeepsLists words.now self.old }
-        requires groups { AreValueGroups awaited.mask (writes_at awaited.word words.now)
-            groups.now }
         ensures { OnOk result (KeepsLists words.now self.new) }
     {
-        if self.is_done_with(awaited) {
+        let writes = words.of_word(mask.word);
+        if self.has(mask) {
             return Ok(());
         }
-        let list = raising_in(alloc, awaited, groups, words.of_word(awaited.word))?;
-        self.keep_list(alloc, words, awaited, list.as_slice())
-    }
-
-    /// These, where there is room.
-    fn keep_list(
-        &mut self,
-        alloc: Global,
-        words: &Words,
-        awaited: Awaited,
-        list: &[WordWrite],
-    ) -> Result<(), NoMemory>
-        requires kept { KeepsLists words.now self.old }
-        requires list { list.now ≡ filter (raises_it awaited) (writes_at awaited.word words.now) }
-        ensures { OnOk result (KeepsLists words.now self.new) }
-    {
-        let _words = words;
-        if !self.takes(list.len()) {
+        if !self.takes(writes.len()) {
             return Ok(());
         }
-        let listed = Stretches::of(alloc, list)?;
-        self.put_raising(awaited, listed)
+        self.put_under(alloc, mask, writes)
     }
 
-    /// The writes of the dword.
-    fn keep_word(&mut self, alloc: Global, words: &Words, word: Word) -> Result<(), NoMemory>
-        requires { KeepsLists words.now self.old }
-        ensures { OnOk result (KeepsLists words.now self.new) }
-    {
-        if self.writes_of(word).is_some() {
-            return Ok(());
-        }
-        let list = Stretches::of(alloc, words.of_word(word))?;
-        self.put_word(word, list)
-    }
-
-    fn put_word(&mut self, word: Word, list: Stretches) -> Result<(), NoMemory>
-        ensures puts { OnOk result (PutsWord word list self.old.words self.new.words) }
-        ensures raising { self.new.raising ≡ self.old.raising }
-    {
-        self.words.put(word, list)?;
-        Ok(())
-    }
-
-    /// Those that bring what is waited for: no more once there is no room.
-    fn keep_raising(
-        &mut self,
-        alloc: Global,
-        words: &Words,
-        awaited: Awaited,
-    ) -> Result<(), NoMemory>
-        requires { KeepsLists words.now self.old }
-        ensures { OnOk result (KeepsLists words.now self.new) }
-    {
-        if self.is_done_with(awaited) {
-            return Ok(());
-        }
-        let list = raising_of(alloc, awaited, words.of_word(awaited.word))?;
-        self.keep_list(alloc, words, awaited, list.as_slice())
-    }
-
-    /// Whether there is no room, or they are listed.
-    fn is_done_with(&self, awaited: Awaited) -> bool {
-        self.room == 0 || self.raising_for(awaited).is_some()
-    }
-
-    /// Whether there is room for so many more, which they take.
+    /// Whether there is room for so many writes more, which they take then.
     fn takes(&mut self, count: usize) -> bool
         ensures { self.new ≡ self.old }
     {
-        if count < self.room {
+        if count <= self.room {
             self.room -= count;
             true
         } else {
-            self.room = 0;
             false
         }
     }
 
-    fn put_raising(&mut self, awaited: Awaited, list: Stretches) -> Result<(), NoMemory>
-        ensures puts { OnOk result (PutsAwaited awaited list self.old.raising self.new.raising) }
-        ensures words { self.new.words ≡ self.old.words }
+    fn put_under(
+        &mut self,
+        alloc: Global,
+        mask: Awaited,
+        writes: &[WordWrite],
+    ) -> Result<(), NoMemory>
+        requires { mask.wanted ≡ 0 }
+        ensures { OnOk result ((entries : List (Word × List WordWrite)) →
+            KeepsLists entries self.old → is_listed mask self.old ≡ false →
+            writes.now ≡ writes_at mask.word entries → KeepsLists entries self.new) }
     {
-        self.raising.insert(awaited, list)?;
-        Ok(())
+        put_all(&mut self.lists, alloc, mask, writes)?;
+        self.masks.put(mask, are_whole(mask, writes))
+    }
+}
+
+/// The mask of what is waited for.
+fn mask_of(awaited: Awaited) -> Awaited
+    ensures { result ≡ mask_of awaited }
+{
+    Awaited {
+        wanted: 0,
+        ..awaited
+    }
+}
+
+/// Whether each of the writes enables all bytes that the mask looks at.
+fn are_whole(mask: Awaited, writes: &[WordWrite]) -> bool
+    ensures { result ≡ list_all (is_whole_at mask) writes.now }
+{
+    writes.iter().all(|write| mask.is_whole(write))
+}
+
+/// Each of these writes of a dword is listed for the value that it brings under the mask.
+fn put_all(
+    lists: &mut ByAwaited<Stretches>,
+    alloc: Global,
+    mask: Awaited,
+    writes: &[WordWrite],
+) -> Result<(), NoMemory>
+    ensures { OnOk result (AddsUnder mask writes.now lists.old lists.new) }
+{
+    for write in writes {
+        put(lists, alloc, mask.met_by(write), *write)?;
+    }
+    Ok(())
+}
+
+/// The write is listed for what is waited for, behind the others.
+fn put(
+    lists: &mut ByAwaited<Stretches>,
+    alloc: Global,
+    awaited: Awaited,
+    write: WordWrite,
+) -> Result<(), NoMemory>
+    ensures { OnOk result (AddsFor awaited write lists.old lists.new) }
+{
+    let found = lists.take(awaited);
+    let list = stretches_or_none(alloc, found).with(alloc, write)?;
+    lists.put(awaited, list)
+}
+
+fn stretches_or_none(alloc: Global, found: Option<Stretches>) -> Stretches
+    ensures { result ≡ list_in found }
+{
+    match found {
+        Some(list) => list,
+        None => Stretches::new(alloc),
     }
 }
 

@@ -1,23 +1,21 @@
-ghost use Rattle.std.specs.Prelude.{◌≡◌, ◌<◌, ◌≤◌, ◌==◌, ◌&&◌, IfOk, OnOk, length, take, ℕ};
-ghost use Rattle.std.specs.List.{list_all, list_any};
-ghost use Rattle.pci_command.specs.declared.phases.Phase.{Phase as DataPhase};
-ghost use Rattle.safe_model.specs.Raisers.{is_whole};
+ghost use Rattle.std.specs.Prelude.{◌≡◌, ◌≤◌, ◌&&◌, [], IfOk, OnOk, length, if◌then◌else◌};
+ghost use Rattle.std.specs.List.{filter, list_all};
 ghost use Rattle.safe_table.specs.Looks.{is_behind};
-ghost use Rattle.safe_table.specs.Stretches.{is_next, Stretch, AreStretchesOf, AreKinds, PartsAt};
-ghost use Rattle.safe_table.specs.Stretches.{is_last_of};
+ghost use Rattle.safe_table.specs.Polls.{raises_it};
+ghost use Rattle.safe_table.specs.Stretches.{Stretch, AreStretchesOf, PartsAt};
+ghost use Rattle.safe_table.specs.Stretches.{end_of, goes_on, pushed, is_last_of};
 
+use crate::polls::Awaited;
 use crate::writers::write::{WordWrite, WordWrites};
-use pci_command::{NoMemory, Phase};
+use pci_command::NoMemory;
 use std::alloc::Global;
 use std::marker::Model;
 
 /// Writes of one dword as stretches, in each of which they are of one master, one behind another in
-/// its program, and posted alike. Beside these a data phase for each way in which the writes enable
-/// bytes, and whether the dword is the last of each of them.
+/// its program; and whether the dword is the last of each of them.
 #[derive(Debug, Drop)]
 pub(crate) struct Stretches {
     runs: Vec<WordWrites>,
-    kinds: Vec<Phase>,
     last: bool,
 }
 
@@ -31,36 +29,37 @@ impl Model for Stretches {
 
     ghost view = { λ k. joined k.runs.items };
 
-    ghost invariant = { λ k. AreSummed k.runs.items k.kinds.items k.last };
+    ghost invariant = { λ k. AreSummed k.runs.items k.last };
 }
 
 impl Stretches {
-    ghost use Rattle.safe_table.specs.Landing.{joined};
-    ghost use Rattle.safe_table.specs.Stretches.{AreStretches};
+    ghost use Rattle.std.specs.Prelude.{◌∷◌, ◌++◌};
 
-    /// These writes so.
-    pub(crate) fn of(alloc: Global, writes: &[WordWrite]) -> Result<Stretches, NoMemory>
-        ensures { IfOk result (λ list. list ≡ writes.now) }
+    /// None.
+    pub(crate) fn new(alloc: Global) -> Stretches
+        ensures { result ≡ [] }
     {
-        let runs = stretches_of(alloc, writes)?;
-        let kinds = kinds_of(alloc, writes)?;
-        let last = are_last(writes);
-        Ok(Stretches { runs, kinds, last })
+        Stretches {
+            runs: Vec::new(alloc),
+            last: true,
+        }
+    }
+
+    /// One write more at the end.
+    pub(crate) fn with(self, alloc: Global, write: WordWrite) -> Result<Stretches, NoMemory>
+        ensures { IfOk result (λ list. list ≡ self ++ write ∷ []) }
+    {
+        let Stretches { mut runs, last } = self;
+        push(&mut runs, alloc, write)?;
+        let last = both(last, write.last);
+        Ok(Stretches { runs, last })
     }
 
     /// The stretches.
     pub(crate) fn runs(&self) -> &[WordWrites]
-        ensures all { joined result.now ≡ self.now }
-        ensures each { AreStretches result.now }
+        ensures { AreStretchesOf self.now result.now }
     {
         self.runs.as_slice()
-    }
-
-    /// A data phase for each way in which they enable bytes.
-    pub(crate) fn kinds(&self) -> &[Phase]
-        ensures { AreKinds self.now result.now }
-    {
-        self.kinds.as_slice()
     }
 
     /// Whether the dword is the last of each of them.
@@ -71,48 +70,33 @@ impl Stretches {
     }
 }
 
-/// The writes as stretches, each as long as it may be.
-fn stretches_of(alloc: Global, writes: &[WordWrite]) -> Result<Vec<WordWrites>, NoMemory>
-    ensures { IfOk result (λ runs. AreStretchesOf writes.now runs.items) }
+fn both(a: bool, b: bool) -> bool
+    ensures { result ≡ (a && b) }
 {
-    let mut runs = Vec::new(alloc);
-    let mut left = writes;
-    while left.len() > 0 {
-        let count = stretch_length(left);
-        let (run, behind) = left.split_at(count);
-        runs.push(copied(alloc, run)?)?;
-        left = behind;
+    a && b
+}
+
+/// The write is put behind the last stretch, or begins one.
+fn push(runs: &mut Vec<WordWrites>, alloc: Global, write: WordWrite) -> Result<(), NoMemory>
+    ensures { OnOk result (runs.new.items ≡ pushed write runs.old.items) }
+{
+    let count = runs.len();
+    if count > 0 && goes_on(runs[count - 1].as_slice(), &write) {
+        runs[count - 1].push(write)
+    } else {
+        runs.push(WordWrites::one(alloc, write)?)?;
+        Ok(())
     }
-    Ok(runs)
 }
 
-/// How many of the writes are in one stretch with the first.
-fn stretch_length(writes: &[WordWrite]) -> usize
-    requires { 0 < length writes.now }
-    ensures some { 0 < result }
-    ensures within { result ≤ length writes.now }
-    ensures run { Stretch (take result writes.now) }
+/// Whether the write stands behind the last of these in one program.
+fn goes_on(run: &[WordWrite], write: &WordWrite) -> bool
+    ensures { result ≡ goes_on write.now (end_of run.now) }
 {
-    let mut count = 1;
-    while count < writes.len() && is_next(&writes[count - 1], &writes[count]) {
-        count += 1;
+    match run.last() {
+        Some(last) => is_behind(last, write),
+        None => false,
     }
-    count
-}
-
-fn copied(alloc: Global, writes: &[WordWrite]) -> Result<WordWrites, NoMemory>
-    ensures { IfOk result (λ list. list ≡ writes.now) }
-{
-    let list = writes.iter().copied().collect(alloc)?;
-    Ok(WordWrites::of(list))
-}
-
-/// Whether a write stands behind another in one program, and is posted as that is.
-#[tactic(auto, using(crate::proofs::StretchLemmas::posted_alike))]
-fn is_next(first: &WordWrite, second: &WordWrite) -> bool
-    ensures { result ≡ is_next first.now second.now }
-{
-    is_behind(first, second) && first.posted == second.posted
 }
 
 /// Whether a write is an earlier one of the same master.
@@ -122,39 +106,50 @@ pub(crate) fn is_behind(first: &WordWrite, second: &WordWrite) -> bool
     first.op.master == second.op.master && first.op.index < second.op.index
 }
 
-/// Of the data phases of the writes one for each way in which they enable bytes.
-fn kinds_of(alloc: Global, writes: &[WordWrite]) -> Result<Vec<Phase>, NoMemory>
-    ensures { IfOk result (λ kinds. AreKinds writes.now kinds.items) }
+/// Of these writes those that bring what is waited for.
+pub(crate) fn stretches_of(
+    alloc: Global,
+    awaited: Awaited,
+    writes: &[WordWrite],
+) -> Result<Vec<WordWrites>, NoMemory>
+    ensures { IfOk result
+        (λ runs. AreStretchesOf (filter (raises_it awaited) writes.now) runs.items) }
 {
-    let mut kinds = Vec::new(alloc);
-    for write in writes {
-        add_kind(&mut kinds, write.phase)?;
-    }
-    Ok(kinds)
+    let mut runs = Vec::new(alloc);
+    put_raising(&mut runs, alloc, awaited, writes)?;
+    Ok(runs)
 }
 
-/// One more, where none enables the same bytes.
-fn add_kind(kinds: &mut Vec<Phase>, phase: Phase) -> Result<(), NoMemory>
-    ensures { OnOk result ((mask : ℕ) → list_all (is_whole mask) kinds.new.items ≡
-        (list_all (is_whole mask) kinds.old.items && is_whole mask phase)) }
+fn put_raising(
+    runs: &mut Vec<WordWrites>,
+    alloc: Global,
+    awaited: Awaited,
+    writes: &[WordWrite],
+) -> Result<(), NoMemory>
+    requires { runs.old.items ≡ [] }
+    ensures { OnOk result (AreStretchesOf (filter (raises_it awaited) writes.now) runs.new.items) }
 {
-    if !has_kind(kinds.as_slice(), phase) {
-        kinds.push(phase)?;
+    for write in writes {
+        push_raising(runs, alloc, awaited, write)?;
     }
     Ok(())
 }
 
-fn has_kind(kinds: &[Phase], phase: Phase) -> bool
-    ensures { result ≡
-        list_any (λ (kind : DataPhase). kind.enables == phase.enables) kinds.now }
+/// The write, if it brings what is waited for.
+fn push_raising(
+    runs: &mut Vec<WordWrites>,
+    alloc: Global,
+    awaited: Awaited,
+    write: &WordWrite,
+) -> Result<(), NoMemory>
+    ensures { OnOk result (runs.new.items ≡
+        (if raises_it awaited write.now then pushed write.now runs.old.items else runs.old.items)) }
 {
-    kinds.iter().any(|kind| kind.enables == phase.enables)
-}
-
-fn are_last(writes: &[WordWrite]) -> bool
-    ensures { result ≡ list_all is_last_of writes.now }
-{
-    writes.iter().all(|write| write.last)
+    if awaited.is_raised_by(write) {
+        push(runs, alloc, *write)
+    } else {
+        Ok(())
+    }
 }
 
 /// How many of a stretch have an index below this. It takes a binary search.

@@ -8,8 +8,8 @@ use pci_command::NoMemory;
 use std::alloc::Global;
 use std::marker::Model;
 
-/// The writes of each dword of a board, in the order of master and index; and for polls those of
-/// the dword and those that bring what is waited for, as stretches. No word of the program calls it.
+/// The writes of each dword of a board, in the order of master and index; and those that bring what
+/// polls wait for, as stretches. No word of the program calls it.
 #[derive(Debug, Drop)]
 pub struct Writers {
     words: Words,
@@ -31,11 +31,13 @@ impl Model for Writers {
 
 impl Writers {
     ghost use Rattle.std.specs.Prelude.{◌≡◌, IfOk, IfSome};
+    ghost use Rattle.std.specs.List.{list_all};
     ghost use Rattle.board_model.specs.declared.board.Board.{Board};
     ghost use Rattle.audit_landings.specs.Hits.{dword};
     ghost use Rattle.law_safe.specs.largest.Tests.{writes_of};
     ghost use Rattle.safe_table.specs.Writes.{writes_at, AreWrites, ListsWrites};
     ghost use Rattle.safe_table.specs.Lists.{AreListed};
+    ghost use Rattle.safe_table.specs.Polls.{is_clean_write};
 
     /// Of the writes of the board. It looks up each dword that a write names.
     pub fn new(alloc: Global, tree: &Tree) -> Result<Writers, NoMemory>
@@ -55,12 +57,20 @@ impl Writers {
         self.words.of_word(word)
     }
 
-    /// The same as stretches, and those that bring what is waited for, where these are not too many
-    /// to be kept.
+    /// As stretches those of the dword, and those that bring what is waited for, where they are not
+    /// too many to be kept.
     pub(crate) fn lists(&self, awaited: Awaited) -> Option<Listed>
         ensures { IfSome result
             (λ listed. AreListed self.now awaited listed.writes.now listed.raising.now) }
     {
         self.lists.of(awaited)
+    }
+
+    /// Whether each write of the dword is clean, where that is kept.
+    pub(crate) fn are_clean(&self, awaited: Awaited) -> Option<bool>
+        ensures { IfSome result (λ clean.
+            clean ≡ list_all (is_clean_write awaited) (writes_at awaited.word self.now)) }
+    {
+        self.lists.are_clean(awaited)
     }
 }

@@ -6,11 +6,11 @@ use Rattle.board_model.proofs.form_laws.Laws.{few_masters}
 use Rattle.board_tree.proofs.DecodableLemmas.{IsDecodable-valid}
 use Rattle.safe_table.specs.Lists.{KeepsLists}
 use Rattle.safe_table.proofs.WriteLemmas.{few_at}
-use Rattle.safe_table.proofs.ListedLemmas.{none_listed}
+use Rattle.safe_table.proofs.ListedLemmas.{nothing_kept}
 use Rattle.safe_table.proofs.writers.lists.lists_of.Goals as goal
 
 pub loop-number-init : goal.loop-number-init
-loop-number-init c = subst (KeepsLists c.args.words.now) (sym c.new-lists.ensures) (none_listed c.args.words.now)
+loop-number-init c = subst (KeepsLists c.args.words.now) (sym c.new-lists.ensures) (nothing_kept c.args.words.now)
 
 pub overflow_cast-number : goal.overflow_cast-number
 overflow_cast-number c =
