@@ -67,7 +67,7 @@ impl Lists {
     }
 
     /// The writes of the dword and those that bring what is waited for, where they are listed.
-    pub(crate) fn of(&self, awaited: Awaited) -> Option<Listed>
+    pub(crate) fn of(&self, awaited: Awaited) -> Option<Listed<'_>>
         ensures { IfSome result (λ listed. (entries : List (Word × List WordWrite)) →
             KeepsLists entries self.now →
             AreListed entries awaited listed.writes.now listed.raising.now) }

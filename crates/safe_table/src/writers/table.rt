@@ -59,7 +59,7 @@ impl Writers {
 
     /// As stretches those of the dword, and those that bring what is waited for, where they are not
     /// too many to be kept.
-    pub(crate) fn lists(&self, awaited: Awaited) -> Option<Listed>
+    pub(crate) fn lists(&self, awaited: Awaited) -> Option<Listed<'_>>
         ensures { IfSome result
             (λ listed. AreListed self.now awaited listed.writes.now listed.raising.now) }
     {
