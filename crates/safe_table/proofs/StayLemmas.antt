@@ -208,8 +208,8 @@ module _ (rows : List ProgramRows) (ordered : IsOrdered rows) where
   module _ (p : OpId) where
     -- Who is left out.
 
-    pub run_leaves_out : (f : WordWrite) (run before two : List WordWrite) (count less : ℕ) (yes : Bool) → Stretch run → PartsBefore rows p run count → before ≡ take count run → less ≡ length before - 2 → two ≡ drop less before → yes ≡ list_any (ends_with rows f) two → yes ≡ left_out_in rows p run f
-    run_leaves_out f run before two count less yes stretch parts before_is less_is two_is yes_is =
+    pub run_leaves_out : (f : WordWrite) (run before two : List WordWrite) (count less : ℕ) (answer : Bool) → Stretch run → PartsBefore rows p run count → before ≡ take count run → less ≡ length before - 2 → two ≡ drop less before → answer ≡ list_any (ends_with rows f) two → answer ≡ left_out_in rows p run f
+    run_leaves_out f run before two count less answer stretch parts before_is less_is two_is answer_is =
         let front : List WordWrite = take count run in
         let behind : List WordWrite = drop count run in
         let L : WordWrite → Bool = leaves_out rows p f in
@@ -217,7 +217,7 @@ module _ (rows : List ProgramRows) (ordered : IsOrdered rows) where
         let two_so : two ≡ drop (length front - 2) front = two_is ∙ ap (λ n. drop n before) less_is ∙ ap (λ (ws : List WordWrite). drop (length ws - 2) ws) before_is in
         let firsts : list_any L front ≡ list_any E front = any_each L E front (Each-weaker (λ x. before_in rows x.op p ≡ true) (λ x. L x ≡ E x) (λ x is. ap (λ t. t && E x) is) front parts.low) in
         let none : list_any L behind ≡ false = any_each L (λ x. false) behind (Each-weaker (λ x. before_in rows x.op p ≡ false) (λ x. L x ≡ false) (λ x is. ap (λ t. t && E x) is) behind parts.high) ∙ any_none (λ x. false) (λ x. refl) behind in
-        yes_is ∙ ap (list_any E) two_so ∙ last_two f front (stretch_take count run stretch)
+        answer_is ∙ ap (list_any E) two_so ∙ last_two f front (stretch_take count run stretch)
         ∙ sym (ap (list_any L) (sym (take-append-drop count run)) ∙ any_append L front behind ∙ ap (λ b. list_any L front || b) none ∙ or_false (list_any L front) ∙ firsts)
 
     -- what leaves a raiser out comes after it, so that it comes before the poll too
@@ -370,18 +370,18 @@ module _ (rows : List ProgramRows) (ordered : IsOrdered rows) where
 
       -- Whether some run may come to one of it.
 
-      pub run_reached : (yes behind : Bool) → yes ≡ (behind || list_any (is_reached_at rows) (stay rows p writes before)) → behind ≡ list_any (is_reached_at rows) beyond → yes ≡ list_any (is_reached_in rows p writes) run
-      run_reached yes behind yes_is behind_is =
+      pub run_reached : (answer behind : Bool) → answer ≡ (behind || list_any (is_reached_at rows) (stay rows p writes before)) → behind ≡ list_any (is_reached_at rows) beyond → answer ≡ list_any (is_reached_in rows p writes) run
+      run_reached answer behind answer_is behind_is =
           let test : WordWrite → Bool = λ f. not (left_out_in rows p writes f) in
           let R : WordWrite → Bool = is_reached_at rows in
-          yes_is ∙ ap (λ b. b || list_any R (stay rows p writes before)) behind_is
+          answer_is ∙ ap (λ b. b || list_any R (stay rows p writes before)) behind_is
           ∙ or_swap (list_any R beyond) (list_any R (stay rows p writes before))
           ∙ sym (any_append R (stay rows p writes before) beyond)
           ∙ ap (list_any R) (sym stay_parts)
           ∙ any_filter test R run
 
-    pub one_reached : (writes before : List WordWrite) (last : WordWrite) (yes : Bool) → stay rows p writes before ≡ list_of (Some last) → yes ≡ is_reached_at rows last → yes ≡ list_any (is_reached_at rows) (stay rows p writes before)
-    one_reached writes before last yes stays is = is ∙ sym (or_false (is_reached_at rows last)) ∙ ap (list_any (is_reached_at rows)) (sym stays)
+    pub one_reached : (writes before : List WordWrite) (last : WordWrite) (answer : Bool) → stay rows p writes before ≡ list_of (Some last) → answer ≡ is_reached_at rows last → answer ≡ list_any (is_reached_at rows) (stay rows p writes before)
+    one_reached writes before last answer stays is = is ∙ sym (or_false (is_reached_at rows last)) ∙ ap (list_any (is_reached_at rows)) (sym stays)
 
     -- All stretches of raisers.
 
@@ -395,18 +395,18 @@ module _ (rows : List ProgramRows) (ordered : IsOrdered rows) where
           ap (filter test) (runs_cons raising i item run within is same) ∙ filter_append test run (joined (drop (i + 1) raising))
 
       pub told_on : (i : ℕ) (item run old new : List WordWrite) (ended : Bool) → i < length raising → item ≡ get_or raising i item → run ≡ item → PutsRun rows p writes run old new ended → ended ≡ false → Told rows p writes raising (drop i raising) old → Told rows p writes raising (drop (i + 1) raising) new
-      told_on i item run old new ended within is same puts no so_far = record {
+      told_on i item run old new ended within is same puts is_not so_far = record {
         alike = λ most other.
-            puts.alike no (stay rows p writes (joined (drop (i + 1) raising))) most other
+            puts.alike is_not (stay rows p writes (joined (drop (i + 1) raising))) most other
             ∙ sym (ap (λ ws. known_to rows (old ++ ws) most other) (stay_cons i item run within is same))
             ∙ so_far.alike most other;
       }
 
       pub told_ended : (i : ℕ) (item run old new : List WordWrite) (ended : Bool) → i < length raising → item ≡ get_or raising i item → run ≡ item → PutsRun rows p writes run old new ended → ended ≡ true → Told rows p writes raising (drop i raising) old → TellAlike rows p new (stay rows p writes (joined raising))
-      told_ended i item run old new ended within is same puts yes so_far =
+      told_ended i item run old new ended within is same puts answer so_far =
           let rest : List WordWrite = stay rows p writes (joined (drop (i + 1) raising)) in
           let here : List WordWrite = stay rows p writes run in
-          let nothing = puts.nothing yes in
+          let nothing = puts.nothing answer in
           let low : TellsNothing rows p (old ++ (here ++ rest)) = nothing_behind old (here ++ rest) (nothing_ahead here rest nothing.1) in
           λ most other.
           nothing_alike new (old ++ (here ++ rest)) nothing.0 low most other

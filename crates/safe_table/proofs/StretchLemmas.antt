@@ -119,10 +119,10 @@ stretch_on (x ∷ front) last w is behind =
     (Each-push N (front ++ last ∷ []) w is.0 (behind_through x last w (each_end N front last is.0) behind), stretch_on front last w is.1 behind)
 
 run_on : (w : WordWrite) (run : List WordWrite) (found : Option WordWrite) → end_of run ≡ found → goes_on w found ≡ true → Stretch run → Stretch (run ++ w ∷ [])
-run_on w run None is yes stretch = cc
-run_on w run (Some last) is yes stretch =
+run_on w run None is goes stretch = cc
+run_on w run (Some last) is goes stretch =
     let ends : EndsWith run last = ends_at run last is in
-    subst (λ ws. Stretch (ws ++ w ∷ [])) (sym ends.is) (stretch_on ends.front last w (subst Stretch ends.is stretch) yes)
+    subst (λ ws. Stretch (ws ++ w ∷ [])) (sym ends.is) (stretch_on ends.front last w (subst Stretch ends.is stretch) goes)
 
 joined_append : (xs ys : List (List WordWrite)) → joined (xs ++ ys) ≡ joined xs ++ joined ys
 joined_append [] ys = refl
@@ -140,7 +140,7 @@ begun : (w : WordWrite) (runs : List (List WordWrite)) → AreStretches runs →
 begun w runs each = record { all = joined_one runs (w ∷ []); each = Each-push Stretch runs (w ∷ []) each (tt, tt) }
 
 went_on : (w : WordWrite) (runs : List (List WordWrite)) (run : List WordWrite) → end_of runs ≡ Some run → goes_on w (end_of run) ≡ true → AreStretches runs → Pushes w runs (slice_set runs (length runs - 1) (run ++ w ∷ []))
-went_on w runs run is yes each =
+went_on w runs run is goes each =
     let ends : EndsWith runs run = ends_at runs run is in
     let front : List (List WordWrite) = ends.front in
     let longer : List WordWrite = run ++ w ∷ [] in
@@ -149,14 +149,14 @@ went_on w runs run is yes each =
     let old_is : joined runs ≡ joined front ++ run = ap joined ends.is ∙ joined_one front run in
     record {
       all = ap joined new_is ∙ joined_one front longer ∙ sym (append_assoc (joined front) run (w ∷ [])) ∙ ap (λ ws. ws ++ w ∷ []) (sym old_is);
-      each = subst AreStretches (sym new_is) (Each-push Stretch front longer (each_front Stretch front run so_far) (run_on w run (end_of run) refl yes (each_end Stretch front run so_far)));
+      each = subst AreStretches (sym new_is) (Each-push Stretch front longer (each_front Stretch front run so_far) (run_on w run (end_of run) refl goes (each_end Stretch front run so_far)));
     }
 
 pushed_at_so : (w : WordWrite) (runs : List (List WordWrite)) (found : Option (List WordWrite)) → end_of runs ≡ found → AreStretches runs → Pushes w runs (pushed_at w runs found)
 pushed_at_so w runs None is each = begun w runs each
 pushed_at_so w runs (Some run) is each =
     let P : Bool → Type 0 = λ b. goes_on w (end_of run) ≡ b → Pushes w runs (cond b (slice_set runs (length runs - 1) (run ++ w ∷ [])) (runs ++ (w ∷ []) ∷ [])) in
-    (elim (goes_on w (end_of run)) as P [ true ↦ λ yes. went_on w runs run is yes each | false ↦ λ _. begun w runs each ]) refl
+    (elim (goes_on w (end_of run)) as P [ true ↦ λ goes. went_on w runs run is goes each | false ↦ λ _. begun w runs each ]) refl
 
 pub pushed_so : (w : WordWrite) (runs : List (List WordWrite)) → AreStretches runs → Pushes w runs (pushed w runs)
 pushed_so w runs each = pushed_at_so w runs (end_of runs) refl each

@@ -179,7 +179,8 @@ impl Lists {
             writes.now ≡ writes_at mask.word entries → KeepsLists entries self.new) }
     {
         put_all(&mut self.lists, alloc, mask, writes)?;
-        self.masks.put(mask, are_whole(mask, writes))
+        self.masks.put(mask, are_whole(mask, writes))?;
+        Ok(())
     }
 }
 
@@ -226,7 +227,8 @@ fn put(
 {
     let found = lists.take(awaited);
     let list = stretches_or_none(alloc, found).with(alloc, write)?;
-    lists.put(awaited, list)
+    lists.put(awaited, list)?;
+    Ok(())
 }
 
 fn stretches_or_none(alloc: Global, found: Option<Stretches>) -> Stretches
