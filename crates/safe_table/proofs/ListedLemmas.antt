@@ -232,11 +232,12 @@ found_listed entries facts awaited writes raising keeps all those = record {
 }
 
 -- put together anew
-pub anew_listed : (entries : List (Word × List WordWrite)) (awaited : Awaited) (words : List WordWrite) (writes raising : List (List WordWrite)) → words ≡ writes_at awaited.word entries
-    → AreStretchesOf (filter (raises_it (any_of awaited.word)) words) writes → AreStretchesOf (filter (raises_it awaited) words) raising → AreListed entries awaited writes raising
-anew_listed entries awaited words writes raising are all those = record {
-  writes_are = subst (λ ws. AreStretchesOf ws writes) (any_raises awaited.word words ∙ are) all;
-  raising_are = subst (λ ws. AreStretchesOf (filter (raises_it awaited) ws) raising) are those;
+pub anew_listed : (entries : List (Word × List WordWrite)) (awaited any : Awaited) (words : List WordWrite) (writes raising these those : List (List WordWrite)) → any ≡ any_of awaited.word → words ≡ writes_at awaited.word entries
+    → AreStretchesOf (filter (raises_it any) words) these → AreStretchesOf (filter (raises_it awaited) words) those → writes ≡ these → raising ≡ those → AreListed entries awaited writes raising
+anew_listed entries awaited any words writes raising these those any_is are all some writes_is raising_is = record {
+  writes_are =
+      subst (λ ws. AreStretchesOf ws writes) (ap (λ (a : Awaited). filter (raises_it a) words) any_is ∙ any_raises awaited.word words ∙ are) (subst (AreStretchesOf (filter (raises_it any) words)) (sym writes_is) all);
+  raising_are = subst (λ ws. AreStretchesOf (filter (raises_it awaited) ws) raising) are (subst (AreStretchesOf (filter (raises_it awaited) words)) (sym raising_is) some);
 }
 
 -- Whether the writes of a dword are clean.

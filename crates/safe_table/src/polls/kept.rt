@@ -110,7 +110,8 @@ fn raisers_for(
     let words = writers.of_word(awaited.word);
     let writes = stretches_of(alloc, any_of(awaited.word), words)?;
     let raising = stretches_of(alloc, awaited, words)?;
-    raisers_among(alloc, table, poll, writes.as_slice(), raising.as_slice())
+    let found = raisers_among(alloc, table, poll, writes.as_slice(), raising.as_slice())?;
+    Ok(found)
 }
 
 /// Whether some run may come to one of them.

@@ -6,11 +6,11 @@ use Rattle.safe_table.proofs.polls.stays.put_raisers.Goals as goal
 pub loop-run-init : goal.loop-run-init
 loop-run-init c = none_told c.args.table.now c.requires.ordered c.args.poll (joined c.args.writes.now) c.args.raising.now c.args.found.now.items c.requires.none
 
-pub put_run-ended-requires-clause-run : goal.put_run-ended-requires-clause-run
-put_run-ended-requires-clause-run c = stretch_at c.args.raising.now c.loop-run.run-index c.run-item.result c.as_slice.result.now c.loop-run-test.true c.run-item.is c.as_slice.ensures c.requires.raising
+pub put_run-requires-clause-run : goal.put_run-requires-clause-run
+put_run-requires-clause-run c = stretch_at c.args.raising.now c.loop-run.run-index c.run-item.result c.as_slice.result.now c.loop-run-test.true c.run-item.is c.as_slice.ensures c.requires.raising
 
-pub put_run-ended-requires-clause-among : goal.put_run-ended-requires-clause-among
-put_run-ended-requires-clause-among c = among_at (joined c.args.writes.now) c.args.raising.now c.loop-run.run-index c.run-item.result c.as_slice.result.now c.loop-run-test.true c.run-item.is c.as_slice.ensures c.requires.among
+pub put_run-requires-clause-among : goal.put_run-requires-clause-among
+put_run-requires-clause-among c = among_at (joined c.args.writes.now) c.args.raising.now c.loop-run.run-index c.run-item.result c.as_slice.result.now c.loop-run-test.true c.run-item.is c.as_slice.ensures c.requires.among
 
 pub loop-run-preserved : goal.loop-run-preserved
 loop-run-preserved c =
