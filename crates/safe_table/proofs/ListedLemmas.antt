@@ -16,7 +16,7 @@ use Rattle.safe_table.specs.declared.polls.awaited.Awaited.{Awaited}
 use Rattle.safe_table.specs.declared.writers.write.WordWrite.{WordWrite}
 use Rattle.safe_table.specs.Rows.{ProgramRows}
 use Rattle.safe_table.specs.Landing.{joined}
-use Rattle.safe_table.specs.Looks.{left_out_in, any_before, is_reached_in, TellAlike, most_in}
+use Rattle.safe_table.specs.Looks.{any_before, is_reached_in, TellAlike, most_in}
 use Rattle.safe_table.specs.Polls.{raises_it, is_clean_write, staying}
 use Rattle.safe_table.specs.Stretches.{AreStretchesOf, is_last_of, AreAmong, stay}
 use Rattle.safe_table.specs.Writes.{writes_at}

@@ -1,5 +1,5 @@
 -- The raisers of a poll that are not left out: of those of a stretch that come before the poll at most the last, and all others.
-use Rattle.std.proofs.Common.{◌≡◌, ℕ, zero, suc, ◌+◌, ◌-◌, ◌<◌, ◌≤◌, Bool, true, false, not, ◌&&◌, ◌||◌, ◌==◌, nat_lt, cond, eqb, eqb-true, eq-eqb, List, [], ◌∷◌, ◌++◌, append_assoc, append-nil, length, take, drop, get_or, Option, Some, None, refl, sym, ap, subst, ◌∙◌, arith}
+use Rattle.std.proofs.Common.{◌≡◌, ℕ, suc, ◌+◌, ◌-◌, ◌<◌, ◌≤◌, Bool, true, false, not, ◌&&◌, ◌||◌, ◌==◌, nat_lt, cond, eqb-true, eq-eqb, List, [], ◌∷◌, ◌++◌, append_assoc, append-nil, length, take, drop, get_or, Option, Some, None, refl, sym, ap, subst, ◌∙◌, arith}
 use Rattle.std.specs.List.{filter, list_any, AllByRecursion}
 use Rattle.std.proofs.lemmas.List.{take-append-drop}
 use Rattle.std.proofs.lemmas.Bool.{and_parts, ltb-true, false≢true}
@@ -10,9 +10,9 @@ use Rattle.pci_command.specs.Same.{same_op}
 use Rattle.history_model.proofs.facts.RequestLemmas.{same_op_true}
 use Rattle.safe_model.specs.Clocks.{greater}
 use Rattle.safe_table.specs.declared.writers.write.WordWrite.{WordWrite}
-use Rattle.safe_table.specs.Rows.{ProgramRows, known_in, RisesIn}
+use Rattle.safe_table.specs.Rows.{ProgramRows, known_in}
 use Rattle.safe_table.specs.Landing.{joined}
-use Rattle.safe_table.specs.Looks.{clock_in, clock_past, before_in, no_more_in, leaves_out, left_out_in, is_reached_in, known_to, most_in, KnowAlike, TellAlike, TellsNothing, is_behind, IsOrdered}
+use Rattle.safe_table.specs.Looks.{clock_in, clock_past, before_in, no_more_in, leaves_out, left_out_in, is_reached_in, known_to, KnowAlike, TellAlike, TellsNothing, is_behind, IsOrdered}
 use Rattle.safe_table.specs.Stretches.{Stretch, end_of, AreBefore, PartsBefore, ends_with, AreAmong, stay, list_of, first_in, PutsRun, is_reached_at}
 use Rattle.safe_table.proofs.RaiserLemmas.{known_append, known_falls, behind_same, behind_less, behind_knows, no_less, least_low}
 use Rattle.safe_table.proofs.StretchLemmas.{any_append, EndsWith, ends_at, ends_not, stretch_take, stretch_drop, before_end, runs_cons, runs_none, any_at}

@@ -241,12 +241,7 @@ pub(crate) fn is_any_reached(
 }
 
 /// The same of one stretch.
-fn is_run_reached(
-    table: &ClockTable,
-    poll: OpId,
-    writes: &[WordWrites],
-    run: &[WordWrite],
-) -> bool
+fn is_run_reached(table: &ClockTable, poll: OpId, writes: &[WordWrites], run: &[WordWrite]) -> bool
     requires ordered { IsOrdered table.now }
     requires writes { AreStretches writes.now }
     requires run { Stretch run.now }

@@ -26,7 +26,9 @@ pub(crate) fn said_of_poll(
     if !looks.polls.is_told(looks.table, looks.writers, poll) {
         return Ok(Some(Said::Loose));
     }
-    let raised = looks.polls.is_raised(alloc, looks.table, looks.writers, poll)?;
+    let raised = looks
+        .polls
+        .is_raised(alloc, looks.table, looks.writers, poll)?;
     if raised {
         Ok(None)
     } else {

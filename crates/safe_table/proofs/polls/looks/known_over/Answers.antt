@@ -1,4 +1,4 @@
-use Rattle.std.proofs.Common.{◌≡◌, ◌≤◌, ℕ, sym, ap, ◌∙◌, drop}
+use Rattle.std.proofs.Common.{ap, ◌∙◌, drop}
 use Rattle.safe_model.specs.Clocks.{greater}
 use Rattle.safe_table.proofs.KeptLemmas.{known_enough}
 use Rattle.safe_table.proofs.polls.looks.known_over.Goals as goal

@@ -1,8 +1,8 @@
-use Rattle.std.proofs.Common.{true, false, sym, ap, ◌∙◌, ◌||◌}
+use Rattle.std.proofs.Common.{sym, ap, ◌∙◌, ◌||◌}
 use Rattle.std.specs.List.{list_any}
 use Rattle.safe_table.specs.Landing.{joined}
 use Rattle.safe_table.specs.Stretches.{stay, is_reached_at}
-use Rattle.safe_table.proofs.StayLemmas.{before_stretch, before_each, before_among, run_reached}
+use Rattle.safe_table.proofs.StayLemmas.{before_stretch, run_reached}
 use Rattle.safe_table.proofs.polls.stays.is_run_reached.Goals as goal
 
 pub is_last_reached-requires-clause-run : goal.is_last_reached-requires-clause-run

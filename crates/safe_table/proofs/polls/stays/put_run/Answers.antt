@@ -1,6 +1,4 @@
-use Rattle.std.proofs.Common.{Some, None, refl, sym, ap, subst, ◌∙◌}
 use Rattle.safe_table.specs.Landing.{joined}
-use Rattle.safe_table.specs.Stretches.{list_of, stay}
 use Rattle.safe_table.proofs.StayLemmas.{before_stretch, before_each, before_among, run_ended, run_goes_on}
 use Rattle.safe_table.proofs.polls.stays.put_run.Goals as goal
 

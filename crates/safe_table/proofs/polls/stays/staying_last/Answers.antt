@@ -1,4 +1,4 @@
-use Rattle.std.proofs.Common.{sym, ap, ◌∙◌}
+use Rattle.std.proofs.Common.{sym}
 use Rattle.safe_table.specs.Landing.{joined}
 use Rattle.safe_table.proofs.StayLemmas.{last_stays, none_stays}
 use Rattle.safe_table.proofs.polls.stays.staying_last.Goals as goal
