@@ -15,12 +15,13 @@ use Rattle.safe_model.specs.Clocks.{Table, is_poll, at_place, greater, known_by,
 use Rattle.law_safe.specs.largest.Tests.{program_of, Wish, wish_in, wish_of, told_to, most_known}
 use Rattle.law_safe.specs.largest.Largest.{IsWithin}
 use Rattle.law_safe.proofs.largest.Laws.{stays_above, passes_largest}
-use Rattle.safe_table.specs.Rows.{number, ProgramRows, rows_of, table_of, lesser, everything, KnowsAll, Rises}
+use Rattle.safe_table.specs.Rows.{number, ProgramRows, rows_of, table_of, lesser, everything, KnowsAll, Rises, Closes}
 use Rattle.safe_table.specs.Falls.{row_in, sum_all, LowersTo}
 use Rattle.safe_table.specs.Most.{IsMost}
 use Rattle.safe_table.specs.Bounds.{ListsPolls, BoundsAll, Fell, Passes, LowersPoll, LowersPolls, Largest}
 use Rattle.safe_table.proofs.FallLemmas.{lesser_most, below_lesser}
 use Rattle.safe_table.proofs.RiseLemmas.{starts_rising, known_most, rises_on}
+use Rattle.safe_table.proofs.CloseLemmas.{clock_within, closes_on}
 
 -- To begin with.
 
@@ -30,24 +31,40 @@ program_is [] other = refl
 program_is (m ∷ masters) zero = refl
 program_is (m ∷ masters) (suc other) = program_is masters other
 
-pub starts_bound : (board : Board) (programs : List ProgramRows) → KnowsAll board programs → BoundsAll board programs
-starts_bound board programs knows =
-    record {
-      polls = knows.polls;
-      rises = starts_rising board programs knows;
-      within = λ master index other.
-          let P : Bool → Type 0 = λ b. cond b (number (everything board) other) 0 ≤ program_of board other in
-          let is = program_is board.masters other in
-          let some : number (everything board) other ≤ program_of board other = omega (arith, is) in
-          subst (λ n. n ≤ program_of board other) (sym (knows.all master index other))
-          (elim (is_poll (op_of board (at_place master index))) as P [ true ↦ some | false ↦ omega arith ]);
-      above = λ t consistent within master index is other.
-          let all : table_of programs master index other ≡ number (everything board) other =
-          knows.all master index other ∙ ap (λ b. cond b (number (everything board) other) 0) is in
-          let most = within master index other in
-          let same = program_is board.masters other in
-          omega (arith, all, most, same);
-    }
+starts_within : (board : Board) (programs : List ProgramRows) → KnowsAll board programs → IsWithin board (table_of programs)
+starts_within board programs knows master index other =
+    let P : Bool → Type 0 = λ b. cond b (number (everything board) other) 0 ≤ program_of board other in
+    let is = program_is board.masters other in
+    let some : number (everything board) other ≤ program_of board other = omega (arith, is) in
+    subst (λ n. n ≤ program_of board other) (sym (knows.all master index other))
+    (elim (is_poll (op_of board (at_place master index))) as P [ true ↦ some | false ↦ omega arith ])
+
+module _ (board : Board) (programs : List ProgramRows) (knows : KnowsAll board programs) where
+  starts_all : (master index other : ℕ) → is_poll (op_of board (at_place master index)) ≡ true → table_of programs master index other ≡ number (everything board) other
+  starts_all master index other is = knows.all master index other ∙ ap (λ b. cond b (number (everything board) other) 0) is
+
+  starts_closing : Closes board programs
+  starts_closing = record {
+    polls = λ master index is q below other.
+        let there = starts_within board programs knows master index q.master in
+        let all = starts_all master index other is in
+        let same = program_is board.masters other in
+        let low = clock_within board (table_of programs) (starts_within board programs knows) q other (omega (arith, below, there)) in
+        omega (arith, all, same, low);
+  }
+
+  pub starts_bound : BoundsAll board programs
+  starts_bound = record {
+    polls = knows.polls;
+    rises = starts_rising board programs knows;
+    closes = starts_closing;
+    within = starts_within board programs knows;
+    above = λ t consistent within master index is other.
+        let all = starts_all master index other is in
+        let most = within master index other in
+        let same = program_is board.masters other in
+        omega (arith, all, most, same);
+  }
 
 -- One poll.
 
@@ -91,6 +108,9 @@ module _ (o : OpId) (most : List ℕ) (old new : List ProgramRows) (fell : Bool)
   lowers_fell = record { some = lowers.some; none = lowers.none }
 
   module _ (board : Board) (bounds : BoundsAll board old) (is_p : is_poll (op_of board (at_place o.master o.index)) ≡ true) (is_o : is_poll (op_of board o) ≡ true) (is_most : IsMost board (table_of old) o most) where
+    program_none : (other : ℕ) → length board.masters ≤ other → program_of board other ≡ 0
+    program_none other beyond = ap (λ (found : Option Master). option_map_or (λ (agent : Master). length agent.ops) found 0) (slice_get_past board.masters other beyond)
+
     -- what was known before it is known behind it
     row_kept : (other : ℕ) → known_by board (table_of old) o.master o.index other ≤ table_of new o.master o.index other
     row_kept other =
@@ -135,11 +155,56 @@ module _ (o : OpId) (most : List ℕ) (old new : List ProgramRows) (fell : Bool)
           polls = rises_on board (table_of old) (table_of new) o lowers_less (λ master index other far. ap (λ row. number row other) (lowers.elsewhere master index far)) row_kept bounds.rises.polls;
         }
 
+    -- and who counted an operation with all that it comes after still does
+    row_few : (place other : ℕ) → place < table_of new o.master o.index other → place < most_known board (table_of old) o other
+    row_few place other counts =
+        let P : Bool → Type 0 = λ b. nat_lt other (length most) ≡ b → place < most_known board (table_of old) o other in
+        (elim (nat_lt other (length most)) as P [
+          | true ↦ λ lt.
+              let inside : other < length most = grind (arith, nat_tests) in
+              let many = is_most.all in
+              let is = lowers.here.each other inside in
+              let number_is = is_most.each other (omega (arith, inside, many)) in
+              let low = lesser_second (table_of old o.master o.index other) (number most other) in
+              omega (arith, counts, is, number_is, low)
+          | false ↦ λ ge.
+              let beyond : length most ≤ other = grind (arith, nat_tests) in
+              let many = is_most.all in
+              let same = lowers.here.rest other beyond in
+              let within = bounds.within o.master o.index other in
+              let nothing = program_none other (omega (arith, beyond, many)) in
+              absurd (omega (arith, counts, same, within, nothing))
+        ]) refl
+
+    row_many : (count other : ℕ) → count ≤ table_of old o.master o.index other → count ≤ most_known board (table_of old) o other → count ≤ table_of new o.master o.index other
+    row_many count other before known =
+        let P : Bool → Type 0 = λ b. nat_lt other (length most) ≡ b → count ≤ table_of new o.master o.index other in
+        (elim (nat_lt other (length most)) as P [
+          | true ↦ λ lt.
+              let inside : other < length most = grind (arith, nat_tests) in
+              let many = is_most.all in
+              let is = lowers.here.each other inside in
+              let number_is = is_most.each other (omega (arith, inside, many)) in
+              let low = below_lesser count (table_of old o.master o.index other) (number most other) before (omega (arith, number_is, known)) in
+              omega (arith, is, low)
+          | false ↦ λ ge.
+              let same = lowers.here.rest other (grind (arith, nat_tests)) in
+              omega (arith, same, before)
+        ]) refl
+
+    lowers_closing : Closes board new
+    lowers_closing = record {
+      polls =
+          closes_on board (table_of old) (table_of new) o (λ master index is other. bounds.rises.polls master index other is) bounds.closes.polls bounds.within is_p lowers_less
+          (λ master index other far. ap (λ row. number row other) (lowers.elsewhere master index far)) row_few row_many;
+    }
+
     pub lowers_bound : BoundsAll board new
     lowers_bound =
         record {
           polls = record { last_is = λ master index. lowers.lasts master index ∙ bounds.polls.last_is master index };
           rises = lowers_rising;
+          closes = lowers_closing;
           within = λ master index other. let less = lowers_less master index other in let most_of = bounds.within master index other in omega (arith, less, most_of);
           above = λ t consistent within master index is other.
               let G : ℕ → ℕ → Type 0 = λ m i. t m i other ≤ table_of new m i other in
@@ -174,7 +239,7 @@ module _ (o : OpId) (most : List ℕ) (old new : List ProgramRows) (fell : Bool)
               let beyond : length most ≤ other = grind (arith, nat_tests) in
               let many = is_most.all in
               let within = bounds.within o.master o.index other in
-              let nothing : program_of board other ≡ 0 = ap (λ (found : Option Master). option_map_or (λ (agent : Master). length agent.ops) found 0) (slice_get_past board.masters other (omega (arith, beyond, many))) in
+              let nothing = program_none other (omega (arith, beyond, many)) in
               omega (arith, within, nothing)
         ]) refl
 

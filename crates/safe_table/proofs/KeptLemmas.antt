@@ -15,13 +15,14 @@ use Rattle.board_model.specs.declared.board.Board.{Board}
 use Rattle.board_model.specs.Requests.{op_of, tries_of}
 use Rattle.board_model.specs.device.Registers.{enabled_bits, merge_of}
 use Rattle.history_model.specs.Knowledge.{words_on}
-use Rattle.safe_model.specs.Clocks.{at_place}
+use Rattle.safe_model.specs.Clocks.{at_place, greater}
 use Rattle.law_safe.specs.largest.Tests.{wish_in, wish_of, program_of}
 use Rattle.safe_table.specs.declared.writers.write.WordWrite.{WordWrite}
 use Rattle.safe_table.specs.Rows.{ProgramRows, ops_at}
 use Rattle.safe_table.specs.Looks.{clock_past, known_to, most_in}
 use Rattle.safe_table.specs.Polls.{PollFacts, IsPollOrNone, poll_at, KnowsPolls, KnowsProgram, AreMost}
 use Rattle.safe_table.proofs.StartLemmas.{FilledTo, filled_none, filled_next}
+use Rattle.safe_table.proofs.RaiserLemmas.{known_falls}
 
 -- The bits that a data phase writes.
 
@@ -153,3 +154,14 @@ most_all board rows p told raisers numbers other past within filled =
     record { all = filled.are ∙ all; each = λ author below. filled.each author 0 (omega (arith, below, past)) }
 
 pub ruleset most_filled = (most_none, most_next, most_all)
+
+-- What is known anyway.
+
+greater_known : (known n : ℕ) → n ≤ known → known ≡ greater known n
+greater_known known n low = grind (arith, nat_tests)
+
+-- once raisers know no more, the others are passed over
+pub known_enough : (rows : List ProgramRows) (raisers : List WordWrite) (known most other : ℕ) → most ≤ known → known ≡ greater known (known_to rows raisers most other)
+known_enough rows raisers known most other low =
+    let falls = known_falls rows raisers most other in
+    greater_known known (known_to rows raisers most other) (omega (arith, low, falls))

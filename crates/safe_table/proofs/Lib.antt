@@ -7,6 +7,9 @@ pub mod BoundLemmas
 pub mod WriteLemmas
 pub mod PollLemmas
 pub mod KeptLemmas
-pub mod ReachLemmas
 pub mod RaiserLemmas
+pub mod StretchLemmas
+pub mod StayLemmas
+pub mod ListedLemmas
 pub mod RiseLemmas
+pub mod CloseLemmas

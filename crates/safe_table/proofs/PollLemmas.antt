@@ -19,7 +19,7 @@ use Rattle.safe_table.specs.declared.writers.write.WordWrite.{WordWrite}
 use Rattle.safe_table.specs.Rows.{ProgramRows, table_of, KeepsPolls}
 use Rattle.safe_table.specs.Writes.{op_in, IsWordWrite, AreWrites, writes_at, ListsWrites}
 use Rattle.safe_table.specs.Most.{IsMost}
-use Rattle.safe_table.specs.Looks.{clock_in, clock_past, before_in, no_more_in, leaves_out, left_out_in, any_before, is_reached_in, known_to, most_in, KnowAlike}
+use Rattle.safe_table.specs.Looks.{clock_in, clock_past, before_in, no_more_in, leaves_out, left_out_in, any_before, is_reached_in, known_to, most_in, TellAlike}
 use Rattle.safe_table.specs.Polls.{PollFacts, wish_for, IsPoll, IsPollOrNone, is_raised, told_in, raisers_in, told_at, raisers_at, raised_in, raised_at, AreMost, raises_it, is_clean_write}
 use Rattle.safe_table.proofs.KnownLemmas.{clock_looks, past_looks}
 
@@ -246,7 +246,7 @@ module _ (board : Board) (rows : List ProgramRows) (keeps : KeepsPolls board row
         let n : ℕ = known_to rows (raisers_at rows p entries (Some poll)) (cond (told_at rows p entries (Some poll)) (program_of board other) 0) other in
         ap (λ m. greater m n) (clock_so p other) ∙ ap (greater (clock_of board table p other)) (told_to_so poll is other)
 
-    pub is_most : (found : Option PollFacts) (told : Bool) (raising : List WordWrite) (numbers : List ℕ) → IsPollOrNone board p found → told ≡ told_at rows p entries found → KnowAlike rows raising (raisers_at rows p entries found)
+    pub is_most : (found : Option PollFacts) (told : Bool) (raising : List WordWrite) (numbers : List ℕ) → IsPollOrNone board p found → told ≡ told_at rows p entries found → TellAlike rows p raising (raisers_at rows p entries found)
         → AreMost board rows p told raising numbers → IsMost board table p numbers
     is_most found told raising numbers is told_is raising_is are =
         record {
@@ -254,6 +254,6 @@ module _ (board : Board) (rows : List ProgramRows) (keeps : KeepsPolls board row
           each = λ other within.
               are.each other within
               ∙ ap (λ b. most_in rows p raising (cond b (program_of board other) 0) other) told_is
-              ∙ ap (greater (clock_in rows p other)) (raising_is (cond (told_at rows p entries found) (program_of board other) 0) other)
+              ∙ raising_is (cond (told_at rows p entries found) (program_of board other) 0) other
               ∙ most_so found is other;
         }

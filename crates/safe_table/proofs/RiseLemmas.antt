@@ -9,6 +9,8 @@ use Rattle.safe_model.specs.Clocks.{Table, is_poll, at_place, known_by, greater,
 use Rattle.law_safe.specs.largest.Tests.{wish_of, told_to, most_known}
 use Rattle.safe_table.specs.Rows.{number, ProgramRows, rows_of, table_of, known_at, known_in, everything, KeepsPolls, KnowsAll, Rises, RisesIn}
 use Rattle.safe_table.specs.Bounds.{BoundsAll}
+use Rattle.law_safe.specs.largest.Largest.{IsLargest}
+use Rattle.law_safe.proofs.largest.Laws.{largest_rises}
 use Rattle.safe_table.proofs.KnownLemmas.{known_behind}
 
 -- To begin with.
@@ -52,7 +54,7 @@ known_most board table p other =
     omega (arith, clock, most)
 
 -- what is known falls with the numbers
-known_less : (board : Board) (old new : Table) (master other : ℕ) → ((index : ℕ) → new master index other ≤ old master index other)
+pub known_less : (board : Board) (old new : Table) (master other : ℕ) → ((index : ℕ) → new master index other ≤ old master index other)
     → (index : ℕ) → known_by board new master index other ≤ known_by board old master index other
 known_less board old new master other less zero = omega arith
 known_less board old new master other less (suc index) =
@@ -112,6 +114,10 @@ rises_in board programs keeps rises master early late other within =
     let two = same late in
     let later = known_later board (table_of programs) master other (λ index is. rises.polls master index other is) early late within in
     omega (arith, one, two, later)
+
+-- so it does in the largest table
+pub seen_rises : (board : Board) (programs : List ProgramRows) → KeepsPolls board programs → IsLargest board (table_of programs) → RisesIn programs
+seen_rises board programs keeps is_largest = rises_in board programs keeps (record { polls = λ master index other is. largest_rises board (table_of programs) is_largest master index is other })
 
 pub bounds_rise : (board : Board) (programs : List ProgramRows) → BoundsAll board programs → RisesIn programs
 bounds_rise board programs bounds = rises_in board programs bounds.polls bounds.rises

@@ -7,7 +7,7 @@ use Rattle.board_model.specs.Requests.{op_of}
 use Rattle.safe_model.specs.Clocks.{Table, is_poll, at_place, IsConsistent}
 use Rattle.law_safe.specs.largest.Tests.{most_known}
 use Rattle.law_safe.specs.largest.Largest.{IsWithin, IsLargest}
-use Rattle.safe_table.specs.Rows.{ProgramRows, table_of, is_tried_at, KeepsPolls, Rises}
+use Rattle.safe_table.specs.Rows.{ProgramRows, table_of, is_tried_at, KeepsPolls, Rises, Closes}
 use Rattle.safe_table.specs.Falls.{sum_all, LowersTo}
 use Rattle.safe_table.specs.Most.{IsMost}
 use Rattle.board_model.specs.declared.word.Word.{Word}
@@ -45,10 +45,12 @@ pub record AreOf (board : Board) (writers : List (Word × List WordWrite)) (poll
   pub kept : AreKept board writers polls
   pub listed : ListsPolls board ops
 
--- no consistent table is above the table, it counts no more operations than there are, and rises along each program
+-- no consistent table is above the table, it counts no more operations than there are, rises along each program, and
+-- counts with an operation all that it comes after
 pub record BoundsAll (board : Board) (programs : List ProgramRows) : Type 0 where
   pub polls : KeepsPolls board programs
   pub rises : Rises board programs
+  pub closes : Closes board programs
   pub within : IsWithin board (table_of programs)
   pub above : (t : Table) → IsConsistent board t → IsWithin board t → (master index : ℕ)
       → is_poll (op_of board (at_place master index)) ≡ true → (other : ℕ) → t master index other ≤ table_of programs master index other

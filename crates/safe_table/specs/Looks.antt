@@ -1,12 +1,12 @@
 -- What the rows of a table of clocks say of operations, and of writes that are kept.
-use Rattle.std.specs.Prelude.{◌≡◌, ℕ, Bool, true, List, [], ◌∷◌, ◌++◌, map, not, ◌+◌, ◌==◌, ◌&&◌, ◌||◌, nat_lt, if◌then◌else◌}
+use Rattle.std.specs.Prelude.{◌≡◌, ℕ, ◌≤◌, Bool, true, List, map, not, ◌+◌, ◌==◌, ◌&&◌, ◌||◌, nat_lt, if◌then◌else◌}
 use Rattle.std.specs.List.{list_any}
 use Rattle.pci_command.specs.declared.op_id.OpId.{OpId}
 use Rattle.pci_command.specs.Same.{same_op}
 use Rattle.safe_model.specs.Clocks.{greater}
 use Rattle.law_safe.specs.largest.Tests.{least}
 use Rattle.safe_table.specs.declared.writers.write.WordWrite.{WordWrite}
-use Rattle.safe_table.specs.Rows.{ProgramRows, known_in, raised_at}
+use Rattle.safe_table.specs.Rows.{ProgramRows, known_in, raised_at, RisesIn}
 
 -- how many operations of a master an operation comes after
 abbrev pub clock_in : List ProgramRows → OpId → ℕ → ℕ
@@ -55,13 +55,23 @@ most_in rows p raisers most other = greater (clock_in rows p other) (known_to ro
 abbrev pub KnowAlike : List ProgramRows → List WordWrite → List WordWrite → Type 0
 KnowAlike rows these those = (most other : ℕ) → known_to rows these most other ≡ known_to rows those most other
 
+-- of these raisers a poll is told what it is of those
+abbrev pub TellAlike : List ProgramRows → OpId → List WordWrite → List WordWrite → Type 0
+TellAlike rows p these those = (most other : ℕ) → most_in rows p these most other ≡ most_in rows p those most other
+
+-- they tell the poll of nothing that is not known before it
+abbrev pub TellsNothing : List ProgramRows → OpId → List WordWrite → Type 0
+TellsNothing rows p these = (most other : ℕ) → known_to rows these most other ≤ clock_in rows p other
+
 -- a write is an earlier one of the same master than another
 abbrev pub is_behind : WordWrite → WordWrite → Bool
 is_behind g f = g.op.master == f.op.master && nat_lt g.op.index f.op.index
 
--- the last of these is an earlier write of its master
-pub record IsKnown (these : List WordWrite) (f : WordWrite) : Type 0 where
-  pub front : List WordWrite
-  pub last : WordWrite
-  pub split : these ≡ front ++ last ∷ []
-  pub behind : is_behind last f ≡ true
+-- who comes after an operation comes after all that it does
+abbrev pub ClosedIn : List ProgramRows → Type 0
+ClosedIn rows = (x p : OpId) → before_in rows x p ≡ true → (other : ℕ) → clock_in rows x other ≤ clock_in rows p other
+
+-- so it is, and what is known rises along programs
+pub record IsOrdered (rows : List ProgramRows) : Type 0 where
+  pub rises : RisesIn rows
+  pub closed : ClosedIn rows

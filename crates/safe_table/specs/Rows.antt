@@ -1,5 +1,5 @@
 -- A table of clocks as rows of numbers, and what each operation comes after by them.
-use Rattle.std.specs.Prelude.{◌≡◌, ◌≤◌, ℕ, Bool, true, false, zero, suc, List, [], map, length, get_or, slice_get, nat_lt, ◌==◌, ◌&&◌, Option, Some, if◌then◌else◌}
+use Rattle.std.specs.Prelude.{◌≡◌, ◌<◌, ◌≤◌, ℕ, Bool, true, false, zero, suc, List, [], map, length, get_or, slice_get, nat_lt, ◌==◌, ◌&&◌, Option, Some, if◌then◌else◌}
 use Rattle.std.specs.Option.{option_map_or}
 use Rattle.std.proofs.Math.ListN.{set}
 use Rattle.pci_command.specs.declared.op_id.OpId.{OpId}
@@ -7,7 +7,7 @@ use Rattle.board_model.specs.declared.op.Op.{Op}
 use Rattle.board_model.specs.declared.agents.Master.{Master}
 use Rattle.board_model.specs.declared.board.Board.{Board}
 use Rattle.board_model.specs.Requests.{op_of, tries_of}
-use Rattle.safe_model.specs.Clocks.{Table, is_poll, at_place, known_by, greater}
+use Rattle.safe_model.specs.Clocks.{Table, is_poll, at_place, known_by, greater, clock_of}
 
 -- that of a master; 0 where there is none
 abbrev pub number : List ℕ → ℕ → ℕ
@@ -65,7 +65,12 @@ pub record Rises (board : Board) (programs : List ProgramRows) : Type 0 where
   pub polls : (master index other : ℕ) → is_poll (op_of board (at_place master index)) ≡ true
       → known_by board (table_of programs) master index other ≤ table_of programs master index other
 
--- so of two operations of a program no less is known before the later one
+-- a poll behind which an operation is known knows all that the operation comes after
+pub record Closes (board : Board) (programs : List ProgramRows) : Type 0 where
+  pub polls : (master index : ℕ) → is_poll (op_of board (at_place master index)) ≡ true → (q : OpId) → q.index < table_of programs master index q.master
+      → (other : ℕ) → clock_of board (table_of programs) q other ≤ table_of programs master index other
+
+-- of two operations of a program no less is known before the later one
 abbrev pub RisesIn : List ProgramRows → Type 0
 RisesIn programs = (master early late other : ℕ) → early ≤ late → known_in programs master early other ≤ known_in programs master late other
 

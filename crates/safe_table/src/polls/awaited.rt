@@ -6,6 +6,7 @@ ghost use Rattle.history_model.specs.Words.{opens_as};
 ghost use Rattle.safe_model.specs.Raisers.{is_met_by, is_whole, is_plain, brings_met};
 ghost use Rattle.law_safe.specs.largest.Tests.{wish_of};
 ghost use Rattle.audit_landings.specs.Hits.{dword};
+ghost use Rattle.safe_table.specs.Lists.{any_of, met_by, is_whole_at};
 ghost use Rattle.safe_table.specs.Polls.{wish_for, raises_it, is_clean_write};
 
 use crate::writers::{WordWrite, first_named};
@@ -14,7 +15,7 @@ use machine_steps::opens_as;
 use pci_command::{OpId, Phase, Space};
 
 /// What a poll waits for: a value of a dword, under a mask.
-#[derive(Clone, Copy, Debug)]
+#[derive(Clone, Copy, Debug, PartialEq, Eq, Hash)]
 pub(crate) struct Awaited {
     pub word: Word,
     pub mask: u32,
@@ -36,6 +37,17 @@ pub(crate) fn awaited_by(board: &Board, op: OpId) -> Option<Awaited>
             })
         }
         _ => None,
+    }
+}
+
+/// What is waited for where no bit of the dword is looked at.
+pub(crate) fn any_of(word: Word) -> Awaited
+    ensures { result ≡ any_of word }
+{
+    Awaited {
+        word,
+        mask: 0,
+        wanted: 0,
     }
 }
 
@@ -68,6 +80,21 @@ impl Awaited {
         ensures { result ≡ raises_it self.now write.now }
     {
         self.is_met_by(write.phase.value & 0xffff_ffff)
+    }
+
+    /// The value that the write brings under the mask, as what is waited for.
+    pub(crate) fn met_by(self, write: &WordWrite) -> Awaited
+        ensures { result ≡ met_by self write.now }
+    {
+        let wanted = write.phase.value & 0xffff_ffff & self.mask;
+        Awaited { wanted, ..self }
+    }
+
+    /// Whether the write enables all bytes that the mask looks at.
+    pub(crate) fn is_whole(&self, write: &WordWrite) -> bool
+        ensures { result ≡ is_whole_at self.now write.now }
+    {
+        is_whole(self.mask, write.phase)
     }
 
     /// Whether the write writes all that the mask looks at, and where it brings a value that meets

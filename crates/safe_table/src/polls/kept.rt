@@ -1,26 +1,25 @@
 ghost use Rattle.std.specs.Prelude.{◌≡◌, ◌&&◌, IfOk};
-ghost use Rattle.std.specs.List.{list_all};
+ghost use Rattle.std.specs.List.{list_all, list_any};
 ghost use Rattle.board_tree.specs.Decodable.{IsDecodable};
 ghost use Rattle.safe_model.specs.Raisers.{is_plain};
-ghost use Rattle.safe_table.specs.Looks.{KnowAlike};
+ghost use Rattle.safe_table.specs.Looks.{IsOrdered, TellAlike, any_before, is_reached_in};
 ghost use Rattle.safe_table.specs.Polls.{IsPollOrNone, told_in, raisers_in, raised_in};
-ghost use Rattle.safe_table.specs.Polls.{is_clean_write};
-ghost use Rattle.safe_table.specs.Rows.{RisesIn};
-ghost use Rattle.safe_table.specs.Writes.{ListsWrites};
+ghost use Rattle.safe_table.specs.Polls.{is_clean_write, raises_it, staying};
+ghost use Rattle.safe_table.specs.Writes.{ListsWrites, writes_at};
 
 use crate::known::ClockTable;
-use crate::polls::awaited::{Awaited, awaited_by};
+use crate::polls::awaited::{Awaited, any_of, awaited_by};
 use crate::polls::looks::is_any_before;
-use crate::polls::reach::{is_any_reached, raisers_of};
-use crate::writers::{WordWrite, Writers};
+use crate::polls::stays::{is_any_first_before, is_any_reached, raisers_among};
+use crate::writers::{WordWrite, Writers, stretches_of};
 use board_model::Board;
 use pci_command::{NoMemory, OpId};
 use std::alloc::Global;
 use std::marker::Model;
 
 /// What is kept of a poll that has a word: what it waits for, whether what the word opens as meets
-/// it, and whether it is firm. Which writes raise it is looked at anew each time, since the polls
-/// of a word, times its writes, may be too many to be kept.
+/// it, and whether it is firm. Which writes raise it is listed with the writes, once for all polls
+/// that wait for the same.
 #[derive(Debug, Drop)]
 pub(crate) struct KeptPoll {
     awaited: Awaited,
@@ -50,39 +49,103 @@ pub(crate) fn kept_of(board: &Board, writers: &Writers, op: OpId) -> Option<Kept
         Some(awaited) => Some(KeptPoll {
             awaited,
             opens: awaited.opens(board),
-            firm: is_firm(&awaited, writers.of_word(awaited.word)),
+            firm: is_firm(&awaited, writers),
         }),
         None => None,
     }
 }
 
-/// Whether it is known what may bring what is waited for, where these are the writes of the dword.
-fn is_firm(awaited: &Awaited, writes: &[WordWrite]) -> bool
+/// Whether it is known what may bring what is waited for.
+fn is_firm(awaited: &Awaited, writers: &Writers) -> bool
     ensures { result ≡ (is_plain awaited.now.word.space
-        && list_all (is_clean_write awaited.now) writes.now) }
+        && list_all (is_clean_write awaited.now) (writes_at awaited.now.word writers.now)) }
 {
-    awaited.is_plain() && are_clean(awaited, writes)
+    awaited.is_plain() && are_clean(awaited, writers)
 }
 
-fn are_clean(awaited: &Awaited, writes: &[WordWrite]) -> bool
+/// Whether each write of the dword is clean, as it is kept where it is.
+fn are_clean(awaited: &Awaited, writers: &Writers) -> bool
+    ensures { result ≡
+        list_all (is_clean_write awaited.now) (writes_at awaited.now.word writers.now) }
+{
+    match writers.are_clean(*awaited) {
+        Some(clean) => clean,
+        None => is_each_clean(awaited, writers.of_word(awaited.word)),
+    }
+}
+
+fn is_each_clean(awaited: &Awaited, writes: &[WordWrite]) -> bool
     ensures { result ≡ list_all (is_clean_write awaited.now) writes.now }
 {
     writes.iter().all(|write| awaited.is_clean(write))
 }
 
-impl KeptPoll {
-    ghost use Rattle.safe_table.specs.Writes.{writes_at};
+/// Whether a write of the dword comes before the poll.
+fn is_behind_some(awaited: &Awaited, table: &ClockTable, writers: &Writers, poll: OpId) -> bool
+    ensures { result ≡ any_before table.now poll (writes_at awaited.now.word writers.now) }
+{
+    match writers.lists(*awaited) {
+        Some(listed) => is_any_first_before(table, poll, listed.writes),
+        None => is_any_before(table, poll, writers.of_word(awaited.word)),
+    }
+}
 
+/// Of the raisers of a poll those that tell it what all do. Where the writes of its dword are too
+/// many to be listed under its mask they are put together anew.
+fn raisers_for(
+    alloc: Global,
+    awaited: Awaited,
+    table: &ClockTable,
+    writers: &Writers,
+    poll: OpId,
+) -> Result<Vec<WordWrite>, NoMemory>
+    requires { IsOrdered table.now }
+    ensures { IfOk result (λ found. TellAlike table.now poll found.items
+        (staying table.now poll awaited (writes_at awaited.word writers.now)
+        (writes_at awaited.word writers.now))) }
+{
+    if let Some(listed) = writers.lists(awaited) {
+        return raisers_among(alloc, table, poll, listed.writes, listed.raising);
+    }
+    let words = writers.of_word(awaited.word);
+    let writes = stretches_of(alloc, any_of(awaited.word), words)?;
+    let raising = stretches_of(alloc, awaited, words)?;
+    let found = raisers_among(alloc, table, poll, writes.as_slice(), raising.as_slice())?;
+    Ok(found)
+}
+
+/// Whether some run may come to one of them.
+fn is_raised_for(
+    alloc: Global,
+    awaited: Awaited,
+    table: &ClockTable,
+    writers: &Writers,
+    poll: OpId,
+) -> Result<bool, NoMemory>
+    requires { IsOrdered table.now }
+    ensures { IfOk result (λ yes. yes ≡ list_any (λ f. raises_it awaited f && is_reached_in
+        table.now poll (writes_at awaited.word writers.now) f)
+        (writes_at awaited.word writers.now)) }
+{
+    if let Some(listed) = writers.lists(awaited) {
+        return Ok(is_any_reached(table, poll, listed.writes, listed.raising));
+    }
+    let words = writers.of_word(awaited.word);
+    let writes = stretches_of(alloc, any_of(awaited.word), words)?;
+    let raising = stretches_of(alloc, awaited, words)?;
+    Ok(is_any_reached(table, poll, writes.as_slice(), raising.as_slice()))
+}
+
+impl KeptPoll {
     /// Whether the poll is told something by what it sees.
     pub(crate) fn is_told(&self, table: &ClockTable, writers: &Writers, poll: OpId) -> bool
         ensures { result ≡
             told_in table.now poll (writes_at self.now.awaited.word writers.now) self.now }
     {
-        let writes = writers.of_word(self.awaited.word);
-        self.firm && (!self.opens || is_any_before(table, poll, writes))
+        self.firm && (!self.opens || is_behind_some(&self.awaited, table, writers, poll))
     }
 
-    /// Of its raisers the first of each master that is not left out: they know what all do.
+    /// Of its raisers those that tell it what all do that are not left out.
     pub(crate) fn raisers(
         &self,
         alloc: Global,
@@ -90,20 +153,25 @@ impl KeptPoll {
         writers: &Writers,
         poll: OpId,
     ) -> Result<Vec<WordWrite>, NoMemory>
-        requires { RisesIn table.now }
-        ensures { IfOk result (λ found. KnowAlike table.now found.items
+        requires { IsOrdered table.now }
+        ensures { IfOk result (λ found. TellAlike table.now poll found.items
             (raisers_in table.now poll (writes_at self.now.awaited.word writers.now) self.now)) }
     {
-        let writes = writers.of_word(self.awaited.word);
-        raisers_of(alloc, table, poll, &self.awaited, writes)
+        raisers_for(alloc, self.awaited, table, writers, poll)
     }
 
     /// Whether some run may come to one of them.
-    pub(crate) fn is_raised(&self, table: &ClockTable, writers: &Writers, poll: OpId) -> bool
-        ensures { result ≡
-            raised_in table.now poll (writes_at self.now.awaited.word writers.now) self.now }
+    pub(crate) fn is_raised(
+        &self,
+        alloc: Global,
+        table: &ClockTable,
+        writers: &Writers,
+        poll: OpId,
+    ) -> Result<bool, NoMemory>
+        requires { IsOrdered table.now }
+        ensures { IfOk result (λ yes. yes ≡
+            raised_in table.now poll (writes_at self.now.awaited.word writers.now) self.now) }
     {
-        let writes = writers.of_word(self.awaited.word);
-        is_any_reached(table, poll, &self.awaited, writes)
+        is_raised_for(alloc, self.awaited, table, writers, poll)
     }
 }

@@ -1,4 +1,5 @@
 ghost use Rattle.std.specs.Prelude.{◌≡◌, nat_lt, if◌then◌else◌};
+ghost use Rattle.safe_model.specs.Clocks.{greater};
 ghost use Rattle.safe_table.specs.Looks.{before_in, any_before, known_to, most_in};
 
 use crate::known::{ClockTable, greater};
@@ -29,22 +30,30 @@ pub(crate) fn most_of(
 ) -> usize
     ensures { result ≡ most_in table.now poll raisers.now most other }
 {
-    greater(
-        table.look(poll, other),
-        known_to(table, raisers, most, other),
-    )
+    let known = table.look(poll, other);
+    known_over(table, raisers, known, most, other)
 }
 
-/// What all of these writes know of a master, and at most this.
+/// What all of these writes know of a master, and at most this, or what is known anyway: once they
+/// know no more than that the others are passed over.
 #[tactic(auto, using(crate::proofs::KeptLemmas::least_next))]
-fn known_to(table: &ClockTable, raisers: &[WordWrite], most: usize, other: u16) -> usize
-    ensures { result ≡ known_to table.now raisers.now most other }
+fn known_over(
+    table: &ClockTable,
+    raisers: &[WordWrite],
+    known: usize,
+    most: usize,
+    other: u16,
+) -> usize
+    ensures { result ≡ greater known (known_to table.now raisers.now most other) }
 {
     let mut least = most;
     for raiser in raisers {
+        if least <= known {
+            return known;
+        }
         least = lesser(table.look_past(raiser.op, other), least);
     }
-    least
+    greater(known, least)
 }
 
 fn lesser(number: usize, most: usize) -> usize

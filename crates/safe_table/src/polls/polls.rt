@@ -3,8 +3,8 @@ ghost use Rattle.std.specs.Option.{option_copied};
 ghost use Rattle.board_tree.specs.Decodable.{IsDecodable};
 ghost use Rattle.safe_table.specs.Polls.{KnowsPolls, KnowsProgram, AreMost};
 ghost use Rattle.safe_table.specs.Polls.{told_at, raisers_at, raised_at};
-ghost use Rattle.safe_table.specs.Rows.{KeepsPolls, RisesIn, table_of};
-ghost use Rattle.safe_table.specs.Looks.{KnowAlike};
+ghost use Rattle.safe_table.specs.Rows.{KeepsPolls, table_of};
+ghost use Rattle.safe_table.specs.Looks.{IsOrdered, TellAlike};
 ghost use Rattle.safe_table.specs.Writes.{ListsWrites};
 
 use crate::known::ClockTable;
@@ -74,7 +74,7 @@ impl Polls {
         requires first { op.attempt ≡ 0 }
         requires polls { KnowsPolls tree.now self.now }
         requires table { KeepsPolls tree.now table.now }
-        requires rises { RisesIn table.now }
+        requires ordered { IsOrdered table.now }
         requires writers { ListsWrites tree.now writers.now }
         ensures { IfOk result (λ numbers. IsMost tree.now (table_of table.now) op numbers.items) }
     {
@@ -96,13 +96,21 @@ impl Polls {
     }
 
     /// Whether some run may come to one of the poll's raisers, by the table.
-    pub fn is_raised(&self, table: &ClockTable, writers: &Writers, op: OpId) -> bool
-        requires { op.attempt ≡ 0 }
-        ensures { (board : Board) → KnowsPolls board self.now → KeepsPolls board table.now →
-            ListsWrites board writers.now →
-            result ≡ is_raised board (table_of table.now) op (wish_of board op) }
+    pub fn is_raised(
+        &self,
+        alloc: Global,
+        table: &ClockTable,
+        writers: &Writers,
+        op: OpId,
+    ) -> Result<bool, NoMemory>
+        requires first { op.attempt ≡ 0 }
+        requires ordered { IsOrdered table.now }
+        ensures { IfOk result (λ yes. (board : Board) → KnowsPolls board self.now →
+            KeepsPolls board table.now → ListsWrites board writers.now →
+            yes ≡ is_raised board (table_of table.now) op (wish_of board op)) }
     {
-        is_raised(self.of(op), table, writers, op)
+        let raised = is_raised(alloc, self.of(op), table, writers, op)?;
+        Ok(raised)
     }
 
     /// What is kept of the operation.
@@ -178,16 +186,24 @@ fn is_told(poll: Option<&KeptPoll>, table: &ClockTable, writers: &Writers, op: O
     }
 }
 
-fn is_raised(poll: Option<&KeptPoll>, table: &ClockTable, writers: &Writers, op: OpId) -> bool
-    ensures { result ≡ raised_at table.now op writers.now (option_copied poll.entry) }
+fn is_raised(
+    alloc: Global,
+    poll: Option<&KeptPoll>,
+    table: &ClockTable,
+    writers: &Writers,
+    op: OpId,
+) -> Result<bool, NoMemory>
+    requires { IsOrdered table.now }
+    ensures { IfOk result
+        (λ yes. yes ≡ raised_at table.now op writers.now (option_copied poll.entry)) }
 {
     match poll {
-        Some(poll) => poll.is_raised(table, writers, op),
-        None => false,
+        Some(poll) => poll.is_raised(alloc, table, writers, op),
+        None => Ok(false),
     }
 }
 
-/// Of the raisers of a poll that is told something those that know what all do.
+/// Of the raisers of a poll that is told something those that tell it what all do.
 fn raisers(
     alloc: Global,
     poll: Option<&KeptPoll>,
@@ -195,8 +211,8 @@ fn raisers(
     writers: &Writers,
     op: OpId,
 ) -> Result<Vec<WordWrite>, NoMemory>
-    requires { RisesIn table.now }
-    ensures { IfOk result (λ found. KnowAlike table.now found.items
+    requires { IsOrdered table.now }
+    ensures { IfOk result (λ found. TellAlike table.now op found.items
         (raisers_at table.now op writers.now (option_copied poll.entry))) }
 {
     match poll {

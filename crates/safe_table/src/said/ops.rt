@@ -68,7 +68,7 @@ fn said_of_reached(
         Some(found @ (Op::Write { .. } | Op::CfgWrite { .. })) => {
             Ok(said_of_write(looks, op, found))
         }
-        Some(Op::Poll { .. }) => Ok(said_of_poll(looks, op)),
+        Some(Op::Poll { .. }) => said_of_poll(alloc, looks, op),
     }
 }
 

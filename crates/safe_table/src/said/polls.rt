@@ -1,4 +1,4 @@
-ghost use Rattle.std.specs.Prelude.{◌≡◌};
+ghost use Rattle.std.specs.Prelude.{◌≡◌, IfOk};
 ghost use Rattle.std.specs.Option.{option_map};
 ghost use Rattle.law_safe.specs.largest.Tests.{wish_of};
 ghost use Rattle.law_safe.specs.said.Said.{said_of_poll};
@@ -8,21 +8,30 @@ ghost use Rattle.safe_table.specs.Members.{IsSeen};
 
 use crate::said::looks::Looks;
 use crate::said::verdict::Said;
-use pci_command::OpId;
+use pci_command::{NoMemory, OpId};
+use std::alloc::Global;
 
 /// What is said of a poll: none of what can meet it is ever done, or it is told of nothing.
-pub(crate) fn said_of_poll(looks: &Looks, poll: OpId) -> Option<Said>
+pub(crate) fn said_of_poll(
+    alloc: Global,
+    looks: &Looks,
+    poll: OpId,
+) -> Result<Option<Said>, NoMemory>
     requires first { poll.attempt ≡ 0 }
     requires seen { IsSeen looks.now.tree.now looks.now.table.now looks.now.writers.now
         looks.now.polls.now }
-    ensures { option_map verdict result ≡ said_of_poll looks.now.tree.now (table_of
-        looks.now.table.now) poll (wish_of looks.now.tree.now poll) }
+    ensures { IfOk result (λ said. option_map verdict said ≡ said_of_poll looks.now.tree.now
+        (table_of looks.now.table.now) poll (wish_of looks.now.tree.now poll)) }
 {
     if !looks.polls.is_told(looks.table, looks.writers, poll) {
-        Some(Said::Loose)
-    } else if looks.polls.is_raised(looks.table, looks.writers, poll) {
-        None
+        return Ok(Some(Said::Loose));
+    }
+    let raised = looks
+        .polls
+        .is_raised(alloc, looks.table, looks.writers, poll)?;
+    if raised {
+        Ok(None)
     } else {
-        Some(Said::Vain)
+        Ok(Some(Said::Vain))
     }
 }

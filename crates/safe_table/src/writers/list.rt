@@ -7,7 +7,7 @@ ghost use Rattle.safe_model.specs.Ops.{ops_by, ops_from};
 ghost use Rattle.safe_table.specs.Writes.{words_from, kept_for, kept_of, kept_by, Adds};
 
 use crate::writers::named::first_named;
-use crate::writers::table::Writers;
+use crate::writers::words::Words;
 use crate::writers::write::WordWrite;
 use board_model::{Board, Op, Word, is_posted, request_of};
 use board_tree::Tree;
@@ -15,7 +15,7 @@ use pci_command::{NoMemory, OpId, Phase, Request};
 use std::alloc::Global;
 
 /// The writes of the board are listed, by master, then by their places in the program.
-pub(crate) fn list_writes(writers: &mut Writers, alloc: Global, tree: &Tree) -> Result<(), NoMemory>
+pub(crate) fn list_writes(writers: &mut Words, alloc: Global, tree: &Tree) -> Result<(), NoMemory>
     ensures { OnOk result (Adds (λ q. kept_by tree.now (dword q) (ops_by 0 tree.now.masters))
         writers.old writers.new) }
 {
@@ -28,7 +28,7 @@ pub(crate) fn list_writes(writers: &mut Writers, alloc: Global, tree: &Tree) -> 
 
 /// The same of the program of one master.
 fn list_program(
-    writers: &mut Writers,
+    writers: &mut Words,
     alloc: Global,
     board: &Board,
     master: u16,
@@ -51,7 +51,7 @@ fn list_program(
 }
 
 /// Each dword that the operation writes gets it: none does where it reads.
-fn put_write(writers: &mut Writers, alloc: Global, board: &Board, op: OpId) -> Result<(), NoMemory>
+fn put_write(writers: &mut Words, alloc: Global, board: &Board, op: OpId) -> Result<(), NoMemory>
     requires { IsDecodable board.now }
     ensures { OnOk result (Adds (λ q. kept_of board.now (dword q) op) writers.old writers.new) }
 {
@@ -65,7 +65,7 @@ fn put_write(writers: &mut Writers, alloc: Global, board: &Board, op: OpId) -> R
 
 /// The same of its request, from the first dword on.
 fn put_request(
-    writers: &mut Writers,
+    writers: &mut Words,
     alloc: Global,
     first: Option<Word>,
     op: OpId,
@@ -86,7 +86,7 @@ fn put_request(
 
 /// The same of the data phases.
 fn put_phases(
-    writers: &mut Writers,
+    writers: &mut Words,
     alloc: Global,
     first: Word,
     op: OpId,

@@ -1,49 +1,51 @@
-ghost use Rattle.std.specs.Prelude.{◌≡◌};
-ghost use Rattle.audit_clocks.specs.Tables.{list_in};
-
-use crate::writers::list::list_writes;
-use crate::writers::write::{WordWrite, WordWrites};
-use audit_clocks::WordTable;
+use crate::polls::Awaited;
+use crate::writers::lists::{Listed, Lists, lists_of};
+use crate::writers::words::Words;
+use crate::writers::write::WordWrite;
 use board_model::Word;
 use board_tree::Tree;
 use pci_command::NoMemory;
 use std::alloc::Global;
 use std::marker::Model;
 
-/// The writes of each dword of a board, in the order of master and index. No word of the program
-/// calls it.
+/// The writes of each dword of a board, in the order of master and index; and those that bring what
+/// polls wait for, as stretches. No word of the program calls it.
 #[derive(Debug, Drop)]
 pub struct Writers {
-    words: WordTable<WordWrites>,
+    words: Words,
+    lists: Lists,
 }
 
 impl Model for Writers {
     ghost use Rattle.std.specs.Prelude.{List};
     ghost use Rattle.board_model.specs.declared.word.Word.{Word};
     ghost use Rattle.safe_table.specs.declared.writers.write.WordWrite.{WordWrite};
+    ghost use Rattle.safe_table.specs.Lists.{KeepsLists};
 
     ghost Value = { List (Word × List WordWrite) };
 
     ghost view = { λ k. k.words };
+
+    ghost invariant = { λ k. KeepsLists k.words k.lists };
 }
 
 impl Writers {
-    ghost use Rattle.std.specs.Prelude.{IfOk, OnOk, if◌then◌else◌, [], ◌∷◌};
+    ghost use Rattle.std.specs.Prelude.{◌≡◌, IfOk, IfSome};
+    ghost use Rattle.std.specs.List.{list_all};
     ghost use Rattle.board_model.specs.declared.board.Board.{Board};
-    ghost use Rattle.audit_clocks.specs.Tables.{same_word};
     ghost use Rattle.audit_landings.specs.Hits.{dword};
     ghost use Rattle.law_safe.specs.largest.Tests.{writes_of};
-    ghost use Rattle.safe_table.specs.Writes.{writes_at, Adds, AreWrites, ListsWrites};
+    ghost use Rattle.safe_table.specs.Writes.{writes_at, AreWrites, ListsWrites};
+    ghost use Rattle.safe_table.specs.Lists.{AreListed};
+    ghost use Rattle.safe_table.specs.Polls.{is_clean_write};
 
     /// Of the writes of the board. It looks up each dword that a write names.
     pub fn new(alloc: Global, tree: &Tree) -> Result<Writers, NoMemory>
         ensures { IfOk result (ListsWrites tree.now) }
     {
-        let mut writers = Writers {
-            words: WordTable::new(alloc),
-        };
-        list_writes(&mut writers, alloc, tree)?;
-        Ok(writers)
+        let words = Words::new(alloc, tree)?;
+        let lists = lists_of(alloc, tree, &words)?;
+        Ok(Writers { words, lists })
     }
 
     /// Those of this dword, in the order of master and index. It takes one look-up.
@@ -52,34 +54,23 @@ impl Writers {
         ensures are { (board : Board) → ListsWrites board self.now →
             AreWrites board (dword word) (writes_of board (dword word)) result.now }
     {
-        match self.words.get(word) {
-            Some(writes) => writes.as_slice(),
-            None => &[],
-        }
+        self.words.of_word(word)
     }
 
-    /// The dword gets the write, behind those that it has.
-    pub(crate) fn put(
-        &mut self,
-        alloc: Global,
-        word: Word,
-        write: WordWrite,
-    ) -> Result<(), NoMemory>
-        ensures { OnOk result (Adds (λ q. if same_word word q then write ∷ [] else [])
-            self.old self.new) }
+    /// As stretches those of the dword, and those that bring what is waited for, where they are not
+    /// too many to be kept.
+    pub(crate) fn lists(&self, awaited: Awaited) -> Option<Listed<'_>>
+        ensures { IfSome result
+            (λ listed. AreListed self.now awaited listed.writes.now listed.raising.now) }
     {
-        let found = self.words.take(word);
-        let writes = writes_or_none(alloc, found).with(write)?;
-        self.words.put(word, writes)?;
-        Ok(())
+        self.lists.of(awaited)
     }
-}
 
-fn writes_or_none(alloc: Global, writes: Option<WordWrites>) -> WordWrites
-    ensures { result ≡ list_in writes }
-{
-    match writes {
-        Some(writes) => writes,
-        None => WordWrites::new(alloc),
+    /// Whether each write of the dword is clean, where that is kept.
+    pub(crate) fn are_clean(&self, awaited: Awaited) -> Option<bool>
+        ensures { IfSome result (λ clean.
+            clean ≡ list_all (is_clean_write awaited) (writes_at awaited.word self.now)) }
+    {
+        self.lists.are_clean(awaited)
     }
 }

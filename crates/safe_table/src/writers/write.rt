@@ -30,7 +30,7 @@ impl Model for WordWrites {
 }
 
 impl WordWrites {
-    ghost use Rattle.std.specs.Prelude.{IfOk, [], ◌∷◌, ◌++◌};
+    ghost use Rattle.std.specs.Prelude.{IfOk, OnOk, [], ◌∷◌, ◌++◌};
 
     /// None.
     pub(crate) fn new(alloc: Global) -> WordWrites
@@ -39,6 +39,15 @@ impl WordWrites {
         WordWrites {
             writes: Vec::new(alloc),
         }
+    }
+
+    /// One.
+    pub(crate) fn one(alloc: Global, write: WordWrite) -> Result<WordWrites, NoMemory>
+        ensures { IfOk result (λ writes. writes ≡ write ∷ []) }
+    {
+        let mut writes = Vec::new(alloc);
+        writes.push(write)?;
+        Ok(WordWrites { writes })
     }
 
     /// These.
@@ -62,5 +71,13 @@ impl WordWrites {
         let WordWrites { mut writes } = self;
         writes.push(write)?;
         Ok(WordWrites { writes })
+    }
+
+    /// The same, in its place.
+    pub(crate) fn push(&mut self, write: WordWrite) -> Result<(), NoMemory>
+        ensures { OnOk result (self.new ≡ self.old ++ write ∷ []) }
+    {
+        self.writes.push(write)?;
+        Ok(())
     }
 }

@@ -7,5 +7,5 @@ use Rattle.safe_table.proofs.polls.polls.Polls.is_raised.Goals as goal
 pub returns : goal.returns
 returns c =
     λ board knows keeps lists.
-    c.is_raised.ensures ∙ ap (raised_at c.args.table.now c.args.op c.args.writers.now) c.of.ensures
-    ∙ raised_at_so board c.args.table.now keeps c.args.writers.now lists c.args.op (poll_at c.args.self.now c.args.op) (found_poll board c.args.self.now c.args.op c.requires knows)
+    c.in_ok-raised.ensures ∙ ap (raised_at c.args.table.now c.args.op c.args.writers.now) c.of.ensures
+    ∙ raised_at_so board c.args.table.now keeps c.args.writers.now lists c.args.op (poll_at c.args.self.now c.args.op) (found_poll board c.args.self.now c.args.op c.requires.first knows)

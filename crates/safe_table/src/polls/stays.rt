@@ -1,0 +1,287 @@
+ghost use Rattle.std.specs.Prelude.{◌≡◌, ◌≤◌, ◌+◌, ◌++◌, ◌∷◌, [], IfOk, OnOk, length, nat_lt};
+ghost use Rattle.std.specs.Prelude.{if◌then◌else◌};
+ghost use Rattle.std.specs.List.{list_any};
+ghost use Rattle.safe_table.specs.Landing.{joined};
+ghost use Rattle.safe_table.specs.Looks.{any_before, clock_in, no_more_in, left_out_in};
+ghost use Rattle.safe_table.specs.Looks.{is_reached_in, TellAlike, IsOrdered};
+ghost use Rattle.safe_table.specs.Stretches.{Stretch, AreStretches, first_before, PartsBefore};
+ghost use Rattle.safe_table.specs.Stretches.{AreBefore, AreAmong, PutsRun, ends_with, first_in};
+ghost use Rattle.safe_table.specs.Stretches.{is_reached_at, list_of, stay};
+
+use crate::known::ClockTable;
+use crate::polls::looks::is_before;
+use crate::writers::{WordWrite, WordWrites, count_below, is_behind};
+use pci_command::{NoMemory, OpId, same_op};
+use std::alloc::Global;
+
+/// Whether one of these writes comes before the poll: then the first of its stretch does.
+pub(crate) fn is_any_first_before(table: &ClockTable, poll: OpId, runs: &[WordWrites]) -> bool
+    requires { AreStretches runs.now }
+    ensures { result ≡ any_before table.now poll (joined runs.now) }
+{
+    has_first_before(table, poll, runs)
+}
+
+fn has_first_before(table: &ClockTable, poll: OpId, runs: &[WordWrites]) -> bool
+    ensures { result ≡ list_any (first_before table.now poll) runs.now }
+{
+    runs.iter().any(|run| is_first_before(table, poll, run))
+}
+
+fn is_first_before(table: &ClockTable, poll: OpId, run: &WordWrites) -> bool
+    ensures { result ≡ first_before table.now poll run.now }
+{
+    match run.as_slice() {
+        [first, ..] => is_before(table, first.op, poll),
+        [] => false,
+    }
+}
+
+/// Of these raisers of a poll those that tell it what all do that the writes of its dword do not
+/// leave out.
+///
+/// Of the raisers of a stretch that come before the poll the last alone may stay, since it leaves
+/// out the others. Where it does, the poll is told of nothing: whoever comes after a write knows all
+/// that the write does. Those that do not come before the poll all stay, since what leaves a write
+/// out comes after it; the first of them knows no more than the others.
+pub(crate) fn raisers_among(
+    alloc: Global,
+    table: &ClockTable,
+    poll: OpId,
+    writes: &[WordWrites],
+    raising: &[WordWrites],
+) -> Result<Vec<WordWrite>, NoMemory>
+    requires ordered { IsOrdered table.now }
+    requires writes { AreStretches writes.now }
+    requires raising { AreStretches raising.now }
+    requires among { AreAmong (joined writes.now) (joined raising.now) }
+    ensures { IfOk result (λ found. TellAlike table.now poll found.items
+        (stay table.now poll (joined writes.now) (joined raising.now))) }
+{
+    let mut found = Vec::new(alloc);
+    put_raisers(&mut found, table, poll, writes, raising)?;
+    Ok(found)
+}
+
+fn put_raisers(
+    found: &mut Vec<WordWrite>,
+    table: &ClockTable,
+    poll: OpId,
+    writes: &[WordWrites],
+    raising: &[WordWrites],
+) -> Result<(), NoMemory>
+    requires ordered { IsOrdered table.now }
+    requires writes { AreStretches writes.now }
+    requires raising { AreStretches raising.now }
+    requires among { AreAmong (joined writes.now) (joined raising.now) }
+    requires none { found.old.items ≡ [] }
+    ensures { OnOk result (TellAlike table.now poll found.new.items
+        (stay table.now poll (joined writes.now) (joined raising.now))) }
+{
+    for run in raising {
+        let ended = put_run(found, table, poll, writes, run.as_slice())?;
+        if ended {
+            return Ok(());
+        }
+    }
+    Ok(())
+}
+
+/// Of a stretch the last that comes before the poll, if it stays, or else the first that does not;
+/// whether it was the former.
+fn put_run(
+    found: &mut Vec<WordWrite>,
+    table: &ClockTable,
+    poll: OpId,
+    writes: &[WordWrites],
+    run: &[WordWrite],
+) -> Result<bool, NoMemory>
+    requires ordered { IsOrdered table.now }
+    requires writes { AreStretches writes.now }
+    requires run { Stretch run.now }
+    requires among { AreAmong (joined writes.now) run.now }
+    ensures { IfOk result (PutsRun table.now poll (joined writes.now) run.now
+        found.old.items found.new.items) }
+{
+    let (before, beyond) = run.split_at(count_before(table, poll, run));
+    match staying_last(table, poll, writes, before) {
+        Some(last) => {
+            found.push(last)?;
+            Ok(true)
+        }
+        None => {
+            put_first(found, beyond)?;
+            Ok(false)
+        }
+    }
+}
+
+/// How many of a stretch come before the poll, from the first on.
+fn count_before(table: &ClockTable, poll: OpId, run: &[WordWrite]) -> usize
+    requires { Stretch run.now }
+    ensures within { result ≤ length run.now }
+    ensures parts { PartsBefore table.now poll run.now result }
+{
+    match run {
+        [first, ..] => count_below(run, table.look(poll, first.op.master)),
+        [] => 0,
+    }
+}
+
+/// Of raisers of a stretch that come before the poll the one that is not left out, if there is one:
+/// the last.
+fn staying_last(
+    table: &ClockTable,
+    poll: OpId,
+    writes: &[WordWrites],
+    before: &[WordWrite],
+) -> Option<WordWrite>
+    requires ordered { IsOrdered table.now }
+    requires writes { AreStretches writes.now }
+    requires run { Stretch before.now }
+    requires before { AreBefore table.now poll before.now }
+    requires among { AreAmong (joined writes.now) before.now }
+    ensures { stay table.now poll (joined writes.now) before.now ≡ list_of result }
+{
+    match before.last() {
+        Some(last) => one_unless(is_left_out(table, poll, writes, last), last),
+        None => None,
+    }
+}
+
+fn one_unless(left_out: bool, write: &WordWrite) -> Option<WordWrite>
+    ensures { list_of result ≡ (if left_out then [] else write.now ∷ []) }
+{
+    if left_out { None } else { Some(*write) }
+}
+
+fn put_first(found: &mut Vec<WordWrite>, run: &[WordWrite]) -> Result<(), NoMemory>
+    ensures { OnOk result (found.new.items ≡ found.old.items ++ first_in run.now) }
+{
+    if let [first, ..] = run {
+        found.push(*first)?;
+    }
+    Ok(())
+}
+
+/// Whether the raiser is left out by one of the writes.
+fn is_left_out(table: &ClockTable, poll: OpId, writes: &[WordWrites], raiser: &WordWrite) -> bool
+    requires ordered { IsOrdered table.now }
+    requires writes { AreStretches writes.now }
+    ensures { result ≡ left_out_in table.now poll (joined writes.now) raiser.now }
+{
+    for run in writes {
+        if is_left_out_in(table, poll, run.as_slice(), raiser) {
+            return true;
+        }
+    }
+    false
+}
+
+/// The same by one of a stretch: of those that come before the poll by one of the last two, one of
+/// which is another than the raiser.
+fn is_left_out_in(table: &ClockTable, poll: OpId, run: &[WordWrite], raiser: &WordWrite) -> bool
+    requires ordered { IsOrdered table.now }
+    requires run { Stretch run.now }
+    ensures { result ≡ left_out_in table.now poll run.now raiser.now }
+{
+    let (before, _) = run.split_at(count_before(table, poll, run));
+    let (_, two) = before.split_at(before.len().saturating_sub(2));
+    is_ended_by(table, raiser, two)
+}
+
+/// Whether once one of these lands, another than the raiser, the raiser lands no more.
+fn is_ended_by(table: &ClockTable, raiser: &WordWrite, writes: &[WordWrite]) -> bool
+    ensures { result ≡ list_any (ends_with table.now raiser.now) writes.now }
+{
+    writes.iter().any(|write| ends_with(table, raiser, write))
+}
+
+fn ends_with(table: &ClockTable, raiser: &WordWrite, write: &WordWrite) -> bool
+    ensures { result ≡ ends_with table.now raiser.now write.now }
+{
+    !same_op(write.op, raiser.op) && lands_no_more(table, raiser, write)
+}
+
+/// Whether a write lands no more once the other does.
+fn lands_no_more(table: &ClockTable, first: &WordWrite, second: &WordWrite) -> bool
+    ensures { result ≡ no_more_in table.now first.now second.now.op }
+{
+    (first.posted && is_before(table, first.op, second.op))
+        || (is_behind(first, second) || has_ended(table, first.op, second.op))
+}
+
+/// Whether the operation behind one comes before another.
+fn has_ended(table: &ClockTable, first: OpId, second: OpId) -> bool
+    ensures { result ≡ nat_lt (first.index + 1) (clock_in table.now second first.master) }
+{
+    usize::from(first.index) + 1 < table.look(second, first.master)
+}
+
+/// Whether some run of the board may come to one of these raisers that the writes do not leave out.
+pub(crate) fn is_any_reached(
+    table: &ClockTable,
+    poll: OpId,
+    writes: &[WordWrites],
+    raising: &[WordWrites],
+) -> bool
+    requires ordered { IsOrdered table.now }
+    requires writes { AreStretches writes.now }
+    requires raising { AreStretches raising.now }
+    requires among { AreAmong (joined writes.now) (joined raising.now) }
+    ensures { result ≡
+        list_any (is_reached_in table.now poll (joined writes.now)) (joined raising.now) }
+{
+    for run in raising {
+        if is_run_reached(table, poll, writes, run.as_slice()) {
+            return true;
+        }
+    }
+    false
+}
+
+/// The same of one stretch.
+fn is_run_reached(table: &ClockTable, poll: OpId, writes: &[WordWrites], run: &[WordWrite]) -> bool
+    requires ordered { IsOrdered table.now }
+    requires writes { AreStretches writes.now }
+    requires run { Stretch run.now }
+    requires among { AreAmong (joined writes.now) run.now }
+    ensures { result ≡ list_any (is_reached_in table.now poll (joined writes.now)) run.now }
+{
+    let (before, beyond) = run.split_at(count_before(table, poll, run));
+    has_reached(table, beyond) || is_last_reached(table, poll, writes, before)
+}
+
+fn has_reached(table: &ClockTable, writes: &[WordWrite]) -> bool
+    ensures { result ≡ list_any (is_reached_at table.now) writes.now }
+{
+    writes.iter().any(|write| is_reached(table, write))
+}
+
+/// The same of those of a stretch that come before the poll, where they are not left out.
+fn is_last_reached(
+    table: &ClockTable,
+    poll: OpId,
+    writes: &[WordWrites],
+    before: &[WordWrite],
+) -> bool
+    requires ordered { IsOrdered table.now }
+    requires writes { AreStretches writes.now }
+    requires run { Stretch before.now }
+    requires before { AreBefore table.now poll before.now }
+    requires among { AreAmong (joined writes.now) before.now }
+    ensures { result ≡ list_any (is_reached_at table.now)
+        (stay table.now poll (joined writes.now) before.now) }
+{
+    match staying_last(table, poll, writes, before) {
+        Some(last) => is_reached(table, &last),
+        None => false,
+    }
+}
+
+/// Whether some run of the board may come to the write.
+fn is_reached(table: &ClockTable, write: &WordWrite) -> bool
+    ensures { result ≡ is_reached_at table.now write.now }
+{
+    !is_before(table, write.op, write.op)
+}
