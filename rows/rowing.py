@@ -74,6 +74,25 @@ def first_line(error):
     return error.split(b"\n")[0].decode(errors="replace")
 
 
+def lines_of(name):
+    """The lines of a table, each as what stands between its tabs."""
+    with open(name, encoding="utf-8") as file:
+        for line in file:
+            line = line.rstrip("\n")
+            if line and not line.startswith("#"):
+                yield line.split("\t")
+
+
+def lines_in(text):
+    """The lines of an input of texts.tsv."""
+    for part in text.split("|") if text else []:
+        count, star, line = part.partition("*")
+        if star and count.isdigit():
+            yield from (line.replace("@-", str(number - 1)).replace("@", str(number)) for number in range(1, int(count) + 1))
+        else:
+            yield part.encode().decode("unicode_escape")
+
+
 def fault_of(name, seen, wanted):
     """What is wrong with what was seen, or None."""
     says = not seen.error if wanted.error == "-" else first_line(seen.error) == wanted.error

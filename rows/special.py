@@ -255,15 +255,18 @@ CODES = {
 }
 
 
+def example_of(page):
+    """The input that a page of `explain` shows, between its title and the ordering table, with which some pages end."""
+    lines = page.out.decode().split("\n")
+    example, table, _ = "\n".join(lines[lines.index("Example:") + 2 :]).partition("\n\nMay a transaction")
+    return example + ("\n" if table else "")
+
+
 def explain_row(word, code):
     def explained(place):
         page = place.call("explain", code)
-        lines = page.out.decode().split("\n")
-        # an example stands between its title and the ordering table, with which some pages end
-        example, table, _ = "\n".join(lines[lines.index("Example:") + 2 :]).partition("\n\nMay a transaction")
-        example += "\n" if table else ""
-        seen = place.call(word, place.file("example", example.encode()))
-        is_told = f" {code} " in first_line(seen.error) + " " and lines[0].startswith(f"{code}: ")
+        seen = place.call(word, place.file("example", example_of(page).encode()))
+        is_told = f" {code} " in first_line(seen.error) + " " and page.out.decode().startswith(f"{code}: ")
         yield f"explain_{code}", Seen(page.status if is_told else 99, seen.out, b""), Wanted(0, b"", "-")
 
     return f"explain_{code}", explained
@@ -313,6 +316,8 @@ def scripts():
     yield "readme_commands", ["../tools/readme-commands", "README.md", "docs/GUIDE.md"]
     # `safe` beside a second program, over all boards here and some that are drawn, and what `adverse` writes of them
     yield "safe_by_definitions", ["../tools/safe-by-definitions", "--compare", PROGRAM, "250"]
+    # the caret below the word at fault, by the fronts of each line that is refused
+    yield "carets", ["../tools/carets"]
     # arrivals taken out of each run here, and put in again
     yield "fill_again", ["../tools/fill-again"]
     # the monitor of PCI buses in its test bench, where there is a simulator
