@@ -52,7 +52,7 @@ struct Lanes<'a> {
     lanes: &'a [Lane],
     streams: &'a Streams,
     entries: &'a [Entry],
-    /// Of each errand of a lane from when on somebody was asking for it, where this is looked at.
+    /// Of each errand of a lane from when on somebody was asking for it.
     asked: &'a [u64],
     /// Whether a part that has no choice that suffices gets one that shows what is wrong.
     tells: bool,
@@ -88,7 +88,6 @@ pub(crate) fn pair(
         }
     }
     choices.restore()?;
-    all.asked = &[];
     all.tells = true;
     all.pair(errands, &mut choices)?;
     Ok(())
@@ -277,7 +276,7 @@ impl Lanes<'_> {
             ground: self.ground,
             stream: self.streams.of(lane)?,
             back: self.streams.of(back)?,
-            asked: self.asked,
+            asked: if self.tells { &[] } else { self.asked },
             mode: bridge_to(self.ground.board, lane.bus).is_some_and(|bridge| bridge.mode),
         })
     }
