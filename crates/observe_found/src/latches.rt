@@ -12,6 +12,8 @@ pub(crate) struct Sides<'a> {
     pub(crate) ground: &'a Ground<'a>,
     pub(crate) stream: &'a Stream,
     pub(crate) back: &'a Stream,
+    /// Of each errand of a lane from when on somebody was asking for it, where this is looked at.
+    pub(crate) asked: &'a [u64],
     /// The master abort mode of the bridge.
     pub(crate) mode: bool,
 }
@@ -28,6 +30,12 @@ pub(crate) enum Strictness {
 }
 
 impl Sides<'_> {
+    /// Whether somebody can have been asking by this time for what the near errand asks for.
+    pub(crate) fn was_asked(&self, near: u32, time: u64) -> bool {
+        let asked = self.asked.get(near as usize);
+        asked.is_none_or(|asked| *asked <= time)
+    }
+
     /// The place from which on a latch for it may stand, where this far errand was made for the
     /// near one before: behind its end, since its completion was discarded.
     pub(crate) fn low_place(&self, errands: &Errands, near: &Errand, before: Option<u32>) -> u32 {

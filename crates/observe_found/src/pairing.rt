@@ -1,6 +1,6 @@
 use crate::choices::{Choices, PartOf};
 use crate::errands::Errands;
-use crate::ground::{Ground, Wanted, number};
+use crate::ground::{Ground, NO_TIME, Wanted, number};
 use crate::latches::{Sides, Strictness};
 use crate::slots::Held;
 use crate::streams::Streams;
@@ -52,6 +52,8 @@ struct Lanes<'a> {
     lanes: &'a [Lane],
     streams: &'a Streams,
     entries: &'a [Entry],
+    /// Of each errand of a lane from when on somebody was asking for it.
+    asked: &'a [u64],
     /// Whether a part that has no choice that suffices gets one that shows what is wrong.
     tells: bool,
 }
@@ -65,11 +67,13 @@ pub(crate) fn pair(
     errands: &mut Errands,
 ) -> Result<(), Unfound> {
     let entries = entries(ground, lanes, errands)?;
+    let asked = asked_times(ground, entries.as_slice(), errands)?;
     let mut all = Lanes {
         ground,
         lanes,
         streams,
         entries: entries.as_slice(),
+        asked: asked.as_slice(),
         tells: false,
     };
     let mut choices = Choices::new(ground.alloc);
@@ -113,10 +117,64 @@ fn entries(ground: &Ground, lanes: &[Lane], errands: &Errands) -> Result<Vec<Ent
     Ok(entries)
 }
 
+/// Of each errand of a lane the first time at which it can have been made for somebody.
+fn asked_times(
+    ground: &Ground,
+    entries: &[Entry],
+    errands: &Errands,
+) -> Result<Vec<u64>, NoMemory> {
+    let mut asked = vec![in ground.alloc; 0u64; ground.lines.len()]?;
+    let mut end = 0usize;
+    for (place, entry) in entries.iter().enumerate() {
+        if place == end {
+            let behind = entries.get(place..).unwrap_or(&[]);
+            let count = behind.partition_point(|other| other.is_with(entry));
+            end = place.saturating_add(count);
+            let same = behind.get(..count).unwrap_or(&[]);
+            note_asked(ground, same, errands, &mut asked)?;
+        }
+    }
+    Ok(asked)
+}
+
+/// The same of errands of one request at one lane: it was made for one that had not ended when it
+/// did.
+fn note_asked(
+    ground: &Ground,
+    same: &[Entry],
+    errands: &Errands,
+    asked: &mut Vec<u64>,
+) -> Result<(), NoMemory> {
+    let mut reaches = Vec::new(ground.alloc);
+    let mut reach = 0u64;
+    for entry in same {
+        if !entry.is_far {
+            reach = reach.max(errands.open_until(ground, &errands.get(entry.errand)));
+        }
+        reaches.push(reach)?;
+    }
+    for far in same.iter().filter(|entry| entry.is_far) {
+        let ended = errands.get(far.errand).ended;
+        let ended = ended.map_or(NO_TIME, |line| ground.start(line));
+        let at = reaches.as_slice().partition_point(|reach| *reach < ended);
+        if let Some(slot) = asked.get_mut(far.errand as usize) {
+            *slot = same.get(at).map_or(NO_TIME, |near| near.start);
+        }
+    }
+    Ok(())
+}
+
 fn wanted(ground: &Ground, line: u32) -> Wanted {
     ground
         .seen(line)
         .map_or(Wanted::default(), |seen| ground.wanted(seen))
+}
+
+impl Entry {
+    /// Whether both are of one request at one lane.
+    fn is_with(&self, other: &Entry) -> bool {
+        self.rank == other.rank && self.wanted == other.wanted
+    }
 }
 
 impl Part {
@@ -218,6 +276,7 @@ impl Lanes<'_> {
             ground: self.ground,
             stream: self.streams.of(lane)?,
             back: self.streams.of(back)?,
+            asked: if self.tells { &[] } else { self.asked },
             mode: bridge_to(self.ground.board, lane.bus).is_some_and(|bridge| bridge.mode),
         })
     }

@@ -363,7 +363,7 @@ impl<'a> Trial<'a> {
         let errand = errands.get(near);
         let was_open = self.was_open(errands, far, &errand);
         let serves = strictness == Strictness::Loose || self.serves(errands, far, &errand, floor);
-        if was_open && serves {
+        if was_open && serves && self.sides.was_asked(near, far.deadline) {
             ranks.push(self.rank(errands, far, near))?;
         }
         Ok(())
