@@ -121,7 +121,7 @@ fn claim_upwards(board: &Board, bus: u8, space: Space, address: u128) -> Place
 }
 
 /// Whether the address lies in a window of the bridge for its space.
-fn bridge_holds(bridge: &Bridge, space: Space, address: u128) -> bool
+pub fn bridge_holds(bridge: &Bridge, space: Space, address: u128) -> bool
     ensures { result ≡ bridge_holds space address bridge.now }
 {
     match space {

@@ -23,7 +23,7 @@ pub use agents::{Master, Opening, Range, Target};
 pub use board::{Board, Planned};
 pub use bridge::{Bridge, Lane, Place, Window};
 pub use buses::{bridge_to, end_of, has_bridge_to, is_bus, primary_of};
-pub use claims::{claim, claim_in_space, is_in_ranges};
+pub use claims::{bridge_holds, claim, claim_in_space, is_in_ranges};
 pub use device::{merge, opening, write_mask};
 pub use encoding::encode;
 pub use fits::board_fits;

@@ -3,3 +3,5 @@ pub mod FewLemmas
 pub mod DecodableLemmas
 pub mod BoundLemmas
 pub mod ValidLemmas
+pub mod ChainLemmas
+pub mod WalkLemmas

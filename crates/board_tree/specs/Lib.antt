@@ -1,2 +1,4 @@
 pub mod Decodable
 pub mod Refusals
+pub mod Chains
+pub mod Sites

@@ -3,11 +3,18 @@
 #![tactic(auto)]
 
 mod bound;
+mod chains;
+mod claims;
+mod costs;
 mod refusal;
+mod sites;
 mod tree;
 mod ways;
 
-pub use bound::{cost_of_program, cost_of_try, longest_way, pieces_by};
+pub use bound::pieces_by;
+pub use claims::claim_with;
+pub use costs::{cost_of_program, cost_of_try, longest_way};
 pub use refusal::TreeRefusal;
+pub use sites::Sites;
 pub use tree::{Tree, validate};
-pub use ways::{Route, route_of};
+pub use ways::{Route, route_by, route_of};

@@ -3,9 +3,10 @@ ghost use Rattle.board_model.specs.WellFormed.{is_well_formed};
 ghost use Rattle.board_model.specs.Ways.{bound_of};
 ghost use Rattle.board_model.specs.Valid.{IsValid};
 ghost use Rattle.board_tree.specs.Refusals.{refusal_of};
+ghost use Rattle.board_tree.specs.Sites.{AreSites};
 
-use crate::TreeRefusal;
 use crate::bound::bound_of;
+use crate::{Sites, TreeRefusal};
 use board_checks::first_fault;
 use board_model::Board;
 use std::marker::Model;
@@ -18,6 +19,7 @@ const MOST_EVENTS: u64 = 500_000;
 pub struct Tree {
     board: Board,
     bound: u64,
+    sites: Sites,
 }
 
 impl Model for Tree {
@@ -25,12 +27,14 @@ impl Model for Tree {
     ghost use Rattle.board_model.specs.declared.board.Board.{Board};
     ghost use Rattle.board_model.specs.Ways.{bound_of};
     ghost use Rattle.board_model.specs.Valid.{IsValid};
+    ghost use Rattle.board_tree.specs.Sites.{AreSites};
 
     ghost Value = { Board };
 
     ghost view = { λ tree. tree.board };
 
-    ghost invariant = { λ tree. IsValid tree.board × (tree.bound ≡ bound_of tree.board) };
+    ghost invariant = { λ tree. IsValid tree.board × (tree.bound ≡ bound_of tree.board) ×
+        AreSites tree.board tree.sites };
 }
 
 impl Tree {
@@ -40,6 +44,13 @@ impl Tree {
         ensures valid { IsValid self.now }
     {
         &self.board
+    }
+
+    /// Where its targets and bridges stand, by their bus.
+    pub fn sites(&self) -> &Sites
+        ensures { AreSites self.now result.now }
+    {
+        &self.sites
     }
 
     /// How many events a run of the board has at most: its bound, which is at most 500,000.
@@ -61,9 +72,14 @@ pub fn validate(board: Board) -> Result<Tree, TreeRefusal>
     if let Some(fault) = first_fault(&board) {
         return Err(TreeRefusal::Fault { fault, board });
     }
-    let bound = bound_of(&board);
+    let sites = Sites::of(&board);
+    let bound = bound_of(&board, Some(&sites));
     if bound > MOST_EVENTS {
         return Err(TreeRefusal::AboveBound { bound, board });
     }
-    Ok(Tree { board, bound })
+    Ok(Tree {
+        board,
+        bound,
+        sites,
+    })
 }

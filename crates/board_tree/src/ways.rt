@@ -1,8 +1,11 @@
 ghost use Rattle.std.specs.Prelude.{◌≡◌, ◌≤◌, length};
 ghost use Rattle.board_model.specs.Ways.{route_within, route_of};
 ghost use Rattle.board_tree.specs.Decodable.{IsDecodable};
+ghost use Rattle.board_tree.specs.Sites.{AreKnown};
 
-use board_model::{Board, Op, Place, claim, end_of, request_on};
+use crate::Sites;
+use crate::claims::claim_of;
+use board_model::{Board, Op, Place, end_of, request_on};
 
 /// How many lanes the way of an operation takes, and the bus and the owner where it ends.
 #[derive(Clone, Copy)]
@@ -19,24 +22,37 @@ pub fn route_of(board: &Board, op: &Op, on: u8) -> Route
     ensures bus { result.bus ≡ (route_of board.now op.now on).bus }
     ensures owner { result.owner ≡ (route_of board.now op.now on).owner }
 {
-    route_within(board, op, on, board.bridges.as_slice().len() as u8)
+    route_by(board, None, op, on)
+}
+
+/// The same, where the sites of the board may be known.
+pub fn route_by(board: &Board, sites: Option<&Sites>, op: &Op, on: u8) -> Route
+    requires decodable { IsDecodable board.now }
+    requires sites { AreKnown board.now sites }
+    ensures lanes { result.lanes ≡ length (route_of board.now op.now on).lanes }
+    ensures bus { result.bus ≡ (route_of board.now op.now on).bus }
+    ensures owner { result.owner ≡ (route_of board.now op.now on).owner }
+{
+    let most = board.bridges.as_slice().len() as u8;
+    route_within(board, sites, op, on, most)
 }
 
 /// The same of at most so many lanes, by following claims.
-fn route_within(board: &Board, op: &Op, on: u8, most: u8) -> Route
-    requires { IsDecodable board.now }
+fn route_within(board: &Board, sites: Option<&Sites>, op: &Op, on: u8, most: u8) -> Route
+    requires decodable { IsDecodable board.now }
+    requires sites { AreKnown board.now sites }
     ensures lanes { result.lanes ≡ length (route_within most board.now op.now on).lanes }
     ensures bus { result.bus ≡ (route_within most board.now op.now on).bus }
     ensures owner { result.owner ≡ (route_within most board.now op.now on).owner }
     ensures short { result.lanes ≤ most }
 {
-    let owner = claim(board, on, &request_on(op, on));
+    let owner = claim_of(board, sites, on, &request_on(op, on));
     if most == 0 {
         return ends_at(on, owner);
     }
     match owner {
         Place::Lane(lane) => {
-            let onwards = route_within(board, op, end_of(board, lane), most - 1);
+            let onwards = route_within(board, sites, op, end_of(board, lane), most - 1);
             Route {
                 lanes: onwards.lanes + 1,
                 bus: onwards.bus,

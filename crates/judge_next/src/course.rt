@@ -3,6 +3,7 @@ ghost use Rattle.std.specs.Option.{option_or};
 ghost use Rattle.std.proofs.Math.ListN.{set};
 ghost use Rattle.board_model.specs.WellFormed.{is_well_formed};
 ghost use Rattle.board_model.specs.declared.board.Board.{Board};
+ghost use Rattle.board_tree.specs.Sites.{AreSites};
 ghost use Rattle.history_model.specs.declared.event.Event.{Event};
 ghost use Rattle.history_model.specs.Runs.{Allowed, Complete};
 ghost use Rattle.machine_steps.specs.Verdicts.{Holds, cause_in};
@@ -27,7 +28,7 @@ use crate::acts::{act_of_lane, act_of_lanes, act_of_master, act_of_masters};
 use crate::flights::Flights;
 use crate::lines::Lines;
 use board_model::{Board, Lane, board_fits};
-use board_tree::Tree;
+use board_tree::{Sites, Tree};
 use history_model::{Event, Why};
 use judge_state::Kept;
 use law_lanes::next_goes_on;
@@ -100,8 +101,16 @@ impl Course {
     {
         next_goes_on();
         let board = tree.board();
+        let sites = tree.sites();
         let lines = self.lines.as_slice();
-        next_now(&self.kept, board, &self.flights, lines, &mut self.quiet)
+        next_now(
+            &self.kept,
+            board,
+            sites,
+            &self.flights,
+            lines,
+            &mut self.quiet,
+        )
     }
 
     /// The run goes on by its next event, if it is not complete.
@@ -146,7 +155,7 @@ impl Course {
             IfNone result ((o : OpId) (step : Step) (place : Place) →
             Allowed tree.now h (Act bus (ByLane lane) o step place) → ⊥) }
     {
-        act_of_lane(&self.kept, tree.board(), bus, lane)
+        act_of_lane(&self.kept, tree.board(), tree.sites(), bus, lane)
     }
 
     /// The act on the bus of the turn of the master: none where no act of the master is allowed
@@ -160,7 +169,7 @@ impl Course {
             IfNone result ((o : OpId) (step : Step) (place : Place) →
             o.master ≡ master → Allowed tree.now h (Act bus Master o step place) → ⊥) }
     {
-        act_of_master(&self.kept, tree.board(), bus, master)
+        act_of_master(&self.kept, tree.board(), tree.sites(), bus, master)
     }
 }
 
@@ -205,11 +214,13 @@ fn hush(quiet: &mut Vec<bool>, bus: u8)
 fn next_now(
     kept: &Kept,
     board: &Board,
+    sites: &Sites,
     flights: &Flights,
     lines: &[Lines],
     quiet: &mut Vec<bool>,
 ) -> Option<Event>
     requires formed { IsTrue (is_well_formed board.now) }
+    requires sites { AreSites board.now sites.now }
     requires flights { KnowsFlights board.now kept.now flights.now }
     requires lines { AreLines board.now lines.now }
     requires all { length quiet.old.items ≡ 256 }
@@ -220,14 +231,21 @@ fn next_now(
 {
     match flights.first(kept, board) {
         Some(event) => Some(event),
-        None => first_act(kept, board, lines, quiet),
+        None => first_act(kept, board, sites, lines, quiet),
     }
 }
 
 /// The first act, by increasing bus and there by line. Buses that are known to be quiet are passed
 /// over, and those that are found to be are known from then on.
-fn first_act(kept: &Kept, board: &Board, lines: &[Lines], quiet: &mut Vec<bool>) -> Option<Event>
+fn first_act(
+    kept: &Kept,
+    board: &Board,
+    sites: &Sites,
+    lines: &[Lines],
+    quiet: &mut Vec<bool>,
+) -> Option<Event>
     requires formed { IsTrue (is_well_formed board.now) }
+    requires sites { AreSites board.now sites.now }
     requires lines { AreLines board.now lines.now }
     requires all { length quiet.old.items ≡ 256 }
     requires known { KnowsQuiet board.now kept.now quiet.old.items }
@@ -236,7 +254,7 @@ fn first_act(kept: &Kept, board: &Board, lines: &[Lines], quiet: &mut Vec<bool>)
     ensures known { KnowsQuiet board.now kept.now quiet.new.items }
 {
     for bus in 0..256u16 {
-        if let Some(event) = act_at(kept, board, lines, quiet, bus as u8) {
+        if let Some(event) = act_at(kept, board, sites, lines, quiet, bus as u8) {
             return Some(event);
         }
     }
@@ -247,11 +265,13 @@ fn first_act(kept: &Kept, board: &Board, lines: &[Lines], quiet: &mut Vec<bool>)
 fn act_at(
     kept: &Kept,
     board: &Board,
+    sites: &Sites,
     lines: &[Lines],
     quiet: &mut Vec<bool>,
     bus: u8,
 ) -> Option<Event>
     requires formed { IsTrue (is_well_formed board.now) }
+    requires sites { AreSites board.now sites.now }
     requires lines { AreLines board.now lines.now }
     requires all { length quiet.old.items ≡ 256 }
     requires known { KnowsQuiet board.now kept.now quiet.old.items }
@@ -262,7 +282,7 @@ fn act_at(
     if is_quiet(quiet, bus) {
         return None;
     }
-    match act_on(kept, board, lines, bus) {
+    match act_on(kept, board, sites, lines, bus) {
         Some(event) => Some(event),
         None => {
             hush(quiet, bus);
@@ -271,24 +291,26 @@ fn act_at(
     }
 }
 
-fn act_on(kept: &Kept, board: &Board, lines: &[Lines], bus: u8) -> Option<Event>
+fn act_on(kept: &Kept, board: &Board, sites: &Sites, lines: &[Lines], bus: u8) -> Option<Event>
     requires formed { IsTrue (is_well_formed board.now) }
+    requires sites { AreSites board.now sites.now }
     requires lines { AreLines board.now lines.now }
     ensures { result ≡ act_on_now board.now kept.now bus }
 {
     match lines.get(bus as usize) {
-        Some(lines) => act_of_lines(kept, board, bus, lines),
+        Some(lines) => act_of_lines(kept, board, sites, bus, lines),
         None => None,
     }
 }
 
 /// On a bus its lanes act before its masters.
-fn act_of_lines(kept: &Kept, board: &Board, bus: u8, lines: &Lines) -> Option<Event>
+fn act_of_lines(kept: &Kept, board: &Board, sites: &Sites, bus: u8, lines: &Lines) -> Option<Event>
     requires formed { IsTrue (is_well_formed board.now) }
+    requires sites { AreSites board.now sites.now }
     ensures { result ≡ option_or (first_in (lane_now board.now kept.now bus) lines.now.lanes) (first_in (master_now board.now kept.now bus) lines.now.masters) }
 {
-    match act_of_lanes(kept, board, bus, lines.lanes()) {
+    match act_of_lanes(kept, board, sites, bus, lines.lanes()) {
         Some(event) => Some(event),
-        None => act_of_masters(kept, board, bus, lines.masters()),
+        None => act_of_masters(kept, board, sites, bus, lines.masters()),
     }
 }

@@ -1,6 +1,7 @@
 ghost use Rattle.std.specs.Prelude.{◌≡◌, ◌≤◌, ◌+◌, ◌^◌, IsTrue, slice_get};
 ghost use Rattle.board_model.specs.WellFormed.{is_well_formed};
 ghost use Rattle.board_model.specs.Claims.{claim};
+ghost use Rattle.board_tree.specs.Sites.{AreKnown, AreSites};
 ghost use Rattle.history_model.specs.Words.{without};
 ghost use Rattle.history_model.specs.Answers.{bridge_to};
 ghost use Rattle.machine_steps.specs.Verdicts.{HoldsOfAct, cause_in};
@@ -11,10 +12,8 @@ use crate::lanes::KeptLanes;
 use crate::tokens::KeptTokens;
 use crate::turns::KeptTurns;
 use crate::words::KeptWords;
-use board_model::{
-    Board, Lane, Place, Target, Word, bridge_to, claim_in_space, end_of, is_in_ranges, request_of,
-};
-use board_tree::Tree;
+use board_model::{Board, Lane, Place, Target, Word, bridge_to, end_of, is_in_ranges, request_of};
+use board_tree::{Sites, Tree, claim_with};
 use history_model::{Answer, By, Event, Mark, Rule, Step, Why};
 use judge_lanes::BridgeLanes;
 use law_bound::runs_end;
@@ -78,11 +77,12 @@ impl Kept {
     pub fn by_rule(alloc: Global, tree: &Tree, rule: Rule) -> Result<Kept, NoMemory>
         ensures { IfOk result (StandsForBy rule tree.now []) }
     {
-        Kept::before_all(alloc, tree.board(), rule)
+        Kept::before_all(alloc, tree.board(), tree.sites(), rule)
     }
 
-    fn before_all(alloc: Global, board: &Board, rule: Rule) -> Result<Kept, NoMemory>
-        requires { IsValid board.now }
+    fn before_all(alloc: Global, board: &Board, sites: &Sites, rule: Rule) -> Result<Kept, NoMemory>
+        requires valid { IsValid board.now }
+        requires sites { AreSites board.now sites.now }
         ensures { IfOk result (StandsForBy rule board.now []) }
     {
         Ok(Kept {
@@ -91,7 +91,7 @@ impl Kept {
             lanes: KeptLanes::new(alloc, board)?,
             tokens: KeptTokens::new(alloc, board)?,
             gone: KeptGone::new(alloc, board)?,
-            words: KeptWords::new(alloc, board)?,
+            words: KeptWords::new(alloc, board, sites)?,
         })
     }
 
@@ -105,11 +105,12 @@ impl Kept {
             OnOk result (StandsFor tree.now (event.now ∷ h) self.new) }
         ensures refused { OnErr result (self.new ≡ self.old) }
     {
-        self.step_kept(tree.board(), event)
+        self.step_kept(tree.board(), tree.sites(), event)
     }
 
-    fn step_kept(&mut self, board: &Board, event: &Event) -> Result<(), Why>
+    fn step_kept(&mut self, board: &Board, sites: &Sites, event: &Event) -> Result<(), Why>
         requires valid { IsValid board.now }
+        requires sites { AreSites board.now sites.now }
         requires stands { Stands board.now self.old }
         ensures verdict { (h : List Event) → StandsFor board.now h self.old →
             Holds board.now h event.now (cause_in result) }
@@ -119,7 +120,7 @@ impl Kept {
     {
         // A run on bridges that keep the local master has few events.
         runs_end();
-        self.step_on(board, event)
+        self.step_on(board, sites, event)
     }
 
     /// One more event, by the rule of the bridge, where it is allowed after those for which this
@@ -133,11 +134,12 @@ impl Kept {
             OnOk result (StandsForBy rule tree.now (event.now ∷ h) self.new) }
         ensures refused { OnErr result (self.new ≡ self.old) }
     {
-        self.step_on(tree.board(), event)
+        self.step_on(tree.board(), tree.sites(), event)
     }
 
-    fn step_on(&mut self, board: &Board, event: &Event) -> Result<(), Why>
+    fn step_on(&mut self, board: &Board, sites: &Sites, event: &Event) -> Result<(), Why>
         requires valid { IsValid board.now }
+        requires sites { AreSites board.now sites.now }
         requires stands { StandsFew board.now self.old }
         ensures verdict { (rule : Rule) (h : List Event) → StandsForBy rule board.now h self.old →
             HoldsBy rule board.now h event.now (cause_in result) }
@@ -145,7 +147,7 @@ impl Kept {
             OnOk result (StandsForBy rule board.now (event.now ∷ h) self.new) }
         ensures refused { OnErr result (self.new ≡ self.old) }
     {
-        match self.allows(board, event) {
+        match self.allows(board, sites, event) {
             Ok(()) => {
                 self.happen(board, event);
                 Ok(())
@@ -207,6 +209,15 @@ impl Kept {
         requires { IsTrue (is_well_formed board.now) }
         ensures { result ≡ answer_now board.now self.now presented.bus presented.by presented.op }
     {
+        self.answer_with(board, None, presented)
+    }
+
+    /// The same, where the sites of the board may be known.
+    pub fn answer_with(&self, board: &Board, sites: Option<&Sites>, presented: Presented) -> Answer
+        requires formed { IsTrue (is_well_formed board.now) }
+        requires sites { AreKnown board.now sites }
+        ensures { result ≡ answer_now board.now self.now presented.bus presented.by presented.op }
+    {
         match request_of(board, presented.op, presented.bus) {
             Some(request) => {
                 let gone = u128::from(self.gone.of(presented.op));
@@ -215,7 +226,7 @@ impl Kept {
                     by: self.rule.noted(presented.by),
                     op: presented.op,
                 };
-                self.answer_to(board, noted, &request, gone)
+                self.answer_to(board, sites, noted, &request, gone)
             }
             None => nobody(),
         }
@@ -226,18 +237,21 @@ impl Kept {
     fn answer_to(
         &self,
         board: &Board,
+        sites: Option<&Sites>,
         presented: Presented,
         request: &Request,
         gone: u128,
     ) -> Answer
         requires formed { IsTrue (is_well_formed board.now) }
+        requires sites { AreKnown board.now sites }
         requires fits { gone ≤ 2 ^ 100 }
         ensures { let rest = without gone request.now in
             result ≡ answer_by board.now self.now presented.bus presented.by presented.op rest
             (claim board.now presented.bus rest) }
     {
+        let space = request.command.space();
         let address = address_left(request, gone);
-        match claim_in_space(board, presented.bus, request.command.space(), address) {
+        match claim_with(board, sites, presented.bus, space, address) {
             Place::Target(target) => self.target_answer(board, target, request, gone),
             Place::Header(header) => header_answer(board, header, address),
             Place::Lane(lane) => self.lane_answer(board, presented, lane, request),
@@ -304,8 +318,9 @@ impl Kept {
     }
 
     /// Whether the event is allowed.
-    fn allows(&self, board: &Board, event: &Event) -> Result<(), Why>
-        requires { IsTrue (is_well_formed board.now) }
+    fn allows(&self, board: &Board, sites: &Sites, event: &Event) -> Result<(), Why>
+        requires formed { IsTrue (is_well_formed board.now) }
+        requires sites { AreSites board.now sites.now }
         ensures { HoldsNow board.now self.now event.now (cause_in result) }
     {
         match *event {
@@ -315,7 +330,7 @@ impl Kept {
                 op,
                 step,
                 place,
-            } => self.act_allowed(board, Presented { bus, by, op }, step, place),
+            } => self.act_allowed(board, sites, Presented { bus, by, op }, step, place),
             Event::Arrive { lane, mark } => { arrival_allowed(self.next_mark(board, lane), mark) }
         }
     }
@@ -323,17 +338,20 @@ impl Kept {
     fn act_allowed(
         &self,
         board: &Board,
+        sites: &Sites,
         presented: Presented,
         step: Step,
         place: Place,
     ) -> Result<(), Why>
-        requires { IsTrue (is_well_formed board.now) }
+        requires formed { IsTrue (is_well_formed board.now) }
+        requires sites { AreSites board.now sites.now }
         ensures { HoldsOfAct (wants_now board.now self.now presented.bus presented.by presented.op)
             (answer_now board.now self.now presented.bus presented.by presented.op) step place
             (cause_in result) }
     {
         if self.wants(board, presented) {
-            answer_allows(self.answer(board, presented), step, place)
+            let answer = self.answer_with(board, Some(sites), presented);
+            answer_allows(answer, step, place)
         } else {
             Err(Why::NotPresented)
         }

@@ -7,7 +7,7 @@ ghost use Rattle.list_facts.specs.Lists.{changed_at};
 
 use crate::table::WordTable;
 use board_model::{Board, Op, Place, Word, request_on};
-use board_tree::route_of;
+use board_tree::{Sites, route_by};
 use history_model::Step;
 use machine_steps::{
     brought_by, dword_address, left_of, mask_of, merge_at, opens_as, value_at, word_read,
@@ -38,12 +38,14 @@ impl KeptWords {
     ghost use Rattle.judge_state.specs.Words.{landed_by, WordsKnown, StillThere, KnowsRead};
     ghost use Rattle.std.specs.List.{AllByRecursion};
     ghost use Rattle.board_tree.specs.Decodable.{IsDecodable};
+    ghost use Rattle.board_tree.specs.Sites.{AreSites};
     ghost use Rattle.std.specs.Prelude.{OnOk, IfOk, is_some, true, None};
     ghost use Rattle.judge_state.specs.First.{WordsAtFirst};
 
     /// Each word that a program reads, as it opens.
-    pub(crate) fn new(alloc: Global, board: &Board) -> Result<KeptWords, NoMemory>
-        requires { IsDecodable board.now }
+    pub(crate) fn new(alloc: Global, board: &Board, sites: &Sites) -> Result<KeptWords, NoMemory>
+        requires decodable { IsDecodable board.now }
+        requires sites { AreSites board.now sites.now }
         ensures { IfOk result (WordsAtFirst board.now) }
     {
         let mut words = KeptWords {
@@ -51,14 +53,21 @@ impl KeptWords {
             values: Vec::new(alloc),
         };
         for master in board.masters.as_slice() {
-            words.know_reads(board, master.bus, master.ops.as_slice())?;
+            words.know_reads(board, sites, master.bus, master.ops.as_slice())?;
         }
         Ok(words)
     }
 
     /// The words of these reads, from the bus on, are kept.
-    fn know_reads(&mut self, board: &Board, bus: u8, ops: &[Op]) -> Result<(), NoMemory>
+    fn know_reads(
+        &mut self,
+        board: &Board,
+        sites: &Sites,
+        bus: u8,
+        ops: &[Op],
+    ) -> Result<(), NoMemory>
         requires decodable { IsDecodable board.now }
+        requires sites { AreSites board.now sites.now }
         requires known { WordsKnown board.now self.old }
         ensures known { OnOk result (WordsKnown board.now self.new) }
         ensures stays { OnOk result (StillThere self.old.places self.new.places) }
@@ -66,20 +75,21 @@ impl KeptWords {
             (AllByRecursion (KnowsRead board.now bus self.new.places) ops.now) }
     {
         for op in ops {
-            self.know_read(board, bus, op)?;
+            self.know_read(board, sites, bus, op)?;
         }
         Ok(())
     }
 
     #[tactic(auto, using(crate::proofs::KnownLemmas::still_there))]
-    fn know_read(&mut self, board: &Board, bus: u8, op: &Op) -> Result<(), NoMemory>
+    fn know_read(&mut self, board: &Board, sites: &Sites, bus: u8, op: &Op) -> Result<(), NoMemory>
         requires decodable { IsDecodable board.now }
+        requires sites { AreSites board.now sites.now }
         requires known { WordsKnown board.now self.old }
         ensures known { OnOk result (WordsKnown board.now self.new) }
         ensures stays { OnOk result (StillThere self.old.places self.new.places) }
         ensures reads { OnOk result (KnowsRead board.now bus self.new.places op.now) }
     {
-        let route = route_of(board, op, bus);
+        let route = route_by(board, Some(sites), op, bus);
         let request = request_on(op, route.bus);
         match route.owner {
             Place::Target(target) if request.command.is_read() => {

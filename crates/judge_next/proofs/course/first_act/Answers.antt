@@ -25,6 +25,9 @@ returns-clause-value c =
 pub act_at-requires-clause-formed : goal.act_at-requires-clause-formed
 act_at-requires-clause-formed c = c.requires.formed
 
+pub act_at-requires-clause-sites : goal.act_at-requires-clause-sites
+act_at-requires-clause-sites c = c.requires.sites
+
 pub act_at-requires-clause-lines : goal.act_at-requires-clause-lines
 act_at-requires-clause-lines c = c.requires.lines
 

@@ -8,6 +8,7 @@ step_on-requires c =
     let stands = c.requires.stands.1 in
     record {
       valid = c.requires.valid;
+      sites = c.requires.sites;
       stands = record {
         rule = Tagged;
         history = h;
