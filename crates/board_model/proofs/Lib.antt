@@ -1,3 +1,4 @@
 pub mod FormLemmas
 pub mod OpLemmas
 pub mod Laws
+pub mod RangeLemmas

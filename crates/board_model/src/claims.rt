@@ -40,9 +40,28 @@ pub fn claim_in_space(board: &Board, bus: u8, space: Space, address: u128) -> Pl
 pub fn is_in_ranges(ranges: &[Range], space: Space, address: u128) -> bool
     ensures { result ≡ list_any (range_holds space address) ranges.now }
 {
+    match u64::try_from(address) {
+        Ok(low) => is_low_in_ranges(ranges, space, low),
+        Err(_) => ranges
+            .iter()
+            .any(|range| range_holds(range, space, address)),
+    }
+}
+
+/// The same of an address of 64 bits, as that of each operation is.
+fn is_low_in_ranges(ranges: &[Range], space: Space, address: u64) -> bool
+    ensures { result ≡ list_any (range_holds space address) ranges.now }
+{
     ranges
         .iter()
-        .any(|range| range_holds(range, space, address))
+        .any(|range| holds_low(range, space, address))
+}
+
+#[tactic(auto, using(crate::proofs::RangeLemmas::below_end))]
+fn holds_low(range: &Range, space: Space, address: u64) -> bool
+    ensures { result ≡ range_holds space address range.now }
+{
+    range.space == space && range.base <= address && address - range.base < range.size
 }
 
 fn range_holds(range: &Range, space: Space, address: u128) -> bool
