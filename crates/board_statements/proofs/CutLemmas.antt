@@ -3,8 +3,8 @@ use Rattle.std.proofs.Common.{◌≡◌, ℕ, suc, ◌+◌, ◌<◌, ◌≤◌, 
 use Rattle.std.proofs.lemmas.Bool.{cases_lt}
 use Rattle.std.proofs.lemmas.List.{take_all, drop_all, length-take-le}
 use Rattle.std.proofs.lemmas.List.Sums.{prefix_len-le-length, passes_at_first}
-use Rattle.std.proofs.lemmas.List.Sums.{fails_before_first}
-use Rattle.std.proofs.lemmas.List.Splits.{slice_split_none, slice_split_first}
+use Rattle.std.proofs.lemmas.List.Sums.{fails_before_first, length-filter, count_by-le-length}
+use Rattle.std.proofs.lemmas.List.Splits.{slice_split_none, slice_split_first, length-slice_split}
 use Rattle.std.proofs.Math.Seq.{drop-cons}
 use Rattle.std.specs.Option.{unwrap_or}
 use Rattle.std.specs.List.{position_or_len, slice_split, filter}
@@ -86,3 +86,12 @@ next_of xs from n behind some size =
 pub none_of : (xs from : List ℕ) → from ≡ drop (position_or_len is_no_separator xs) xs → length from ≡ 0 → words_in xs ≡ []
 none_of xs [] behind none = sym (gap_dropped xs) ∙ sym (ap words_in behind)
 none_of xs (x ∷ from) behind none = absurd (omega arith)
+
+-- a text has at most one word more than bytes
+pub words_few : (xs : List ℕ) → length (words_in xs) ≤ length xs + 1
+words_few xs =
+    let pieces = length-filter (λ piece. ltb 0 (length piece)) (slice_split is_separator xs) in
+    let some = count_by-le-length (λ piece. ltb 0 (length piece)) (slice_split is_separator xs) in
+    let cuts = length-slice_split is_separator xs in
+    let separators = count_by-le-length is_separator xs in
+    omega (arith, pieces, some, cuts, separators)

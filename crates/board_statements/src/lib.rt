@@ -12,6 +12,6 @@ mod targets;
 mod words;
 
 pub use kinds::parts;
-pub use lines::{first_line, has_words, statement_of};
+pub use lines::{first_line, has_words, statement_of, take_statement};
 pub use statement::Statement;
 pub use words::{Words, is_word};

@@ -39,16 +39,25 @@ pub fn first_line(line: &[u8]) -> Option<bool>
 /// from left to right, and a word too many is found last. `wide` says that the text is a
 /// `pciboard 2` text, in which some numbers may have 64 bits. The line has words; of a line without
 /// words the first one is missing.
-#[tactic(auto, unfolding(crate::specs::Statements::statement_of, crate::specs::Statements::statement_form))]
 pub fn statement_of(wide: bool, line: &[u8]) -> Result<Statement, LineFault>
     ensures { result ≡ statement_of wide (words_of line.now) }
 {
     let mut words = Words::new(line);
+    take_statement(&mut words, wide)
+}
+
+/// Takes the words of a line as `statement_of` reads them. Where they have a fault, the last word
+/// that was taken is the one at which it was met.
+#[tactic(auto, unfolding(crate::specs::Statements::statement_of, crate::specs::Statements::statement_form))]
+pub fn take_statement(words: &mut Words, wide: bool) -> Result<Statement, LineFault>
+    ensures { result ≡ statement_of wide words.old }
+{
     let form = form_of(words.take()?)?;
-    let statement = behind_word(&mut words, wide, form)?;
+    let statement = behind_word(words, wide, form)?;
     if words.is_done() {
         Ok(statement)
     } else {
+        let _too_many = words.take();
         Err(LineFault::TooMany)
     }
 }

@@ -47,6 +47,13 @@ impl<'a> Words<'a> {
         next_word(self.rest).is_none()
     }
 
+    /// How many words are left.
+    pub fn left(&self) -> usize
+        ensures { result ≡ length self.now }
+    {
+        count_words(self.rest)
+    }
+
     /// Takes the next word.
     pub fn take(&mut self) -> Result<&'a [u8], LineFault>
         ensures { MatchResult result (λ word. self.old ≡ word.now ∷ self.new)
@@ -147,6 +154,19 @@ pub fn is_word(word: &[u8], expected: &[u8]) -> bool
     ensures { result ≡ bytes_eq word.now expected.now }
 {
     word == expected
+}
+
+// How many words a text without a comment has.
+fn count_words(text: &[u8]) -> usize
+    ensures { result ≡ length (words_in text.now) }
+{
+    let mut count = 0;
+    let mut rest = text;
+    while let Some((_word, behind)) = next_word(rest) {
+        count += 1;
+        rest = behind;
+    }
+    count
 }
 
 // The first word of a text without a comment, and what stands behind it.

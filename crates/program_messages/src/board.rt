@@ -1,13 +1,13 @@
 ghost use Rattle.std.specs.Prelude.{◌<◌, ◌^◌, length};
 
 use crate::form::InputForm;
-use crate::refused::{TOO_LONG, board_part, owner_lines, smallest, word_at_fault, word_lines};
+use crate::refused::{TOO_LONG, board_part, smallest, word_lines};
 use crate::unclear::tell_unclear;
-use board_parser::{ParseFault, parse};
+use board_parser::{ParseFault, parse, word_at_fault};
 use pci_command::NoMemory;
 use program_pages::{
-    Case, Fault, Spot, Teller, Text, bus_not_there, line_at, named_spot, place_of, text_of_device,
-    text_of_line,
+    Case, Fault, Spot, Teller, Text, bus_not_there, is_wide, line_at, named_spot, place_of,
+    text_of_device, text_of_line,
 };
 use program_status::{BoardFault, Status};
 use std::alloc::Global;
@@ -142,7 +142,7 @@ fn tell_line(
         Some((start, line)) if line.len() < TOO_LONG => (&text[..start.min(text.len())], line),
         _ => return teller.point(number, b"", 0, sentence),
     };
-    let spot = spot_at_fault(teller.alloc(), before, line, fault)?;
+    let spot = spot_at_fault(before, line, fault);
     let at = place_of(teller.alloc(), line, spot)?;
     let case = Case {
         before,
@@ -183,38 +183,11 @@ fn tell_text(
 }
 
 /// The spot that the fault names, or else the word at fault of the line, which stands behind these.
-fn spot_at_fault(
-    alloc: Global,
-    before: &[u8],
-    line: &[u8],
-    fault: LineFault,
-) -> Result<Spot, NoMemory> {
+fn spot_at_fault(before: &[u8], line: &[u8], fault: LineFault) -> Spot {
     match named_spot(fault) {
-        Some(spot) => Ok(spot),
-        None => {
-            let place = word_behind(alloc, before, line, fault)?;
-            Ok(Spot::Word(place.unwrap_or(0)))
-        }
+        Some(spot) => spot,
+        None => Spot::Word(word_at_fault(is_wide(before), line, fault)),
     }
-}
-
-/// The word at fault of the line: as it is behind those lines alone that its words may depend on,
-/// of all that stand before it.
-fn word_behind(
-    alloc: Global,
-    before: &[u8],
-    line: &[u8],
-    fault: LineFault,
-) -> Result<Option<usize>, NoMemory> {
-    let mut lines = owner_lines(alloc, before)?;
-    let start = lines.text.len();
-    lines.text.extend_from_slice(line)?;
-    let text = lines.text.as_slice();
-    if text.len() >= TOO_LONG {
-        return Ok(None);
-    }
-    let status = refusal_behind(lines.numbers.len(), fault);
-    word_at_fault(alloc, text, start.min(text.len()), &status)
 }
 
 /// The status that tells this fault of the line behind so many.

@@ -25,6 +25,7 @@ pub use pages::PAGES;
 pub use shown::{Message, Teller};
 pub use spot::{Spot, named_spot, place_of};
 pub use texts::{
-    Case, Piece, Text, bus_not_there, master_of, misread_text, no_events_text, no_trace_text,
-    op_at, operation_text, operations_of, text_of_device, text_of_line, unreadable_text,
+    Case, Piece, Text, bus_not_there, is_wide, master_of, misread_text, no_events_text,
+    no_trace_text, op_at, operation_text, operations_of, text_of_device, text_of_line,
+    unreadable_text,
 };

@@ -14,7 +14,7 @@ mod text;
 mod trace_lines;
 mod wanted;
 
-pub use board_lines::{Case, text_of_line};
+pub use board_lines::{Case, is_wide, text_of_line};
 pub use device_lines::text_of_device;
 pub use limits::bus_not_there;
 pub use operations::{master_of, op_at, operation_text, operations_of};

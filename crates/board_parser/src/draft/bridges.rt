@@ -71,7 +71,7 @@ fn are_windows_whole(bridge: &Bridge) -> bool
         && is_whole(0x1000, bridge.io)
 }
 
-fn is_whole(unit: u128, window: Option<Window>) -> bool
+pub(crate) fn is_whole(unit: u128, window: Option<Window>) -> bool
     requires { 0 < unit }
     ensures { result ≡ is_whole unit window }
 {
@@ -89,7 +89,7 @@ fn are_windows_ordered(bridge: &Bridge) -> bool
     is_ordered(bridge.mem) && is_ordered(bridge.pref) && is_ordered(bridge.io)
 }
 
-fn is_ordered(window: Option<Window>) -> bool
+pub(crate) fn is_ordered(window: Option<Window>) -> bool
     ensures { result ≡ is_ordered window }
 {
     match window {

@@ -1,5 +1,5 @@
 use crate::form::InputForm;
-use board_statements::{Words, has_words};
+use board_statements::has_words;
 use board_text::next_line;
 use pci_command::NoMemory;
 use program_pages::find_line;
@@ -87,47 +87,6 @@ pub fn word_lines(alloc: Global, text: &[u8]) -> Result<SomeLines, NoMemory> {
         number = number.saturating_add(1);
     }
     Ok(lines)
-}
-
-/// Of the lines of a board text those that the words of a line behind them may depend on: the first
-/// one that has words, which says how wide numbers may be, and the last that begins a part of the
-/// board, to which the line may belong.
-pub fn owner_lines(alloc: Global, text: &[u8]) -> Result<SomeLines, NoMemory> {
-    let mut first = None;
-    let mut owner = None;
-    let mut number: u32 = 1;
-    for line in text.split(|byte| *byte == b'\n') {
-        if first.is_none() {
-            if has_words(line) {
-                first = Some((line, number));
-            }
-        } else if begins_part(line) {
-            owner = Some((line, number));
-        }
-        number = number.saturating_add(1);
-    }
-    let mut lines = SomeLines::new(alloc);
-    push_found(&mut lines, first)?;
-    push_found(&mut lines, owner)?;
-    Ok(lines)
-}
-
-fn push_found(lines: &mut SomeLines, found: Option<(&[u8], u32)>) -> Result<(), NoMemory> {
-    match found {
-        Some((line, number)) => lines.push(line, number),
-        None => Ok(()),
-    }
-}
-
-/// Whether no line behind this one belongs to what began before it.
-fn begins_part(line: &[u8]) -> bool {
-    let Ok(word) = Words::new(line).take() else {
-        return false;
-    };
-    matches!(
-        word,
-        b"target" | b"master" | b"bridge" | b"header" | b"discard" | b"drop"
-    )
 }
 
 /// What of a text stands from one place to another, as far as it has these.

@@ -119,7 +119,7 @@ fn ill_formed_text(case: &Case) -> Option<Text> {
 }
 
 /// Whether a text that begins so may have addresses of 64 bits.
-fn is_wide(before: &[u8]) -> bool {
+pub fn is_wide(before: &[u8]) -> bool {
     for line in before.split(|byte| *byte == b'\n') {
         if has_words(line) {
             return first_line(line).unwrap_or(false);
