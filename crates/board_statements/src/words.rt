@@ -1,16 +1,13 @@
-ghost use Rattle.std.specs.Prelude.{◌≡◌, ◌==◌, ◌<◌, ◌≤◌, [], ◌∷◌, List, length, MatchOption};
-ghost use Rattle.std.specs.Prelude.{MatchResult};
-ghost use Rattle.std.specs.List.{position_or_len};
+ghost use Rattle.std.specs.Prelude.{◌≡◌, ◌==◌, [], ◌∷◌, length, MatchResult};
 ghost use Rattle.std.specs.Prelude.{if◌then◌else◌};
 ghost use Rattle.std.specs.Str.{bytes_eq};
-ghost use Rattle.board_text.specs.Tokens.{is_separator, is_comment, words_of};
-ghost use Rattle.board_statements.specs.Cuts.{words_in, is_no_separator};
+ghost use Rattle.board_text.specs.Tokens.{words_of, words_in};
 ghost use Rattle.board_statements.specs.Words.{Gives, begins_with, behind_first, hex, decimal};
 ghost use Rattle.board_statements.specs.Words.{fixed, name, long, data_word, header_bytes};
 
 use crate::kinds::{data_word_of, decimal_of, fixed_of, header_of, hex_of, long_of, name_of};
 use board_model::Name;
-use board_text::length_before_comment;
+use board_text::{length_before_comment, next_word};
 use pci_command::Phase;
 use std::marker::Model;
 use text_faults::LineFault;
@@ -24,7 +21,7 @@ pub struct Words<'a> {
 
 impl<'a> Model for Words<'a> {
     ghost use Rattle.std.specs.Prelude.{ℕ, List};
-    ghost use Rattle.board_statements.specs.Cuts.{words_in};
+    ghost use Rattle.board_text.specs.Tokens.{words_in};
 
     ghost Value = { List (List ℕ) };
 
@@ -167,40 +164,4 @@ fn count_words(text: &[u8]) -> usize
         rest = behind;
     }
     count
-}
-
-// The first word of a text without a comment, and what stands behind it.
-fn next_word(text: &[u8]) -> Option<(&[u8], &[u8])>
-    ensures { MatchOption result
-        (words_in text.now ≡ []) (λ found. words_in text.now ≡ found.0.now ∷ words_in found.1.now) }
-{
-    let (_between, from_word) = text.split_at(length_of_gap(text));
-    if from_word.is_empty() {
-        return None;
-    }
-    Some(from_word.split_at(length_of_word(from_word)))
-}
-
-fn length_of_gap(text: &[u8]) -> usize
-    ensures value { result ≡ position_or_len is_no_separator text.now }
-    ensures within { result ≤ length text.now }
-{
-    text.iter()
-        .position(|byte| !is_separator(*byte))
-        .unwrap_or(text.len())
-}
-
-fn is_separator(byte: u8) -> bool
-    ensures { result ≡ is_separator byte }
-{
-    byte == b' ' || byte == b'\t'
-}
-
-fn length_of_word(text: &[u8]) -> usize
-    ensures value { result ≡ position_or_len is_separator text.now }
-    ensures within { result ≤ length text.now }
-{
-    text.iter()
-        .position(|byte| is_separator(*byte))
-        .unwrap_or(text.len())
 }

@@ -1,5 +1,5 @@
 -- A text that is cut: its first line and its first token, and what is left behind them.
-use Rattle.std.proofs.Common.{◌≡◌, ℕ, ◌+◌, ◌<◌, ◌≤◌, Bool, cond, ltb, List, [], ◌∷◌, ◌++◌, append_assoc, length, take, drop, Option, Some, None, arith, inl, inr, refl}
+use Rattle.std.proofs.Common.{◌≡◌, ℕ, ◌+◌, ◌<◌, ◌≤◌, Bool, cond, ltb, List, [], ◌∷◌, length, take, drop, Option, Some, None, arith, inl, inr, refl}
 use Rattle.std.proofs.lemmas.Bool.{cases_lt}
 use Rattle.std.proofs.lemmas.List.{take_all, drop_all, length-take-le, length-drop, drop-drop}
 use Rattle.std.proofs.lemmas.List.Sums.{prefix_len-le-length, fails_before_first}
@@ -56,25 +56,5 @@ next_step bytes at n inside is =
     let behind : at + n + 1 ≡ at + (n + 1) = omega arith in
     rw (behind, ← drop-drop (n + 1) at bytes, is) (line_step (drop at bytes) (omega arith))
 
-pub next_token : (from at n : ℕ) (text : List ℕ) → n ≡ position_or_len is_separator (drop at text) → placed (from + at) (slice_split is_separator (drop at text)) ≡ with_token (from + at) n (placed (from + (at + n + 1)) (slice_split is_separator (drop (at + n + 1) text)))
-next_token from at n text is =
-    let place : from + (at + n + 1) ≡ from + at + n + 1 = omega arith in
-    let behind : at + n + 1 ≡ at + (n + 1) = omega arith in
-    rw (place, behind, ← drop-drop (n + 1) at text, is) (token_step (from + at) (drop at text))
-
 pub with_some : (from n : ℕ) (more : List Token) → 0 < n → with_token from n more ≡ record { start = from; end = from + n } ∷ more
 with_some from n more some = grind arith
-
--- the tokens so far and those that are left are the same tokens, one further
-pub token_found : (found whole : List Token) (from at n : ℕ) (text : List ℕ) → 0 < n → n ≡ position_or_len is_separator (drop at text) → found ++ placed (from + at) (slice_split is_separator (drop at text)) ≡ whole → (found ++ record { start = from + at; end = from + (at + n) } ∷ []) ++ placed (from + (at + n + 1)) (slice_split is_separator (drop (at + n + 1) text)) ≡ whole
-token_found found whole from at n text some is so_far =
-    let more = placed (from + (at + n + 1)) (slice_split is_separator (drop (at + n + 1) text)) in
-    let last : from + (at + n) ≡ from + at + n = omega arith in
-    let whole_is : found ++ (record { start = from + at; end = from + at + n } ∷ more) ≡ whole = rw (← with_some (from + at) n more some, ← next_token from at n text is) so_far in
-    rw (last, append_assoc) whole_is
-
-pub none_found : (found whole : List Token) (from at n : ℕ) (text : List ℕ) → n ≡ 0 → n ≡ position_or_len is_separator (drop at text) → found ++ placed (from + at) (slice_split is_separator (drop at text)) ≡ whole → found ++ placed (from + (at + n + 1)) (slice_split is_separator (drop (at + n + 1) text)) ≡ whole
-none_found found whole from at n text none is so_far =
-    let more = placed (from + (at + n + 1)) (slice_split is_separator (drop (at + n + 1) text)) in
-    let same : with_token (from + at) n more ≡ more = rw none refl in
-    rw (← same, ← next_token from at n text is) so_far

@@ -1,3 +1,5 @@
 pub mod DigitLemmas
 pub mod CutLemmas
+pub mod NextLemmas
+pub mod TokenLemmas
 pub mod WordLemmas

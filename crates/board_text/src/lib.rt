@@ -4,7 +4,9 @@
 mod numbers;
 mod reader;
 mod tokens;
+mod words;
 
 pub use numbers::{NumberFault, decimal, hex, value_of_digit};
 pub use reader::{check_line, next_line};
-pub use tokens::{Token, length_before_comment, tokens_of};
+pub use tokens::{Token, tokens_of};
+pub use words::{length_before_comment, next_word};

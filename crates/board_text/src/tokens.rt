@@ -1,8 +1,9 @@
-ghost use Rattle.std.specs.Prelude.{◌≡◌, ◌+◌, ◌<◌, ◌≤◌, ◌^◌, length, map, IfOk};
-ghost use Rattle.std.specs.List.{position_or_len, slice_split, All};
-ghost use Rattle.board_text.specs.Tokens.{is_separator, is_comment, uncommented, placed, tokens_of};
+ghost use Rattle.std.specs.Prelude.{◌≡◌, ◌+◌, ◌-◌, ◌<◌, ◌≤◌, ◌^◌, length, map, IfOk};
+ghost use Rattle.std.specs.List.{slice_split, All};
+ghost use Rattle.board_text.specs.Tokens.{is_separator, placed, tokens_of};
 ghost use Rattle.board_text.specs.Tokens.{words_of, slice_at, IsWithin};
 
+use crate::words::{length_before_comment, next_word};
 use pci_command::{List, NoMemory};
 use std::alloc::Global;
 
@@ -32,36 +33,25 @@ fn tokens_between(alloc: Global, text: &[u8], start: u32) -> Result<List<Token>,
     ensures { IfOk result (λ tokens. tokens ≡ placed start (slice_split is_separator text.now)) }
 {
     let mut tokens = Vec::new(alloc);
-    let mut at = 0;
-    while at < text.len() {
-        let (_before, rest) = text.split_at(at);
-        let end = at + length_of_token(rest);
-        if at < end {
-            tokens.push(Token {
-                start: start + at as u32,
-                end: start + end as u32,
-            })?;
-        }
-        at = end + 1;
+    let mut rest = text;
+    while let Some((word, behind)) = next_word(rest) {
+        tokens.push(token_before(start, text, word, behind))?;
+        rest = behind;
     }
     Ok(List::from_vec(tokens))
 }
 
-fn length_of_token(text: &[u8]) -> usize
-    ensures value { result ≡ position_or_len is_separator text.now }
-    ensures within { result ≤ length text.now }
+/// The token of a word of a text that begins at `start`, behind which this is left of the text.
+fn token_before(start: u32, text: &[u8], word: &[u8], behind: &[u8]) -> Token
+    requires short { start + length text.now < 2 ^ 32 }
+    requires within { length word.now + length behind.now ≤ length text.now }
+    ensures begins { result.start
+        ≡ start + (length text.now - length behind.now - length word.now) }
+    ensures ends { result.end ≡ start + (length text.now - length behind.now) }
 {
-    text.iter()
-        .position(|byte| *byte == b' ' || *byte == b'\t')
-        .unwrap_or(text.len())
-}
-
-/// How many bytes of a line stand before its comment, or all of them where it has none.
-pub fn length_before_comment(line: &[u8]) -> usize
-    ensures value { result ≡ position_or_len is_comment line.now }
-    ensures within { result ≤ length line.now }
-{
-    line.iter()
-        .position(|byte| *byte == b'#')
-        .unwrap_or(line.len())
+    let end = text.len() - behind.len();
+    Token {
+        start: start + (end - word.len()) as u32,
+        end: start + end as u32,
+    }
 }

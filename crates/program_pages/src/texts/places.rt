@@ -1,34 +1,17 @@
 use board_statements::Words;
-use board_text::length_before_comment;
 
 /// The word of this place of a line, from 0.
 pub(super) fn word_at(line: &[u8], place: usize) -> Option<&[u8]> {
-    let mut passed: usize = 0;
-    for word in without_comment(line).split(|byte| *byte == b' ' || *byte == b'\t') {
-        if !word.is_empty() {
-            if passed == place {
-                return Some(word);
-            }
-            passed = passed.saturating_add(1);
-        }
+    let mut words = Words::new(line);
+    for _ in 0..place {
+        let _before = words.take().ok()?;
     }
-    None
+    words.take().ok()
 }
 
 /// How many words a line has.
 pub(super) fn count_words(line: &[u8]) -> usize {
-    let mut count: usize = 0;
-    for word in without_comment(line).split(|byte| *byte == b' ' || *byte == b'\t') {
-        if !word.is_empty() {
-            count = count.saturating_add(1);
-        }
-    }
-    count
-}
-
-fn without_comment(line: &[u8]) -> &[u8] {
-    let (words, _comment) = line.split_at(length_before_comment(line));
-    words
+    Words::new(line).left()
 }
 
 /// The first word of a line, of a line without words none.

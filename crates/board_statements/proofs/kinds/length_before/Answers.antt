@@ -1,7 +1,7 @@
 use Rattle.std.proofs.Common.{◌∙◌, eqb, rules, tests}
 use Rattle.std.proofs.lemmas.Iterator.{YieldsList-from_slice}
 use Rattle.std.proofs.lemmas.Iterator.Search.{position_from_yields_List}
-use Rattle.board_statements.proofs.CutLemmas.{first_or_length}
+use Rattle.board_text.proofs.CutLemmas.{first_or_length}
 use Rattle.board_statements.proofs.kinds.length_before.Goals as goal
 
 pub returns-clause-value : goal.returns-clause-value

@@ -1,5 +1,5 @@
 use Rattle.std.proofs.Common.{◌≡◌, ◌+◌, length}
-use Rattle.board_statements.specs.Cuts.{words_in}
+use Rattle.board_text.specs.Tokens.{words_in}
 use Rattle.board_statements.proofs.words.count_words.Given as goal
 
 -- the words so far and those that are left are all

@@ -1,22 +1,16 @@
 -- The first word of a text, and what is left behind it.
-use Rattle.std.proofs.Common.{◌≡◌, ℕ, suc, ◌+◌, ◌<◌, ◌≤◌, Bool, true, false, not, cond, ltb, List, [], ◌∷◌, length, take, drop, get_or, Option, Some, None, arith, inl, inr, refl, sym, ap, ◌∙◌}
+use Rattle.std.proofs.Common.{◌≡◌, ℕ, suc, ◌+◌, ◌<◌, ◌≤◌, Bool, true, false, not, cond, ltb, List, [], ◌∷◌, length, take, drop, get_or, arith, inl, inr, refl, sym, ap, ◌∙◌}
 use Rattle.std.proofs.lemmas.Bool.{cases_lt}
 use Rattle.std.proofs.lemmas.List.{take_all, drop_all, length-take-le}
-use Rattle.std.proofs.lemmas.List.Sums.{prefix_len-le-length, passes_at_first}
-use Rattle.std.proofs.lemmas.List.Sums.{fails_before_first, length-filter, count_by-le-length}
-use Rattle.std.proofs.lemmas.List.Splits.{slice_split_none, slice_split_first, length-slice_split}
+use Rattle.std.proofs.lemmas.List.Sums.{prefix_len-le-length, passes_at_first, length-filter, count_by-le-length}
+use Rattle.std.proofs.lemmas.List.Splits.{slice_split_first, length-slice_split}
 use Rattle.std.proofs.Math.Seq.{drop-cons}
-use Rattle.std.specs.Option.{unwrap_or}
 use Rattle.std.specs.List.{position_or_len, slice_split, filter}
-use Rattle.board_text.specs.Tokens.{is_separator}
-use Rattle.board_statements.specs.Cuts.{words_in, is_no_separator}
+use Rattle.board_text.specs.Tokens.{is_separator, is_no_separator, words_in}
+use Rattle.board_text.proofs.CutLemmas.{cut_none}
 
-pub first_or_length : (p : ℕ → Bool) (xs : List ℕ) (r : Option ℕ) → r ≡ cond (ltb (position_or_len p xs) (length xs)) (Some (position_or_len p xs)) None → unwrap_or r (length xs) ≡ position_or_len p xs
-first_or_length p xs r is =
-    let within : position_or_len p xs ≤ length xs = prefix_len-le-length _ xs in
-    rw is (grind arith)
-
-abbrev is_word : List ℕ → Bool
+-- a piece that is a word
+abbrev pub is_word : List ℕ → Bool
 is_word piece = ltb 0 (length piece)
 
 -- a separator in front of a text changes no word
@@ -39,10 +33,7 @@ gap_dropped (x ∷ xs) =
       | false ↦ λ other. refl
     ]) refl
 
-cut_none : (xs : List ℕ) → length xs ≤ position_or_len is_separator xs → slice_split is_separator xs ≡ xs ∷ []
-cut_none xs all = slice_split_none is_separator xs (λ k d inside. fails_before_first is_separator xs k d (omega arith))
-
-kept : (piece : List ℕ) (pieces : List (List ℕ)) → 0 < length piece → filter is_word (piece ∷ pieces) ≡ piece ∷ filter is_word pieces
+pub kept : (piece : List ℕ) (pieces : List (List ℕ)) → 0 < length piece → filter is_word (piece ∷ pieces) ≡ piece ∷ filter is_word pieces
 kept piece pieces some = grind arith
 
 -- the bytes before the first separator are the first word, if there are some
@@ -60,7 +51,7 @@ first_word xs some =
           let rest : words_in (drop n xs) ≡ words_in (drop (n + 1) xs) = ap words_in back ∙ separator_in_front (get_or xs n 0) (drop (n + 1) xs) (passes_at_first is_separator xs 0 inside) in
           rw rest front
       | inr all ↦
-          rw (cut_none xs all, take_all n xs all, drop_all n xs all) (kept xs [] (omega arith))
+          rw (cut_none is_separator xs all, take_all n xs all, drop_all n xs all) (kept xs [] (omega arith))
     ]
 
 -- behind the gap a text is empty, or begins with a word

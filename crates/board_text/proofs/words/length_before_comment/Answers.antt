@@ -3,7 +3,7 @@ use Rattle.std.proofs.lemmas.Iterator.{YieldsList-from_slice}
 use Rattle.std.proofs.lemmas.Iterator.Search.{position_from_yields_List}
 use Rattle.board_text.specs.Tokens.{is_comment}
 use Rattle.board_text.proofs.CutLemmas.{first_or_length}
-use Rattle.board_text.proofs.tokens.length_before_comment.Goals as goal
+use Rattle.board_text.proofs.words.length_before_comment.Goals as goal
 
 pub returns-clause-value : goal.returns-clause-value
 returns-clause-value c =

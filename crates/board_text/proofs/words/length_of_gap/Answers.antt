@@ -1,9 +1,9 @@
 use Rattle.std.proofs.Common.{◌∙◌, rules, tests}
 use Rattle.std.proofs.lemmas.Iterator.{YieldsList-from_slice}
 use Rattle.std.proofs.lemmas.Iterator.Search.{position_from_yields_List}
-use Rattle.board_statements.specs.Cuts.{is_no_separator}
-use Rattle.board_statements.proofs.CutLemmas.{first_or_length}
-use Rattle.board_statements.proofs.words.length_of_gap.Goals as goal
+use Rattle.board_text.specs.Tokens.{is_no_separator}
+use Rattle.board_text.proofs.CutLemmas.{first_or_length}
+use Rattle.board_text.proofs.words.length_of_gap.Goals as goal
 
 pub returns-clause-value : goal.returns-clause-value
 returns-clause-value c =
