@@ -6,6 +6,8 @@ use Rattle.board_model.specs.declared.board.Board.{Board}
 use Rattle.board_model.specs.WellFormed.{is_well_formed}
 use Rattle.history_model.specs.declared.event.Event.{Event}
 use Rattle.law_early.specs.Early.{acts_of}
+use Rattle.text_faults.specs.declared.or_no_memory.OrNoMemory.{OrNoMemory}
+use Rattle.text_faults.specs.declared.or_no_memory.OrNoMemory.TheVariants as ors
 use Rattle.observe_told.specs.Told.{AreToldBy, Tells as IsToldOf}
 use Rattle.observe_told.specs.declared.seen.Log.{Log}
 use Rattle.observe_log.specs.declared.fault.LogFault.{LogFault}
@@ -31,14 +33,14 @@ use Rattle.command_observe.specs.Answers.{RefusesObserve, AnswersObserve, Answer
 use Rattle.command_observe.specs.Judging.{untold_status, ending_of, IsRunOf, IsJudged, AreActsOf, HoldsActs}
 
 -- a fault of the text is told as it is read
-pub fault_refuses : (input : List ℕ) (fault : LogFault) (status : Status) → Tells {A = Log} (Err fault) (log_read input) → TellsFault fault status → RefusesLog input status
-fault_refuses input (faults.Log line word fault) status reads told =
+pub fault_refuses : (input : List ℕ) (fault : OrNoMemory LogFault) (status : Status) → Tells {A = Log} (Err fault) (log_read input) → TellsFault fault status → RefusesLog input status
+fault_refuses input (ors.Fault (faults.Log line word fault)) status reads told =
     let same : log_refusal input ≡ Some (BadLog line fault) = ap log_reading_refusal reads in
     subst (λ s. RefusesLog input s) (sym told) same
-fault_refuses input (faults.Board line fault) status reads told =
+fault_refuses input (ors.Fault (faults.Board line fault)) status reads told =
     let same : log_refusal input ≡ Some (BadBoard line (Line fault)) = ap log_reading_refusal reads in
     subst (λ s. RefusesLog input s) (sym told) same
-fault_refuses input faults.NoMemory status reads told = subst (λ s. RefusesLog input s) (sym told) tt
+fault_refuses input ors.NoMemory status reads told = subst (λ s. RefusesLog input s) (sym told) tt
 
 -- a fault of the tree is told with line 0
 pub tree_refuses : (input : List ℕ) (log : Log) (status : Status) → log_read input ≡ Ok log → RefusesTree log.board status → RefusesLog input status
@@ -47,11 +49,10 @@ tree_refuses input log status reads refuses =
     subst (λ s. RefusesLog input s) (sym refuses.told) same
 
 -- nor is there another board where a log was read
-pub no_board_refuses : (input : List ℕ) (log : Log) (fault : LogFault) (status : Status) → log_read input ≡ Ok log → TellsBoardOf (Err fault) (log_read input)
+pub no_board_refuses : (input : List ℕ) (log : Log) (fault : OrNoMemory LogFault) (status : Status) → log_read input ≡ Ok log → TellsBoardOf (Err fault) (log_read input)
     → TellsFault fault status → RefusesLog input status
-no_board_refuses input log (faults.Log line word fault) status is reads told = fault_refuses input (faults.Log line word fault) status reads told
-no_board_refuses input log (faults.Board line fault) status is reads told = fault_refuses input (faults.Board line fault) status reads told
-no_board_refuses input log faults.NoMemory status is reads told = fault_refuses input faults.NoMemory status reads told
+no_board_refuses input log (ors.Fault fault) status is reads told = fault_refuses input (ors.Fault fault) status reads told
+no_board_refuses input log ors.NoMemory status is reads told = fault_refuses input ors.NoMemory status reads told
 
 same_board : (board : Board) (log : Log) (read : Result Log LogFault) → read ≡ Ok log → TellsBoardOf (Ok board) read → board ≡ log.board
 same_board board log (Ok other) is tells = cc
@@ -82,7 +83,6 @@ no_told : (read : Result Log LogFault) (line : ℕ) (refusal : LogRefusal) → l
 no_told (Ok log) line refusal is = no_tree_told (tree_fault log.board) line refusal is
 no_told (Err (faults.Log at word fault)) line refusal is = cc
 no_told (Err (faults.Board at fault)) line refusal is = cc
-no_told (Err faults.NoMemory) line refusal is = cc
 
 no_tree_much : (fault : Option BoardFault) (line : ℕ) (excess : LogExcess) → option_map (BadBoard 0) fault ≡ Some (TooMuch line excess) → ⊥
 no_tree_much None line excess is = cc
@@ -92,7 +92,6 @@ no_much : (read : Result Log LogFault) (line : ℕ) (excess : LogExcess) → log
 no_much (Ok log) line excess is = no_tree_much (tree_fault log.board) line excess is
 no_much (Err (faults.Log at word fault)) line excess is = cc
 no_much (Err (faults.Board at fault)) line excess is = cc
-no_much (Err faults.NoMemory) line excess is = cc
 
 -- what is no log of a valid board is refused so
 pub read_refuses : (input : List ℕ) (status : Status) → RefusesLog input status → RefusesObserve input status

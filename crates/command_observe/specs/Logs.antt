@@ -3,6 +3,8 @@ use Rattle.std.specs.Prelude.{◌≡◌, ℕ, IsTrue, List, Option, Some, None, 
 use Rattle.std.specs.Option.{option_map}
 use Rattle.board_model.specs.declared.board.Board.{Board}
 use Rattle.board_model.specs.WellFormed.{is_well_formed}
+use Rattle.text_faults.specs.declared.or_no_memory.OrNoMemory.{OrNoMemory}
+use Rattle.text_faults.specs.declared.or_no_memory.OrNoMemory.TheVariants as ors
 use Rattle.observe_told.specs.declared.seen.Log.{Log}
 use Rattle.observe_log.specs.declared.fault.LogFault.{LogFault}
 use Rattle.observe_log.specs.declared.fault.LogFault.TheVariants as faults
@@ -13,11 +15,10 @@ use Rattle.program_status.specs.declared.status.BoardFault.TheVariants.{Line}
 use Rattle.program_input.specs.Refusals.{tree_fault, RefusesBy}
 use Rattle.command_observe.specs.declared.reading.TreeLog.{TreeLog}
 
--- the status that tells a fault, if it is one of the text
+-- the status that tells a fault of the text
 abbrev pub fault_told : LogFault → Option Status
 fault_told (faults.Log line word fault) = Some (BadLog line fault)
 fault_told (faults.Board line fault) = Some (BadBoard line (Line fault))
-fault_told faults.NoMemory = None
 
 -- a log text: its first fault with its line, and else that of the tree of its board, with line 0
 abbrev pub log_reading_refusal : Result Log LogFault → Option Status
@@ -45,7 +46,7 @@ pub record ReadsLog (input : List ℕ) (read : TreeLog) : Type 0 where
   pub formed : IsTrue (is_well_formed read.log.board)
 
 -- a status tells a fault, or that there was no memory
-abbrev pub TellsFault : LogFault → Status → Type 0
-TellsFault (faults.Log line word fault) status = status ≡ BadLog line fault
-TellsFault (faults.Board line fault) status = status ≡ BadBoard line (Line fault)
-TellsFault faults.NoMemory status = status ≡ NoMemory
+abbrev pub TellsFault : OrNoMemory LogFault → Status → Type 0
+TellsFault (ors.Fault (faults.Log line word fault)) status = status ≡ BadLog line fault
+TellsFault (ors.Fault (faults.Board line fault)) status = status ≡ BadBoard line (Line fault)
+TellsFault ors.NoMemory status = status ≡ NoMemory

@@ -11,6 +11,7 @@ use observe_told::Log;
 use program_input::tree_of;
 use program_status::{BoardFault, Status};
 use std::alloc::Global;
+use text_faults::OrNoMemory;
 
 /// A log, and the tree of its board.
 #[derive(Debug, Drop)]
@@ -75,15 +76,15 @@ fn tree_of_board(board: Board, input: &[u8], log: &Log) -> Result<Tree, Status>
 }
 
 /// How a fault is told.
-fn told(fault: LogFault) -> Status
+fn told(fault: OrNoMemory<LogFault>) -> Status
     ensures { TellsFault fault result }
 {
     match fault {
-        LogFault::Log { line, fault, .. } => Status::BadLog { line, fault },
-        LogFault::Board { line, fault } => Status::BadBoard {
+        OrNoMemory::Fault(LogFault::Log { line, fault, .. }) => Status::BadLog { line, fault },
+        OrNoMemory::Fault(LogFault::Board { line, fault }) => Status::BadBoard {
             line,
             fault: BoardFault::Line(fault),
         },
-        LogFault::NoMemory => Status::NoMemory,
+        OrNoMemory::NoMemory => Status::NoMemory,
     }
 }

@@ -5,7 +5,7 @@ use observe_told::is_told;
 use pci_command::NoMemory;
 use std::alloc::Global;
 use std::test::Fail;
-use text_faults::{LineFault, LogLineFault};
+use text_faults::{LineFault, LogLineFault, OrNoMemory};
 use trace_reader::read_trace;
 
 /// A simulation of one bridge, with two masters on each bus.
@@ -169,7 +169,7 @@ log
 ";
 
 /// The fault of a log with this board and these lines, if it has one.
-fn fault_of(alloc: Global, lines: &[u8]) -> Result<Option<LogFault>, NoMemory>
+fn fault_of(alloc: Global, lines: &[u8]) -> Result<Option<OrNoMemory<LogFault>>, NoMemory>
     requires { length lines.now < 1000 }
 {
     let mut text = Vec::new(alloc);
@@ -179,12 +179,13 @@ fn fault_of(alloc: Global, lines: &[u8]) -> Result<Option<LogFault>, NoMemory>
 }
 
 /// A fault of the first of these lines.
-fn first(word: usize, fault: LogLineFault) -> Option<LogFault> {
-    Some(LogFault::Log {
-        line: 9,
-        word,
-        fault,
-    })
+fn first(word: usize, fault: LogLineFault) -> Option<OrNoMemory<LogFault>> {
+    Some(at(9, word, fault))
+}
+
+/// A fault of a line outside the board, at a word.
+fn at(line: u32, word: usize, fault: LogLineFault) -> OrNoMemory<LogFault> {
+    OrNoMemory::Fault(LogFault::Log { line, word, fault })
 }
 
 #[test]
@@ -251,18 +252,10 @@ fn what_lines_may_follow_each_other(rt: HostRuntime) -> Result<(), Fail> {
         alloc,
         b"8-9 0 a mr 00100000 1 done\n8 0 a mr 00100000 1 done\nend\n",
     )?;
-    let tenth = LogFault::Log {
-        line: 10,
-        word: 0,
-        fault: LogLineFault::TooEarly,
-    };
+    let tenth = at(10, 0, LogLineFault::TooEarly);
     assert_eq!(rt; early, Some(tenth));
     let open = fault_of(alloc, b"7 0 a mr 00100000 1 done\n")?;
-    let past = LogFault::Log {
-        line: 10,
-        word: 0,
-        fault: LogLineFault::NoEndLine,
-    };
+    let past = at(10, 0, LogLineFault::NoEndLine);
     assert_eq!(rt; open, Some(past));
     let twice = fault_of(alloc, b"end\nend\n")?;
     assert_eq!(rt; twice, first(0, LogLineFault::Misread));
@@ -273,28 +266,20 @@ fn what_lines_may_follow_each_other(rt: HostRuntime) -> Result<(), Fail> {
 fn what_stands_before_the_lines(rt: HostRuntime) -> Result<(), Fail> {
     let alloc = rt.alloc();
     let other = read_log(alloc, b"pcilog 2\nlog\nend\n").err();
-    let fault = LogFault::Log {
-        line: 1,
-        word: 0,
-        fault: LogLineFault::NoFirstLine,
-    };
+    let fault = at(1, 0, LogLineFault::NoFirstLine);
     assert_eq!(rt; other, Some(fault));
     let none = read_log(alloc, b"pcilog 1\npciboard 1\n").err();
-    let fault = LogFault::Log {
-        line: 3,
-        word: 0,
-        fault: LogLineFault::NoLogLine,
-    };
+    let fault = at(3, 0, LogLineFault::NoLogLine);
     assert_eq!(rt; none, Some(fault));
     let program = read_log(
         alloc,
         b"pcilog 1\npciboard 1\nmaster a on 0\nmr 0\nlog\nend\n",
     )
     .err();
-    let fault = LogFault::Board {
+    let fault = OrNoMemory::Fault(LogFault::Board {
         line: 4,
         fault: LineFault::WrongWord,
-    };
+    });
     assert_eq!(rt; program, Some(fault));
     Ok(())
 }

@@ -1,9 +1,9 @@
 -- How data words are taken from the words of a line.
 use Rattle.std.specs.Prelude.{◌≡◌, ℕ, ◌+◌, ◌≤◌, List, [], ◌∷◌, ◌++◌, length, Option, Some, None, Result, Ok, Err}
 use Rattle.pci_command.specs.declared.phases.Phase.{Phase}
+use Rattle.text_faults.specs.declared.or_no_memory.OrNoMemory.{OrNoMemory}
+use Rattle.text_faults.specs.declared.or_no_memory.OrNoMemory.TheVariants.{Fault, NoMemory}
 use Rattle.observe_log.specs.declared.fault.AtWord.{AtWord}
-use Rattle.observe_log.specs.declared.fault.LineStop.{LineStop}
-use Rattle.observe_log.specs.declared.fault.LineStop.TheVariants.{Fault, NoMemory}
 use Rattle.observe_told.specs.declared.seen.Ending.{Ending}
 use Rattle.observe_log.specs.Lines.{ending_of, data_read}
 
@@ -30,7 +30,7 @@ pub record Shows (before after : List Phase) (count : ℕ) (ending : Ending) (re
   pub counted : count ≡ length shown
 
 -- what was told is what the words read as, unless there was no memory
-abbrev pub TellsData : Result (ℕ × Ending) LineStop → List Phase → List Phase → Result (List Phase × Ending) AtWord → Type 0
+abbrev pub TellsData : Result (ℕ × Ending) (OrNoMemory AtWord) → List Phase → List Phase → Result (List Phase × Ending) AtWord → Type 0
 TellsData (Ok told) before after read = Shows before after told.0 told.1 read
 TellsData (Err (Fault fault)) before after read = read ≡ Err fault
 TellsData (Err NoMemory) before after read = Unit {0}

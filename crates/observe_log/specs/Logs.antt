@@ -8,9 +8,11 @@ use Rattle.board_text.specs.Tokens.{words_of}
 use Rattle.text_faults.specs.declared.board_line.LineFault.{LineFault as BoardFault}
 use Rattle.text_faults.specs.declared.log_line.LogLineFault.{LogLineFault}
 use Rattle.text_faults.specs.declared.log_line.LogLineFault.TheVariants.{NoFirstLine, NoLogLine, NoEndLine, Misread}
+use Rattle.text_faults.specs.declared.or_no_memory.OrNoMemory.{OrNoMemory}
+use Rattle.text_faults.specs.declared.or_no_memory.OrNoMemory.TheVariants.{Fault, NoMemory}
 use Rattle.observe_log.specs.declared.fault.AtWord.{AtWord}
 use Rattle.observe_log.specs.declared.fault.LogFault.{LogFault}
-use Rattle.observe_log.specs.declared.fault.LogFault.TheVariants.{Log as OfLog, Board as OfBoard, NoMemory}
+use Rattle.observe_log.specs.declared.fault.LogFault.TheVariants.{Log as OfLog, Board as OfBoard}
 use Rattle.observe_told.specs.declared.seen.Log.{Log}
 use Rattle.observe_log.specs.Boards.{is_readable, board_in}
 use Rattle.observe_log.specs.Lines.{Read, nothing_read, line_read}
@@ -123,16 +125,14 @@ log_read text = by_first (lines_of text)
 
 -- an answer is the board of what the text reads as, or its first fault, which may also stand behind the board; unless there was
 -- no memory
-abbrev pub TellsBoardOf : Result Board LogFault → Result Log LogFault → Type 0
+abbrev pub TellsBoardOf : Result Board (OrNoMemory LogFault) → Result Log LogFault → Type 0
 TellsBoardOf (Ok board) (Ok log) = board ≡ log.board
 TellsBoardOf (Ok board) (Err fault) = Unit {0}
-TellsBoardOf (Err (OfLog line word fault)) reading = reading ≡ Err (OfLog line word fault)
-TellsBoardOf (Err (OfBoard line fault)) reading = reading ≡ Err (OfBoard line fault)
+TellsBoardOf (Err (Fault fault)) reading = reading ≡ Err fault
 TellsBoardOf (Err NoMemory) reading = Unit {0}
 
 -- an answer is what the text reads as, unless there was no memory
-abbrev pub Tells : {A : Type 0} → Result A LogFault → Result A LogFault → Type 0
+abbrev pub Tells : {A : Type 0} → Result A (OrNoMemory LogFault) → Result A LogFault → Type 0
 Tells (Ok value) reading = reading ≡ Ok value
-Tells (Err (OfLog line word fault)) reading = reading ≡ Err (OfLog line word fault)
-Tells (Err (OfBoard line fault)) reading = reading ≡ Err (OfBoard line fault)
+Tells (Err (Fault fault)) reading = reading ≡ Err fault
 Tells (Err NoMemory) reading = Unit {0}

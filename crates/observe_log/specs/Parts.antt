@@ -5,8 +5,10 @@ use Rattle.board_model.specs.declared.board.Board.{Board}
 use Rattle.board_text.specs.Lines.{lines_of}
 use Rattle.text_faults.specs.declared.board_line.LineFault.{LineFault}
 use Rattle.text_faults.specs.declared.log_line.LogLineFault.TheVariants.{NoLogLine}
+use Rattle.text_faults.specs.declared.or_no_memory.OrNoMemory.{OrNoMemory}
+use Rattle.text_faults.specs.declared.or_no_memory.OrNoMemory.TheVariants.{Fault, NoMemory}
 use Rattle.observe_log.specs.declared.fault.LogFault.{LogFault}
-use Rattle.observe_log.specs.declared.fault.LogFault.TheVariants.{Log as OfLog, Board as OfBoard, NoMemory}
+use Rattle.observe_log.specs.declared.fault.LogFault.TheVariants.{Log as OfLog, Board as OfBoard}
 use Rattle.observe_log.specs.declared.parts.LogLine.{LogLine}
 use Rattle.observe_log.specs.Logs.{of_line, until_log, is_first_line}
 
@@ -32,8 +34,8 @@ IsWithout text from fault =
     (until_log (lines_of (drop from text)) ≡ None) × (fault ≡ of_line (length (lines_of (drop from text)) + 2) NoLogLine)
 
 -- the board of a part that begins at the second line of the text
-abbrev pub TellsBoard : Result Board LogFault → Result Board (ℕ × LineFault) → Type 0
+abbrev pub TellsBoard : Result Board (OrNoMemory LogFault) → Result Board (ℕ × LineFault) → Type 0
 TellsBoard (Ok board) reading = reading ≡ Ok board
-TellsBoard (Err (OfBoard line fault)) reading = (at : ℕ) × (reading ≡ Err (at, fault)) × (line ≡ at + 1)
-TellsBoard (Err (OfLog line word fault)) reading = ⊥
+TellsBoard (Err (Fault (OfBoard line fault))) reading = (at : ℕ) × (reading ≡ Err (at, fault)) × (line ≡ at + 1)
+TellsBoard (Err (Fault (OfLog line word fault))) reading = ⊥
 TellsBoard (Err NoMemory) reading = Unit {0}

@@ -4,9 +4,9 @@ use Rattle.std.specs.Prelude.{◌≡◌, ℕ, List, [], ◌∷◌, Result, Ok, E
 use Rattle.text_faults.specs.declared.board_line.LineFault.{LineFault}
 use Rattle.text_faults.specs.declared.log_line.LogLineFault.{LogLineFault}
 use Rattle.text_faults.specs.declared.log_line.LogLineFault.TheVariants.{Misread, NotThere}
+use Rattle.text_faults.specs.declared.or_no_memory.OrNoMemory.{OrNoMemory}
+use Rattle.text_faults.specs.declared.or_no_memory.OrNoMemory.TheVariants.{Fault, NoMemory}
 use Rattle.observe_log.specs.declared.fault.AtWord.{AtWord}
-use Rattle.observe_log.specs.declared.fault.LineStop.{LineStop}
-use Rattle.observe_log.specs.declared.fault.LineStop.TheVariants.{Fault, NoMemory}
 
 infixl 10 ◌>>=◌
 -- takes words, and gives a value of this kind
@@ -51,7 +51,7 @@ Gives (Ok value) words read = read ≡ Ok (value, words)
 Gives (Err fault) words read = read ≡ Err fault
 
 -- an answer is what is read, unless there was no memory
-abbrev pub Answers : {A B : Type 0} → (A → B) → Result A LineStop → Result B AtWord → Type 0
+abbrev pub Answers : {A B : Type 0} → (A → B) → Result A (OrNoMemory AtWord) → Result B AtWord → Type 0
 Answers seen (Ok value) read = read ≡ Ok (seen value)
 Answers seen (Err (Fault fault)) read = read ≡ Err fault
 Answers seen (Err NoMemory) read = Unit {0}

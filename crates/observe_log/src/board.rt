@@ -2,6 +2,7 @@ ghost use Rattle.std.specs.Prelude.{◌≡◌, ◌+◌, ◌<◌, ◌≤◌, ◌^
 ghost use Rattle.board_model.specs.WellFormed.{is_well_formed};
 ghost use Rattle.board_text.specs.Lines.{lines_of};
 ghost use Rattle.board_text.specs.Tokens.{words_of};
+ghost use Rattle.text_faults.specs.declared.or_no_memory.OrNoMemory.TheVariants.{Fault};
 ghost use Rattle.observe_log.specs.Boards.{is_operation, is_left_out, begins_left_out, is_refused};
 ghost use Rattle.observe_log.specs.Boards.{first_refused, is_no_board, stands_before};
 ghost use Rattle.observe_log.specs.Boards.{unless_refused, board_in};
@@ -14,10 +15,10 @@ use board_parser::{ParseFault, parse, read_is_well_formed};
 use board_statements::{Words, is_word};
 use board_text::next_line;
 use std::alloc::Global;
-use text_faults::LineFault;
+use text_faults::{LineFault, OrNoMemory};
 
 /// The board of this part of a text, in which it begins at the second line.
-pub(crate) fn read_board(alloc: Global, part: &[u8]) -> Result<Board, LogFault>
+pub(crate) fn read_board(alloc: Global, part: &[u8]) -> Result<Board, OrNoMemory<LogFault>>
     requires { length part.now < 2 ^ 31 }
     ensures read { TellsBoard result (board_in (lines_of part.now)) }
     ensures formed { IfOk result (λ board. IsTrue (is_well_formed board)) }
@@ -26,9 +27,11 @@ pub(crate) fn read_board(alloc: Global, part: &[u8]) -> Result<Board, LogFault>
     let refused = first_refused(part);
     match (parse(alloc, part), refused) {
         (Ok(board), None) => Ok(board),
-        (Ok(_board), Some(at)) => Err(left_out(at)),
-        (Err(ParseFault::Fault(at)), refused) => Err(first_fault(at.line, at.fault, refused)),
-        (Err(ParseFault::NoMemory), _) => Err(LogFault::NoMemory),
+        (Ok(_board), Some(at)) => Err(OrNoMemory::Fault(left_out(at))),
+        (Err(ParseFault::Fault(at)), refused) => Err(OrNoMemory::Fault(first_fault(
+            at.line, at.fault, refused,
+        ))),
+        (Err(ParseFault::NoMemory), _) => Err(OrNoMemory::NoMemory),
     }
 }
 
@@ -36,7 +39,7 @@ pub(crate) fn read_board(alloc: Global, part: &[u8]) -> Result<Board, LogFault>
 fn first_fault(line: u32, fault: LineFault, refused: Option<u32>) -> LogFault
     requires small { line + 1 < 2 ^ 32 }
     requires within { IfSome refused (λ at. at + 1 < 2 ^ 32) }
-    ensures { TellsBoard (Err result) (unless_refused refused (Err (line, fault))) }
+    ensures { TellsBoard (Err (Fault result)) (unless_refused refused (Err (line, fault))) }
 {
     match refused {
         Some(at) if !stands_before(line, fault, at) => left_out(at),

@@ -1,8 +1,7 @@
 ghost use Rattle.std.specs.Prelude.{◌≡◌};
 ghost use Rattle.observe_log.specs.Readers.{misread};
 
-use std::alloc::AllocFailed;
-use text_faults::{LineFault, LogLineFault};
+use text_faults::{LineFault, LogLineFault, OrNoMemory};
 use thiserror::Error;
 
 /// Why a text is not read as a log. Lines are numbered from 1, in the whole text.
@@ -21,8 +20,6 @@ pub enum LogFault {
         line: u32,
         fault: LineFault,
     },
-    #[error("no memory")]
-    NoMemory,
 }
 
 /// A fault of a line at one of its words, from 0 on.
@@ -33,11 +30,7 @@ pub(crate) struct AtWord {
 }
 
 /// Why a line is not read.
-#[derive(Clone, Copy, Debug, PartialEq, Eq)]
-pub(crate) enum LineStop {
-    Fault(AtWord),
-    NoMemory,
-}
+pub(crate) type LineStop = OrNoMemory<AtWord>;
 
 /// A word that is missing or none of its kind.
 pub(crate) fn misread(word: usize) -> AtWord
@@ -49,24 +42,24 @@ pub(crate) fn misread(word: usize) -> AtWord
     }
 }
 
-impl From<AtWord> for LineStop {
+impl From<LogFault> for OrNoMemory<LogFault> {
     ghost use Rattle.std.specs.Prelude.{◌≡◌};
-    ghost use Rattle.observe_log.specs.declared.fault.LineStop.TheVariants.{Fault};
+    ghost use Rattle.text_faults.specs.declared.or_no_memory.OrNoMemory.TheVariants.{Fault};
 
-    ghost from_gives = { λ fault stop. stop ≡ Fault fault };
+    ghost from_gives = { λ fault given. given ≡ Fault fault };
 
-    fn from(fault: AtWord) -> LineStop {
-        LineStop::Fault(fault)
+    fn from(fault: LogFault) -> OrNoMemory<LogFault> {
+        OrNoMemory::Fault(fault)
     }
 }
 
-impl<T: Drop> From<AllocFailed<T>> for LineStop {
+impl From<AtWord> for OrNoMemory<AtWord> {
     ghost use Rattle.std.specs.Prelude.{◌≡◌};
-    ghost use Rattle.observe_log.specs.declared.fault.LineStop.TheVariants.{NoMemory};
+    ghost use Rattle.text_faults.specs.declared.or_no_memory.OrNoMemory.TheVariants.{Fault};
 
-    ghost from_gives = { λ _ stop. stop ≡ NoMemory };
+    ghost from_gives = { λ fault given. given ≡ Fault fault };
 
-    fn from(_refused: AllocFailed<T>) -> LineStop {
-        LineStop::NoMemory
+    fn from(fault: AtWord) -> OrNoMemory<AtWord> {
+        OrNoMemory::Fault(fault)
     }
 }

@@ -12,7 +12,7 @@ use crate::reading::Reading;
 use board_model::Board;
 use board_statements::has_words;
 use board_text::next_line;
-use text_faults::LogLineFault;
+use text_faults::{LogLineFault, OrNoMemory};
 
 /// Reads the lines from `from` on, where the first line has this number, up to the `end` line.
 pub(crate) fn read_lines(
@@ -21,7 +21,7 @@ pub(crate) fn read_lines(
     from: usize,
     first: u32,
     reading: &mut Reading,
-) -> Result<(), LogFault>
+) -> Result<(), OrNoMemory<LogFault>>
     requires short { length bytes.now < 2 ^ 31 }
     requires within { from ≤ length bytes.now + 1 }
     requires small { first ≤ from + 1 }
@@ -32,7 +32,7 @@ pub(crate) fn read_lines(
     let mut at = from;
     while let Some((line, next)) = next_line(bytes, at) {
         if !is_readable(line) {
-            return Err(of_line(number, LogLineFault::Misread));
+            return Err(OrNoMemory::Fault(of_line(number, LogLineFault::Misread)));
         }
         if is_last(line, bytes, next) {
             return behind_end(bytes, next, number + 1);
@@ -44,11 +44,16 @@ pub(crate) fn read_lines(
         number += 1;
         at = next;
     }
-    Err(of_line(number, LogLineFault::NoEndLine))
+    Err(OrNoMemory::Fault(of_line(number, LogLineFault::NoEndLine)))
 }
 
 /// Reads a line that is not the last one with words.
-fn read_line(board: &Board, line: &[u8], number: u32, reading: &mut Reading) -> Result<(), LogFault>
+fn read_line(
+    board: &Board,
+    line: &[u8],
+    number: u32,
+    reading: &mut Reading,
+) -> Result<(), OrNoMemory<LogFault>>
     requires { length line.now ≤ 256 }
     ensures { AddsAll result reading.new (one_line board.now number reading.old line.now) }
 {
@@ -57,12 +62,12 @@ fn read_line(board: &Board, line: &[u8], number: u32, reading: &mut Reading) -> 
     }
     match reading.read(board, number, line) {
         Ok(()) => Ok(()),
-        Err(LineStop::Fault(at)) => Err(LogFault::Log {
+        Err(LineStop::Fault(at)) => Err(OrNoMemory::Fault(LogFault::Log {
             line: number,
             word: at.word,
             fault: at.fault,
-        }),
-        Err(LineStop::NoMemory) => Err(LogFault::NoMemory),
+        })),
+        Err(LineStop::NoMemory) => Err(OrNoMemory::NoMemory),
     }
 }
 
@@ -87,7 +92,7 @@ fn have_words(bytes: &[u8], from: usize) -> bool
 }
 
 /// Looks whether the lines from `from` on, where the first has this number, can be read.
-fn behind_end(bytes: &[u8], from: usize, first: u32) -> Result<(), LogFault>
+fn behind_end(bytes: &[u8], from: usize, first: u32) -> Result<(), OrNoMemory<LogFault>>
     requires short { length bytes.now < 2 ^ 31 }
     requires within { from ≤ length bytes.now + 1 }
     requires small { first ≤ from + 1 }
@@ -98,7 +103,7 @@ fn behind_end(bytes: &[u8], from: usize, first: u32) -> Result<(), LogFault>
     let mut at = from;
     while let Some((line, next)) = next_line(bytes, at) {
         if !is_readable(line) {
-            return Err(of_line(number, LogLineFault::Misread));
+            return Err(OrNoMemory::Fault(of_line(number, LogLineFault::Misread)));
         }
         number += 1;
         at = next;

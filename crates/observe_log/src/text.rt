@@ -10,10 +10,11 @@ use crate::reading::Reading;
 use board_model::Board;
 use observe_told::Log;
 use std::alloc::Global;
+use text_faults::OrNoMemory;
 
 /// The log of a text, or its first fault: of the first line, then no line `log`, then of the board,
 /// then line by line behind `log`, then no `end` line. A text has fewer than 2^31 bytes.
-pub fn read_log(alloc: Global, bytes: &[u8]) -> Result<Log, LogFault>
+pub fn read_log(alloc: Global, bytes: &[u8]) -> Result<Log, OrNoMemory<LogFault>>
     requires { length bytes.now < 2 ^ 31 }
     ensures read { Tells result (log_read bytes.now) }
     ensures formed { IfOk result (λ log. IsTrue (is_well_formed log.board)) }
@@ -34,7 +35,7 @@ pub fn read_log(alloc: Global, bytes: &[u8]) -> Result<Log, LogFault>
 /// The board of a log text alone; its lines may have faults. Else the first fault, as before. A text
 /// has fewer than 2^31 bytes.
 #[tactic(auto, using(crate::proofs::BoardLemmas::tells_board))]
-pub fn read_log_board(alloc: Global, bytes: &[u8]) -> Result<Board, LogFault>
+pub fn read_log_board(alloc: Global, bytes: &[u8]) -> Result<Board, OrNoMemory<LogFault>>
     requires { length bytes.now < 2 ^ 31 }
     ensures read { TellsBoardOf result (log_read bytes.now) }
     ensures formed { IfOk result (λ board. IsTrue (is_well_formed board)) }

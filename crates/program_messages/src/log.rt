@@ -10,6 +10,7 @@ use program_pages::{Fault, Message, Spot, Teller, line_at, place_of};
 use program_status::Status;
 use run_reasons::{Reason, reason_of_log};
 use std::alloc::Global;
+use text_faults::OrNoMemory;
 
 /// Which word of a line of a log is its command, from 0.
 const COMMAND: usize = 3;
@@ -74,8 +75,8 @@ fn word_at_fault(alloc: Global, input: &[u8]) -> Result<usize, NoMemory> {
         return Ok(0);
     }
     match read_log(alloc, input) {
-        Err(LogFault::Log { word, .. }) => Ok(word),
-        Err(LogFault::NoMemory) => Err(NoMemory),
+        Err(OrNoMemory::Fault(LogFault::Log { word, .. })) => Ok(word),
+        Err(OrNoMemory::NoMemory) => Err(NoMemory),
         _ => Ok(0),
     }
 }
