@@ -4,11 +4,12 @@ use Rattle.std.specs.Prelude.{IsTrue}
 use Rattle.std.specs.Option.{option_map}
 use Rattle.board_model.specs.declared.board.Board.{Board}
 use Rattle.board_model.specs.WellFormed.{is_well_formed}
+use Rattle.board_model.specs.Valid.{IsValid}
 use Rattle.history_model.specs.declared.event.Event.{Event}
 use Rattle.law_early.specs.Early.{acts_of}
 use Rattle.text_faults.specs.declared.or_no_memory.OrNoMemory.{OrNoMemory}
 use Rattle.text_faults.specs.declared.or_no_memory.OrNoMemory.TheVariants as ors
-use Rattle.observe_told.specs.Told.{AreToldBy, Tells as IsToldOf}
+use Rattle.observe_log.specs.Told.{AreToldBy, Tells as IsToldOf}
 use Rattle.observe_told.specs.declared.seen.Log.{Log}
 use Rattle.observe_log.specs.declared.fault.LogFault.{LogFault}
 use Rattle.observe_log.specs.declared.fault.LogFault.TheVariants as faults
@@ -23,14 +24,16 @@ use Rattle.program_input.specs.Refusals.{tree_fault, RefusesBy}
 use Rattle.program_input.specs.Boards.{RefusesTree, IsTreeOf}
 use Rattle.program_input.specs.Traces.{ReadsTree}
 use Rattle.program_input.specs.declared.trace.TreeTrace.{TreeTrace}
+use Rattle.trace_reader.specs.Traces.{trace_read}
 use Rattle.command_observe.specs.declared.reading.TreeLog.{TreeLog}
+use Rattle.command_observe.specs.declared.telling.RunTold.{RunTold}
 use Rattle.command_observe.specs.declared.drafting.Untold.{Untold}
 use Rattle.command_observe.specs.declared.drafting.Untold.TheVariants as untolds
 use Rattle.observe_order.specs.declared.judging.ActsVerdict.{ActsVerdict}
 use Rattle.observe_order.specs.declared.judging.ActsVerdict.TheVariants.{IsRun, Refused}
 use Rattle.command_observe.specs.Logs.{log_refusal, log_reading_refusal, RefusesLog, IsLogText, ReadsLog, TellsFault}
 use Rattle.command_observe.specs.Answers.{RefusesObserve, AnswersObserve, AnswersActs, TellsRun, TellsActs}
-use Rattle.command_observe.specs.Judging.{untold_status, ending_of, IsRunOf, IsJudged, AreActsOf, HoldsActs}
+use Rattle.command_observe.specs.Judging.{untold_status, ending_of, IsRunOf, HasRun, IsJudged, AreActsOf, HoldsActs}
 
 -- a fault of the text is told as it is read
 pub fault_refuses : (input : List ℕ) (fault : OrNoMemory LogFault) (status : Status) → Tells {A = Log} (Err fault) (log_read input) → TellsFault fault status → RefusesLog input status
@@ -110,26 +113,31 @@ untold_refuses input read untold status reads is =
     let log : IsLogText input = record { log = read.log; reads = reads.reads; tree = reads.faultless } in
     subst (λ s. RefusesObserve input s) (sym is) (of_log input untold log)
 
+-- a run that is told of a log is of the input
+pub has_run : (input : List ℕ) (read : TreeLog) (run : RunTold) → ReadsLog input read → IsRunOf read.log run → HasRun input run
+has_run input read run reads of_log = record { log = read.log; reads = reads.reads; of_log = of_log }
+
+-- what is read as it tells it
+tells_run : (log : Log) (run : RunTold) (text : List ℕ) → IsRunOf log run → IsValid run.tree → trace_read text ≡ Ok (run.tree, run.events) → TellsRun log text
+tells_run log run text is valid read =
+    record {
+      board = run.tree;
+      events = run.events;
+      read_back = read;
+      valid = valid;
+      run = is.still.run;
+      told = is.told;
+      still = is.still.landed;
+    }
+
 -- what is written of it answers it
-pub observes : (input : List ℕ) (read : TreeLog) (text : List ℕ) → ReadsLog input read → TellsRun read.log text → AnswersObserve input text
-observes input read text reads tells = record { log = read.log; reads = reads.reads; writes = tells }
+pub observes : (input : List ℕ) (run : RunTold) (text : List ℕ) → HasRun input run → IsValid run.tree → trace_read text ≡ Ok (run.tree, run.events) → AnswersObserve input text
+observes input run text has valid read = record { log = has.log; reads = has.reads; writes = tells_run has.log run text has.of_log valid read }
 
 pub acts_told : (input : List ℕ) (read : TreeLog) (text : List ℕ) (ending : Status) → ReadsLog input read → TellsActs read.log text ending → AnswersActs input text ending
 acts_told input read text ending reads tells = record { log = read.log; reads = reads.reads; writes = tells }
 
 -- what was read again is what was written
-
-pub tells_run : (log : Log) (text : List ℕ) (read : TreeTrace) → ReadsTree text read → IsRunOf log read → TellsRun log text
-tells_run log text read reads is =
-    record {
-      board = read.tree;
-      events = read.events;
-      read_back = reads.reads.read;
-      valid = reads.valid;
-      run = is.still.run;
-      told = is.told;
-      still = is.still.landed;
-    }
 
 verdict_tells : (log : Log) (text : List ℕ) (read : TreeTrace) (verdict : ActsVerdict) → ReadsTree text read → IsJudged log read verdict → (line : ℕ) → TellsActs log text (ending_of line verdict)
 verdict_tells log text read IsRun reads is line =

@@ -1,3 +1,4 @@
 pub mod ServedLemmas
 pub mod ActLemmas
+pub mod CommentLemmas
 pub mod AnswerLemmas

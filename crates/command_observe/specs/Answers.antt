@@ -9,7 +9,7 @@ use Rattle.law_early.specs.Early.{acts_of, NothingFlies}
 use Rattle.trace_reader.specs.Traces.{trace_read}
 use Rattle.observe_told.specs.declared.seen.Log.{Log}
 use Rattle.observe_log.specs.Logs.{log_read}
-use Rattle.observe_told.specs.Told.{Tells}
+use Rattle.observe_log.specs.Told.{Tells}
 use Rattle.observe_order.specs.Judging.{ActsRun, ActsStop}
 use Rattle.program_status.specs.declared.status.Status.{Status}
 use Rattle.program_status.specs.declared.status.Status.TheVariants.{Done, NotTold, TooMuch, ToldTo}

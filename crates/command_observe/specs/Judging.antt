@@ -1,9 +1,10 @@
--- What is found out of a text that was written: whether it is what a log tells.
-use Rattle.std.specs.Prelude.{◌≡◌, ℕ, Bool, true, false, List, Option, Some, None}
+-- What is found out of a run that a log tells, and of a text that was written.
+use Rattle.std.specs.Prelude.{◌≡◌, ◌<◌, ◌^◌, ℕ, Bool, true, false, List, length, Option, Some, None, Ok, string_bytes}
 use Rattle.history_model.specs.declared.event.Event.{Event}
 use Rattle.history_model.specs.declared.event.Event.TheVariants.{Act, Arrive}
 use Rattle.law_early.specs.Early.{acts_of}
-use Rattle.observe_told.specs.Told.{Tells}
+use Rattle.observe_log.specs.Logs.{log_read}
+use Rattle.observe_log.specs.Told.{Tells}
 use Rattle.observe_order.specs.Going.{EndsLanded}
 use Rattle.observe_order.specs.Judging.{JudgesActs}
 use Rattle.program_input.specs.declared.trace.TreeTrace.{TreeTrace}
@@ -14,17 +15,27 @@ use Rattle.observe_order.specs.declared.judging.ActsVerdict.{ActsVerdict}
 use Rattle.observe_order.specs.declared.judging.ActsVerdict.TheVariants.{IsRun, Refused}
 use Rattle.command_observe.specs.declared.drafting.Untold.{Untold}
 use Rattle.command_observe.specs.declared.drafting.Untold.TheVariants as untolds
+use Rattle.command_observe.specs.declared.telling.RunTold.{RunTold}
 use Rattle.command_observe.specs.Answers.{TellsActs}
+use Rattle.command_observe.specs.Comments.{AreComments}
 
 -- the event is no arrival
 abbrev pub is_act : Event → Bool
 is_act (Act on by o step place) = true
 is_act (Arrive lane mark) = false
 
--- what was read is a run, at whose end nothing is in flight, that a log tells of
-pub record IsRunOf (log : Log) (read : TreeTrace) : Type 0 where
-  pub still : EndsLanded read.tree read.events
-  pub told : Tells log read.tree (acts_of read.events)
+-- a run, at whose end nothing is in flight, that a log tells of; and what is said of it are comments
+pub record IsRunOf (log : Log) (run : RunTold) : Type 0 where
+  pub still : EndsLanded run.tree run.events
+  pub few : length run.events < 2 ^ 32
+  pub told : Tells log run.tree (acts_of run.events)
+  pub comments : AreComments (string_bytes run.said)
+
+-- the input is the text of a log that tells of a run
+pub record HasRun (input : List ℕ) (run : RunTold) : Type 0 where
+  pub log : Log
+  pub reads : log_read input ≡ Ok log
+  pub of_log : IsRunOf log run
 
 -- what was read are acts that a log tells of, and the verdict says whether some run has them
 pub record IsJudged (log : Log) (read : TreeTrace) (verdict : ActsVerdict) : Type 0 where

@@ -1,12 +1,14 @@
 ghost use Rattle.std.specs.Prelude.{◌≡◌, ◌<◌, ◌^◌, ℕ, length, IfOk, IfErr, IsTrue};
 ghost use Rattle.board_model.specs.WellFormed.{is_well_formed};
 ghost use Rattle.command_observe.specs.Answers.{AnswersObserve, AnswersActs, RefusesObserve};
-ghost use Rattle.command_observe.specs.Answers.{TellsRun, TellsActs};
-ghost use Rattle.command_observe.specs.Judging.{ending_of, untold_status};
+ghost use Rattle.command_observe.specs.Answers.{TellsActs};
+ghost use Rattle.command_observe.specs.Judging.{HasRun, ending_of, untold_status};
 
-use crate::drafting::{Draft, Untold, draft_acts, draft_run, line_at, unheld};
-use crate::holding::{holds_acts, holds_run};
+use crate::drafting::{Untold, line_at, unheld};
+use crate::holding::holds_acts;
 use crate::reading::{TreeLog, read_tree_log};
+use crate::telling::{RunTold, run_told};
+use crate::writing::{Draft, draft_acts, text_of_run};
 use observe_order::ActsVerdict;
 use observe_told::Log;
 use program_status::{Answered, Status};
@@ -14,15 +16,29 @@ use std::alloc::Global;
 
 /// The trace of a run that a log tells of, with all arrivals as early as can be. The input has
 /// fewer than 2^31 bytes.
-#[tactic(auto, using(crate::proofs::AnswerLemmas::observes, crate::proofs::AnswerLemmas::read_refuses, crate::proofs::AnswerLemmas::untold_refuses))]
+#[tactic(auto, using(crate::proofs::AnswerLemmas::observes))]
 pub fn answer_observe(alloc: Global, input: &[u8]) -> Result<Vec<u8>, Status>
     requires { length input.now < 2 ^ 31 }
     ensures ok { IfOk result (λ text. AnswersObserve input.now text.items) }
     ensures err { IfErr result (RefusesObserve input.now) }
 {
-    let read = read_tree_log(alloc, input)?;
-    match run_text(alloc, &read) {
+    let run = run_of_input(alloc, input)?;
+    match text_of_run(alloc, &run) {
         Ok(text) => Ok(text),
+        Err(_) => Err(Status::NoMemory),
+    }
+}
+
+/// The run that the log of these bytes tells of; the log is let go before its text is written.
+#[tactic(auto, using(crate::proofs::AnswerLemmas::has_run, crate::proofs::AnswerLemmas::read_refuses, crate::proofs::AnswerLemmas::untold_refuses))]
+fn run_of_input(alloc: Global, input: &[u8]) -> Result<RunTold, Status>
+    requires { length input.now < 2 ^ 31 }
+    ensures ok { IfOk result (HasRun input.now) }
+    ensures err { IfErr result (RefusesObserve input.now) }
+{
+    let read = read_tree_log(alloc, input)?;
+    match run_told(alloc, &read) {
+        Ok(run) => Ok(run),
         Err(untold) => Err(status_of(untold)),
     }
 }
@@ -49,18 +65,6 @@ fn status_of(untold: Untold) -> Status
         Untold::NotTold { line, refusal } => Status::NotTold { line, refusal },
         Untold::TooMuch { line, excess } => Status::TooMuch { line, excess },
         Untold::NoMemory => Status::NoMemory,
-    }
-}
-
-fn run_text(alloc: Global, read: &TreeLog) -> Result<Vec<u8>, Untold>
-    requires { IsTrue (is_well_formed read.now.log.board) }
-    ensures { IfOk result (λ text. TellsRun read.now.log text.items) }
-{
-    let Draft { text, lines } = draft_run(alloc, read)?;
-    if holds_run(alloc, &read.log, text.as_slice(), lines.as_slice())? {
-        Ok(text)
-    } else {
-        Err(unheld(&read.log))
     }
 }
 

@@ -1,25 +1,20 @@
-//! What is to be written for a log, as it was found. Nothing is claimed of it here.
-ghost use Rattle.std.specs.Prelude.{IsTrue};
+//! What a log tells, as it was found. Of what was found nothing is claimed but that its events are
+//! a run of its board.
+ghost use Rattle.std.specs.Prelude.{IfOk, IsTrue};
 ghost use Rattle.board_model.specs.WellFormed.{is_well_formed};
+ghost use Rattle.observe_order.specs.Going.{EndsLanded};
 
 use crate::reading::TreeLog;
+use board_form::well_formed;
 use board_model::{Board, Place};
 use board_tree::Tree;
-use history_model::Event;
-use observe_found::{LogFound, Times, find, text_of};
+use observe_found::{LogFound, Times, Unseen, find};
 use observe_order::{Ordered, order};
-use observe_told::{ActsTold, Log, Unfound};
-use pci_command::{Command, List, NoMemory};
-use program_input::read_tree;
+use observe_told::{Log, Unfound};
+use pci_command::{Command, NoMemory};
+use program_input::tree_of;
 use program_status::{BoardFault, LogExcess, LogRefusal, Status};
 use std::alloc::{AllocError, AllocFailed, Global};
-
-/// A trace text, and of which line of the log each of its acts is, by its place from 0.
-#[derive(Debug, Drop)]
-pub(crate) struct Draft {
-    pub(crate) text: Vec<u8>,
-    pub(crate) lines: List<u32>,
-}
 
 /// Why no text is written.
 #[derive(Clone, Copy, Debug, PartialEq, Eq)]
@@ -47,70 +42,39 @@ impl<T: Drop> From<AllocFailed<T>> for Untold {
     }
 }
 
-/// The trace of the run that the log tells of.
-pub(crate) fn draft_run(alloc: Global, read: &TreeLog) -> Result<Draft, Untold> {
-    let Told {
-        tree,
-        found,
-        ordered,
-    } = told_by(alloc, read)?;
-    if let Some(refused) = ordered.told.refused {
-        return Err(Untold::NotTold {
-            line: number_of(&read.log, refused.line),
-            refusal: LogRefusal::Cause(refused.why),
-        });
-    }
-    let (events, lines) = run_of(ordered);
-    let text = written(alloc, &read.log, &tree, &found, events.as_slice())?;
-    Ok(Draft { text, lines })
-}
-
-/// The run, and the lines of its acts; the acts alone are let go.
-fn run_of(ordered: Ordered) -> (List<Event>, List<u32>) {
-    let Ordered { events, told } = ordered;
-    let ActsTold { lines, .. } = told;
-    (events, lines)
-}
-
-/// The trace of the acts that the log tells of.
-pub(crate) fn draft_acts(alloc: Global, read: &TreeLog) -> Result<Draft, Untold> {
-    let Told {
-        tree,
-        found,
-        ordered,
-    } = told_by(alloc, read)?;
-    let Ordered { told, .. } = ordered;
-    let text = written(alloc, &read.log, &tree, &found, told.acts.as_slice())?;
-    let lines = told.lines;
-    Ok(Draft { text, lines })
-}
-
 /// What a log tells, the tree of the board that was found, and the acts in an order.
 #[derive(Debug, Drop)]
 pub(crate) struct Told {
     pub(crate) tree: Tree,
-    pub(crate) found: LogFound,
+    pub(crate) unseen: Unseen,
     pub(crate) ordered: Ordered,
 }
 
 /// What the log tells. Where its acts are no run, no Retry latched what went on when it began, as
 /// far as others may have: if that makes them a run, it is told.
-fn told_by(alloc: Global, read: &TreeLog) -> Result<Told, Untold> {
+pub(crate) fn told_by(alloc: Global, read: &TreeLog) -> Result<Told, Untold>
+    ensures { IfOk result (λ told. EndsLanded told.tree told.ordered.events) }
+{
     let told = told_with(alloc, read, Times::Meet)?;
-    if told.ordered.told.refused.is_none() {
+    if told.ordered.refused().is_none() {
         return Ok(told);
     }
     match told_with(alloc, read, Times::Apart) {
         Ok(apart) => {
-            let is_run = apart.ordered.told.refused.is_none();
-            Ok(if is_run { apart } else { told })
+            if apart.ordered.refused().is_none() {
+                Ok(apart)
+            } else {
+                Ok(told)
+            }
         }
         Err(Untold::NoMemory) => Err(Untold::NoMemory),
         Err(_) => Ok(told),
     }
 }
 
-fn told_with(alloc: Global, read: &TreeLog, times: Times) -> Result<Told, Untold> {
+fn told_with(alloc: Global, read: &TreeLog, times: Times) -> Result<Told, Untold>
+    ensures { IfOk result (λ told. EndsLanded told.tree told.ordered.events) }
+{
     match tell(alloc, &read.tree, &read.log, times) {
         Ok(told) => Ok(told),
         Err(unfound) => Err(not_told(&read.log, read.tree.board(), unfound)),
@@ -118,48 +82,41 @@ fn told_with(alloc: Global, read: &TreeLog, times: Times) -> Result<Told, Untold
 }
 
 /// What a log of the board of this tree tells.
-pub(crate) fn tell(alloc: Global, tree: &Tree, log: &Log, times: Times) -> Result<Told, Unfound> {
+pub(crate) fn tell(alloc: Global, tree: &Tree, log: &Log, times: Times) -> Result<Told, Unfound>
+    ensures { IfOk result (λ told. EndsLanded told.tree told.ordered.events) }
+{
     let lines = log.lines.as_slice();
-    let found = find(alloc, tree, lines, log.phases.as_slice(), times)?;
-    let tree = found_tree(alloc, log, found.board.as_slice())?;
-    let ordered = order(alloc, &tree, found.acts.as_slice(), lines)?;
-    let found = counted(alloc, found);
+    let LogFound {
+        board,
+        acts,
+        unseen,
+    } = find(alloc, tree, lines, log.phases.as_slice(), times)?;
+    let tree = found_tree(log, board)?;
+    let ordered = order(alloc, &tree, acts.as_slice(), lines)?;
     Ok(Told {
         tree,
-        found,
+        unseen,
         ordered,
     })
 }
 
-/// The tree of the board whose text was found.
-fn found_tree(alloc: Global, log: &Log, text: &[u8]) -> Result<Tree, Unfound> {
+/// The tree of the board that was found.
+fn found_tree(log: &Log, board: Board) -> Result<Tree, Unfound> {
     let line = u32::try_from(log.lines.as_slice().len()).unwrap_or(u32::MAX);
     let too_many = Unfound::TooManyOperations {
         line: line.saturating_sub(1),
     };
-    if text.len() >= 0x8000_0000 {
+    if !well_formed(&board) {
         return Err(too_many);
     }
-    match read_tree(alloc, text) {
+    match tree_of(board) {
         Ok(tree) => Ok(tree),
-        Err(Status::NoMemory) => Err(Unfound::NoMemory),
         Err(Status::BadBoard { fault, .. }) => Err(match fault {
             BoardFault::Tree(_) => Unfound::NoTree,
             BoardFault::Bound(bound) => Unfound::TooManyEvents { bound },
             BoardFault::Line(_) | BoardFault::Device(_) => too_many,
         }),
         Err(_) => Err(too_many),
-    }
-}
-
-/// The same without its board and its acts, which have their tree and their order.
-fn counted(alloc: Global, found: LogFound) -> LogFound {
-    let LogFound { notes, counts, .. } = found;
-    LogFound {
-        board: List::from_vec(Vec::new(alloc)),
-        acts: List::from_vec(Vec::new(alloc)),
-        notes,
-        counts,
     }
 }
 
@@ -231,18 +188,4 @@ fn header_line(log: &Log, board: &Board) -> u32
         }
     }
     last_number(log)
-}
-
-/// The text of the board that was found and of these events.
-fn written(
-    alloc: Global,
-    log: &Log,
-    tree: &Tree,
-    found: &LogFound,
-    events: &[Event],
-) -> Result<Vec<u8>, Untold> {
-    match text_of(alloc, log, tree, found, events)? {
-        Some(text) => Ok(text),
-        None => Err(unheld(log)),
-    }
 }

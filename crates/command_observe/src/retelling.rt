@@ -4,8 +4,8 @@ use crate::reading::{TreeLog, read_tree_log};
 use board_tree::Tree;
 use observe_found::Times;
 use observe_order::Ordered;
-use observe_told::{Log, RefusedLog, Retold, Unfound};
-use pci_command::NoMemory;
+use observe_told::{ActsTold, Log, RefusedLog, Retold, Unfound};
+use pci_command::{List, NoMemory};
 use program_status::Status;
 use std::alloc::Global;
 
@@ -45,11 +45,10 @@ fn retold(alloc: Global, read: TreeLog) -> Result<Retelling, NoMemory> {
     match tell(alloc, &tree, &log, Times::Meet) {
         Ok(told) => {
             let Told { tree, ordered, .. } = told;
-            let Ordered { told, .. } = ordered;
             Ok(Retelling {
-                tree,
-                told: Retold::Acts(told),
                 log,
+                tree,
+                told: Retold::Acts(acts_told(alloc, ordered)),
             })
         }
         Err(Unfound::NoMemory) => Err(NoMemory),
@@ -58,5 +57,19 @@ fn retold(alloc: Global, read: TreeLog) -> Result<Retelling, NoMemory> {
             told: Retold::Nothing(unfound),
             log,
         }),
+    }
+}
+
+/// The acts up to the one that is refused, and those behind it: none where none is.
+fn acts_told(alloc: Global, ordered: Ordered) -> ActsTold {
+    let Ordered { lines, stopped, .. } = ordered;
+    match stopped {
+        Some(told) => told,
+        None => ActsTold {
+            taken: lines.as_slice().len(),
+            acts: List::from_vec(Vec::new(alloc)),
+            lines,
+            refused: None,
+        },
     }
 }

@@ -1,7 +1,7 @@
 ghost use Rattle.std.specs.Prelude.{◌<◌, ◌^◌, length};
 
 use board_text::{NumberFault, check_line, decimal, hex, next_line};
-use plain_board::{TextFault, lines};
+use plain_decode::{TextFault, lines};
 use std::alloc::Global;
 use std::test::Fail;
 use text_faults::{AtLine, LineFault};

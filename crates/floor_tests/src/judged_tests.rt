@@ -2,10 +2,10 @@ ghost use Rattle.std.specs.Prelude.{IfNone, IsTrue};
 ghost use Rattle.board_model.specs.WellFormed.{is_well_formed};
 ghost use Rattle.history_model.specs.Runs.{Run, history_of};
 
+use board_form::well_formed;
 use board_model::{Board, Bridge, Lane, Master, Name, Op, Place, Planned, Range, Target, Window};
 use history_model::{By, Event, Mark, Step, Why};
 use pci_command::{Command, List, OpId, Outcome, Phase, Phases, Space};
-use plain_board::well_formed;
 use plain_replay::{allowed, complete};
 use std::alloc::Global;
 use std::process::Abort;

@@ -1,7 +1,7 @@
+use board_form::well_formed;
 use board_model::{Board, Master, Name, Op};
 use bus_agents::{MasterState, Through};
 use pci_command::{Command, List, OpId, Outcome, Phase, Phases, Space};
-use plain_board::well_formed;
 use std::alloc::Global;
 use std::test::Fail;
 

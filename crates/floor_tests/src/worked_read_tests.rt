@@ -1,10 +1,10 @@
 ghost use Rattle.history_model.specs.Runs.{Run, history_of};
 
+use board_form::well_formed;
 use board_model::{Board, Bridge, Lane, Master, Name, Op, Place, Range, Target, Window};
 use board_tree::{Tree, validate};
 use history_model::{By, Event, Mark, Step};
 use pci_command::{Command, List, OpId, Outcome, Phase, Phases, Space};
-use plain_board::well_formed;
 use plain_replay::{allowed, left, next_event};
 use std::alloc::Global;
 use std::process::Abort;

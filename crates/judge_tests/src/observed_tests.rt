@@ -1,7 +1,6 @@
 ghost use Rattle.std.specs.Prelude.{◌<◌, length};
 
-use observe_log::{LogFault, read_log};
-use observe_told::is_told;
+use observe_log::{LogFault, is_told, read_log};
 use pci_command::NoMemory;
 use std::alloc::Global;
 use std::test::Fail;

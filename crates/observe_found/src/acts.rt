@@ -21,7 +21,7 @@ impl Told<'_> {
     /// The acts of all lines, bus by bus, and there in the order of the lines.
     pub(crate) fn acts(&self) -> Result<Vec<SeenAct>, NoMemory> {
         let latched = self.latched()?;
-        let mut acts = Vec::new(self.ground.alloc);
+        let mut acts = Vec::with_capacity(self.ground.alloc, self.ground.lines.len())?;
         for bus in 0..=255u8 {
             for line in self.ground.on_bus(bus) {
                 let is_latched = latched.get(*line as usize).copied().unwrap_or(false);
@@ -34,8 +34,8 @@ impl Told<'_> {
     /// Of each line whether it latched a request.
     fn latched(&self) -> Result<Vec<bool>, NoMemory> {
         let mut latched = vec![in self.ground.alloc; false; self.ground.lines.len()]?;
-        for errand in &self.errands.all {
-            if let Some(line) = errand.latch {
+        for errand in 0..self.errands.count() {
+            if let Some(line) = self.errands.get(errand).latch {
                 if let Some(latched) = latched.get_mut(line as usize) {
                     *latched = true;
                 }

@@ -1,46 +1,41 @@
 use crate::ground::Ground;
-use crate::programs::{Draft, Programs};
-use crate::words::{Further, Openings, further_of};
+use crate::programs::Draft;
+use crate::words::{Further, further_of};
 use board_model::{Board, Bridge, Master, Name, Opening, Planned, Range, Target};
-use board_printer::print_board;
 use pci_command::{List, NoMemory};
 use std::alloc::Global;
 
-/// The text of the board that was found. It is read again, so that what it may have is judged in one
-/// place.
-pub(crate) fn found_text(
+/// The board that was found. Whether there may be such a board is not looked at here.
+pub(crate) fn found_board(
     ground: &Ground,
     bridges: Vec<Bridge>,
-    openings: &Openings,
-    programs: Programs,
+    further: &[Further],
+    masters: Vec<Draft>,
     discards: Vec<Planned>,
-) -> Result<List<u8>, NoMemory> {
-    let Programs { masters, .. } = programs;
-    let board = Board {
+) -> Result<Board, NoMemory> {
+    Ok(Board {
         bridges: List::from_vec(bridges),
-        targets: List::from_vec(targets(ground, openings)?),
-        masters: List::from_vec(all_masters(ground.alloc, masters)?),
+        targets: List::from_vec(targets(ground, further)?),
+        masters: List::from_vec(all_masters(ground, masters)?),
         discards: List::from_vec(discards),
         drops: List::from_vec(Vec::new(ground.alloc)),
-    };
-    print_board(ground.alloc, &board)
+    })
 }
 
-fn all_masters(alloc: Global, drafts: Vec<Draft>) -> Result<Vec<Master>, NoMemory> {
-    let mut masters = Vec::new(alloc);
+fn all_masters(ground: &Ground, drafts: Vec<Draft>) -> Result<Vec<Master>, NoMemory> {
+    let mut masters = Vec::new(ground.alloc);
     for draft in drafts {
-        masters.push(draft.into_master())?;
+        masters.push(draft.into_master(ground)?)?;
     }
     Ok(masters)
 }
 
-fn targets(ground: &Ground, openings: &Openings) -> Result<Vec<Target>, NoMemory> {
-    let further = openings.further(ground.alloc)?;
+fn targets(ground: &Ground, further: &[Further]) -> Result<Vec<Target>, NoMemory> {
     let mut targets = Vec::new(ground.alloc);
     for (place, target) in ground.board.targets.as_slice().iter().enumerate() {
         let place = u16::try_from(place).unwrap_or(u16::MAX);
         if let Some(name) = Name::new(target.name.bytes()) {
-            let own = further_of(further.as_slice(), place);
+            let own = further_of(further, place);
             let openings = openings_of(ground.alloc, target, own)?;
             targets.push(copy_target(ground.alloc, target, name, openings)?)?;
         }

@@ -72,13 +72,14 @@ fn rank_of(lanes: &[Lane], lane: Option<Lane>) -> Option<u32> {
 
 fn all_made(ground: &Ground, lanes: &[Lane], errands: &Errands) -> Result<Vec<Made>, NoMemory> {
     let mut all = Vec::new(ground.alloc);
-    for (far, errand) in errands.all.iter().enumerate() {
-        let rank = rank_of(lanes, errands.driver(ground, errand));
+    for far in 0..errands.count() {
+        let errand = errands.get(far);
+        let rank = rank_of(lanes, errands.driver(ground, &errand));
         if let (Some(rank), Some(ended)) = (rank, errand.ended) {
             all.push(Made {
                 rank,
                 place: ground.place(ended),
-                far: number(far),
+                far,
             })?;
         }
     }
@@ -89,9 +90,10 @@ fn all_made(ground: &Ground, lanes: &[Lane], errands: &Errands) -> Result<Vec<Ma
 /// Of each lane whether at some latch more slots were held than there are.
 fn crowded(ground: &Ground, lanes: &[Lane], errands: &Errands) -> Result<Vec<bool>, NoMemory> {
     let mut changes = Vec::new(ground.alloc);
-    for (far, errand) in errands.all.iter().enumerate() {
-        if let Some(rank) = rank_of(lanes, errands.driver(ground, errand)) {
-            list_changes(ground, errands, rank, number(far), &mut changes)?;
+    for far in 0..errands.count() {
+        let errand = errands.get(far);
+        if let Some(rank) = rank_of(lanes, errands.driver(ground, &errand)) {
+            list_changes(ground, errands, rank, far, &mut changes)?;
         }
     }
     changes.sort_unstable();

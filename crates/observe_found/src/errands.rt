@@ -1,4 +1,5 @@
 use crate::ground::{Ground, NO_TIME, Wanted, bump, number};
+use crate::maybe::{MaybeOp, MaybePlace};
 use board_model::{Lane, Place};
 use observe_told::{Ending, Seen, Who};
 use pci_command::{NoMemory, OpId};
@@ -33,12 +34,28 @@ pub(crate) struct Errand {
     pub(crate) op: Option<OpId>,
 }
 
+/// What is kept of an errand: the same in fewer bytes.
+#[derive(Clone, Copy, Debug)]
+struct Kept {
+    deadline: u64,
+    release: u64,
+    first: u32,
+    count: u32,
+    ended: MaybePlace,
+    shown: MaybePlace,
+    near: MaybePlace,
+    before: MaybePlace,
+    latch: MaybePlace,
+    last_far: MaybePlace,
+    op: MaybeOp,
+}
+
 /// All errands, by their first lines.
 #[derive(Debug, Drop)]
 pub(crate) struct Errands {
-    pub(crate) all: Vec<Errand>,
+    all: Vec<Kept>,
     lines: Vec<u32>,
-    of_lines: Vec<Option<u32>>,
+    of_lines: Vec<MaybePlace>,
 }
 
 /// By what a line is known as one of an errand.
@@ -48,6 +65,41 @@ struct Asked {
     master: Option<u16>,
     lane: Option<(u8, bool)>,
     wanted: Wanted,
+}
+
+impl Kept {
+    /// No line yet.
+    fn new() -> Kept {
+        Kept {
+            deadline: NO_TIME,
+            release: 0,
+            first: 0,
+            count: 0,
+            ended: MaybePlace::NONE,
+            shown: MaybePlace::NONE,
+            near: MaybePlace::NONE,
+            before: MaybePlace::NONE,
+            latch: MaybePlace::NONE,
+            last_far: MaybePlace::NONE,
+            op: MaybeOp::NONE,
+        }
+    }
+
+    fn errand(&self) -> Errand {
+        Errand {
+            first: self.first,
+            count: self.count,
+            ended: self.ended.get(),
+            shown: self.shown.get(),
+            deadline: self.deadline,
+            release: self.release,
+            near: self.near.get(),
+            before: self.before.get(),
+            latch: self.latch.get(),
+            last_far: self.last_far.get(),
+            op: self.op.get(),
+        }
+    }
 }
 
 impl Errands {
@@ -74,9 +126,9 @@ impl Errands {
         open: &mut HashMap<Asked, u32>,
         line: u32,
         seen: &Seen,
-    ) -> Result<Option<u32>, NoMemory> {
+    ) -> Result<MaybePlace, NoMemory> {
         if seen.is_posted() {
-            return Ok(None);
+            return Ok(MaybePlace::NONE);
         }
         let asked = key_of(ground, seen);
         let errand = match open.get(&asked).copied() {
@@ -86,22 +138,19 @@ impl Errands {
         if let Some(errand) = self.all.get_mut(errand as usize) {
             errand.count = errand.count.saturating_add(1);
             if seen.ending != Ending::Retry {
-                errand.ended = Some(line);
-                errand.shown = Some(line);
+                errand.ended = MaybePlace::some(line);
+                errand.shown = MaybePlace::some(line);
                 errand.deadline = seen.end;
                 errand.release = seen.start;
                 open.remove(&asked);
             }
         }
-        Ok(Some(errand))
+        Ok(MaybePlace::some(errand))
     }
 
     fn begin(&mut self, open: &mut HashMap<Asked, u32>, asked: Asked) -> Result<u32, NoMemory> {
         let errand = number(self.all.len());
-        self.all.push(Errand {
-            deadline: NO_TIME,
-            ..Errand::default()
-        })?;
+        self.all.push(Kept::new())?;
         open.insert(asked, errand)?;
         Ok(errand)
     }
@@ -117,8 +166,8 @@ impl Errands {
         }
         self.lines = vec![in ground.alloc; 0u32; total as usize]?;
         for (line, errand) in self.of_lines.iter().enumerate() {
-            if let Some(errand) = errand {
-                let slot = bump(&mut next, *errand as usize);
+            if let Some(errand) = errand.get() {
+                let slot = bump(&mut next, errand as usize);
                 if let Some(slot) = self.lines.get_mut(slot as usize) {
                     *slot = number(line);
                 }
@@ -127,14 +176,22 @@ impl Errands {
         Ok(())
     }
 
+    /// How many there are: they are numbered from 0.
+    pub(crate) fn count(&self) -> u32 {
+        number(self.all.len())
+    }
+
     /// The errand of this number.
     pub(crate) fn get(&self, errand: u32) -> Errand {
-        self.all.get(errand as usize).copied().unwrap_or_default()
+        match self.all.get(errand as usize) {
+            Some(kept) => kept.errand(),
+            None => Errand::default(),
+        }
     }
 
     /// The number of the errand that the line is of.
     pub(crate) fn of_line(&self, line: u32) -> Option<u32> {
-        self.of_lines.get(line as usize).copied().flatten()
+        self.of_lines.get(line as usize)?.get()
     }
 
     /// The lines of an errand, in the order of its bus: one at least.
@@ -192,46 +249,74 @@ impl Errands {
     /// The errand is of this operation.
     pub(crate) fn name(&mut self, errand: u32, op: OpId) {
         if let Some(errand) = self.all.get_mut(errand as usize) {
-            errand.op = Some(op);
+            errand.op = MaybeOp::some(op);
+        }
+    }
+
+    /// This line latched it.
+    pub(crate) fn latch(&mut self, errand: u32, line: u32) {
+        if let Some(errand) = self.all.get_mut(errand as usize) {
+            errand.latch = MaybePlace::some(line);
+        }
+    }
+
+    /// It first had an effect at this line, by this time.
+    pub(crate) fn show(&mut self, errand: u32, line: u32, deadline: u64) {
+        if let Some(errand) = self.all.get_mut(errand as usize) {
+            errand.shown = MaybePlace::some(line);
+            errand.deadline = deadline;
+        }
+    }
+
+    /// It can have ended from this time on.
+    pub(crate) fn release(&mut self, errand: u32, release: u64) {
+        if let Some(errand) = self.all.get_mut(errand as usize) {
+            errand.release = release;
         }
     }
 
     /// The far errand was made for the near one, last of all so far.
     pub(crate) fn give(&mut self, far: u32, near: u32) {
-        let before = self.get(near).last_far;
+        let before = match self.all.get(near as usize) {
+            Some(near) => near.last_far,
+            None => MaybePlace::NONE,
+        };
         if let Some(far) = self.all.get_mut(far as usize) {
-            far.near = Some(near);
+            far.near = MaybePlace::some(near);
             far.before = before;
         }
         if let Some(near) = self.all.get_mut(near as usize) {
-            near.last_far = Some(far);
+            near.last_far = MaybePlace::some(far);
         }
     }
 
     /// Nothing was made for any, as before the pairing.
     pub(crate) fn part_all(&mut self, ground: &Ground) {
         for errand in self.all.iter_mut() {
-            errand.near = None;
-            errand.before = None;
-            errand.latch = None;
-            errand.last_far = None;
+            errand.near = MaybePlace::NONE;
+            errand.before = MaybePlace::NONE;
+            errand.latch = MaybePlace::NONE;
+            errand.last_far = MaybePlace::NONE;
             errand.shown = errand.ended;
-            errand.deadline = errand.ended.map_or(NO_TIME, |line| ground.end(line));
-            errand.release = errand.ended.map_or(0, |line| ground.start(line));
+            let ended = errand.ended.get();
+            errand.deadline = ended.map_or(NO_TIME, |line| ground.end(line));
+            errand.release = ended.map_or(0, |line| ground.start(line));
         }
     }
 
     /// It was not: what was given last is taken back.
     pub(crate) fn take_back(&mut self, far: u32) {
-        let given = self.get(far);
-        if let Some(near) = given.near {
+        let Some(given) = self.all.get(far as usize).copied() else {
+            return;
+        };
+        if let Some(near) = given.near.get() {
             if let Some(near) = self.all.get_mut(near as usize) {
                 near.last_far = given.before;
             }
         }
         if let Some(far) = self.all.get_mut(far as usize) {
-            far.near = None;
-            far.before = None;
+            far.near = MaybePlace::NONE;
+            far.before = MaybePlace::NONE;
         }
     }
 }

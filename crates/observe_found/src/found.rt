@@ -1,13 +1,13 @@
 use crate::acts::Told;
-use crate::agents::found_text;
+use crate::agents::found_board;
 use crate::depths::{bridges, discards};
 use crate::errands::Errands;
 use crate::ground::{Ground, Times, number};
 use crate::pairing::pair;
-use crate::programs::Programs;
+use crate::programs::{Draft, Programs};
 use crate::streams::Streams;
-use crate::words::Openings;
-use board_model::{Lane, Place};
+use crate::words::{Further, further_words};
+use board_model::{Board, Bridge, Lane, Place, Planned};
 use board_tree::Tree;
 use observe_told::{Ending, Seen, SeenAct, Unfound, Who};
 use pci_command::{List, NoMemory, OpId, Phase};
@@ -52,14 +52,31 @@ pub struct Counts {
     pub fruitless: u32,
 }
 
-/// What a log tells: the text of the board with the programs of the masters, and the acts, bus by
-/// bus and there in the order of the lines.
+/// What cannot be seen in the acts.
 #[derive(Debug, Drop)]
-pub struct LogFound {
-    pub board: List<u8>,
-    pub acts: List<SeenAct>,
+pub struct Unseen {
     pub notes: List<Note>,
     pub counts: Counts,
+}
+
+/// What a log tells: the board with the programs of the masters, and the acts, bus by bus and there
+/// in the order of the lines.
+#[derive(Debug, Drop)]
+pub struct LogFound {
+    pub board: Board,
+    pub acts: List<SeenAct>,
+    pub unseen: Unseen,
+}
+
+/// What was found, before the programs are written out: errands and streams are let go first.
+#[derive(Debug, Drop)]
+struct Sought {
+    bridges: Vec<Bridge>,
+    further: Vec<Further>,
+    masters: Vec<Draft>,
+    discards: Vec<Planned>,
+    acts: Vec<SeenAct>,
+    notes: Vec<Note>,
 }
 
 /// What the lines of a log tell, of the board of this tree: errands, streams and cuts, who was
@@ -80,23 +97,55 @@ pub fn find(
 }
 
 fn find_on(ground: &Ground, lanes: &[Lane]) -> Result<LogFound, Unfound> {
+    let Sought {
+        bridges,
+        further,
+        masters,
+        discards,
+        acts,
+        notes,
+    } = seek(ground, lanes)?;
+    let counts = counts_of(ground, acts.as_slice());
+    let board = found_board(ground, bridges, further.as_slice(), masters, discards)?;
+    Ok(LogFound {
+        board,
+        acts: List::from_vec(acts),
+        unseen: Unseen {
+            notes: List::from_vec(notes),
+            counts,
+        },
+    })
+}
+
+fn seek(ground: &Ground, lanes: &[Lane]) -> Result<Sought, Unfound> {
     let mut errands = Errands::new(ground)?;
     let mut streams = Streams::new(ground, lanes)?;
     pair(ground, lanes, &streams, &mut errands)?;
     let programs = Programs::new(ground, &mut streams, &mut errands)?;
-    let openings = Openings::new(ground)?;
+    seek_acts(ground, lanes, &streams, &errands, programs)
+}
+
+fn seek_acts(
+    ground: &Ground,
+    lanes: &[Lane],
+    streams: &Streams,
+    errands: &Errands,
+    programs: Programs,
+) -> Result<Sought, Unfound> {
+    let further = further_words(ground)?;
     let mut notes = Vec::new(ground.alloc);
-    let discards = discards(ground, lanes, &errands, &mut notes)?;
-    let bridges = bridges(ground, &streams, &mut notes)?;
-    let acts = told_acts(ground, &streams, &errands, &programs)?;
-    note_rest(ground, &errands, &mut notes)?;
-    let counts = counts_of(ground, acts.as_slice());
-    let board = found_text(ground, bridges, &openings, programs, discards)?;
-    Ok(LogFound {
-        board,
-        acts: List::from_vec(acts),
-        notes: List::from_vec(notes),
-        counts,
+    let discards = discards(ground, lanes, errands, &mut notes)?;
+    let bridges = bridges(ground, streams, &mut notes)?;
+    let acts = told_acts(ground, streams, errands, &programs)?;
+    note_rest(ground, errands, &mut notes)?;
+    let Programs { masters, .. } = programs;
+    Ok(Sought {
+        bridges,
+        further,
+        masters,
+        discards,
+        acts,
+        notes,
     })
 }
 
@@ -117,15 +166,16 @@ fn told_acts(
 
 /// What was not looked at, and what did not end.
 fn note_rest(ground: &Ground, errands: &Errands, notes: &mut Vec<Note>) -> Result<(), NoMemory> {
-    for (place, errand) in errands.all.iter().enumerate() {
-        let op = errands.op_of(number(place));
-        let line = errands.first_line(errand);
+    for place in 0..errands.count() {
+        let errand = errands.get(place);
+        let op = errands.op_of(place);
+        let line = errands.first_line(&errand);
         let Some(seen) = ground.seen(line) else {
             continue;
         };
         match errand.ended {
             None if matches!(seen.who, Who::Master(_)) => {
-                let asked = number(errands.lines_of(errand).len());
+                let asked = number(errands.lines_of(&errand).len());
                 notes.push(Note::NotEnded { op, line, asked })?;
             }
             None => {}

@@ -96,9 +96,7 @@ impl Sides<'_> {
             return Ok(false);
         };
         for (far, latch) in fars.iter().rev().zip(latches.as_slice()) {
-            if let Some(far) = errands.all.get_mut(*far as usize) {
-                far.latch = Some(*latch);
-            }
+            errands.latch(*far, *latch);
         }
         let is_loose = strictness == Strictness::Loose;
         if !is_loose && !self.suffices(errands, nears, strictness) {
@@ -212,10 +210,8 @@ impl Sides<'_> {
         let (Some(near), Some(latch), None) = (given.near, given.latch, given.before) else {
             return;
         };
-        if let Some(near) = errands.all.get_mut(near as usize) {
-            near.shown = Some(latch);
-            near.deadline = self.ground.end(latch).min(given.deadline);
-        }
+        let deadline = self.ground.end(latch).min(given.deadline);
+        errands.show(near, latch, deadline);
     }
 
     /// Whether each near errand that ended has the outcome of its last far one, which was not taken
@@ -283,9 +279,7 @@ fn note_release(errands: &mut Errands, near: u32) {
         return;
     };
     let release = given.release.max(errands.get(far).release);
-    if let Some(near) = errands.all.get_mut(near as usize) {
-        near.release = release;
-    }
+    errands.release(near, release);
 }
 
 /// How a delayed line ended: a read with its first data phase, whatever came behind it.

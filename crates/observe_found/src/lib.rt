@@ -5,21 +5,19 @@
 mod acts;
 mod agents;
 mod choices;
-mod comments;
 mod depths;
 mod errands;
 mod found;
 mod ground;
 mod latches;
+mod maybe;
 mod pairing;
 mod pieces;
 mod programs;
 mod slots;
 mod streams;
-mod text;
 mod trial;
 mod words;
 
-pub use found::{Counts, LogFound, Note, find};
+pub use found::{Counts, LogFound, Note, Unseen, find};
 pub use ground::Times;
-pub use text::text_of;

@@ -95,20 +95,21 @@ pub(crate) fn pair(
 
 fn entries(ground: &Ground, lanes: &[Lane], errands: &Errands) -> Result<Vec<Entry>, NoMemory> {
     let mut entries = Vec::new(ground.alloc);
-    for (number_of, errand) in errands.all.iter().enumerate() {
+    for errand in 0..errands.count() {
+        let found = errands.get(errand);
         let ends = [
-            (true, errands.driver(ground, errand)),
-            (false, errands.claiming_lane(ground, errand)),
+            (true, errands.driver(ground, &found)),
+            (false, errands.claiming_lane(ground, &found)),
         ];
         for (is_far, lane) in ends {
             let rank = lane.and_then(|lane| lanes.iter().position(|found| *found == lane));
             if let Some(rank) = rank {
                 entries.push(Entry {
                     rank: number(rank),
-                    wanted: wanted(ground, errands.first_line(errand)),
-                    start: errands.start(ground, errand),
+                    wanted: wanted(ground, errands.first_line(&found)),
+                    start: errands.start(ground, &found),
                     is_far,
-                    errand: number(number_of),
+                    errand,
                 })?;
             }
         }

@@ -4,7 +4,7 @@ use crate::pieces::{Piece, pieces};
 use crate::streams::Streams;
 use board_model::{Master, Name, Op, Place};
 use observe_told::{Addressed, Ending, Seen, Unfound, Who};
-use pci_command::{Command, List, OpId, Phase, Phases};
+use pci_command::{Command, List, NoMemory, OpId, Phase, Phases};
 use std::collections::BTreeMap;
 
 /// How many agents a bus has at most, how many operations a master, and all masters.
@@ -14,13 +14,22 @@ const MOST_OPS: usize = 1024;
 
 const MOST_OPS_IN_ALL: usize = 65_536;
 
+/// What an operation is of: data phases of a posted line, the first and the one behind the last;
+/// what a posted line did not transfer; a delayed line, and of a read which of its dwords.
+#[derive(Clone, Copy, Debug)]
+enum Part {
+    Piece { line: u32, first: u32, end: u32 },
+    Rest { line: u32 },
+    Dword { line: u32, count: u32 },
+}
+
 /// A master of the board that is found: of a master of the log, or a further one that does what
 /// that one began while it had something else open.
 #[derive(Debug, Drop)]
 pub(crate) struct Draft {
-    pub(crate) name: Name,
-    pub(crate) bus: u8,
-    pub(crate) ops: Vec<Op>,
+    name: Name,
+    bus: u8,
+    ops: Vec<Part>,
     home: u16,
     /// From which place of the bus on it has nothing open.
     free: u32,
@@ -37,7 +46,7 @@ pub(crate) struct Programs {
 
 impl Draft {
     /// The master with its program.
-    pub(crate) fn into_master(self) -> Master {
+    pub(crate) fn into_master(self, ground: &Ground) -> Result<Master, NoMemory> {
         let Draft {
             name,
             bus,
@@ -45,10 +54,35 @@ impl Draft {
             home: _home,
             free: _free,
         } = self;
-        Master {
-            name,
-            bus,
-            ops: List::from_vec(ops),
+        let ops = ops_of(ground, ops.as_slice())?;
+        Ok(Master { name, bus, ops })
+    }
+}
+
+/// The operations of these parts.
+fn ops_of(ground: &Ground, parts: &[Part]) -> Result<List<Op>, NoMemory> {
+    let mut ops = Vec::with_capacity(ground.alloc, parts.len())?;
+    for part in parts {
+        if let Some(op) = op_of(ground, *part) {
+            ops.push(op)?;
+        }
+    }
+    Ok(List::from_vec(ops))
+}
+
+fn op_of(ground: &Ground, part: Part) -> Option<Op> {
+    match part {
+        Part::Piece { line, first, end } => {
+            let seen = ground.seen(line)?;
+            Some(write_of(ground, seen, Piece { first, end }))
+        }
+        Part::Rest { line } => {
+            let seen = ground.seen(line)?;
+            Some(rest_of(ground, line, seen))
+        }
+        Part::Dword { line, count } => {
+            let seen = ground.seen(line)?;
+            Some(delayed_of(ground, seen, count))
         }
     }
 }
@@ -135,14 +169,15 @@ impl Programs {
         let master = self.thread(ground, line, home, place)?;
         let pieces = pieces(ground, streams, line)?;
         for piece in &pieces {
-            let op = self.add(master, line, write_of(ground, line, *piece))?;
+            let Piece { first, end } = *piece;
+            let op = self.add(master, line, Part::Piece { line, first, end })?;
             for phase in piece.first..piece.end {
-                streams.name(phase, Some(op));
+                streams.name(phase, op);
             }
         }
         let seen = ground.seen(line);
-        if let Some(seen) = seen.filter(|seen| seen.ending != Ending::Done) {
-            let op = self.add(master, line, rest_of(ground, line, seen))?;
+        if seen.is_some_and(|seen| seen.ending != Ending::Done) {
+            let op = self.add(master, line, Part::Rest { line })?;
             self.alone.insert(line, op)?;
         }
         Ok(())
@@ -165,10 +200,10 @@ impl Programs {
         let until = found.ended.map_or(NO_PLACE, |line| ground.place(line));
         let shown = found.shown.unwrap_or(line);
         let master = self.thread(ground, shown, home, until)?;
-        let first = self.add(master, line, delayed_of(ground, seen, 0))?;
+        let first = self.add(master, line, Part::Dword { line, count: 0 })?;
         errands.name(errand, first);
-        for phase in 1..dwords(ground, &found, seen) {
-            self.add(master, line, delayed_of(ground, seen, phase))?;
+        for count in 1..dwords(ground, &found, seen) {
+            self.add(master, line, Part::Dword { line, count })?;
         }
         Ok(())
     }
@@ -226,7 +261,7 @@ impl Programs {
     }
 
     /// One more operation of the master.
-    fn add(&mut self, master: u16, line: u32, op: Op) -> Result<OpId, Unfound> {
+    fn add(&mut self, master: u16, line: u32, op: Part) -> Result<OpId, Unfound> {
         let too_many = Unfound::TooManyOperations { line };
         let Some(draft) = self.masters.get_mut(usize::from(master)) else {
             return Err(too_many);
@@ -263,7 +298,7 @@ fn dwords(ground: &Ground, errand: &Errand, first: &Seen) -> u32 {
     }
 }
 
-fn write_of(ground: &Ground, line: u32, piece: Piece) -> Op {
+fn write_of(ground: &Ground, seen: &Seen, piece: Piece) -> Op {
     let mut phases = Phases::new();
     for phase in piece.first..piece.end {
         if let Some(phase) = ground.phases.get(phase as usize) {
@@ -273,9 +308,7 @@ fn write_of(ground: &Ground, line: u32, piece: Piece) -> Op {
         }
     }
     Op::Write {
-        command: ground
-            .seen(line)
-            .map_or(Command::MemWrite, |seen| seen.command),
+        command: seen.command,
         address: ground.address_of(piece.first),
         phases,
     }

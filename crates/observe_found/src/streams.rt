@@ -1,4 +1,5 @@
 use crate::ground::{Ground, number};
+use crate::maybe::{MaybeOp, MaybePlace};
 use board_model::Lane;
 use observe_told::{Ending, HeldPhase, Unfound};
 use pci_command::{NoMemory, OpId, Phase};
@@ -28,6 +29,16 @@ pub(crate) struct Track {
     pub(crate) op: Option<OpId>,
 }
 
+/// What is kept of a data phase: the same in fewer bytes.
+#[derive(Clone, Copy, Debug)]
+struct Kept {
+    source: MaybePlace,
+    taker: MaybePlace,
+    op: MaybeOp,
+    is_lost: bool,
+    is_cut: bool,
+}
+
 /// Data phases of one near line, one behind the other, that an abort of a far line took away.
 #[derive(Clone, Copy, Debug, Default)]
 pub(crate) struct Lost {
@@ -54,8 +65,8 @@ pub(crate) struct Stream {
 /// The streams of all lanes.
 #[derive(Debug, Drop)]
 pub(crate) struct Streams {
-    pub(crate) of_lanes: Vec<Stream>,
-    pub(crate) tracks: Vec<Track>,
+    of_lanes: Vec<Stream>,
+    tracks: Vec<Kept>,
     pub(crate) lost: BTreeMap<u32, Lost>,
 }
 
@@ -67,6 +78,27 @@ struct Flow {
     /// How many lines of the near bus were looked at.
     near: usize,
     gone: u32,
+}
+
+impl Kept {
+    /// Nothing is known of it.
+    const NEW: Kept = Kept {
+        source: MaybePlace::NONE,
+        taker: MaybePlace::NONE,
+        op: MaybeOp::NONE,
+        is_lost: false,
+        is_cut: false,
+    };
+
+    fn track(&self) -> Track {
+        let lost = self.is_lost;
+        Track {
+            source: self.source.get(),
+            taker: self.taker.get().map(|line| Taker { line, lost }),
+            cut: self.is_cut,
+            op: self.op.get(),
+        }
+    }
 }
 
 impl Stream {
@@ -100,7 +132,7 @@ impl Streams {
     pub(crate) fn new(ground: &Ground, lanes: &[Lane]) -> Result<Streams, Unfound> {
         let mut streams = Streams {
             of_lanes: Vec::new(ground.alloc),
-            tracks: vec![in ground.alloc; Track::default(); ground.phases.len()]?,
+            tracks: vec![in ground.alloc; Kept::NEW; ground.phases.len()]?,
             lost: BTreeMap::new(ground.alloc),
         };
         for lane in lanes {
@@ -157,14 +189,15 @@ impl Streams {
 
     fn give(&mut self, phase: u32, source: u32, line: u32) {
         if let Some(track) = self.tracks.get_mut(phase as usize) {
-            track.source = Some(source);
+            track.source = MaybePlace::some(source);
         }
         self.take(source, Taker { line, lost: false });
     }
 
     fn take(&mut self, source: u32, taker: Taker) {
         if let Some(track) = self.tracks.get_mut(source as usize) {
-            track.taker = Some(taker);
+            track.taker = MaybePlace::some(taker.line);
+            track.is_lost = taker.lost;
         }
     }
 
@@ -217,7 +250,10 @@ impl Streams {
     }
 
     pub(crate) fn track(&self, phase: u32) -> Track {
-        self.tracks.get(phase as usize).copied().unwrap_or_default()
+        match self.tracks.get(phase as usize) {
+            Some(kept) => kept.track(),
+            None => Track::default(),
+        }
     }
 
     /// The cuts that the far bus of the lane made, or that were made beyond it.
@@ -260,7 +296,7 @@ impl Streams {
 
     fn mark_cut(&mut self, phase: u32) {
         if let Some(track) = self.tracks.get_mut(phase as usize) {
-            track.cut = true;
+            track.is_cut = true;
         }
     }
 
@@ -278,9 +314,9 @@ impl Streams {
     }
 
     /// The data phase is of this operation.
-    pub(crate) fn name(&mut self, phase: u32, op: Option<OpId>) {
+    pub(crate) fn name(&mut self, phase: u32, op: OpId) {
         if let Some(track) = self.tracks.get_mut(phase as usize) {
-            track.op = op;
+            track.op = MaybeOp::some(op);
         }
     }
 }

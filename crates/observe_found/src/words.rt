@@ -30,16 +30,22 @@ pub(crate) struct Further {
     pub(crate) opening: Opening,
 }
 
+/// The opening words of all targets beside those that the board of the log names, target by target.
+pub(crate) fn further_words(ground: &Ground) -> Result<Vec<Further>, Unfound> {
+    let openings = Openings::new(ground)?;
+    Ok(openings.further(ground.alloc)?)
+}
+
 /// What dwords opened as: their bytes as first read before they were written.
 #[derive(Debug, Drop)]
-pub(crate) struct Openings {
+struct Openings {
     dwords: BTreeMap<Dword, Known>,
     /// Of each target how many it has.
     counts: Vec<usize>,
 }
 
 impl Openings {
-    pub(crate) fn new(ground: &Ground) -> Result<Openings, Unfound> {
+    fn new(ground: &Ground) -> Result<Openings, Unfound> {
         let targets = ground.board.targets.as_slice();
         let mut openings = Openings {
             dwords: BTreeMap::new(ground.alloc),
@@ -137,9 +143,7 @@ impl Openings {
         Ok(())
     }
 
-    /// The opening words of all targets beside those that the board of the log names, target by
-    /// target.
-    pub(crate) fn further(&self, alloc: Global) -> Result<Vec<Further>, NoMemory> {
+    fn further(&self, alloc: Global) -> Result<Vec<Further>, NoMemory> {
         let mut all = Vec::new(alloc);
         for (dword, known) in &self.dwords {
             if known.opening != 0 {

@@ -4,3 +4,8 @@ pub mod EndLemmas
 pub mod PartLemmas
 pub mod BoardLemmas
 pub mod LineLemmas
+pub mod SameLemmas
+pub mod ActLemmas
+pub mod FollowLemmas
+pub mod BegunLemmas
+pub mod ToldLemmas

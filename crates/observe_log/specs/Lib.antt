@@ -6,3 +6,9 @@ pub mod Reading
 pub mod Boards
 pub mod Logs
 pub mod Parts
+pub mod SeenBoards
+pub mod Rows
+pub mod Acts
+pub mod Told
+pub mod Checks
+pub mod Loops

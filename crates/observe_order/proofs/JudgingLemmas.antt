@@ -1,20 +1,11 @@
--- For which events what is kept stands, and what arrivals that were put say of their acts.
+-- What arrivals that were put say of the acts of events.
 use Rattle.std.specs.Prelude.{ℕ, List}
 use Rattle.board_model.specs.declared.board.Board.{Board}
 use Rattle.history_model.specs.declared.event.Event.{Event}
 use Rattle.history_model.specs.declared.why.Why.{Why}
-use Rattle.history_model.specs.declared.rule.Rule.TheVariants.{Tagged}
 use Rattle.history_model.specs.Runs.{history_of}
-use Rattle.judge_state.specs.State.{KeptState}
-use Rattle.judge_state.specs.Stands.{StandsFor}
-use Rattle.law_early.specs.Early.{NothingFlies}
 use Rattle.judge_fill.specs.Filling.{Fills, ActRefused}
-use Rattle.observe_order.specs.Going.{EndsLanded}
 use Rattle.observe_order.specs.Judging.{ActsRun, ActsStop}
-
--- what is kept stands for a run
-pub ends_landed : (board : Board) (events : List Event) (kept : KeptState) → StandsFor board (history_of events) kept → NothingFlies Tagged board (history_of events) → EndsLanded board events
-ends_landed board events kept stands still = record { run = stands.run; landed = still }
 
 -- what is filled is a run of the acts, and what is not has an act that is refused
 

@@ -1,11 +1,10 @@
 ghost use Rattle.std.specs.Prelude.{IsTrue};
 ghost use Rattle.board_model.specs.WellFormed.{is_well_formed};
 
-use crate::heads::Candidate;
 use crate::reasons::Past;
 use board_model::{Place, end_of};
 use history_model::{By, Event, Step};
-use observe_told::{Refused, WhyNot};
+use observe_told::{Candidate, Refused, WhyNot};
 
 /// Which of the candidates is named, none of which is allowed: that whose line ended first; if it
 /// waits for what the next line of another bus has not sent, and is not refused for what it went

@@ -17,13 +17,13 @@ pub(crate) struct Going {
 }
 
 impl Going {
-    /// Before the first act.
-    pub(crate) fn new(alloc: Global, tree: &Tree) -> Result<Going, NoMemory>
+    /// Before the first act, with room for so many events.
+    pub(crate) fn new(alloc: Global, tree: &Tree, room: usize) -> Result<Going, NoMemory>
         ensures { IfOk result (λ going. IsGoing tree.now going.events.items going.course) }
     {
         let kept = Kept::new(alloc, tree)?;
         let course = Course::new(alloc, tree, kept)?;
-        let events = Vec::new(alloc);
+        let events = Vec::with_capacity(alloc, room)?;
         Ok(Going { events, course })
     }
 

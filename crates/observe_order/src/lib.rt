@@ -4,10 +4,9 @@
 
 mod blame;
 mod going;
-mod heads;
 mod judging;
 mod ordering;
 mod reasons;
 
-pub use judging::{ActsVerdict, is_still_run, verdict_of};
+pub use judging::{ActsVerdict, verdict_of};
 pub use ordering::{Ordered, order};

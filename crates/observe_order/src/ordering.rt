@@ -3,21 +3,40 @@ ghost use Rattle.observe_order.specs.Going.{IsGoing, EndsLanded};
 
 use crate::blame::blamed;
 use crate::going::Going;
-use crate::heads::{Candidate, Heads, event_of};
 use crate::reasons::Past;
 use board_tree::Tree;
 use history_model::Event;
-use observe_told::{ActsTold, Refused, Seen, SeenAct};
+use machine_steps::bus_of;
+use observe_told::{ActsTold, Heads, Refused, Seen, SeenAct, event_of};
 use pci_command::{List, NoMemory};
 use std::alloc::Global;
 
-/// The acts in their order: the run that those make which are allowed, with its arrivals; how many
-/// these are, and all acts with the places of their lines in the log. Where one is refused, it
-/// stands behind those that were taken, and behind it all others, by when their lines began.
+/// The run that the acts make which are allowed, with its arrivals, and of each of these acts the
+/// place of its line in the log.
 #[derive(Debug, Drop)]
 pub struct Ordered {
     pub events: List<Event>,
-    pub told: ActsTold,
+    pub lines: List<u32>,
+    /// Where one is refused: it stands behind those that were taken, and behind it all others, by
+    /// when their lines began.
+    pub stopped: Option<ActsTold>,
+}
+
+/// The same without the events.
+#[derive(Debug, Drop)]
+struct Taken {
+    lines: List<u32>,
+    stopped: Option<ActsTold>,
+}
+
+impl Ordered {
+    /// The act that is refused, if one is.
+    pub fn refused(&self) -> Option<Refused> {
+        match &self.stopped {
+            Some(told) => told.refused,
+            None => None,
+        }
+    }
 }
 
 /// The acts of a log, bus by bus, in an order that its times leave: each as soon as the machine
@@ -33,15 +52,16 @@ pub fn order(
 ) -> Result<Ordered, NoMemory>
     ensures { IfOk result (λ ordered. EndsLanded tree.now ordered.events) }
 {
-    let mut going = Going::new(alloc, tree)?;
-    let told = order_all(alloc, &mut going, tree, acts, lines)?;
+    let mut going = Going::new(alloc, tree, acts.len().saturating_mul(2))?;
+    let Taken { lines, stopped } = order_all(alloc, &mut going, tree, acts, lines)?;
     let Going {
         events,
         course: _course,
     } = going;
     Ok(Ordered {
         events: List::from_vec(events),
-        told,
+        lines,
+        stopped,
     })
 }
 
@@ -51,34 +71,34 @@ fn order_all(
     tree: &Tree,
     acts: &[SeenAct],
     lines: &[Seen],
-) -> Result<ActsTold, NoMemory>
+) -> Result<Taken, NoMemory>
     requires { IsGoing tree.now going.old.events.items going.old.course }
     ensures { OnOk result (IsGoing tree.now going.new.events.items going.new.course) }
 {
     let mut heads = Heads::new(alloc, acts, lines)?;
     let mut taken = Vec::with_capacity(alloc, acts.len())?;
-    let mut candidates = Vec::new(alloc);
-    go_on(going, tree, &mut heads, &mut taken, &mut candidates)?;
+    go_on(going, tree, &mut heads, &mut taken)?;
     tell(alloc, going, tree, &heads, taken)
 }
 
-/// Acts are taken as long as one is allowed.
+/// Acts are taken as long as one is allowed. Whether one is goes by what happened on its bus, so
+/// that one which is refused is not tried again before something does.
 fn go_on(
     going: &mut Going,
     tree: &Tree,
     heads: &mut Heads,
-    taken: &mut Vec<SeenAct>,
-    candidates: &mut Vec<Candidate>,
+    taken: &mut Vec<u32>,
 ) -> Result<(), NoMemory>
     requires { IsGoing tree.now going.old.events.items going.old.course }
     ensures { OnOk result (IsGoing tree.now going.new.events.items going.new.course) }
 {
     for _act in 0..heads.total() {
-        heads.list(candidates)?;
-        match take_first(going, tree, candidates.as_slice())? {
-            Some(candidate) => {
-                taken.push(candidate.act)?;
-                heads.advance(&candidate);
+        let before = going.events.len();
+        match take_first(going, tree, heads)? {
+            Some(place) => {
+                taken.push(heads.take(place))?;
+                let events = going.events.as_slice().get(before..);
+                stir(heads, tree, events.unwrap_or(&[]));
             }
             None => return Ok(()),
         }
@@ -86,61 +106,97 @@ fn go_on(
     Ok(())
 }
 
-/// The first of the candidates that is allowed, which is taken.
+/// These events happened: what was refused on their buses may be allowed now.
+fn stir(heads: &mut Heads, tree: &Tree, events: &[Event]) {
+    for event in events {
+        heads.stir(bus_of(tree.board(), event));
+    }
+}
+
+/// The place of the first of the candidates that is allowed: it happens.
 fn take_first(
     going: &mut Going,
     tree: &Tree,
-    candidates: &[Candidate],
-) -> Result<Option<Candidate>, NoMemory>
+    heads: &mut Heads,
+) -> Result<Option<usize>, NoMemory>
     requires { IsGoing tree.now going.old.events.items going.old.course }
     ensures { OnOk result (IsGoing tree.now going.new.events.items going.new.course) }
 {
-    for candidate in candidates {
-        if going.try_act(tree, &candidate.event)?.is_none() {
-            return Ok(Some(*candidate));
+    for place in 0..heads.candidates().len() {
+        let Some(event) = heads.untried(place) else {
+            continue;
+        };
+        if going.try_act(tree, &event)?.is_none() {
+            return Ok(Some(place));
         }
+        heads.refuse(place);
     }
     Ok(None)
 }
 
-/// The acts that were taken, and where one is left that which is named and all others.
+/// The lines of the acts that were taken, and where one is left that which is named and all others.
 fn tell(
     alloc: Global,
     going: &Going,
     tree: &Tree,
     heads: &Heads,
-    mut taken: Vec<SeenAct>,
-) -> Result<ActsTold, NoMemory> {
-    let mut candidates = Vec::new(alloc);
-    heads.list(&mut candidates)?;
-    let count = taken.len();
-    let refused = refused_of(going, tree, heads, taken.as_slice(), candidates.as_slice());
-    if let Some((candidate, _refused)) = refused {
-        list_left(alloc, heads, candidate.act, &mut taken)?;
-    }
-    Ok(ActsTold {
-        acts: List::from_vec(events_of(alloc, heads, taken.as_slice())?),
-        lines: List::from_vec(lines_of(alloc, heads, taken.as_slice())?),
-        taken: count,
-        refused: refused.map(|(_candidate, refused)| refused),
-    })
+    taken: Vec<u32>,
+) -> Result<Taken, NoMemory> {
+    let stopped = match heads.candidates() {
+        [] => None,
+        _ => stop(alloc, going, tree, heads, taken.as_slice())?,
+    };
+    let lines = List::from_vec(lines_at(heads, taken));
+    Ok(Taken { lines, stopped })
 }
 
-/// Which of the candidates is refused behind the acts that were taken, and why.
-fn refused_of(
+/// Which of the candidates is refused behind the acts that were taken, and all acts with it and
+/// the others behind them.
+fn stop(
+    alloc: Global,
     going: &Going,
     tree: &Tree,
     heads: &Heads,
-    taken: &[SeenAct],
-    candidates: &[Candidate],
-) -> Option<(Candidate, Refused)> {
+    taken: &[u32],
+) -> Result<Option<ActsTold>, NoMemory> {
+    let mut acts = acts_at(alloc, heads, taken)?;
+    let count = acts.len();
     let past = Past {
         kept: going.course.kept(),
         board: tree.board(),
-        taken,
+        taken: acts.as_slice(),
         heads,
     };
-    blamed(&past, candidates)
+    let Some((candidate, refused)) = blamed(&past, heads.candidates()) else {
+        return Ok(None);
+    };
+    list_left(alloc, heads, candidate.act, &mut acts)?;
+    Ok(Some(ActsTold {
+        acts: List::from_vec(events_of(alloc, heads, acts.as_slice())?),
+        lines: List::from_vec(lines_of(alloc, heads, acts.as_slice())?),
+        taken: count,
+        refused: Some(refused),
+    }))
+}
+
+/// The acts at these places.
+fn acts_at(alloc: Global, heads: &Heads, places: &[u32]) -> Result<Vec<SeenAct>, NoMemory> {
+    let mut acts = Vec::with_capacity(alloc, places.len())?;
+    for place in places {
+        if let Some(act) = heads.act(*place) {
+            acts.push(act)?;
+        }
+    }
+    Ok(acts)
+}
+
+/// The lines of the acts at these places, in place of them.
+fn lines_at(heads: &Heads, places: Vec<u32>) -> Vec<u32> {
+    let mut lines = places;
+    for place in lines.iter_mut() {
+        *place = heads.act(*place).map_or(0, |act| act.line);
+    }
+    lines
 }
 
 /// The act that is refused, and behind it all others that are left.

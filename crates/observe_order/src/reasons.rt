@@ -1,12 +1,11 @@
 ghost use Rattle.std.specs.Prelude.{IsTrue};
 ghost use Rattle.board_model.specs.WellFormed.{is_well_formed};
 
-use crate::heads::{Candidate, Heads};
 use board_model::{Board, Bridge, Lane, Place, bridge_to, end_of, request_of};
 use history_model::{Answer, By, Carried, Cause, Event, Step, Why};
 use judge_state::Kept;
 use machine_steps::Presented;
-use observe_told::{Brought, Ending, Seen, SeenAct, Who, WhyNot};
+use observe_told::{Brought, Candidate, Ending, Heads, Seen, SeenAct, Who, WhyNot};
 use pci_command::{OpId, Outcome, same_request};
 
 /// What the reasons are told by: what is kept of the run, the acts that were taken, and those that

@@ -1,19 +1,13 @@
-//! A log of what was seen on the buses, a line a transaction, and what it tells: which acts are
-//! those of its lines, each and all of them.
+//! A log of what was seen on the buses, a line a transaction, and what is said of one that is no
+//! run.
 #![tactic(auto)]
 
-mod acts;
-mod asked;
-mod boards;
+mod heads;
 mod refusal;
-mod row;
-mod rows;
 mod seen;
 mod seen_act;
-mod shown;
-mod told;
 
+pub use heads::{Candidate, Heads, event_of};
 pub use refusal::{ActsTold, Brought, HeldPhase, Refused, RefusedLog, Retold, Unfound, WhyNot};
 pub use seen::{Addressed, Ending, LineWord, Log, Seen, Who};
 pub use seen_act::SeenAct;
-pub use told::is_told;

@@ -2,3 +2,4 @@ pub mod Decoding
 pub mod ReadBack
 pub mod Hops
 pub mod Lengths
+pub mod Text

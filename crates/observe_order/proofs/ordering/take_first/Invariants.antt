@@ -2,5 +2,5 @@ use Rattle.observe_order.specs.Going.{IsGoing}
 use Rattle.observe_order.proofs.ordering.take_first.Given as goal
 
 -- the run goes on
-abbrev pub invariant-loop-candidate : goal.invariant-loop-candidate
-invariant-loop-candidate l = IsGoing l.tree l.going.events.items l.going.course
+abbrev pub invariant-loop-place : goal.invariant-loop-place
+invariant-loop-place l = IsGoing l.tree l.going.events.items l.going.course

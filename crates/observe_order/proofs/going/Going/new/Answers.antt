@@ -5,4 +5,4 @@ use Rattle.observe_order.proofs.going.Going.new.Goals as goal
 -- what is kept stands for no event
 pub returns : goal.returns
 returns c =
-    begins c.args.tree.now c.new-events.result.items c.in_ok-course.course c.new-events.ensures.items (c.in_ok-course.ensures [] c.in_ok-kept.ensures)
+    begins c.args.tree.now c.in_ok-events.events.items c.in_ok-course.course c.in_ok-events.ensures.items (c.in_ok-course.ensures [] c.in_ok-kept.ensures)

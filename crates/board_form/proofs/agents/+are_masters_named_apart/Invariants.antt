@@ -1,0 +1,5 @@
+use Rattle.std.proofs.Common.{length}
+use Rattle.board_form.proofs.agents.+are_masters_named_apart.Given as goal
+
+abbrev pub decreases-are_masters_named_apart : goal.decreases-are_masters_named_apart
+decreases-are_masters_named_apart l = length l.masters.now

@@ -1,0 +1,111 @@
+//! The run that a log tells of, with what is said of it.
+ghost use Rattle.std.specs.Prelude.{◌<◌, ◌^◌, length, string_bytes, IfOk, IsTrue};
+ghost use Rattle.board_model.specs.WellFormed.{is_well_formed};
+ghost use Rattle.law_early.specs.Early.{acts_of};
+ghost use Rattle.observe_log.specs.Told.{Tells};
+ghost use Rattle.observe_order.specs.Going.{EndsLanded};
+ghost use Rattle.command_observe.specs.Comments.{AreComments};
+ghost use Rattle.command_observe.specs.Judging.{IsRunOf};
+
+use crate::acting::acts_of;
+use crate::comments::are_comments;
+use crate::drafting::{Told, Untold, number_of, told_by, unheld};
+use crate::notes::comments;
+use crate::reading::TreeLog;
+use board_tree::Tree;
+use history_model::Event;
+use observe_found::Unseen;
+use observe_log::is_told;
+use observe_order::Ordered;
+use observe_told::Log;
+use pci_command::{List, NoMemory};
+use program_status::LogRefusal;
+use std::alloc::Global;
+
+/// A run of the board of a tree, and what is said of it.
+#[derive(Debug, Drop)]
+pub(crate) struct RunTold {
+    pub(crate) tree: Tree,
+    pub(crate) events: List<Event>,
+    pub(crate) said: String,
+}
+
+/// The run that the log tells of.
+pub(crate) fn run_told(alloc: Global, read: &TreeLog) -> Result<RunTold, Untold>
+    requires { IsTrue (is_well_formed read.now.log.board) }
+    ensures { IfOk result (IsRunOf read.now.log) }
+{
+    let Told {
+        tree,
+        unseen,
+        ordered,
+    } = told_by(alloc, read)?;
+    let said = said_of_run(alloc, &read.log, &tree, &unseen, &ordered)?;
+    let Ordered { events, .. } = ordered;
+    Ok(RunTold { tree, events, said })
+}
+
+/// What is said of what was found, where it is a run that the log tells of.
+fn said_of_run(
+    alloc: Global,
+    log: &Log,
+    tree: &Tree,
+    unseen: &Unseen,
+    ordered: &Ordered,
+) -> Result<String, Untold>
+    requires { IsTrue (is_well_formed log.now.board) }
+    ensures few { IfOk result (λ _. length ordered.now.events < 2 ^ 32) }
+    ensures told { IfOk result (λ _. Tells log.now tree.now (acts_of ordered.now.events)) }
+    ensures comments { IfOk result (λ said. AreComments (string_bytes said)) }
+{
+    if let Some(refused) = ordered.refused() {
+        return Err(Untold::NotTold {
+            line: number_of(log, refused.line),
+            refusal: LogRefusal::Cause(refused.why),
+        });
+    }
+    let events = ordered.events.as_slice();
+    if events.len() > 0xffff_ffff {
+        return Err(unheld(log));
+    }
+    if !is_told_by(alloc, log, tree, events, ordered.lines.as_slice())? {
+        return Err(unheld(log));
+    }
+    let said = said_of(alloc, log, tree, unseen)?;
+    Ok(said)
+}
+
+/// What is said of what was found.
+pub(crate) fn said_of(
+    alloc: Global,
+    log: &Log,
+    tree: &Tree,
+    unseen: &Unseen,
+) -> Result<String, Untold>
+    ensures { IfOk result (λ said. AreComments (string_bytes said)) }
+{
+    let said = comments(alloc, log, tree.board(), unseen)?;
+    if are_comments(said.as_bytes()) {
+        Ok(said)
+    } else {
+        Err(unheld(log))
+    }
+}
+
+/// Whether the log tells of the acts of these events, where the acts are of the lines at these
+/// places of the log.
+#[tactic(auto, using(crate::proofs::AnswerLemmas::told_by))]
+pub(crate) fn is_told_by(
+    alloc: Global,
+    log: &Log,
+    tree: &Tree,
+    events: &[Event],
+    lines: &[u32],
+) -> Result<bool, NoMemory>
+    requires { IsTrue (is_well_formed log.now.board) }
+    ensures { IfOk result (λ told. IsTrue told → Tells log.now tree.now (acts_of events.now)) }
+{
+    let acts = acts_of(alloc, events)?;
+    let told = is_told(alloc, log, tree.board(), acts.as_slice(), lines)?;
+    Ok(told)
+}

@@ -1,5 +1,0 @@
-pub mod SameLemmas
-pub mod ActLemmas
-pub mod FollowLemmas
-pub mod BegunLemmas
-pub mod ToldLemmas

@@ -1,6 +1,0 @@
-use Rattle.observe_told.specs.Loops.{FollowSo}
-use Rattle.observe_told.proofs.told.all_follow.Given as goal
-
--- the acts so far follow
-abbrev pub invariant-loop-k : goal.invariant-loop-k
-invariant-loop-k l = FollowSo l.log l.board l.acts l.lines l.initial.shown l.shown l.k

@@ -1,0 +1,245 @@
+use crate::{Seen, SeenAct, Who};
+use history_model::{By, Event};
+use pci_command::NoMemory;
+use std::alloc::Global;
+
+/// The acts of a bus that are left: the place of the next, and the one behind the last.
+#[derive(Clone, Copy, Debug)]
+struct Head {
+    bus: u8,
+    next: usize,
+    end: usize,
+}
+
+/// The next act of a bus.
+#[derive(Clone, Copy, Debug)]
+pub struct Candidate {
+    start: u64,
+    pub end: u64,
+    pub line: u32,
+    pub act: SeenAct,
+    pub event: Event,
+    head: usize,
+    pub bus: u8,
+    /// It was refused, and nothing happened on its bus since.
+    is_refused: bool,
+}
+
+/// The acts that are left of each bus.
+#[derive(Debug, Drop)]
+pub struct Heads<'a> {
+    acts: &'a [SeenAct],
+    lines: &'a [Seen],
+    heads: Vec<Head>,
+    /// The next act of each bus, by when its line began.
+    candidates: Vec<Candidate>,
+}
+
+impl<'a> Heads<'a> {
+    /// All acts, which stand bus by bus.
+    pub fn new(
+        alloc: Global,
+        acts: &'a [SeenAct],
+        lines: &'a [Seen],
+    ) -> Result<Heads<'a>, NoMemory> {
+        let mut heads = Vec::new(alloc);
+        for (place, act) in acts.iter().enumerate() {
+            if let Some(seen) = lines.get(act.line as usize) {
+                list(&mut heads, seen.bus, place)?;
+            }
+        }
+        let mut all = Heads {
+            acts,
+            lines,
+            heads,
+            candidates: Vec::new(alloc),
+        };
+        for head in 0..all.heads.len() {
+            if let Some(candidate) = all.candidate(head) {
+                all.candidates.push(candidate)?;
+            }
+        }
+        all.candidates
+            .sort_unstable_by_key(|candidate| (candidate.start, candidate.line));
+        Ok(all)
+    }
+
+    /// The lines of the log.
+    pub fn seen(&self, line: u32) -> Option<&'a Seen> {
+        self.lines.get(line as usize)
+    }
+
+    /// The lines before this one.
+    pub fn before(&self, line: u32) -> &'a [Seen] {
+        self.lines.get(..line as usize).unwrap_or(&[])
+    }
+
+    /// The act at this place.
+    pub fn act(&self, place: u32) -> Option<SeenAct> {
+        self.acts.get(place as usize).copied()
+    }
+
+    /// How many acts there are in all.
+    pub fn total(&self) -> usize {
+        self.acts.len()
+    }
+
+    /// The next acts that no line which ended before keeps from being the next of all, by when
+    /// their lines began.
+    pub fn candidates(&self) -> &[Candidate] {
+        let all = self.candidates.as_slice();
+        let mut first_end = u64::MAX;
+        for candidate in all {
+            first_end = first_end.min(candidate.end);
+        }
+        let count = all.partition_point(|candidate| candidate.start <= first_end);
+        all.get(..count).unwrap_or(all)
+    }
+
+    /// The act of the candidate at this place, unless it cannot be allowed.
+    pub fn untried(&self, place: usize) -> Option<Event> {
+        let candidate = self.candidates.get(place)?;
+        if candidate.is_refused {
+            None
+        } else {
+            Some(candidate.event)
+        }
+    }
+
+    /// The candidate at this place was refused.
+    pub fn refuse(&mut self, place: usize) {
+        if let Some(candidate) = self.candidates.get_mut(place) {
+            candidate.is_refused = true;
+        }
+    }
+
+    /// The candidate at this place was taken: its bus goes on to the next act. The place of the act
+    /// among all.
+    pub fn take(&mut self, place: usize) -> u32 {
+        let head = self.candidates.get(place).map_or(0, |taken| taken.head);
+        let act = self.heads.get(head).map_or(0, |head| head.next);
+        if let Some(head) = self.heads.get_mut(head) {
+            head.next = head.next.saturating_add(1);
+        }
+        match self.candidate(head) {
+            Some(next) => put(&mut self.candidates, place, next),
+            None => self.close(place),
+        }
+        u32::try_from(act).unwrap_or(u32::MAX)
+    }
+
+    fn close(&mut self, place: usize) {
+        if place < self.candidates.len() {
+            self.candidates.remove(place);
+        }
+    }
+
+    /// Something happened on this bus: what was refused there may be allowed now.
+    pub fn stir(&mut self, bus: u8) {
+        for candidate in self.candidates.iter_mut() {
+            if candidate.bus == bus {
+                candidate.is_refused = false;
+            }
+        }
+    }
+
+    fn candidate(&self, place: usize) -> Option<Candidate> {
+        let head = self.heads.get(place).filter(|head| head.next < head.end)?;
+        let act = *self.acts.get(head.next)?;
+        let seen = self.seen(act.line)?;
+        Some(Candidate {
+            start: seen.start,
+            end: seen.end,
+            line: act.line,
+            act,
+            event: event_of(seen, act),
+            head: place,
+            bus: head.bus,
+            is_refused: false,
+        })
+    }
+
+    /// The acts of the bus that are left.
+    pub fn left_on(&self, bus: u8) -> &'a [SeenAct] {
+        match self.heads.iter().find(|head| head.bus == bus) {
+            Some(head) => self.acts.get(head.next..head.end).unwrap_or(&[]),
+            None => &[],
+        }
+    }
+
+    /// All acts that are left, by when their lines began.
+    pub fn left(&self, alloc: Global) -> Result<Vec<SeenAct>, NoMemory> {
+        let mut left = Vec::new(alloc);
+        for head in &self.heads {
+            let acts = self.acts.get(head.next..head.end).unwrap_or(&[]);
+            left.extend_from_slice(acts)?;
+        }
+        let lines = self.lines;
+        left.sort_by_key(|act| {
+            (
+                lines.get(act.line as usize).map_or(0, |seen| seen.start),
+                act.line,
+            )
+        })?;
+        Ok(left)
+    }
+}
+
+/// The next act of the bus of the candidate at this place, whose line began no earlier.
+fn put(candidates: &mut Vec<Candidate>, place: usize, next: Candidate) {
+    if let Some(candidate) = candidates.get_mut(place) {
+        *candidate = next;
+    }
+    for at in place..candidates.len() {
+        let behind = at.saturating_add(1);
+        if candidates.len() <= behind || !is_later(&candidates[at], &candidates[behind]) {
+            break;
+        }
+        candidates.swap(at, behind);
+    }
+}
+
+/// Whether its line began later.
+fn is_later(one: &Candidate, other: &Candidate) -> bool {
+    (other.start, other.line) < (one.start, one.line)
+}
+
+/// The act at this place is of this bus.
+fn list(heads: &mut Vec<Head>, bus: u8, place: usize) -> Result<(), NoMemory> {
+    if is_last_of(heads.as_slice(), bus) {
+        lengthen(heads.as_mut_slice(), place.saturating_add(1));
+        return Ok(());
+    }
+    heads.push(Head {
+        bus,
+        next: place,
+        end: place.saturating_add(1),
+    })?;
+    Ok(())
+}
+
+fn is_last_of(heads: &[Head], bus: u8) -> bool {
+    heads.last().is_some_and(|head| head.bus == bus)
+}
+
+/// The acts of the last bus end here.
+fn lengthen(heads: &mut [Head], end: usize) {
+    if let Some(head) = heads.last_mut() {
+        head.end = end;
+    }
+}
+
+/// The act as an event.
+pub fn event_of(seen: &Seen, act: SeenAct) -> Event {
+    let by = match seen.who {
+        Who::Master(_) => By::Master,
+        Who::Lane(lane) => By::Lane(lane),
+    };
+    Event::Act {
+        bus: seen.bus,
+        by,
+        op: act.op,
+        step: act.step,
+        place: act.place,
+    }
+}

@@ -1,5 +1,0 @@
-use Rattle.std.proofs.Common.{length}
-use Rattle.plain_board.proofs.bridges.+are_numbered_apart.Given as goal
-
-abbrev pub decreases-are_numbered_apart : goal.decreases-are_numbered_apart
-decreases-are_numbered_apart l = length l.bridges.now

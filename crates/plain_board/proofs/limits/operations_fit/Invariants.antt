@@ -1,7 +1,0 @@
-use Rattle.std.proofs.Common.{◌≡◌, ◌+◌, drop}
-use Rattle.board_model.specs.WellFormed.{operations_in}
-use Rattle.plain_board.proofs.limits.operations_fit.Given as goal
-
--- the same of all programs
-abbrev pub invariant-loop-master : goal.invariant-loop-master
-invariant-loop-master l = operations_in l.masters + l.left ≡ 65536 + operations_in (drop l.master-index l.masters)
