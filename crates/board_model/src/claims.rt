@@ -52,9 +52,7 @@ pub fn is_in_ranges(ranges: &[Range], space: Space, address: u128) -> bool
 fn is_low_in_ranges(ranges: &[Range], space: Space, address: u64) -> bool
     ensures { result ≡ list_any (range_holds space address) ranges.now }
 {
-    ranges
-        .iter()
-        .any(|range| holds_low(range, space, address))
+    ranges.iter().any(|range| holds_low(range, space, address))
 }
 
 #[tactic(auto, using(crate::proofs::RangeLemmas::below_end))]

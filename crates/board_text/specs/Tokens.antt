@@ -45,8 +45,8 @@ words_of line = words_in (uncommented line)
 abbrev pub IsFirstToken : List ℕ → List ℕ → List ℕ → Type 0
 IsFirstToken text word behind =
     (from : ℕ) → placed from (slice_split is_separator text)
-        ≡ record { start = from + (length text - length behind - length word); end = from + (length text - length behind) }
-        ∷ placed (from + (length text - length behind)) (slice_split is_separator behind)
+    ≡ record { start = from + (length text - length behind - length word); end = from + (length text - length behind) }
+    ∷ placed (from + (length text - length behind)) (slice_split is_separator behind)
 
 -- the slice at a token of a line that begins at this place
 abbrev pub slice_at : ℕ → List ℕ → Token → List ℕ

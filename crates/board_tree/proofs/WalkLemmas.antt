@@ -115,9 +115,9 @@ walk_goes_on bus_of test xs chains bus place onwards chained elsewhere inside fa
       λ k x before at. elim (cases_lt k place) as (λ _. test x ≡ false) [
         | inl earlier ↦ fails k x earlier at
         | inr later ↦ elim (cases_eq k place) as (λ _. test x ≡ false) [
-            | inl same_place ↦ here x (subst (λ (n : ℕ). slice_get xs n ≡ Some x) same_place at)
-            | inr beyond ↦ elsewhere x (passed_by bus_of xs bus (place + 1) onwards next k x (omega (arith, later, beyond)) before at)
-          ]
+          | inl same_place ↦ here x (subst (λ (n : ℕ). slice_get xs n ≡ Some x) same_place at)
+          | inr beyond ↦ elsewhere x (passed_by bus_of xs bus (place + 1) onwards next k x (omega (arith, later, beyond)) before at)
+        ]
       ],
       reached bus_of xs bus (place + 1) onwards next,
     )

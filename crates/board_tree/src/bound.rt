@@ -154,12 +154,7 @@ pub(crate) fn longest_way(board: &Board, sites: Option<&Sites>, masters: &[Maste
 {
     let mut longest = 0u8;
     for master in masters {
-        longest = longest.max(longest_way_of(
-            board,
-            sites,
-            master.bus,
-            master.ops.as_slice(),
-        ));
+        longest = longest.max(longest_way_of(board, sites, master.bus, master.ops.as_slice()));
     }
     longest
 }

@@ -44,11 +44,7 @@ fn begins_comment(line: &[u8]) -> bool
 }
 
 /// The trace text with these comments behind the first line of its board.
-pub(crate) fn with_comments(
-    alloc: Global,
-    text: &[u8],
-    said: &[u8],
-) -> Result<Vec<u8>, AllocError>
+pub(crate) fn with_comments(alloc: Global, text: &[u8], said: &[u8]) -> Result<Vec<u8>, AllocError>
     requires { AreComments said.now }
     ensures { (board : Board) (events : List Event) → trace_read text.now ≡ Ok (board, events) →
         IfOk result (λ whole. trace_read whole.items ≡ Ok (board, events)) }
@@ -82,12 +78,7 @@ fn behind_two_lines(text: &[u8]) -> Option<usize>
     Some(place)
 }
 
-fn joined(
-    alloc: Global,
-    front: &[u8],
-    said: &[u8],
-    rest: &[u8],
-) -> Result<Vec<u8>, AllocError>
+fn joined(alloc: Global, front: &[u8], said: &[u8], rest: &[u8]) -> Result<Vec<u8>, AllocError>
     ensures { IfOk result (λ whole. whole.items ≡ front.now ++ (said.now ++ rest.now)) }
 {
     let size = front.len().saturating_add(said.len());

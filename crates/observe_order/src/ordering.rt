@@ -114,11 +114,7 @@ fn stir(heads: &mut Heads, tree: &Tree, events: &[Event]) {
 }
 
 /// The place of the first of the candidates that is allowed: it happens.
-fn take_first(
-    going: &mut Going,
-    tree: &Tree,
-    heads: &mut Heads,
-) -> Result<Option<usize>, NoMemory>
+fn take_first(going: &mut Going, tree: &Tree, heads: &mut Heads) -> Result<Option<usize>, NoMemory>
     requires { IsGoing tree.now going.old.events.items going.old.course }
     ensures { OnOk result (IsGoing tree.now going.new.events.items going.new.course) }
 {
