@@ -10,7 +10,8 @@ mod words;
 mod write;
 
 pub use named::first_named;
-pub(crate) use stretches::{count_below, is_behind, stretches_of};
+pub(crate) use lists::Listed;
+pub(crate) use stretches::{Stretches, count_below, is_behind, stretches_of};
 pub use table::Writers;
 pub use write::WordWrite;
 pub(crate) use write::WordWrites;

@@ -8,10 +8,10 @@ ghost use Rattle.safe_table.specs.Polls.{is_clean_write, raises_it, staying};
 ghost use Rattle.safe_table.specs.Writes.{ListsWrites, writes_at};
 
 use crate::known::ClockTable;
-use crate::polls::awaited::{Awaited, any_of, awaited_by};
+use crate::polls::awaited::{Awaited, awaited_by};
 use crate::polls::looks::is_any_before;
 use crate::polls::stays::{is_any_first_before, is_any_reached, raisers_among};
-use crate::writers::{WordWrite, Writers, stretches_of};
+use crate::writers::{Listed, Stretches, WordWrite, Writers, stretches_of};
 use board_model::Board;
 use pci_command::{NoMemory, OpId};
 use std::alloc::Global;
@@ -85,13 +85,24 @@ fn is_behind_some(awaited: &Awaited, table: &ClockTable, writers: &Writers, poll
     ensures { result ≡ any_before table.now poll (writes_at awaited.now.word writers.now) }
 {
     match writers.lists(*awaited) {
-        Some(listed) => is_any_first_before(table, poll, listed.writes),
+        Some(listed) => is_any_first_before(table, poll, listed.writes.runs()),
         None => is_any_before(table, poll, writers.of_word(awaited.word)),
     }
 }
 
-/// Of the raisers of a poll those that tell it what all do. Where the writes of its dword are too
-/// many to be listed under its mask they are put together anew.
+/// All writes of a dword, where none are listed.
+fn alone(writes: &Stretches) -> Listed<'_>
+    ensures writes { result.writes.now ≡ writes.now }
+    ensures raising { result.raising.now ≡ writes.now }
+{
+    Listed {
+        writes,
+        raising: writes,
+    }
+}
+
+/// Of the raisers of a poll those that tell it what all do. Where the writes of its dword are not
+/// listed they are put together anew.
 fn raisers_for(
     alloc: Global,
     awaited: Awaited,
@@ -105,12 +116,10 @@ fn raisers_for(
         (writes_at awaited.word writers.now))) }
 {
     if let Some(listed) = writers.lists(awaited) {
-        return raisers_among(alloc, table, poll, listed.writes, listed.raising);
+        return raisers_among(alloc, table, poll, awaited, listed);
     }
-    let words = writers.of_word(awaited.word);
-    let writes = stretches_of(alloc, any_of(awaited.word), words)?;
-    let raising = stretches_of(alloc, awaited, words)?;
-    let found = raisers_among(alloc, table, poll, writes.as_slice(), raising.as_slice())?;
+    let writes = stretches_of(alloc, writers.of_word(awaited.word))?;
+    let found = raisers_among(alloc, table, poll, awaited, alone(&writes))?;
     Ok(found)
 }
 
@@ -128,12 +137,10 @@ fn is_raised_for(
         (writes_at awaited.word writers.now)) }
 {
     if let Some(listed) = writers.lists(awaited) {
-        return Ok(is_any_reached(table, poll, listed.writes, listed.raising));
+        return Ok(is_any_reached(table, poll, awaited, listed));
     }
-    let words = writers.of_word(awaited.word);
-    let writes = stretches_of(alloc, any_of(awaited.word), words)?;
-    let raising = stretches_of(alloc, awaited, words)?;
-    Ok(is_any_reached(table, poll, writes.as_slice(), raising.as_slice()))
+    let writes = stretches_of(alloc, writers.of_word(awaited.word))?;
+    Ok(is_any_reached(table, poll, awaited, alone(&writes)))
 }
 
 impl KeptPoll {
