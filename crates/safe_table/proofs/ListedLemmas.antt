@@ -17,11 +17,12 @@ use Rattle.safe_model.specs.Raisers.{is_whole}
 use Rattle.safe_table.specs.declared.polls.awaited.Awaited.{Awaited}
 use Rattle.safe_table.specs.declared.writers.write.WordWrite.{WordWrite}
 use Rattle.safe_table.specs.Rows.{ProgramRows}
+use Rattle.safe_table.specs.Landing.{joined}
 use Rattle.safe_table.specs.Looks.{any_before, is_reached_in, TellAlike, most_in}
 use Rattle.safe_table.specs.Polls.{raises_it, is_clean_write, staying}
 use Rattle.safe_table.specs.Stretches.{is_last_of, AreAmong, stay}
 use Rattle.safe_table.specs.Writes.{writes_at}
-use Rattle.safe_table.specs.Lists.{same_awaited, found_for, TakesAwaited, PutsAwaited, AddsFor, same_mask, mask_of, any_of, met_by, AddsUnder, is_whole_at, shared_from, shared_bits, ListsFacts, is_listed, KeepsLists, AwaitsOnly, AreListed}
+use Rattle.safe_table.specs.Lists.{same_awaited, found_for, TakesAwaited, PutsAwaited, AddsFor, same_mask, mask_of, any_of, met_by, AddsUnder, is_whole_at, is_last_if_raising, shared_from, shared_bits, ListsFacts, is_listed, KeepsLists, AwaitsOnly, AreListed}
 
 and_true : (b : Bool) → (b && true) ≡ b
 and_true true = refl
@@ -413,23 +414,43 @@ clean_so entries facts awaited raising whole clean keeps found whole_is is =
     ∙ ap (λ b. list_all is_last_of (filter (raises_it awaited) all) && b) whole_is
     ∙ sym (clean_parts awaited all)
 
--- where not each write writes all that the mask looks at
-pub not_clean : (awaited : Awaited) (ws : List WordWrite) → list_all (is_whole_at awaited) ws ≡ false → false ≡ list_all (is_clean_write awaited) ws
-not_clean awaited ws is = sym (clean_parts awaited ws ∙ ap (λ b. list_all is_last_of (filter (raises_it awaited) ws) && b) is ∙ and_false (list_all is_last_of (filter (raises_it awaited) ws)))
+two_core : (whole met last wholes lasts : Bool) → ((whole && (not met || last)) && (wholes && lasts)) ≡ ((whole && wholes) && ((last || not met) && lasts))
+two_core true true true wholes lasts = refl
+two_core true true false wholes lasts = sym (and_false wholes)
+two_core true false true wholes lasts = refl
+two_core true false false wholes lasts = refl
+two_core false met last wholes lasts = refl
 
-all_filter : (kept : WordWrite → Bool) (ws : List WordWrite) → list_all is_last_of ws ≡ true → list_all is_last_of (filter kept ws) ≡ true
-all_filter kept [] all = refl
-all_filter kept (w ∷ ws) all =
-    let parts = and_parts w.last (list_all is_last_of ws) all in
-    let rest : List WordWrite = filter kept ws in
-    let later : list_all is_last_of rest ≡ true = all_filter kept ws parts.1 in
-    let P : Bool → Type 0 = λ b. list_all is_last_of (cond b (w ∷ rest) rest) ≡ true in
-    elim (kept w) as P [ true ↦ ap (λ b. b && list_all is_last_of rest) parts.0 ∙ later | false ↦ later ]
+clean_in_two : (awaited : Awaited) (ws : List WordWrite) → list_all (is_clean_write awaited) ws ≡ (list_all (is_whole_at awaited) ws && list_all (is_last_if_raising awaited) ws)
+clean_in_two awaited [] = refl
+clean_in_two awaited (w ∷ ws) =
+    ap (λ b. is_clean_write awaited w && b) (clean_in_two awaited ws)
+    ∙ two_core (is_whole awaited.mask w.phase) (raises_it awaited w) w.last (list_all (is_whole_at awaited) ws) (list_all (is_last_if_raising awaited) ws)
 
--- where each does, and the dword is the last of each
-pub all_clean : (awaited : Awaited) (ws : List WordWrite) → list_all (is_whole_at awaited) ws ≡ true → list_all is_last_of ws ≡ true → true ≡ list_all (is_clean_write awaited) ws
-all_clean awaited ws whole last =
-    sym (clean_parts awaited ws ∙ ap (λ b. list_all is_last_of (filter (raises_it awaited) ws) && b) whole ∙ ap (λ b. b && true) (all_filter (raises_it awaited) ws last))
+-- by whether each writes all that the mask looks at, and where it raises does so last
+pub clean_by_all : (entries : List (Word × List WordWrite)) (facts : ListsFacts) (awaited : Awaited) (writes : List WordWrite) (whole last clean : Bool) → KeepsLists entries facts → (is_listed (any_of awaited.word) facts ≡ true) × (found_for (any_of awaited.word) facts.lists ≡ Some writes)
+    → whole ≡ list_all (is_whole_at awaited) (writes_at awaited.word entries) → last ≡ list_all (is_last_if_raising awaited) writes → clean ≡ (whole && last) → clean ≡ list_all (is_clean_write awaited) (writes_at awaited.word entries)
+clean_by_all entries facts awaited writes whole last clean keeps found whole_is last_is is =
+    let all : List WordWrite = writes_at awaited.word entries in
+    is ∙ ap (λ b. b && last) whole_is
+    ∙ ap (λ b. list_all (is_whole_at awaited) all && b) (last_is ∙ ap (list_all (is_last_if_raising awaited)) (all_found entries facts awaited.word writes keeps found))
+    ∙ sym (clean_in_two awaited all)
+
+-- where the dword is the last of each
+pub all_raise_last : (awaited : Awaited) (ws : List WordWrite) → list_all is_last_of ws ≡ true → list_all (is_last_if_raising awaited) ws ≡ true
+all_raise_last awaited [] last = refl
+all_raise_last awaited (w ∷ ws) last =
+    let parts = and_parts w.last (list_all is_last_of ws) last in
+    ap (λ b. (b || not (raises_it awaited w)) && list_all (is_last_if_raising awaited) ws) parts.0 ∙ all_raise_last awaited ws parts.1
+
+all_append : (test : WordWrite → Bool) (xs ys : List WordWrite) → list_all test (xs ++ ys) ≡ (list_all test xs && list_all test ys)
+all_append test [] ys = refl
+all_append test (x ∷ xs) ys = ap (λ b. test x && b) (all_append test xs ys) ∙ and_assoc_b (test x) (list_all test xs) (list_all test ys)
+
+-- stretch by stretch
+pub all_joined : (test : WordWrite → Bool) (runs : List (List WordWrite)) → list_all (λ run. list_all test run) runs ≡ list_all test (joined runs)
+all_joined test [] = refl
+all_joined test (run ∷ runs) = ap (λ b. list_all test run && b) (all_joined test runs) ∙ sym (all_append test run (joined runs))
 
 -- Of a poll.
 

@@ -1,5 +1,5 @@
 -- Lists of the writes that bring what is waited for.
-use Rattle.std.specs.Prelude.{◌≡◌, ℕ, Bool, List, [], ◌∷◌, ◌++◌, filter, Option, Some, None, is_some, ◌&&◌, ◌==◌, IfSome, bit_and, if◌then◌else◌}
+use Rattle.std.specs.Prelude.{◌≡◌, ℕ, Bool, List, [], ◌∷◌, ◌++◌, filter, Option, Some, None, is_some, not, ◌&&◌, ◌||◌, ◌==◌, IfSome, bit_and, if◌then◌else◌}
 use Rattle.std.specs.Option.{option_map}
 use Rattle.std.specs.Map.{lookup}
 use Rattle.board_model.specs.declared.word.Word.{Word}
@@ -59,6 +59,10 @@ pub record AddsUnder (mask : Awaited) (writes : List WordWrite) (old new : List 
 -- the data phase of a write enables all bytes that the mask looks at
 abbrev pub is_whole_at : Awaited → WordWrite → Bool
 is_whole_at awaited w = is_whole awaited.mask w.phase
+
+-- where it brings what is waited for the dword is its last
+abbrev pub is_last_if_raising : Awaited → WordWrite → Bool
+is_last_if_raising awaited w = w.last || not (raises_it awaited w)
 
 -- of these bits those that each of the writes writes
 abbrev pub shared_from : ℕ → List WordWrite → ℕ

@@ -1,4 +1,4 @@
-ghost use Rattle.std.specs.Prelude.{◌≡◌, ◌≤◌, ◌+◌, ◌++◌, ◌&&◌, [], IfOk, OnOk, length, nat_lt};
+ghost use Rattle.std.specs.Prelude.{◌≡◌, ◌≤◌, ◌+◌, ◌++◌, ◌∷◌, ◌&&◌, [], IfOk, OnOk, length, nat_lt};
 ghost use Rattle.std.specs.Prelude.{reverse, if◌then◌else◌};
 ghost use Rattle.std.specs.List.{filter, find, list_any};
 ghost use Rattle.std.specs.Option.{option_copied};
@@ -60,7 +60,7 @@ pub(crate) fn raisers_among(
     requires ordered { IsOrdered table.now }
     requires among { AreAmong listed.writes.now listed.raising.now }
     ensures { IfOk result (λ found. TellAlike table.now poll found.items
-        (staying table.now poll awaited listed.writes.now listed.raising.now)) }
+        (staying table.now poll awaited listed.entry.writes.now listed.entry.raising.now)) }
 {
     let writes = listed.writes.runs();
     let raising = listed.raising.runs();
@@ -308,8 +308,8 @@ pub(crate) fn is_any_reached(
 ) -> bool
     requires ordered { IsOrdered table.now }
     requires among { AreAmong listed.writes.now listed.raising.now }
-    ensures { result ≡ list_any (is_reached_in table.now poll listed.writes.now)
-        (filter (raises_it awaited) listed.raising.now) }
+    ensures { result ≡ list_any (is_reached_in table.now poll listed.entry.writes.now)
+        (filter (raises_it awaited) listed.entry.raising.now) }
 {
     is_any_run_reached(
         table,
@@ -384,9 +384,7 @@ fn has_reached(table: &ClockTable, awaited: Awaited, writes: &[WordWrite]) -> bo
 fn has_any_reached(table: &ClockTable, awaited: Awaited, writes: &[WordWrite]) -> bool
     ensures { result ≡ list_any (λ f. raises_it awaited f && is_reached_at table.now f) writes.now }
 {
-    writes
-        .iter()
-        .any(|write| awaited.is_raised_by(write) && is_reached(table, write))
+    writes.iter().any(|write| awaited.is_raised_by(write) && is_reached(table, write))
 }
 
 /// The same of those of a stretch that come before the poll, where they are not left out.

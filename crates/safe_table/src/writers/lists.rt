@@ -4,14 +4,14 @@ ghost use Rattle.board_tree.specs.Decodable.{IsDecodable};
 ghost use Rattle.safe_table.specs.Lists.{AddsFor, AddsUnder, KeepsLists};
 ghost use Rattle.safe_model.specs.Raisers.{is_whole};
 ghost use Rattle.safe_table.specs.declared.writers.write.WordWrite.{WordWrite};
-ghost use Rattle.safe_table.specs.Lists.{mask_of, shared_bits};
+ghost use Rattle.safe_table.specs.Lists.{mask_of, shared_bits, is_last_if_raising};
 
 use crate::list::polls_of;
 use crate::polls::{Awaited, any_of, awaited_by, enabled};
 use crate::writers::by_awaited::ByAwaited;
 use crate::writers::stretches::Stretches;
 use crate::writers::words::Words;
-use crate::writers::write::WordWrite;
+use crate::writers::write::{WordWrite, WordWrites};
 use board_model::{Board, Word};
 use board_tree::Tree;
 use pci_command::{NoMemory, OpId};
@@ -111,13 +111,7 @@ impl Lists {
             clean ≡ list_all (is_clean_write awaited) (writes_at awaited.word entries)) }
     {
         let writes = self.listed(any_of(awaited.word))?;
-        if !whole {
-            Some(false)
-        } else if writes.are_last() {
-            Some(true)
-        } else {
-            None
-        }
+        Some(whole && raise_last(awaited, writes))
     }
 
     /// Those that bring what is waited for, where all writes are listed under the mask.
@@ -179,12 +173,7 @@ impl Lists {
     }
 
     /// The same under the mask, if there is room, where it was not done yet.
-    fn keep_if_room(
-        &mut self,
-        alloc: Global,
-        words: &Words,
-        mask: Awaited,
-    ) -> Result<(), NoMemory>
+    fn keep_if_room(&mut self, alloc: Global, words: &Words, mask: Awaited) -> Result<(), NoMemory>
         requires mask { mask.wanted ≡ 0 }
         requires kept { KeepsLists words.now self.old }
         ensures { OnOk result (KeepsLists words.now self.new) }
@@ -254,6 +243,27 @@ impl Lists {
         self.masks.put(mask, shared_bits(writes))?;
         Ok(())
     }
+}
+
+/// Whether the dword is the last of each of the writes that brings what is waited for.
+fn raise_last(awaited: Awaited, writes: &Stretches) -> bool
+    ensures { result ≡ list_all (is_last_if_raising awaited) writes.now }
+{
+    writes.are_last() || each_raises_last(awaited, writes.runs())
+}
+
+fn each_raises_last(awaited: Awaited, runs: &[WordWrites]) -> bool
+    ensures { result ≡ list_all (λ run. list_all (is_last_if_raising awaited) run) runs.now }
+{
+    runs.iter()
+        .all(|run| run_raises_last(awaited, run.as_slice()))
+}
+
+fn run_raises_last(awaited: Awaited, run: &[WordWrite]) -> bool
+    ensures { result ≡ list_all (is_last_if_raising awaited) run.now }
+{
+    run.iter()
+        .all(|write| write.last || !awaited.is_raised_by(write))
 }
 
 /// The mask of what is waited for.

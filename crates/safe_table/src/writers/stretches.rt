@@ -2,7 +2,8 @@ ghost use Rattle.std.specs.Prelude.{◌≡◌, ◌≤◌, ◌&&◌, ◌++◌, []
 ghost use Rattle.std.specs.List.{list_all};
 ghost use Rattle.safe_table.specs.Looks.{is_behind};
 ghost use Rattle.safe_table.specs.Stretches.{Stretch, AreStretchesOf, PartsAt};
-ghost use Rattle.safe_table.specs.Stretches.{end_of, goes_on, pushed, is_last_of};
+ghost use Rattle.safe_table.specs.Stretches.{end_of, goes_on, pushed, is_from, is_last_of};
+ghost use Rattle.std.specs.Option.{option_copied};
 
 use crate::writers::write::{WordWrite, WordWrites};
 use pci_command::NoMemory;
@@ -136,11 +137,7 @@ pub(crate) fn stretches_of(alloc: Global, writes: &[WordWrite]) -> Result<Stretc
     })
 }
 
-fn push_all(
-    runs: &mut Vec<WordWrites>,
-    alloc: Global,
-    writes: &[WordWrite],
-) -> Result<(), NoMemory>
+fn push_all(runs: &mut Vec<WordWrites>, alloc: Global, writes: &[WordWrite]) -> Result<(), NoMemory>
     requires { runs.old.items ≡ [] }
     ensures { OnOk result (AreStretchesOf writes.now runs.new.items) }
 {
