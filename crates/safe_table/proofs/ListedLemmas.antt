@@ -240,6 +240,16 @@ covered bits mask answer ws low answer_is bits_are =
     answer_is ∙ ap (λ b. bit_and b mask == mask) bits_are ∙ shared_parts mask 0xffff_ffff ws
     ∙ ap (λ b. b && list_all (λ (w : WordWrite). is_whole mask w.phase) ws) (eq-eqb (bit_and 0xffff_ffff mask) mask all)
 
+pub shared_next : (writes : List WordWrite) (i : ℕ) (d w : WordWrite) (bits here next : ℕ) → i < length writes → w ≡ get_or writes i d → here ≡ bit_and (enabled_bits w.phase.enables) 0xffff_ffff → next ≡ bit_and bits here → shared_from bits (drop i writes) ≡ shared_bits writes → shared_from next (drop (i + 1) writes) ≡ shared_bits writes
+shared_next writes i d w bits here next within is here_is next_is so_far =
+    let more : i + 1 ≡ suc i = omega arith in
+    let rest : List WordWrite = drop (i + 1) writes in
+    let parts : drop i writes ≡ w ∷ rest = drop-cons writes i d within ∙ ap (λ v. v ∷ drop (suc i) writes) (sym is) ∙ sym (ap (λ n. w ∷ drop n writes) more) in
+    ap (λ n. shared_from n rest) (next_is ∙ ap (bit_and bits) here_is) ∙ sym (ap (shared_from bits) parts) ∙ so_far
+
+pub shared_all : (writes : List WordWrite) (i bits : ℕ) → length writes ≤ i → shared_from bits (drop i writes) ≡ shared_bits writes → bits ≡ shared_bits writes
+shared_all writes i bits past so_far = sym (ap (shared_from bits) (drop_all i writes past)) ∙ so_far
+
 -- What is listed.
 
 pub nothing_awaited : (facts : ListsFacts) → facts ≡ record { lists = []; masks = [] } → AwaitsOnly facts

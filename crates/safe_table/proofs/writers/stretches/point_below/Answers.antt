@@ -2,7 +2,7 @@ use Rattle.std.proofs.Common.{rules, of_calls, Bool, nat_lt}
 use Rattle.std.proofs.lemmas.Fn.{always_returns_same}
 use Rattle.safe_table.specs.declared.writers.write.WordWrite.{WordWrite}
 use Rattle.safe_table.proofs.StretchLemmas.{is_parted, point_parts}
-use Rattle.safe_table.proofs.writers.stretches.count_below.Goals as goal
+use Rattle.safe_table.proofs.writers.stretches.point_below.Goals as goal
 
 pub returns-clause-parts : goal.returns-clause-parts
 returns-clause-parts c =
