@@ -310,6 +310,15 @@ def file_that_may_not_be_read(place):
         yield "file_that_may_not_be_read", seen, Wanted(3, b"", "pcitree: read failed")
 
 
+@row("name_that_does_not_print")
+def name_that_does_not_print(place):
+    """Nor does a byte of the line; a tab is shown as a blank."""
+    name = "a\u00e9\t.board"
+    place.file(name, b"pciboard 1\nmr\t2\x07")
+    seen = called([os.path.abspath(PROGRAM), "headers", name], cwd=place.folder)
+    yield "name_that_does_not_print", seen, Wanted(6, b"", "pcitree: board line 2 fault L1")
+
+
 # The man page, where there is what shows it: without a warning of its formatter.
 
 
