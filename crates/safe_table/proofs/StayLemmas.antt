@@ -1,5 +1,5 @@
 -- The raisers of a poll that are not left out: of those of a stretch that come before the poll at most the last, and all others.
-use Rattle.std.proofs.Common.{◌≡◌, ℕ, suc, ◌+◌, ◌-◌, ◌<◌, ◌≤◌, Bool, true, false, not, ◌&&◌, ◌||◌, ◌==◌, nat_lt, cond, eqb-true, eq-eqb, List, [], ◌∷◌, ◌++◌, append_assoc, append-nil, length, take, drop, get_or, reverse, slice_get, Option, Some, None, refl, sym, ap, subst, ◌∙◌, arith}
+use Rattle.std.proofs.Common.{◌≡◌, ℕ, suc, ◌+◌, ◌-◌, ◌<◌, ◌≤◌, Bool, true, false, not, ◌&&◌, ◌||◌, ◌==◌, nat_lt, cond, eqb-true, eq-eqb, List, [], ◌∷◌, ◌++◌, append_assoc, append-nil, length, take, drop, get_or, reverse, slice_get, Option, Some, None, IfSome, refl, sym, ap, subst, ◌∙◌, arith}
 use Rattle.std.specs.List.{filter, find, list_any, AllByRecursion}
 use Rattle.std.proofs.lemmas.List.{take-append-drop, reverse-append}
 use Rattle.std.proofs.lemmas.Bool.{and_parts, ltb-true, false≢true}
@@ -58,7 +58,7 @@ any_each f g (w ∷ ws) each = ap (λ b. b || list_any f ws) each.0 ∙ ap (λ b
 any_last : (test : WordWrite → Bool) (front : List WordWrite) (last : WordWrite) → test last ≡ true → list_any test (front ++ last ∷ []) ≡ true
 any_last test front last is = any_append test front (last ∷ []) ∙ or_right (list_any test front) (test last || false) (ap (λ b. b || false) is)
 
-any_filter : (kept test : WordWrite → Bool) (ws : List WordWrite) → list_any test (filter kept ws) ≡ list_any (λ f. kept f && test f) ws
+pub any_filter : (kept test : WordWrite → Bool) (ws : List WordWrite) → list_any test (filter kept ws) ≡ list_any (λ f. kept f && test f) ws
 any_filter kept test [] = refl
 any_filter kept test (w ∷ ws) =
     let rest : List WordWrite = filter kept ws in
@@ -469,6 +469,10 @@ module _ (rows : List ProgramRows) (ordered : IsOrdered rows) where
       pub raisers_ended : (last : WordWrite) (old new : List WordWrite) → stay rows p writes (filter kept before) ≡ list_of (Some last) → new ≡ old ++ last ∷ [] → PutsRun rows p writes (filter kept run) old new true
       raisers_ended = run_ended writes (filter kept run) (filter kept before) (filter kept beyond) (stretch_filter kept run stretch) (parted_filter rows p kept run before beyond parts)
 
+      pub raisers_in : (found : Option WordWrite) → stay rows p writes (filter kept before) ≡ list_of found → IfSome found (λ last. PutsRun rows p writes (filter kept run) [] (last ∷ []) true)
+      raisers_in None stays = tt
+      raisers_in (Some last) stays = raisers_ended last [] (last ∷ []) stays refl
+
       pub raisers_go_on : (old new : List WordWrite) → stay rows p writes (filter kept before) ≡ list_of None → new ≡ old ++ first_in (filter kept beyond) → PutsRun rows p writes (filter kept run) old new false
       raisers_go_on = run_goes_on writes (filter kept run) (filter kept before) (filter kept beyond) (stretch_filter kept run stretch) (parted_filter rows p kept run before beyond parts)
 
@@ -569,6 +573,14 @@ module _ (rows : List ProgramRows) (ordered : IsOrdered rows) where
   pub none_reached : (awaited : Awaited) (writes : List WordWrite) → length writes < 1 → false ≡ list_any (is_reached_at rows) (filter (raises_it awaited) writes)
   none_reached awaited [] none = refl
   none_reached awaited (w ∷ ws) none = absurd (omega (arith, none))
+
+-- the same of all writes of the stretches
+pub told_of : (rows : List ProgramRows) (p : OpId) (awaited : Awaited) (found writes raising these those : List WordWrite) → these ≡ writes → those ≡ raising → TellAlike rows p found (staying rows p awaited these those) → TellAlike rows p found (staying rows p awaited writes raising)
+told_of rows p awaited found writes raising these those writes_are raising_are alike =
+    subst (λ ws. TellAlike rows p found (staying rows p awaited ws raising)) writes_are (subst (λ ws. TellAlike rows p found (staying rows p awaited these ws)) raising_are alike)
+
+pub among_of : (writes raising these those : List WordWrite) → these ≡ writes → those ≡ raising → AreAmong writes raising → AreAmong these those
+among_of writes raising these those writes_are raising_are among = subst (λ ws. AreAmong ws those) (sym writes_are) (subst (AreAmong writes) (sym raising_are) among)
 
 -- each of a stretch is one of all
 pub among_at : (writes : List WordWrite) (runs : List (List WordWrite)) (i : ℕ) (item run : List WordWrite) → i < length runs → item ≡ get_or runs i item → run ≡ item → AreAmong writes (joined runs) → AreAmong writes run

@@ -101,8 +101,7 @@ fn alone(writes: &Stretches) -> Listed<'_>
     }
 }
 
-/// Of the raisers of a poll those that tell it what all do. Where the writes of its dword are not
-/// listed they are put together anew.
+/// Of the raisers of a poll those that tell it what all do.
 fn raisers_for(
     alloc: Global,
     awaited: Awaited,
@@ -115,10 +114,32 @@ fn raisers_for(
         (staying table.now poll awaited (writes_at awaited.word writers.now)
         (writes_at awaited.word writers.now))) }
 {
-    if let Some(listed) = writers.lists(awaited) {
-        return raisers_among(alloc, table, poll, awaited, listed);
+    match writers.lists(awaited) {
+        Some(listed) => {
+            let found = raisers_among(alloc, table, poll, awaited, listed)?;
+            Ok(found)
+        }
+        None => {
+            let words = writers.of_word(awaited.word);
+            let found = raisers_anew(alloc, awaited, table, words, poll)?;
+            Ok(found)
+        }
     }
-    let writes = stretches_of(alloc, writers.of_word(awaited.word))?;
+}
+
+/// The same where the writes of the dword are not listed: they are put together anew.
+fn raisers_anew(
+    alloc: Global,
+    awaited: Awaited,
+    table: &ClockTable,
+    words: &[WordWrite],
+    poll: OpId,
+) -> Result<Vec<WordWrite>, NoMemory>
+    requires { IsOrdered table.now }
+    ensures { IfOk result (λ found. TellAlike table.now poll found.items
+        (staying table.now poll awaited words.now words.now)) }
+{
+    let writes = stretches_of(alloc, words)?;
     let found = raisers_among(alloc, table, poll, awaited, alone(&writes))?;
     Ok(found)
 }
@@ -132,14 +153,32 @@ fn is_raised_for(
     poll: OpId,
 ) -> Result<bool, NoMemory>
     requires { IsOrdered table.now }
-    ensures { IfOk result (λ yes. yes ≡ list_any (λ f. raises_it awaited f && is_reached_in
+    ensures { IfOk result (λ raised. raised ≡ list_any (λ f. raises_it awaited f && is_reached_in
         table.now poll (writes_at awaited.word writers.now) f)
         (writes_at awaited.word writers.now)) }
 {
-    if let Some(listed) = writers.lists(awaited) {
-        return Ok(is_any_reached(table, poll, awaited, listed));
+    match writers.lists(awaited) {
+        Some(listed) => Ok(is_any_reached(table, poll, awaited, listed)),
+        None => {
+            let words = writers.of_word(awaited.word);
+            let raised = is_raised_anew(alloc, awaited, table, words, poll)?;
+            Ok(raised)
+        }
     }
-    let writes = stretches_of(alloc, writers.of_word(awaited.word))?;
+}
+
+fn is_raised_anew(
+    alloc: Global,
+    awaited: Awaited,
+    table: &ClockTable,
+    words: &[WordWrite],
+    poll: OpId,
+) -> Result<bool, NoMemory>
+    requires { IsOrdered table.now }
+    ensures { IfOk result (λ raised. raised ≡ list_any (λ f. raises_it awaited f
+        && is_reached_in table.now poll words.now f) words.now) }
+{
+    let writes = stretches_of(alloc, words)?;
     Ok(is_any_reached(table, poll, awaited, alone(&writes)))
 }
 

@@ -1,5 +1,5 @@
 ghost use Rattle.std.specs.Prelude.{◌≡◌, ◌≤◌, ◌+◌, ◌++◌, ◌∷◌, ◌&&◌, [], IfOk, OnOk, length, nat_lt};
-ghost use Rattle.std.specs.Prelude.{reverse, if◌then◌else◌};
+ghost use Rattle.std.specs.Prelude.{IfSome, true, reverse, if◌then◌else◌};
 ghost use Rattle.std.specs.List.{filter, find, list_any};
 ghost use Rattle.std.specs.Option.{option_copied};
 ghost use Rattle.safe_table.specs.Landing.{joined};
@@ -62,18 +62,78 @@ pub(crate) fn raisers_among(
     ensures { IfOk result (λ found. TellAlike table.now poll found.items
         (staying table.now poll awaited listed.entry.writes.now listed.entry.raising.now)) }
 {
+    match guessed(table, poll, awaited, listed) {
+        Some(last) => one(alloc, last),
+        None => raisers_among_all(alloc, table, poll, awaited, listed),
+    }
+}
+
+fn one(alloc: Global, write: WordWrite) -> Result<Vec<WordWrite>, NoMemory>
+    ensures { IfOk result (λ list. list.items ≡ write ∷ []) }
+{
+    let mut list = Vec::new(alloc);
+    list.push(write)?;
+    Ok(list)
+}
+
+/// A raiser that comes before the poll and stays, if there is one in the stretch where there was
+/// the last time.
+fn guessed(
+    table: &ClockTable,
+    poll: OpId,
+    awaited: Awaited,
+    listed: Listed<'_>,
+) -> Option<WordWrite>
+    requires ordered { IsOrdered table.now }
+    requires among { AreAmong listed.writes.now listed.raising.now }
+    ensures { IfSome result (λ last. TellAlike table.now poll (last ∷ [])
+        (staying table.now poll awaited listed.entry.writes.now listed.entry.raising.now)) }
+{
+    let writes = listed.writes.runs();
+    let raising = listed.raising.runs();
+    match raising.get(listed.raising.guess()) {
+        Some(run) => staying_in(table, poll, awaited, writes, run),
+        None => None,
+    }
+}
+
+/// Of the raisers of a stretch that come before the poll the one that stays, if there is one.
+fn staying_in(
+    table: &ClockTable,
+    poll: OpId,
+    awaited: Awaited,
+    writes: &[WordWrites],
+    run: &WordWrites,
+) -> Option<WordWrite>
+    requires ordered { IsOrdered table.now }
+    requires writes { AreStretches writes.now }
+    requires run { Stretch run.now }
+    requires among { AreAmong (joined writes.now) run.now }
+    ensures { IfSome result (λ last. PutsRun table.now poll (joined writes.now)
+        (filter (raises_it awaited) run.now) [] (last ∷ []) true) }
+{
+    let (before, _) = parts(table, poll, run.as_slice());
+    staying_last(table, poll, awaited, writes, before, run)
+}
+
+/// The same as all of them are looked at, one stretch after another.
+fn raisers_among_all(
+    alloc: Global,
+    table: &ClockTable,
+    poll: OpId,
+    awaited: Awaited,
+    listed: Listed<'_>,
+) -> Result<Vec<WordWrite>, NoMemory>
+    requires ordered { IsOrdered table.now }
+    requires among { AreAmong listed.writes.now listed.raising.now }
+    ensures { IfOk result (λ found. TellAlike table.now poll found.items
+        (staying table.now poll awaited listed.entry.writes.now listed.entry.raising.now)) }
+{
     let writes = listed.writes.runs();
     let raising = listed.raising.runs();
     let mut found = Vec::new(alloc);
-    if let Some(run) = raising.get(listed.raising.guess()) {
-        if put_run(&mut found, table, poll, awaited, writes, run)? {
-            return Ok(found);
-        }
-        found.clear();
-    }
-    if let Some(place) = put_raisers(&mut found, table, poll, awaited, writes, raising)? {
-        listed.raising.guess_next(place);
-    }
+    let ended = put_raisers(&mut found, table, poll, awaited, writes, raising)?;
+    listed.raising.guess_next(ended);
     Ok(found)
 }
 

@@ -81,9 +81,11 @@ impl Stretches {
         self.guess.get()
     }
 
-    /// From now on that one.
-    pub(crate) fn guess_next(&self, place: usize) {
-        self.guess.set(place);
+    /// From now on this one, if it is one.
+    pub(crate) fn guess_next(&self, place: Option<usize>) {
+        if let Some(place) = place {
+            self.guess.set(place);
+        }
     }
 }
 
