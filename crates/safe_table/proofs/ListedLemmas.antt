@@ -415,6 +415,10 @@ clean_parts awaited (w ∷ ws) =
     ∙ clean_core whole met w.last wholes (list_all is_last_of rest)
     ∙ ap (λ b. b && (whole && wholes)) (all_if met w rest)
 
+-- what is known of the bits that all writes of a dword write
+pub bits_so : (entries : List (Word × List WordWrite)) (facts : ListsFacts) (awaited : Awaited) (bits : ℕ) → KeepsLists entries facts → Some bits ≡ found_for (any_of awaited.word) facts.masks → bits ≡ shared_bits (writes_at awaited.word entries)
+bits_so entries facts awaited bits keeps found = subst (λ (f : Option ℕ). IfSome f (λ n. n ≡ shared_bits (writes_at awaited.word entries))) (sym found) (keeps.masks (any_of awaited.word))
+
 -- where those that raise are listed
 pub clean_so : (entries : List (Word × List WordWrite)) (facts : ListsFacts) (awaited : Awaited) (raising : List WordWrite) (whole clean : Bool) → KeepsLists entries facts → (is_listed awaited facts ≡ true) × (found_for awaited facts.lists ≡ Some raising) → whole ≡ list_all (is_whole_at awaited) (writes_at awaited.word entries)
     → clean ≡ (list_all is_last_of raising && whole) → clean ≡ list_all (is_clean_write awaited) (writes_at awaited.word entries)

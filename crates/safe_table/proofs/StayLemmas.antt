@@ -1,5 +1,5 @@
 -- The raisers of a poll that are not left out: of those of a stretch that come before the poll at most the last, and all others.
-use Rattle.std.proofs.Common.{◌≡◌, ℕ, suc, ◌+◌, ◌-◌, ◌<◌, ◌≤◌, Bool, true, false, not, ◌&&◌, ◌||◌, ◌==◌, nat_lt, cond, eqb-true, eq-eqb, List, [], ◌∷◌, ◌++◌, append_assoc, append-nil, length, take, drop, get_or, reverse, slice_get, Option, Some, None, IfSome, refl, sym, ap, subst, ◌∙◌, arith}
+use Rattle.std.proofs.Common.{◌≡◌, ℕ, suc, ◌+◌, ◌-◌, ◌<◌, ◌≤◌, Bool, true, false, not, ◌&&◌, ◌||◌, ◌==◌, nat_lt, cond, eqb-true, eq-eqb, List, [], ◌∷◌, ◌++◌, append_assoc, append-nil, length, take, drop, get_or, reverse, Option, Some, None, IfSome, refl, sym, ap, subst, ◌∙◌, arith}
 use Rattle.std.specs.List.{filter, find, list_any, AllByRecursion}
 use Rattle.std.proofs.lemmas.List.{take-append-drop, reverse-append}
 use Rattle.std.proofs.lemmas.Bool.{and_parts, ltb-true, false≢true}
@@ -17,7 +17,7 @@ use Rattle.safe_table.specs.Looks.{clock_in, clock_past, before_in, no_more_in, 
 use Rattle.safe_table.specs.Polls.{raises_it, staying}
 use Rattle.safe_table.specs.Stretches.{Stretch, end_of, AreBefore, PartsAt, PartsBefore, IsParted, ends_with, AreAmong, stay, list_of, first_in, PutsRun, is_reached_at}
 use Rattle.safe_table.proofs.RaiserLemmas.{known_append, known_falls, behind_same, behind_less, behind_knows, no_less, least_low}
-use Rattle.safe_table.proofs.StretchLemmas.{any_append, EndsWith, end_cons, ends_at, ends_not, each_take, each_filter, stretch_filter, stretch_front, stretch_back, before_end, joined_append, runs_cons, runs_none, runs_at, any_at, any_got}
+use Rattle.safe_table.proofs.StretchLemmas.{any_append, EndsWith, end_cons, ends_at, ends_not, each_take, each_filter, stretch_filter, stretch_front, stretch_back, before_end, joined_append, runs_cons, runs_none, any_at}
 
 -- Tests and lists.
 
@@ -104,7 +104,7 @@ turned false ws = refl
 
 -- The first and the last of those of a list that pass a test.
 
-or_then : Option WordWrite → Option WordWrite → Option WordWrite
+abbrev or_then : Option WordWrite → Option WordWrite → Option WordWrite
 or_then (Some w) found = Some w
 or_then None found = found
 
@@ -285,8 +285,8 @@ module _ (rows : List ProgramRows) (ordered : IsOrdered rows) where
         ∙ sym (ap (list_any L) (sym parts.all) ∙ any_append L before beyond ∙ ap (λ b. list_any L before || b) none ∙ or_false (list_any L before) ∙ firsts)
 
     -- one of the stretches that leaves it out is enough
-    pub guess_leaves_out : (f : WordWrite) (runs : List (List WordWrite)) (i : ℕ) (run : List WordWrite) (answer : Bool) → slice_get runs i ≡ Some run → answer ≡ left_out_in rows p run f → answer ≡ true → true ≡ left_out_in rows p (joined runs) f
-    guess_leaves_out f runs i run answer is answer_is met = sym (any_got (leaves_out rows p f) runs i run is (sym answer_is ∙ met))
+    pub guess_leaves_out : (f : WordWrite) (runs : List (List WordWrite)) (i : ℕ) (item run : List WordWrite) (answer : Bool) → i < length runs → item ≡ get_or runs i item → run ≡ item → answer ≡ left_out_in rows p run f → answer ≡ true → true ≡ left_out_in rows p (joined runs) f
+    guess_leaves_out f runs i item run answer within is same answer_is met = sym (any_at (leaves_out rows p f) runs i item run within is same (sym answer_is ∙ met))
 
     -- what leaves a raiser out comes after it, so that it comes before the poll too
     left_before : (f x : WordWrite) → leaves_out rows p f x ≡ true → before_in rows f.op p ≡ true
@@ -330,6 +330,9 @@ module _ (rows : List ProgramRows) (ordered : IsOrdered rows) where
         ap (filter test) ends.is ∙ filter_append test front (last ∷ []) ∙ ap (λ ws. ws ++ filter test (last ∷ [])) none
         ∙ one (left_out_in rows p writes last) ∙ sym (found_is ∙ ap (λ b. cond b [] (last ∷ [])) left_is)
 
+    pub none_stays : (writes before : List WordWrite) → end_of before ≡ None → stay rows p writes before ≡ []
+    none_stays writes before is = ap (filter (λ f. not (left_out_in rows p writes f))) (ends_not before is)
+
     -- of those that pass a test
     pub last_raiser_stays : (awaited : Awaited) (writes before : List WordWrite) (last : WordWrite) (left : Bool) (found : Option WordWrite) → Some last ≡ find (raises_it awaited) (reverse before) → left ≡ left_out_in rows p writes last → list_of found ≡ cond left [] (last ∷ []) → Stretch before → AreBefore rows p before → AreAmong writes before
         → stay rows p writes (filter (raises_it awaited) before) ≡ list_of found
@@ -339,9 +342,6 @@ module _ (rows : List ProgramRows) (ordered : IsOrdered rows) where
 
     pub no_raiser_stays : (awaited : Awaited) (writes before : List WordWrite) → None ≡ find (raises_it awaited) (reverse before) → stay rows p writes (filter (raises_it awaited) before) ≡ []
     no_raiser_stays awaited writes before is = none_stays writes (filter (raises_it awaited) before) (sym (is ∙ last_found (raises_it awaited) before))
-
-    pub none_stays : (writes before : List WordWrite) → end_of before ≡ None → stay rows p writes before ≡ []
-    none_stays writes before is = ap (filter (λ f. not (left_out_in rows p writes f))) (ends_not before is)
 
     -- What a poll is told.
 
@@ -508,27 +508,19 @@ module _ (rows : List ProgramRows) (ordered : IsOrdered rows) where
             ∙ so_far.alike most other;
       }
 
-      told_nothing_by : (front run rest old new : List WordWrite) (ended : Bool) → joined raising ≡ front ++ (run ++ rest) → PutsRun rows p writes (filter (raises_it awaited) run) old new ended → ended ≡ true → TellAlike rows p new (those (joined raising))
-      told_nothing_by front run rest old new ended all puts answer =
-          let nothing = puts.nothing answer in
-          let here : List WordWrite = those run ++ those rest in
-          let whole : those (joined raising) ≡ those front ++ here = ap those all ∙ those_append front (run ++ rest) ∙ ap (λ ws. those front ++ ws) (those_append run rest) in
-          let low : TellsNothing rows p (those front ++ here) = nothing_behind (those front) here (nothing_ahead (those run) (those rest) nothing.1) in
-          λ most other.
-          nothing_alike new (those front ++ here) nothing.0 low most other
-          ∙ ap (λ ws. most_in rows p ws most other) (sym whole)
-
       pub told_ended : (i : ℕ) (item run old new : List WordWrite) (ended : Bool) → i < length raising → item ≡ get_or raising i item → run ≡ item → PutsRun rows p writes (filter (raises_it awaited) run) old new ended → ended ≡ true → TellAlike rows p new (those (joined raising))
       told_ended i item run old new ended within is same puts answer =
           let front : List (List WordWrite) = take i raising in
           let rest : List WordWrite = joined (drop (i + 1) raising) in
-          let all : joined raising ≡ joined front ++ (run ++ rest) =
-          ap joined (sym (take-append-drop i raising)) ∙ joined_append front (drop i raising) ∙ ap (λ ws. joined front ++ ws) (runs_cons raising i item run within is same) in
-          told_nothing_by (joined front) run rest old new ended all puts answer
-
-      -- as was guessed
-      pub told_guessed : (i : ℕ) (run old new : List WordWrite) (ended : Bool) → slice_get raising i ≡ Some run → PutsRun rows p writes (filter (raises_it awaited) run) old new ended → ended ≡ true → TellAlike rows p new (those (joined raising))
-      told_guessed i run old new ended is puts answer = told_nothing_by (joined (take i raising)) run (joined (drop (suc i) raising)) old new ended (runs_at raising i run is) puts answer
+          let nothing = puts.nothing answer in
+          let here : List WordWrite = those run ++ those rest in
+          let whole : those (joined raising) ≡ those (joined front) ++ here =
+          ap (λ rs. those (joined rs)) (sym (take-append-drop i raising)) ∙ ap those (joined_append front (drop i raising)) ∙ those_append (joined front) (joined (drop i raising))
+          ∙ ap (λ ws. those (joined front) ++ ws) (those_cons i item run within is same) in
+          let low : TellsNothing rows p (those (joined front) ++ here) = nothing_behind (those (joined front)) here (nothing_ahead (those run) (those rest) nothing.1) in
+          λ most other.
+          nothing_alike new (those (joined front) ++ here) nothing.0 low most other
+          ∙ ap (λ ws. most_in rows p ws most other) (sym whole)
 
       pub told_all : (i : ℕ) (found : List WordWrite) → length raising ≤ i → Told rows p awaited writes raising (drop i raising) found → TellAlike rows p found (those (joined raising))
       told_all i found past so_far most other =
@@ -537,7 +529,7 @@ module _ (rows : List ProgramRows) (ordered : IsOrdered rows) where
 
   -- No run comes to those of a stretch whose index is below what is known of their program before the first of them.
 
-  counts_more : WordWrite → WordWrite → Type 0
+  abbrev counts_more : WordWrite → WordWrite → Type 0
   counts_more first v = (clock_in rows first.op first.op.master ≤ clock_in rows v.op first.op.master) × (v.op.master ≡ first.op.master)
 
   unreached : (first v : WordWrite) → counts_more first v → v.op.index < clock_in rows first.op first.op.master → is_reached_at rows v ≡ false
@@ -585,6 +577,3 @@ among_of writes raising these those writes_are raising_are among = subst (λ ws.
 -- each of a stretch is one of all
 pub among_at : (writes : List WordWrite) (runs : List (List WordWrite)) (i : ℕ) (item run : List WordWrite) → i < length runs → item ≡ get_or runs i item → run ≡ item → AreAmong writes (joined runs) → AreAmong writes run
 among_at writes runs i item run within is same among test some = among test (any_at test runs i item run within is same some)
-
-pub among_got : (writes : List WordWrite) (runs : List (List WordWrite)) (i : ℕ) (run : List WordWrite) → slice_get runs i ≡ Some run → AreAmong writes (joined runs) → AreAmong writes run
-among_got writes runs i run is among test some = among test (any_got test runs i run is some)

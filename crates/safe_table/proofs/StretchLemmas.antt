@@ -399,30 +399,11 @@ each_run (r ∷ rs) (suc j) d each within = each_run rs j d each.1 (omega (arith
 pub stretch_at : (runs : List (List WordWrite)) (i : ℕ) (item run : List WordWrite) → i < length runs → item ≡ get_or runs i item → run ≡ item → AreStretches runs → Stretch run
 stretch_at runs i item run within is same each = subst Stretch (sym (same ∙ is)) (each_run runs i item each within)
 
--- one of the stretches, and those on both sides of it
-pub runs_at : (runs : List (List WordWrite)) (i : ℕ) (run : List WordWrite) → slice_get runs i ≡ Some run → joined runs ≡ joined (take i runs) ++ (run ++ joined (drop (suc i) runs))
-runs_at [] i run is = cc
-runs_at (r ∷ rs) zero run is = let one : r ≡ run = cc in ap (λ ws. ws ++ joined rs) one
-runs_at (r ∷ rs) (suc i) run is = ap (λ ws. r ++ ws) (runs_at rs i run is) ∙ sym (append_assoc r (joined (take i rs)) (run ++ joined (drop (suc i) rs)))
-
-pub stretch_got : (runs : List (List WordWrite)) (i : ℕ) (run : List WordWrite) → slice_get runs i ≡ Some run → AreStretches runs → Stretch run
-stretch_got [] i run is each = cc
-stretch_got (r ∷ rs) zero run is each = let one : r ≡ run = cc in subst Stretch one each.0
-stretch_got (r ∷ rs) (suc i) run is each = stretch_got rs i run is each.1
-
+-- one of a stretch is one of all
 some_right : (a : Bool) → (a || true) ≡ true
 some_right true = refl
 some_right false = refl
 
-pub any_got : (test : WordWrite → Bool) (runs : List (List WordWrite)) (i : ℕ) (run : List WordWrite) → slice_get runs i ≡ Some run → list_any test run ≡ true → list_any test (joined runs) ≡ true
-any_got test runs i run is some =
-    let front : List WordWrite = joined (take i runs) in
-    let rest : List WordWrite = joined (drop (suc i) runs) in
-    ap (list_any test) (runs_at runs i run is) ∙ any_append test front (run ++ rest)
-    ∙ ap (λ b. list_any test front || b) (any_append test run rest ∙ ap (λ b. b || list_any test rest) some)
-    ∙ some_right (list_any test front)
-
--- one of a stretch is one of all
 pub any_at : (test : WordWrite → Bool) (runs : List (List WordWrite)) (i : ℕ) (item run : List WordWrite) → i < length runs → item ≡ get_or runs i item → run ≡ item → list_any test run ≡ true → list_any test (joined runs) ≡ true
 any_at test [] i item run within is same some = absurd (omega (arith, within))
 any_at test (r ∷ rs) zero item run within is same some =

@@ -92,7 +92,7 @@ fn guessed(
     let writes = listed.writes.runs();
     let raising = listed.raising.runs();
     match raising.get(listed.raising.guess()) {
-        Some(run) => staying_in(table, poll, awaited, writes, run),
+        Some(these) => staying_in(table, poll, awaited, writes, these),
         None => None,
     }
 }
@@ -266,10 +266,13 @@ fn put_first(
     ensures { OnOk result
         (found.new.items ≡ found.old.items ++ first_in (filter (raises_it awaited) writes.now)) }
 {
-    if let Some(first) = first_raising(awaited, writes) {
-        found.push(*first)?;
+    match first_raising(awaited, writes) {
+        Some(first) => {
+            found.push(*first)?;
+            Ok(())
+        }
+        None => Ok(()),
     }
-    Ok(())
 }
 
 fn first_raising(awaited: Awaited, writes: &[WordWrite]) -> Option<&WordWrite>

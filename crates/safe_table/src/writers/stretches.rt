@@ -131,12 +131,17 @@ pub(crate) fn stretches_of(alloc: Global, writes: &[WordWrite]) -> Result<Stretc
 {
     let mut runs = Vec::new(alloc);
     push_all(&mut runs, alloc, writes)?;
-    let last = writes.iter().all(|write| write.last);
     Ok(Stretches {
         runs,
-        last,
+        last: are_last(writes),
         guess: Cell::new(0),
     })
+}
+
+fn are_last(writes: &[WordWrite]) -> bool
+    ensures { result ≡ list_all is_last_of writes.now }
+{
+    writes.iter().all(|write| write.last)
 }
 
 fn push_all(runs: &mut Vec<WordWrites>, alloc: Global, writes: &[WordWrite]) -> Result<(), NoMemory>

@@ -11,5 +11,5 @@ is_any_reached-requires-clause-among c = c.in-Some.ensures.among
 pub returns-in-Some : goal.returns-in-Some
 returns-in-Some c = listed_reached c.args.writers.now c.args.awaited c.in-Some.listed.writes.now c.in-Some.listed.raising.now c.in-Some.ensures c.args.table.now c.args.poll c.is_any_reached.result c.is_any_reached.ensures
 
-pub returns-in-None : goal.returns-in-None
-returns-in-None c = c.in_ok-raised.ensures ∙ ap (λ ws. list_any (λ f. raises_it c.args.awaited f && is_reached_in c.args.table.now c.args.poll ws f) ws) c.of_word-words.ensures.at
+pub returns-in_ok-raised-in-None : goal.returns-in_ok-raised-in-None
+returns-in_ok-raised-in-None c = c.in_ok-raised-in-None.ensures ∙ ap (λ ws. list_any (λ f. raises_it c.args.awaited f && is_reached_in c.args.table.now c.args.poll ws f) ws) c.of_word-words.ensures.at

@@ -5,7 +5,7 @@ use Rattle.safe_table.proofs.ListedLemmas.{all_raise_last, all_joined}
 use Rattle.safe_table.proofs.writers.lists.raise_last.Goals as goal
 
 pub returns-then-are_last : goal.returns-then-are_last
-returns-then-are_last c = sym (all_raise_last c.args.awaited c.args.writes.now (sym c.are_last.ensures ∙ c.if-are_last.true))
+returns-then-are_last c = c.if-are_last.true ∙ sym (all_raise_last c.args.awaited c.args.writes.now (sym c.are_last.ensures ∙ c.if-are_last.true))
 
 pub returns-else-are_last : goal.returns-else-are_last
 returns-else-are_last c =
