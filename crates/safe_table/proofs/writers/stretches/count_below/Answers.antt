@@ -1,4 +1,4 @@
-use Rattle.std.proofs.Common.{sym, ap, ◌∙◌}
+use Rattle.std.proofs.Common.{refl, sym, ap, ◌∙◌}
 use Rattle.safe_table.specs.Stretches.{is_from}
 use Rattle.safe_table.proofs.StretchLemmas.{none_below, all_below}
 use Rattle.safe_table.proofs.writers.stretches.count_below.Goals as goal
@@ -9,4 +9,4 @@ returns-then-is_from-clause-parts c =
 
 pub returns-else-is_from-2-clause-parts : goal.returns-else-is_from-2-clause-parts
 returns-else-is_from-2-clause-parts c =
-    all_below c.args.bound c.len.result c.args.run.now c.requires (ap (λ f. is_from f c.args.bound) (sym c.last.ensures.value) ∙ sym c.is_from-2.ensures ∙ c.if-is_from-2.false) c.len.ensures
+    all_below c.args.bound _ c.args.run.now c.requires (ap (λ f. is_from f c.args.bound) (sym c.last.ensures.value) ∙ sym c.is_from-else-is_from.ensures ∙ c.if-is_from-2.false) refl
