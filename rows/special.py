@@ -116,6 +116,102 @@ def refused_among_empty_lines(place):
     yield "refused_among_empty_lines", seen, Wanted(6, b"", "pcitree: board line 0 fault V7")
 
 
+# The header of a bridge: which registers say its windows, which bytes are none of a bridge, and which windows they say. All by hand.
+
+HEADER = (
+    "34 12 00 01 07 00 00 00 00 00 04 06 00 00 01 00 00 00 00 00 00 00 00 00 01 02 00 f1 01 00 00 "
+    "00 80 10 80 f0 ff" + 26 * " 00"
+)
+# What stands behind `bridge 1 on 0 dev 1 last 2`, and the bytes from an offset on.
+SHOWN = [
+    ("io 00000000 00000fff", 0x1C, "01 01"),
+    ("io 00000000 00000fff", 0x30, "00 00 00 00"),
+    ("io 00001000 00001fff", 0x1C, "11 11"),
+    ("io 00001000 00001fff", 0x30, "00 00 00 00"),
+    ("io 0000f000 00011fff", 0x1C, "f1 11"),
+    ("io 0000f000 00011fff", 0x30, "00 00 01 00"),
+    ("io fffff000 ffffffff", 0x1C, "f1 f1"),
+    ("io fffff000 ffffffff", 0x30, "ff ff ff ff"),
+    ("mem 00000000 000fffff", 0x20, "00 00 00 00"),
+    ("mem 7ff00000 800fffff", 0x20, "f0 7f 00 80"),
+    ("mem fff00000 ffffffff", 0x20, "f0 ff f0 ff"),
+    ("pref 80000000 800fffff", 0x24, "00 80 00 80 00 00 00 00 00 00 00 00"),
+    ("pref 00000001:00000000 00000001:000fffff", 0x24, "01 00 01 00 01 00 00 00 01 00 00 00"),
+    ("pref fff00000 00000001:000fffff", 0x24, "f1 ff 01 00 00 00 00 00 01 00 00 00"),
+    ("pref 00000000 ffffffff:ffffffff", 0x24, "01 00 f1 ff 00 00 00 00 ff ff ff ff"),
+    ("abort", 0x3E, "20 00"),
+]
+# Bytes from an offset on in place of those of HEADER, and the fault of the header, if it has one.
+TAKEN = [
+    (0x0E, "81", None),
+    (0x3E, "b3 ff", None),
+    (0x00, "00 00 00 00 07 02 a0 02 ff ff ff ff ff ff", None),
+    (0x0E, "00", "H1"),
+    (0x0E, "02 00 00 00 00 00 00 00 00 00 01 00", "H1"),
+    (0x04, "06 00 00 00 00 00 00 00 00 00 02", "H1"),
+    (0x04, "06", "H2"),
+    (0x04, "05", "H2"),
+    (0x04, "03", "H2"),
+    (0x3E, "04", "H2"),
+    (0x3E, "08", "H2"),
+    (0x3E, "40", "H2"),
+    (0x04, "00 00 00 00 00 00 00 00 00 00 01 00 00 00 00 00 00 00 00 00 01", "H2"),
+    (0x18, "01 01 02", "H3"),
+    (0x18, "00 03 02", "H3"),
+]
+# The same, and the window that `tree` tells: a base above its limit and ignored nibbles; upper halves, which stand where the
+# low nibble of the base is 1, whatever that of the limit.
+WINDOWS = [
+    (0x20, "f0 ff 00 00", ""),
+    (0x20, "10 80 00 80", ""),
+    (0x20, "0f 80 1f 80", " mem 80000000-801fffff"),
+    (0x24, "11 00 10 00 01 00 00 00 02 00 00 00", " pref 00000001:00100000-00000002:001fffff"),
+    (0x24, "10 00 11 00 01 00 00 00 02 00 00 00", " pref 00100000-001fffff"),
+    (0x24, "13 00 11 00 01 00 00 00 02 00 00 00", " pref 00100000-001fffff"),
+    (0x24, "01 00 01 00 02 00 00 00 01 00 00 00", ""),
+    (0x1C, "11 10", " io 00011000-00021fff"),
+    (0x1C, "10 11", " io 00001000-00001fff"),
+    (0x1C, "21 11", " io 00012000-00021fff"),
+    (0x1C, "20 10", ""),
+]
+
+
+def header_with(changes):
+    """A board of one header, with bytes in place of those of HEADER."""
+    header = bytearray.fromhex(HEADER)
+    for offset, changed in changes:
+        found = bytes.fromhex(changed)
+        header[offset : offset + len(found)] = found
+    return f"pciboard 2\nheader 1 {header.hex()}\n".encode()
+
+
+@row("header_shows")
+def header_shows(place):
+    for option, offset, registers in SHOWN:
+        board = place.file("shown.board", f"pciboard 2\nbridge 1 on 0 dev 1 last 2 {option}\n".encode())
+        seen = place.call("headers", board)
+        shown = bytes.fromhex("".join(line.partition(":")[2] for line in seen.out.decode().split("\n")))
+        found = shown[offset : offset + len(registers.split())].hex(" ")
+        yield f"header_shows_{option}_at_{offset:02x}", seen_as(seen, found.encode()), Wanted(0, registers.encode(), "-")
+
+
+@row("header_of_a_bridge_or_none")
+def header_of_a_bridge_or_none(place):
+    for offset, changed, fault in TAKEN:
+        seen = place.call("headers", place.file("taken.board", header_with([(offset, changed)])))
+        wanted = Wanted(6, b"", f"pcitree: board line 2 fault {fault}") if fault else Wanted(0, b"bridge 1\n", "-")
+        yield f"header_with_{changed}_at_{offset:02x}", seen.cut(9), wanted
+
+
+@row("header_says_windows")
+def header_says_windows(place):
+    for offset, changed, told in WINDOWS:
+        closed = [(0x1C, "f1 01"), (0x20, "f0 ff 00 00"), (0x24, "f0 ff 00 00"), (0x30, "01 00 02 00" if offset == 0x1C else "00 00 00 00")]
+        seen = place.call("tree", place.file("windows.board", header_with([*closed, (offset, changed)])))
+        wanted = f"bus 0\n  bridge 1 dev 1{told}\n".encode()
+        yield f"header_says_{changed}_at_{offset:02x}", seen, Wanted(0, wanted, "-")
+
+
 # What lspci wrote of some 650 KB, of which the text with its comments would be longer than 1 MiB; of 4,800 devices and of 4,800
 # bridges, each told of on a small stack; and slot lines alone, no two alike, whose time does not grow with the square.
 
@@ -212,6 +308,15 @@ def file_that_may_not_be_read(place):
         os.chmod(place.file("closed.board", b""), 0)
         seen = called([os.path.abspath(PROGRAM), "safe", "closed.board"], cwd=place.folder)
         yield "file_that_may_not_be_read", seen, Wanted(3, b"", "pcitree: read failed")
+
+
+@row("name_that_does_not_print")
+def name_that_does_not_print(place):
+    """Nor does a byte of the line; a tab is shown as a blank."""
+    name = "a\u00e9\t.board"
+    place.file(name, b"pciboard 1\nmr\t2\x07")
+    seen = called([os.path.abspath(PROGRAM), "headers", name], cwd=place.folder)
+    yield "name_that_does_not_print", seen, Wanted(6, b"", "pcitree: board line 2 fault L1")
 
 
 # The man page, where there is what shows it: without a warning of its formatter.

@@ -3,13 +3,11 @@ ghost use Rattle.io_ports.specs.HeldPort.{IsReadAhead, ReadsOn};
 
 use crate::counts::one_more;
 use crate::memory_source::give;
+use crate::reading::zeros;
 use crate::{Bytes, Failed, Source};
 use pci_command::{List, NoMemory};
-use std::alloc::{AllocError, Global};
+use std::alloc::Global;
 use std::marker::Model;
-
-/// One read of another source takes at most so many bytes.
-const BUFFER: usize = 65_536;
 
 /// A source over bytes that were read before. It gives them all, and where the reading of them
 /// failed, it fails at their end, at each call.
@@ -160,10 +158,4 @@ fn read_on<S: Source>(
     };
     bytes.extend_from_slice(&room[..count])?;
     Ok(Some(count))
-}
-
-fn zeros(alloc: Global) -> Result<Vec<u8>, AllocError>
-    ensures { IfOk result (λ buffer. vec_len buffer ≡ BUFFER) }
-{
-    vec![in alloc; 0u8; BUFFER]
 }

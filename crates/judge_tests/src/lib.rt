@@ -1,15 +1,19 @@
-//! Tests of what judges runs, of logs and what they tell, of what reads runs plainly and of the
-//! boards that are made from a number, by values worked out by hand.
+//! Tests of calls that no word of the program makes, of which act a log tells, and of the boards
+//! that are made from a number, by values worked out by hand.
 #![tactic(auto)]
 
 #[cfg(test)]
-mod judge_next_tests;
+mod log_told_tests;
 #[cfg(test)]
-mod observed_tests;
+mod message_tests;
 #[cfg(test)]
 mod plain_audit_tests;
 #[cfg(test)]
 mod plain_decode_tests;
+#[cfg(test)]
+mod plain_lines_tests;
+#[cfg(test)]
+mod plain_replay_tests;
 #[cfg(test)]
 mod traffic_generator_tests;
 #[cfg(test)]

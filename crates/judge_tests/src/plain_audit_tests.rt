@@ -1,11 +1,9 @@
-ghost use Rattle.std.specs.Prelude.{IfOk};
 ghost use Rattle.history_model.specs.Runs.{Run, history_of};
 
-use crate::worked_boards::worked;
+use crate::worked_boards::complete_run;
 use board_tree::Tree;
 use history_model::Event;
-use judge_check::{Verdict, check};
-use pci_command::{List, OpId};
+use pci_command::OpId;
 use plain_audit::{chain, fresh, told};
 use std::alloc::Global;
 use std::process::Abort;
@@ -39,17 +37,6 @@ events
 0 read m c.1 ram 00000005
 end 9
 ";
-
-/// The board of a trace, and its events, which are a complete run.
-fn complete_run(alloc: Global, text: &[u8]) -> Result<(Tree, List<Event>), Fail>
-    ensures { IfOk result (λ read. Run read.0 (history_of read.1)) }
-{
-    let (tree, events) = worked(alloc, text)?;
-    match check(alloc, &tree, events.as_slice())? {
-        Verdict::Complete => Ok((tree, events)),
-        Verdict::Incomplete { .. } | Verdict::NotRun { .. } => Err("no complete run".into()),
-    }
-}
 
 /// An operation by its master, its number and its try.
 fn op(master: u16, index: u16, attempt: u32) -> OpId {

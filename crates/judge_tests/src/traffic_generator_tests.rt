@@ -30,14 +30,3 @@ fn one_round_is_drawn(rt: HostRuntime) -> Result<(), Fail> {
     assert_eq!(rt; (masters.len(), tree.bound()), (3, 97));
     Ok(())
 }
-
-/// The rounds are 1 to 300, and each adds 97 to the bound.
-#[test]
-fn most_rounds(rt: HostRuntime) -> Result<(), Fail> {
-    assert!(rt; Rounds::new(0).is_none());
-    assert!(rt; Rounds::new(301).is_none());
-    let rounds = Rounds::new(300).ok_or("no rounds")?;
-    let tree = generate(rt.alloc(), &rounds)?;
-    assert_eq!(rt; (rounds.count(), tree.bound()), (300, 29_100));
-    Ok(())
-}

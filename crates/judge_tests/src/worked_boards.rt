@@ -1,7 +1,9 @@
 ghost use Rattle.std.specs.Prelude.{◌<◌, ◌^◌, IfOk, length};
+ghost use Rattle.history_model.specs.Runs.{Run, history_of};
 
 use board_tree::{Tree, validate};
 use history_model::Event;
+use judge_check::{Verdict, check};
 use pci_command::List;
 use std::alloc::Global;
 use std::test::Fail;
@@ -17,4 +19,15 @@ pub(crate) fn worked(alloc: Global, text: &[u8]) -> Result<(Tree, List<Event>), 
     let (board, events) = read_trace(alloc, text)?;
     let tree = validate(board).ok().ok_or("not valid")?;
     Ok((tree, events))
+}
+
+/// The board of a trace, and its events, which are a complete run.
+pub(crate) fn complete_run(alloc: Global, text: &[u8]) -> Result<(Tree, List<Event>), Fail>
+    ensures { IfOk result (λ read. Run read.0 (history_of read.1)) }
+{
+    let (tree, events) = worked(alloc, text)?;
+    match check(alloc, &tree, events.as_slice())? {
+        Verdict::Complete => Ok((tree, events)),
+        Verdict::Incomplete { .. } | Verdict::NotRun { .. } => Err("no complete run".into()),
+    }
 }

@@ -1,5 +1,4 @@
 pub mod FileLemmas
-pub mod AppendLemmas
 pub mod StopLemmas
 pub mod WrittenLemmas
 pub mod SureLemmas

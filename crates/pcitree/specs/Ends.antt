@@ -6,7 +6,7 @@ use Rattle.program_input.specs.Traces.{IsCompleteTrace}
 use Rattle.program_words.specs.declared.Form.{Form}
 use Rattle.pcitree.specs.Words.{command_of}
 use Rattle.pcitree.specs.Answers.{limit_of, AnswersTo, Refuses}
-use Rattle.pcitree.specs.Writing.{WritesFront}
+use Rattle.io_ports.specs.Writing.{WritesFront}
 
 -- the source gave this input to its end: all that it held, where it tells it
 pub record ReadsInput (form : Form) (held left : Option (List ℕ)) (input : List ℕ) : Type 0 where

@@ -3,10 +3,8 @@
 
 mod answering;
 mod program;
-mod reading;
 mod surely;
 mod words;
-mod writing;
 
 pub use command_observe::{Retelling, retell};
 pub use command_runs::{Gate, NoGate};

@@ -10,13 +10,11 @@ ghost use Rattle.pcitree.specs.Stops.{StopsAnswering, StopsServing, StopsRunning
 ghost use Rattle.program_words.specs.Shapes.{parts_of};
 
 use crate::answering::answer;
-use crate::reading::{ReadError, read_all};
 use crate::words::{form_of, misfit, number_of};
-use crate::writing::write_all;
 use command_runs::{
     Gate, finished_traces_are_complete, written_devices_are_complete, written_runs_are_complete,
 };
-use io_ports::{Sink, Source};
+use io_ports::{ReadError, Sink, Source, read_all, write_all};
 use program_status::{Answered, Status};
 use program_words::Form;
 use std::alloc::Global;

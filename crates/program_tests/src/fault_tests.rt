@@ -1,11 +1,12 @@
-//! Each call of a port fails in turn, a sink fills up, and texts are cut. What is wanted stands in
-//! the tables, and was worked out by hand.
-use crate::calls::{sink, source, words};
+//! Each call of a port fails in turn, and a sink fills up. What is wanted stands in the tables, and
+//! was worked out by hand.
+use crate::calls::{answer, sink, source};
 use io_ports::{SureSink, SureSource};
 use pci_command::List;
-use pcitree::{BoardFault, NoGate, Status, file_word, pcitree, pcitree_surely};
+use pcitree::{NoGate, Status, pcitree_surely};
 use std::test::Fail;
-use text_faults::{LineFault, TraceLineFault};
+
+const RUN: &str = "run --steady f";
 
 /// 110 bytes.
 const BOARD: &str = "\
@@ -32,102 +33,54 @@ events
 end 2
 ";
 
-/// The first bytes of the text, so many of them as it has.
-fn front(text: &str, count: usize) -> &[u8] {
-    let bytes = text.as_bytes();
-    let (front, _) = bytes.split_at(count.min(bytes.len()));
-    front
-}
-
+/// Seven calls give the board, and the eighth is its end.
 #[test]
 fn each_call_of_the_source_fails_in_turn(rt: HostRuntime) -> Result<(), Fail> {
-    let alloc = rt.alloc();
-    let words = words(alloc, "run --steady f")?;
-    // seven calls give the board, and the eighth is its end
-    for (call, status, taken) in [
-        (1, Status::ReadFault, ""),
-        (2, Status::ReadFault, ""),
-        (3, Status::ReadFault, ""),
-        (4, Status::ReadFault, ""),
-        (5, Status::ReadFault, ""),
-        (6, Status::ReadFault, ""),
-        (7, Status::ReadFault, ""),
-        (8, Status::ReadFault, ""),
-        (9, Status::Done, TRACE),
-    ] {
-        let mut source = source(alloc, BOARD.as_bytes(), call)?;
-        let mut sink = sink(alloc, 1024, 0)?;
-        let answer = pcitree(
-            &rt,
-            alloc,
-            words.as_slice(),
-            &mut source,
-            &mut sink,
-            &NoGate,
+    for call in 1..=9u32 {
+        let mut source = source(rt.alloc(), BOARD, call)?;
+        let mut sink = sink(rt.alloc(), 1024, 0)?;
+        let status = answer(&rt, rt.alloc(), RUN, &mut source, &mut sink, &NoGate)?;
+        let wanted = if call < 9 {
+            (Status::ReadFault, "")
+        } else {
+            (Status::Done, TRACE)
+        };
+        assert_eq!(rt;
+            (status, sink.bytes()),
+            (wanted.0, wanted.1.as_bytes()),
+            "at call {call}"
         );
-        assert_eq!(rt; answer, status, "at call {call}");
-        assert_eq!(rt; sink.bytes(), taken.as_bytes(), "at call {call}");
     }
     Ok(())
 }
 
+/// Eleven calls take 16 bytes each, and the twelfth the other five; and a sink fills up.
 #[test]
 fn each_call_of_the_sink_fails_in_turn(rt: HostRuntime) -> Result<(), Fail> {
-    let alloc = rt.alloc();
-    let words = words(alloc, "run --steady f")?;
-    // eleven calls take 16 bytes each, and the twelfth the other five
-    for (call, status, taken) in [
-        (1, Status::WriteFault, 0),
-        (2, Status::WriteFault, 16),
-        (3, Status::WriteFault, 32),
-        (4, Status::WriteFault, 48),
-        (5, Status::WriteFault, 64),
-        (6, Status::WriteFault, 80),
-        (7, Status::WriteFault, 96),
-        (8, Status::WriteFault, 112),
-        (9, Status::WriteFault, 128),
-        (10, Status::WriteFault, 144),
-        (11, Status::WriteFault, 160),
-        (12, Status::WriteFault, 176),
-        (13, Status::Done, 181),
+    for (size, call, status, taken) in [
+        (1024, 1, Status::WriteFault, 0),
+        (1024, 2, Status::WriteFault, 16),
+        (1024, 3, Status::WriteFault, 32),
+        (1024, 4, Status::WriteFault, 48),
+        (1024, 5, Status::WriteFault, 64),
+        (1024, 6, Status::WriteFault, 80),
+        (1024, 7, Status::WriteFault, 96),
+        (1024, 8, Status::WriteFault, 112),
+        (1024, 9, Status::WriteFault, 128),
+        (1024, 10, Status::WriteFault, 144),
+        (1024, 11, Status::WriteFault, 160),
+        (1024, 12, Status::WriteFault, 176),
+        (1024, 13, Status::Done, 181),
+        (100, 0, Status::WriteFault, 100),
+        (180, 0, Status::WriteFault, 180),
+        (181, 0, Status::Done, 181),
     ] {
-        let mut source = source(alloc, BOARD.as_bytes(), 0)?;
-        let mut sink = sink(alloc, 1024, call)?;
-        let answer = pcitree(
-            &rt,
-            alloc,
-            words.as_slice(),
-            &mut source,
-            &mut sink,
-            &NoGate,
-        );
-        assert_eq!(rt; answer, status, "at call {call}");
-        assert_eq!(rt; sink.bytes(), front(TRACE, taken), "at call {call}");
-    }
-    Ok(())
-}
-
-#[test]
-fn a_sink_fills_up(rt: HostRuntime) -> Result<(), Fail> {
-    let alloc = rt.alloc();
-    let words = words(alloc, "run --steady f")?;
-    for (size, status) in [
-        (100, Status::WriteFault),
-        (180, Status::WriteFault),
-        (181, Status::Done),
-    ] {
-        let mut source = source(alloc, BOARD.as_bytes(), 0)?;
-        let mut sink = sink(alloc, size, 0)?;
-        let answer = pcitree(
-            &rt,
-            alloc,
-            words.as_slice(),
-            &mut source,
-            &mut sink,
-            &NoGate,
-        );
-        assert_eq!(rt; answer, status, "with room for {size}");
-        assert_eq!(rt; sink.bytes(), front(TRACE, size), "with room for {size}");
+        let mut source = source(rt.alloc(), BOARD, 0)?;
+        let mut sink = sink(rt.alloc(), size, call)?;
+        let found = answer(&rt, rt.alloc(), RUN, &mut source, &mut sink, &NoGate)?;
+        assert_eq!(rt; found, status, "at call {call}, with room for {size}");
+        let front = TRACE.as_bytes().get(..taken).ok_or("no front")?;
+        assert_eq!(rt; sink.bytes(), front, "at call {call}, with room for {size}");
     }
     Ok(())
 }
@@ -135,7 +88,11 @@ fn a_sink_fills_up(rt: HostRuntime) -> Result<(), Fail> {
 #[test]
 fn ports_that_never_fail(rt: HostRuntime) -> Result<(), Fail> {
     let alloc = rt.alloc();
-    let words = words(alloc, "run --steady f")?;
+    let words = vec![in alloc;
+        String::from_str(alloc, "run")?,
+        String::from_str(alloc, "--steady")?,
+        String::from_str(alloc, "f")?,
+    ]?;
     let mut source = SureSource::new(List::from_vec(BOARD.as_bytes().to_vec(alloc)?));
     let mut sink = SureSink::new();
     let answer = pcitree_surely(
@@ -148,100 +105,5 @@ fn ports_that_never_fail(rt: HostRuntime) -> Result<(), Fail> {
     );
     assert_eq!(rt; answer, Status::Done);
     assert_eq!(rt; sink.count(), 181);
-    Ok(())
-}
-
-fn at_line(line: u32, fault: LineFault) -> Status {
-    Status::BadBoard {
-        line,
-        fault: BoardFault::Line(fault),
-    }
-}
-
-#[test]
-fn a_board_is_cut(rt: HostRuntime) -> Result<(), Fail> {
-    let alloc = rt.alloc();
-    let words = words(alloc, "run --steady f")?;
-    for (count, status, end) in [
-        (0, at_line(1, LineFault::NoFirstLine), ""),
-        (10, Status::Done, "events\nend 0\n"),
-        (14, at_line(2, LineFault::WrongWord), ""),
-        (17, at_line(2, LineFault::Missing), ""),
-        (32, Status::Done, "events\nend 0\n"),
-        (58, at_line(3, LineFault::Unaligned), ""),
-        (59, Status::Done, "events\nend 0\n"),
-    ] {
-        let mut source = source(alloc, front(BOARD, count), 0)?;
-        let mut sink = sink(alloc, 1024, 0)?;
-        let answer = pcitree(
-            &rt,
-            alloc,
-            words.as_slice(),
-            &mut source,
-            &mut sink,
-            &NoGate,
-        );
-        assert_eq!(rt; answer, status, "of {count} bytes");
-        assert_eq!(rt;
-            sink.bytes().ends_with(end.as_bytes()),
-            true,
-            "of {count} bytes"
-        );
-        assert_eq!(rt; sink.bytes().is_empty(), end.is_empty(), "of {count} bytes");
-    }
-    Ok(())
-}
-
-#[test]
-fn a_trace_is_cut(rt: HostRuntime) -> Result<(), Fail> {
-    let alloc = rt.alloc();
-    let words = words(alloc, "check f")?;
-    for (count, line, fault) in [
-        (0, 1, TraceLineFault::NoFirstLine),
-        (11, 2, TraceLineFault::NoEventsLine),
-        (121, 8, TraceLineFault::NoEventsLine),
-        (128, 9, TraceLineFault::WrongCount),
-        (175, 11, TraceLineFault::WrongCount),
-        (178, 11, TraceLineFault::NoKind),
-    ] {
-        let mut source = source(alloc, front(TRACE, count), 0)?;
-        let mut sink = sink(alloc, 1024, 0)?;
-        let answer = pcitree(
-            &rt,
-            alloc,
-            words.as_slice(),
-            &mut source,
-            &mut sink,
-            &NoGate,
-        );
-        assert_eq!(rt;
-            answer,
-            Status::BadTrace { line, fault },
-            "of {count} bytes"
-        );
-        assert_eq!(rt; sink.bytes(), b"".as_slice());
-    }
-    Ok(())
-}
-
-#[test]
-fn words_of_no_form_are_told_by_place(rt: HostRuntime) -> Result<(), Fail> {
-    let alloc = rt.alloc();
-    for (line, place) in [
-        ("", None),
-        ("run", None),
-        ("run --fast f", None),
-        ("run --steady", None),
-        ("run a b", None),
-        ("headers f g", None),
-        ("walk f", None),
-        ("generate 1", None),
-        ("run --steady f", Some(2)),
-        ("headers f", Some(1)),
-        ("draw f 1 2", Some(1)),
-    ] {
-        let words = words(alloc, line)?;
-        assert_eq!(rt; file_word(words.as_slice()), place, "of {line}");
-    }
     Ok(())
 }

@@ -1,7 +1,7 @@
 //! As many threads run as there are buses, and what is read depends on which bus was held: the
 //! texts were worked out by hand.
-use crate::calls::{sink, source, words};
-use pcitree::{Gate, NoGate, Status, pcitree};
+use crate::calls::{answer, sink, source};
+use pcitree::{Gate, NoGate, Status};
 use std::alloc::Global;
 use std::sync::atomic::{AtomicU64, Ordering};
 use std::test::Fail;
@@ -163,14 +163,13 @@ fn call<R: Threads + Sync, G: Gate + Sync>(
     rt: &R,
     alloc: Global,
     line: &str,
-    text: &[u8],
+    text: &str,
     gate: &G,
 ) -> Result<(Status, Vec<u8>), Fail> {
-    let words = words(alloc, line)?;
     let mut source = source(alloc, text, 0)?;
     let mut sink = sink(alloc, 4096, 0)?;
-    let answer = pcitree(rt, alloc, words.as_slice(), &mut source, &mut sink, gate);
-    Ok((answer, sink.bytes().to_vec(alloc)?))
+    let status = answer(rt, alloc, line, &mut source, &mut sink, gate)?;
+    Ok((status, sink.bytes().to_vec(alloc)?))
 }
 
 #[test]
@@ -180,10 +179,11 @@ fn as_many_threads_run_as_there_are_buses(rt: HostRuntime) -> Result<(), Fail> {
         met: AtomicU64::new(0),
         alone: AtomicU64::new(0),
     };
-    let (status, trace) = call(&rt, alloc, "run f", DEPTH_ONE.as_bytes(), &gate)?;
+    let (status, trace) = call(&rt, alloc, "run f", DEPTH_ONE, &gate)?;
     assert_eq!(rt; status, Status::Done);
     assert_eq!(rt; gate.alone.load(Ordering::SeqCst), 0);
-    let (status, verdict) = call(&rt, alloc, "check f", &trace, &NoGate)?;
+    let trace = str::from_utf8(&trace).map_err(|_| "no text")?;
+    let (status, verdict) = call(&rt, alloc, "check f", trace, &NoGate)?;
     assert_eq!(rt; status, Status::Done);
     assert_eq!(rt;
         verdict.as_slice(),
@@ -200,7 +200,7 @@ fn what_is_read_depends_on_which_bus_was_held(rt: HostRuntime) -> Result<(), Fai
         (0, READ_FIRST, [Some(1), Some(1)]),
     ] {
         let gate = Hold::new(held);
-        let (status, trace) = call(&rt, alloc, "run f", TWO_BUSES.as_bytes(), &gate)?;
+        let (status, trace) = call(&rt, alloc, "run f", TWO_BUSES, &gate)?;
         assert_eq!(rt; status, Status::Done, "with bus {held} held");
         assert_eq!(rt;
             gate.alone.load(Ordering::SeqCst),

@@ -1,12 +1,11 @@
 ghost use Rattle.std.specs.Prelude.{IsTrue};
 ghost use Rattle.board_model.specs.WellFormed.{is_well_formed};
 
-use crate::lane::lane_reason;
+use crate::lane::put_lane_reason;
 use crate::reason::Reason;
-use crate::retry::retry_reason;
+use crate::retry::put_retry;
 use crate::scene::Scene;
-use crate::words::op_word;
-use board_model::Lane;
+use board_model::{Lane, Master};
 use history_model::{Answer, By, Event, Mark, Why};
 use machine_steps::{Presented, act_given, is_on};
 use pci_command::NoMemory;
@@ -16,30 +15,37 @@ use trace_text::LaneWord;
 pub(crate) fn reason_of(scene: &Scene, event: &Event, why: Why) -> Result<Reason, NoMemory>
     requires { IsTrue (is_well_formed scene.now.board.now) }
 {
+    let mut reason = Reason::new(scene.alloc);
+    put_reason(&mut reason, scene, event, why)?;
+    Ok(reason)
+}
+
+fn put_reason(reason: &mut Reason, scene: &Scene, event: &Event, why: Why) -> Result<(), NoMemory>
+    requires { IsTrue (is_well_formed scene.now.board.now) }
+{
     match *event {
-        Event::Arrive { lane, .. } => arrival_reason(scene, lane),
+        Event::Arrive { lane, .. } => put_arrival(&mut reason.text, scene, lane),
         Event::Act { bus, by, op, .. } => {
             let presented = Presented { bus, by, op };
             match (why, by) {
-                (Why::NotPresented, By::Lane(lane)) => lane_reason(scene, presented, lane),
-                (Why::NotPresented, By::Master) => master_reason(scene, presented),
-                _ => answer_reason(scene, presented),
+                (Why::NotPresented, By::Lane(lane)) => {
+                    put_lane_reason(reason, scene, presented, lane)
+                }
+                (Why::NotPresented, By::Master) => put_master(&mut reason.text, scene, presented),
+                _ => put_answer(reason, scene, presented),
             }
         }
     }
 }
 
 /// What the lane carries next.
-fn arrival_reason(scene: &Scene, lane: Lane) -> Result<Reason, NoMemory> {
+fn put_arrival(text: &mut String, scene: &Scene, lane: Lane) -> Result<(), NoMemory> {
     let word = LaneWord(lane);
-    let text = match scene.kept.next_mark(scene.board, lane) {
-        None => format!(in scene.alloc; "nothing went into {word} that has not arrived")?,
-        Some(mark) => {
-            let marked = marked_words(mark);
-            format!(in scene.alloc; "this arrival on {word} {marked}")?
-        }
-    };
-    Ok(Reason::new(scene.alloc, text))
+    match scene.kept.next_mark(scene.board, lane) {
+        None => write!(text, "nothing went into {word} that has not arrived")?,
+        Some(mark) => write!(text, "this arrival on {word} {}", marked_words(mark))?,
+    }
+    Ok(())
 }
 
 fn marked_words(mark: Mark) -> &'static str {
@@ -51,42 +57,57 @@ fn marked_words(mark: Mark) -> &'static str {
 }
 
 /// Whose turn it is of a master's program, or on which bus the master is.
-fn master_reason(scene: &Scene, presented: Presented) -> Result<Reason, NoMemory> {
+fn put_master(text: &mut String, scene: &Scene, presented: Presented) -> Result<(), NoMemory> {
+    match scene
+        .board
+        .masters
+        .as_slice()
+        .get(usize::from(presented.op.master))
+    {
+        Some(master) => put_turn(text, scene, presented, master),
+        None => scene.put_op(text, presented.op),
+    }
+}
+
+fn put_turn(
+    text: &mut String,
+    scene: &Scene,
+    presented: Presented,
+    master: &Master,
+) -> Result<(), NoMemory> {
     let number = presented.op.master;
-    let op = op_word(scene.alloc, scene.board, presented.op)?;
-    let Some(master) = scene.board.masters.as_slice().get(number as usize) else {
-        return Ok(Reason::new(scene.alloc, op));
-    };
-    let name = master.name.as_str();
-    let bus = master.bus;
-    let text = if !is_on(scene.board, presented.bus, number) {
-        format!(in scene.alloc; "{name} does not present {op} here: it is on bus {bus}")?
+    write!(text, "{} does not present ", master.name.as_str())?;
+    scene.put_op(text, presented.op)?;
+    if !is_on(scene.board, presented.bus, number) {
+        write!(text, " here: it is on bus {}", master.bus)?;
     } else if let Some(turn) = scene.kept.turn(number) {
-        let turn = op_word(scene.alloc, scene.board, turn)?;
-        format!(in scene.alloc; "{name} does not present {op}: its turn is {turn}")?
+        text.push_str(": its turn is ")?;
+        scene.put_op(text, turn)?;
     } else {
-        format!(in scene.alloc; "{name} does not present {op}: its program has ended")?
-    };
-    Ok(Reason::new(scene.alloc, text))
+        text.push_str(": its program has ended")?;
+    }
+    Ok(())
 }
 
 /// How the operation is answered in place of the event: by another, or with Retry.
-fn answer_reason(scene: &Scene, presented: Presented) -> Result<Reason, NoMemory>
+fn put_answer(reason: &mut Reason, scene: &Scene, presented: Presented) -> Result<(), NoMemory>
     requires { IsTrue (is_well_formed scene.now.board.now) }
 {
     let answer = scene.kept.answer(scene.board, presented);
     match answer {
-        Answer::Retry { cause } => retry_reason(scene, presented, cause),
+        Answer::Retry { cause } => put_retry(reason, scene, presented, cause),
         Answer::Gives { .. } => {
-            let text = String::from_str(scene.alloc, "it comes to another event")?;
+            reason.text.push_str("it comes to another event")?;
             match act_given(presented, answer) {
-                Some(event) => {
-                    let line = scene.line(&event)?;
-                    let note = format!(in scene.alloc; "here it comes to: {line}")?;
-                    Reason::with(scene.alloc, text, note)
-                }
-                None => Ok(Reason::new(scene.alloc, text)),
+                Some(event) => reason.note(event_note(scene, &event)?),
+                None => Ok(()),
             }
         }
     }
+}
+
+fn event_note(scene: &Scene, event: &Event) -> Result<String, NoMemory> {
+    let mut note = String::from_str(scene.alloc, "here it comes to: ")?;
+    scene.put_line(&mut note, event)?;
+    Ok(note)
 }

@@ -1,7 +1,7 @@
 //! Why a lane does not present an operation.
 use crate::reason::Reason;
 use crate::scene::Scene;
-use crate::words::{item_words, kind_words, op_of_item, op_word};
+use crate::words::{kind_words, put_item, put_item_op, put_since};
 use board_model::{Lane, end_of};
 use history_model::Carried;
 use machine_steps::{Presented, place_of_request};
@@ -9,103 +9,144 @@ use pci_command::{NoMemory, OpId};
 use trace_text::LaneWord;
 
 /// Why a lane does not present an operation on a bus.
-pub(crate) fn lane_reason(
+pub(crate) fn put_lane_reason(
+    reason: &mut Reason,
     scene: &Scene,
     presented: Presented,
     lane: Lane,
-) -> Result<Reason, NoMemory> {
+) -> Result<(), NoMemory> {
     let end = end_of(scene.board, lane);
     if end != presented.bus {
         let word = LaneWord(lane);
-        let text = format!(in scene.alloc; "{word} ends at bus {end}, and not here")?;
-        return Ok(Reason::new(scene.alloc, text));
+        write!(reason.text, "{word} ends at bus {end}, and not here")?;
+        return Ok(());
     }
     let Some(lanes) = scene.kept.lanes_to(scene.board, lane.bus) else {
-        return not_there(scene, lane, presented.op, &[]);
+        return put_not_there(reason, scene, lane, presented.op, &[]);
     };
     let tables = lanes.lane(lane.up);
     let standing = tables.standing();
     if place_of_request(tables.flight(), presented.op).is_some() {
-        return in_flight(scene, lane, presented);
+        return put_in_flight(reason, scene, lane, presented);
     }
     match place_of_request(standing, presented.op) {
-        Some(place) => behind(scene, lane, place, standing),
-        None => not_there(scene, lane, presented.op, standing),
+        Some(place) => {
+            let (older, rest) = standing.split_at(place.min(standing.len()));
+            match rest {
+                [item, ..] => put_waiting(reason, scene, lane, *item, older),
+                [] => Ok(()),
+            }
+        }
+        None => put_not_there(reason, scene, lane, presented.op, standing),
     }
 }
 
-fn in_flight(scene: &Scene, lane: Lane, presented: Presented) -> Result<Reason, NoMemory> {
-    let op = op_word(scene.alloc, scene.board, presented.op)?;
-    let word = LaneWord(lane);
-    let bus = presented.bus;
-    let text = format!(in scene.alloc; "{op} is in flight on {word}, and has not arrived")?;
-    let note = format!(in scene.alloc;
-        "a line `{bus} arrive {word}` before this one brings it; pcitree fill FILE puts in what is missing"
-    )?;
-    Reason::with(scene.alloc, text, note)
-}
-
-/// What the item of this place stands behind: an older equal request, or else what it may not pass.
-fn behind(
+fn put_in_flight(
+    reason: &mut Reason,
     scene: &Scene,
     lane: Lane,
-    place: usize,
-    standing: &[Carried],
-) -> Result<Reason, NoMemory> {
-    let (older, rest) = standing.split_at(place.min(standing.len()));
-    let Some(item) = rest.first().copied() else {
-        return Ok(Reason::new(scene.alloc, String::new(scene.alloc)));
-    };
+    presented: Presented,
+) -> Result<(), NoMemory> {
+    let word = LaneWord(lane);
+    scene.put_op(&mut reason.text, presented.op)?;
+    write!(reason.text, " is in flight on {word}, and has not arrived")?;
+    let bus = presented.bus;
+    reason.note(format!(in scene.alloc;
+        "a line `{bus} arrive {word}` before this one brings it; pcitree fill FILE puts in what is missing"
+    )?)
+}
+
+/// What the item stands behind: an older equal request, or else what it may not pass.
+fn put_waiting(
+    reason: &mut Reason,
+    scene: &Scene,
+    lane: Lane,
+    item: Carried,
+    older: &[Carried],
+) -> Result<(), NoMemory> {
     let bus = end_of(scene.board, lane);
     match scene.equal_before(bus, item, older) {
-        Some(other) => behind_equal(scene, lane, item, other),
+        Some(other) => put_behind_equal(reason, scene, lane, item, other),
         None => match scene.not_passed(bus, item, older) {
-            Some(other) => behind_other(scene, lane, item, other),
-            None => {
-                let item = scene.standing_words(lane, item)?;
-                Ok(Reason::new(scene.alloc, item))
-            }
+            Some(other) => put_behind_other(reason, scene, lane, item, other),
+            None => scene.put_standing(&mut reason.text, lane, item),
         },
     }
 }
 
-fn behind_equal(
+fn put_behind_equal(
+    reason: &mut Reason,
     scene: &Scene,
     lane: Lane,
     item: Carried,
     other: Carried,
-) -> Result<Reason, NoMemory> {
-    let op = item_op(scene, item)?;
-    let older = item_op(scene, other)?;
-    let word = LaneWord(lane);
-    let since = scene.since_words(lane, item)?;
-    let text = format!(in scene.alloc;
-        "{op} stands on {word}{since}, behind an equal request of {older}"
-    )?;
-    let since = scene.since_words(lane, other)?;
-    let note = format!(in scene.alloc;
-        "{older} stands there{since}; of equal requests the older goes first"
-    )?;
-    Reason::with(scene.alloc, text, note)
+) -> Result<(), NoMemory> {
+    put_item_op(&mut reason.text, scene.board, item)?;
+    put_place(&mut reason.text, scene, lane, item)?;
+    reason.text.push_str(", behind an equal request of ")?;
+    put_item_op(&mut reason.text, scene.board, other)?;
+    reason.note(equal_note(scene, lane, other)?)
 }
 
-fn behind_other(
+/// On which lane the item stands, and since when.
+fn put_place(text: &mut String, scene: &Scene, lane: Lane, item: Carried) -> Result<(), NoMemory> {
+    write!(text, " stands on {}", LaneWord(lane))?;
+    scene.put_since(text, lane, item)
+}
+
+fn equal_note(scene: &Scene, lane: Lane, other: Carried) -> Result<String, NoMemory> {
+    let mut note = String::new(scene.alloc);
+    put_equal_note(&mut note, scene, lane, other)?;
+    Ok(note)
+}
+
+fn put_equal_note(
+    note: &mut String,
+    scene: &Scene,
+    lane: Lane,
+    other: Carried,
+) -> Result<(), NoMemory> {
+    put_item_op(note, scene.board, other)?;
+    note.push_str(" stands there")?;
+    scene.put_since(note, lane, other)?;
+    note.push_str("; of equal requests the older goes first")?;
+    Ok(())
+}
+
+fn put_behind_other(
+    reason: &mut Reason,
     scene: &Scene,
     lane: Lane,
     item: Carried,
     other: Carried,
-) -> Result<Reason, NoMemory> {
-    let words = item_words(scene.alloc, scene.board, item)?;
-    let older = item_op(scene, other)?;
-    let word = LaneWord(lane);
-    let since = scene.since_words(lane, item)?;
-    let text = format!(in scene.alloc; "{words} stands on {word}{since}, behind {older}")?;
-    let kind = kind_words(scene.board, other).name;
-    let since = scene.since_words(lane, other)?;
-    let note = format!(in scene.alloc; "{older} ({kind}) stands there{since}")?;
-    let mut reason = Reason::with(scene.alloc, text, note)?;
-    reason.notes.push(table_note(scene, item, other)?)?;
-    Ok(reason)
+) -> Result<(), NoMemory> {
+    put_item(&mut reason.text, scene.board, item)?;
+    put_place(&mut reason.text, scene, lane, item)?;
+    reason.text.push_str(", behind ")?;
+    put_item_op(&mut reason.text, scene.board, other)?;
+    reason.note(other_note(scene, lane, other)?)?;
+    reason.note(table_note(scene, item, other)?)
+}
+
+fn other_note(scene: &Scene, lane: Lane, other: Carried) -> Result<String, NoMemory> {
+    let mut note = String::new(scene.alloc);
+    put_other_note(&mut note, scene, lane, other)?;
+    Ok(note)
+}
+
+fn put_other_note(
+    note: &mut String,
+    scene: &Scene,
+    lane: Lane,
+    other: Carried,
+) -> Result<(), NoMemory> {
+    put_item_op(note, scene.board, other)?;
+    write!(
+        note,
+        " ({}) stands there",
+        kind_words(scene.board, other).name
+    )?;
+    scene.put_since(note, lane, other)
 }
 
 /// What the ordering table says of an item and one that is older.
@@ -120,28 +161,26 @@ fn table_note(scene: &Scene, item: Carried, other: Carried) -> Result<String, No
 }
 
 /// The operation left the lane, was dropped there, or was never sent on it.
-fn not_there(
+fn put_not_there(
+    reason: &mut Reason,
     scene: &Scene,
     lane: Lane,
     op: OpId,
     standing: &[Carried],
-) -> Result<Reason, NoMemory> {
-    let name = op_word(scene.alloc, scene.board, op)?;
+) -> Result<(), NoMemory> {
     let word = LaneWord(lane);
     let left = scene.past.left(lane, op);
     let sent = scene.past.sent(lane, Carried::Post { op });
-    let text = match (left, sent) {
-        (Some(event), _) => format!(in scene.alloc; "{name} left {word} at event {event}")?,
-        (None, Some(_)) => format!(in scene.alloc; "{name} was dropped on {word}")?,
-        (None, None) => format!(in scene.alloc; "{name} was not sent on {word}")?,
-    };
+    scene.put_op(&mut reason.text, op)?;
     match (left, sent) {
+        (Some(event), _) => write!(reason.text, " left {word} at event {event}")?,
+        (None, Some(_)) => write!(reason.text, " was dropped on {word}")?,
         (None, None) => {
-            let note = standing_note(scene, lane, standing)?;
-            Reason::with(scene.alloc, text, note)
+            write!(reason.text, " was not sent on {word}")?;
+            reason.note(standing_note(scene, lane, standing)?)?;
         }
-        _ => Ok(Reason::new(scene.alloc, text)),
     }
+    Ok(())
 }
 
 /// All that stands on a lane.
@@ -150,23 +189,35 @@ fn standing_note(scene: &Scene, lane: Lane, standing: &[Carried]) -> Result<Stri
     if standing.is_empty() {
         return Ok(format!(in scene.alloc; "nothing stands on {word}")?);
     }
-    let mut note = format!(in scene.alloc; "{word} has")?;
-    let mut mark = ":";
-    for item in standing {
-        let op = item_op(scene, *item)?;
-        let kind = kind_words(scene.board, *item).name;
-        let since = scene.since_words(lane, *item)?;
-        let comma = if since.is_empty() { "" } else { "," };
-        write!(note, "{mark} {op} ({kind}{comma}{since})")?;
-        mark = ",";
-    }
+    let mut note = format!(in scene.alloc; "{word} has:")?;
+    put_all(&mut note, scene, lane, standing)?;
     Ok(note)
 }
 
-/// The operation that an item is of.
-pub(crate) fn item_op(scene: &Scene, item: Carried) -> Result<String, NoMemory> {
-    match op_of_item(item) {
-        Some(op) => op_word(scene.alloc, scene.board, op),
-        None => item_words(scene.alloc, scene.board, item),
+fn put_all(
+    note: &mut String,
+    scene: &Scene,
+    lane: Lane,
+    standing: &[Carried],
+) -> Result<(), NoMemory> {
+    for (place, item) in standing.iter().enumerate() {
+        if place > 0 {
+            note.push_str(",")?;
+        }
+        put_one(note, scene, lane, *item)?;
     }
+    Ok(())
+}
+
+fn put_one(note: &mut String, scene: &Scene, lane: Lane, item: Carried) -> Result<(), NoMemory> {
+    let since = scene.past.since(lane, item);
+    note.push_str(" ")?;
+    put_item_op(note, scene.board, item)?;
+    write!(note, " ({}", kind_words(scene.board, item).name)?;
+    if since.is_some() {
+        note.push_str(",")?;
+    }
+    put_since(note, since)?;
+    note.push_str(")")?;
+    Ok(())
 }

@@ -2,13 +2,13 @@
 ghost use Rattle.std.specs.Prelude.{IsTrue};
 ghost use Rattle.board_model.specs.WellFormed.{is_well_formed};
 
-use crate::retry::held_words;
+use crate::retry::put_held;
 use crate::scene::Scene;
-use crate::words::{item_words, op_word};
+use crate::words::put_item;
 use board_model::{Lane, end_of};
 use history_model::{Answer, By, Carried};
 use machine_steps::{Presented, act_given, arrival_of};
-use pci_command::NoMemory;
+use pci_command::{NoMemory, OpId};
 use trace_text::LaneWord;
 
 /// How many are told of.
@@ -36,35 +36,48 @@ fn put_masters(notes: &mut Vec<String>, scene: &Scene) -> Result<(), NoMemory>
             break;
         }
         if let Some(op) = scene.kept.turn(number) {
-            let presented = Presented {
-                bus: master.bus,
-                by: By::Master,
-                op,
-            };
-            let name = op_word(scene.alloc, scene.board, op)?;
-            let goes = going_words(scene, presented, true)?;
-            notes.push(format!(in scene.alloc; "{name} {goes}")?)?;
+            notes.push(master_note(scene, master.bus, op)?)?;
         }
     }
     Ok(())
 }
 
-/// Whether what is presented may go on, or what it waits for, told whole or in few words.
-fn going_words(scene: &Scene, presented: Presented, is_whole: bool) -> Result<String, NoMemory>
+fn master_note(scene: &Scene, bus: u8, op: OpId) -> Result<String, NoMemory>
     requires { IsTrue (is_well_formed scene.now.board.now) }
 {
+    let presented = Presented {
+        bus,
+        by: By::Master,
+        op,
+    };
+    let mut note = String::new(scene.alloc);
+    scene.put_op(&mut note, op)?;
+    put_going(&mut note, scene, presented, true)?;
+    Ok(note)
+}
+
+/// Whether what is presented may go on, or what it waits for, told whole or in few words.
+fn put_going(
+    text: &mut String,
+    scene: &Scene,
+    presented: Presented,
+    is_whole: bool,
+) -> Result<(), NoMemory>
+    requires { IsTrue (is_well_formed scene.now.board.now) }
+{
+    text.push_str(" ")?;
     let answer = scene.kept.answer(scene.board, presented);
     match answer {
         Answer::Retry { cause } => {
-            let held = held_words(scene, presented, cause, is_whole)?;
-            Ok(format!(in scene.alloc; "waits: {held}")?)
+            text.push_str("waits: ")?;
+            put_held(text, scene, presented, cause, is_whole)
         }
         Answer::Gives { .. } => match act_given(presented, answer) {
             Some(event) => {
-                let line = scene.line(&event)?;
-                Ok(format!(in scene.alloc; "may go on: {line}")?)
+                text.push_str("may go on: ")?;
+                scene.put_line(text, &event)
             }
-            None => Ok(String::new(scene.alloc)),
+            None => Ok(()),
         },
     }
 }
@@ -96,7 +109,9 @@ fn put_lane(notes: &mut Vec<String>, scene: &Scene, lane: Lane) -> Result<(), No
         if notes.len() >= MOST {
             return Ok(());
         }
-        notes.push(standing_note(scene, lane, *item, place, tables.standing())?)?;
+        let standing = tables.standing();
+        let (older, _) = standing.split_at(place.min(standing.len()));
+        notes.push(standing_note(scene, lane, *item, older)?)?;
     }
     for (place, item) in tables.flight().iter().enumerate() {
         if notes.len() >= MOST {
@@ -107,21 +122,37 @@ fn put_lane(notes: &mut Vec<String>, scene: &Scene, lane: Lane) -> Result<(), No
     Ok(())
 }
 
-/// What an item waits for that stands at this place of a lane.
+/// What an item waits for that stands on a lane behind older ones.
 fn standing_note(
     scene: &Scene,
     lane: Lane,
     item: Carried,
-    place: usize,
-    standing: &[Carried],
+    older: &[Carried],
 ) -> Result<String, NoMemory>
     requires { IsTrue (is_well_formed scene.now.board.now) }
 {
-    let (older, _) = standing.split_at(place.min(standing.len()));
-    let words = item_words(scene.alloc, scene.board, item)?;
-    let word = LaneWord(lane);
-    let since = scene.since_words(lane, item)?;
-    let head = format!(in scene.alloc; "{words} stands on {word}{since}")?;
+    let mut note = String::new(scene.alloc);
+    put_item(&mut note, scene.board, item)?;
+    put_stands(&mut note, scene, lane, item)?;
+    put_wait(&mut note, scene, lane, item, older)?;
+    Ok(note)
+}
+
+fn put_stands(note: &mut String, scene: &Scene, lane: Lane, item: Carried) -> Result<(), NoMemory> {
+    write!(note, " stands on {}", LaneWord(lane))?;
+    scene.put_since(note, lane, item)
+}
+
+/// How what the lane presents is answered, or behind what the item waits.
+fn put_wait(
+    note: &mut String,
+    scene: &Scene,
+    lane: Lane,
+    item: Carried,
+    older: &[Carried],
+) -> Result<(), NoMemory>
+    requires { IsTrue (is_well_formed scene.now.board.now) }
+{
     if let Carried::Post { op } | Carried::Ask { op, .. } = item {
         let presented = Presented {
             bus: end_of(scene.board, lane),
@@ -129,24 +160,34 @@ fn standing_note(
             op,
         };
         if scene.kept.wants(scene.board, presented) {
-            let goes = going_words(scene, presented, false)?;
-            return Ok(format!(in scene.alloc; "{head} and {goes}")?);
+            note.push_str(" and")?;
+            return put_going(note, scene, presented, false);
         }
     }
-    let behind = scene.behind_words(lane, item, older)?;
-    Ok(format!(in scene.alloc; "{head}{behind}")?)
+    scene.put_behind(note, lane, item, older)
 }
 
 /// An item in flight, and its arrival where it is the next.
 fn flight_note(scene: &Scene, lane: Lane, item: Carried, place: usize) -> Result<String, NoMemory> {
-    let words = item_words(scene.alloc, scene.board, item)?;
-    let word = LaneWord(lane);
-    let head = format!(in scene.alloc; "{words} is in flight on {word}")?;
+    let mut note = String::new(scene.alloc);
+    put_flight(&mut note, scene, lane, item, place)?;
+    Ok(note)
+}
+
+fn put_flight(
+    note: &mut String,
+    scene: &Scene,
+    lane: Lane,
+    item: Carried,
+    place: usize,
+) -> Result<(), NoMemory> {
+    put_item(note, scene.board, item)?;
+    write!(note, " is in flight on {}", LaneWord(lane))?;
     match arrival_of(lane, scene.kept.next_mark(scene.board, lane)) {
         Some(event) if place == 0 => {
-            let line = scene.line(&event)?;
-            Ok(format!(in scene.alloc; "{head}: {line}")?)
+            note.push_str(": ")?;
+            scene.put_line(note, &event)
         }
-        _ => Ok(head),
+        _ => Ok(()),
     }
 }

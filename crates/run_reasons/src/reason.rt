@@ -9,17 +9,17 @@ pub struct Reason {
 }
 
 impl Reason {
-    pub(crate) fn new(alloc: Global, text: String) -> Reason {
+    /// Nothing is said yet.
+    pub(crate) fn new(alloc: Global) -> Reason {
         Reason {
-            text,
+            text: String::new(alloc),
             notes: Vec::new(alloc),
         }
     }
 
-    /// A sentence, and one besides.
-    pub(crate) fn with(alloc: Global, text: String, note: String) -> Result<Reason, NoMemory> {
-        let mut reason = Reason::new(alloc, text);
-        reason.notes.push(note)?;
-        Ok(reason)
+    /// One more sentence besides.
+    pub(crate) fn note(&mut self, note: String) -> Result<(), NoMemory> {
+        self.notes.push(note)?;
+        Ok(())
     }
 }

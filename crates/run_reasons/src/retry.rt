@@ -5,7 +5,7 @@ ghost use Rattle.board_model.specs.WellFormed.{is_well_formed};
 use crate::past::{back_of, is_same, latched_into};
 use crate::reason::Reason;
 use crate::scene::Scene;
-use crate::words::{counted, op_word};
+use crate::words::put_counted;
 use board_model::{Lane, Place, bridge_to, claim_in_space, request_of};
 use history_model::{Carried, Cause, Slot};
 use machine_steps::{Presented, address_left, own_slot, place_of_completion};
@@ -13,118 +13,155 @@ use pci_command::{NoMemory, OpId, same_op};
 use trace_text::LaneWord;
 
 /// Why the bridge that claims what is presented has to answer with Retry.
-pub(crate) fn retry_reason(
+pub(crate) fn put_retry(
+    reason: &mut Reason,
     scene: &Scene,
     presented: Presented,
     cause: Cause,
-) -> Result<Reason, NoMemory>
+) -> Result<(), NoMemory>
     requires { IsTrue (is_well_formed scene.now.board.now) }
 {
-    let lacks = what_lacks(scene, presented, cause)?;
-    let text = format!(in scene.alloc; "the bridge has to answer with Retry: {lacks}")?;
-    let note = held_words(scene, presented, cause, false)?;
-    let mut reason = Reason::with(scene.alloc, text, note)?;
+    reason
+        .text
+        .push_str("the bridge has to answer with Retry: ")?;
+    put_lacks(&mut reason.text, scene, presented, cause)?;
+    reason.note(held_note(scene, presented, cause)?)?;
     if matches!(cause, Cause::Behind) {
         let rule = "a delayed read completion does not pass a posted write";
         let table = "(row DRC, column PMW of the table)";
-        reason
-            .notes
-            .push(format!(in scene.alloc; "{rule} {table}")?)?;
+        reason.note(format!(in scene.alloc; "{rule} {table}")?)?;
     }
-    Ok(reason)
+    Ok(())
 }
 
 /// What the bridge lacks, of which this is the cause.
-fn what_lacks(scene: &Scene, presented: Presented, cause: Cause) -> Result<String, NoMemory>
+fn put_lacks(
+    text: &mut String,
+    scene: &Scene,
+    presented: Presented,
+    cause: Cause,
+) -> Result<(), NoMemory>
     requires { IsTrue (is_well_formed scene.now.board.now) }
 {
-    let bridge = match claimed_lane(scene, presented) {
-        Some(lane) => bridge_to(scene.board, lane.bus),
-        None => None,
-    };
-    let (posted, delayed) = match bridge {
-        Some(bridge) => (bridge.posted, bridge.delayed),
-        None => (0, 0),
-    };
-    let op = op_word(scene.alloc, scene.board, presented.op)?;
-    let lacks = match cause {
+    let (posted, delayed) = depths(scene, presented);
+    match cause {
         Cause::Full => {
-            let held = counted(scene.alloc, posted, "posted writes")?;
-            format!(in scene.alloc; "it holds {held} already")?
+            text.push_str("it holds ")?;
+            put_counted(text, posted, "posted writes")?;
+            text.push_str(" already")?;
         }
         Cause::NoSlot => {
-            let held = counted(scene.alloc, delayed, "delayed requests")?;
-            format!(in scene.alloc; "it keeps {held} already")?
+            text.push_str("it keeps ")?;
+            put_counted(text, delayed, "delayed requests")?;
+            text.push_str(" already")?;
         }
-        Cause::Waiting => format!(in scene.alloc; "the completion of {op} has not come")?,
-        Cause::Behind => { format!(in scene.alloc; "a posted write stands before the completion")? }
-    };
-    Ok(lacks)
+        Cause::Waiting => {
+            text.push_str("the completion of ")?;
+            scene.put_op(text, presented.op)?;
+            text.push_str(" has not come")?;
+        }
+        Cause::Behind => text.push_str("a posted write stands before the completion")?,
+    }
+    Ok(())
+}
+
+/// How many posted writes and delayed requests the bridge keeps that claims what is presented.
+fn depths(scene: &Scene, presented: Presented) -> (u8, u8)
+    requires { IsTrue (is_well_formed scene.now.board.now) }
+{
+    match claimed_lane(scene, presented) {
+        Some(lane) => match bridge_to(scene.board, lane.bus) {
+            Some(bridge) => (bridge.posted, bridge.delayed),
+            None => (0, 0),
+        },
+        None => (0, 0),
+    }
+}
+
+fn held_note(scene: &Scene, presented: Presented, cause: Cause) -> Result<String, NoMemory>
+    requires { IsTrue (is_well_formed scene.now.board.now) }
+{
+    let mut note = String::new(scene.alloc);
+    put_held(&mut note, scene, presented, cause, false)?;
+    Ok(note)
 }
 
 /// What is held, or what is waited for, by which the answer is Retry: of a request that a further
 /// bridge latched all that is so there, or that alone.
-pub(crate) fn held_words(
+pub(crate) fn put_held(
+    text: &mut String,
     scene: &Scene,
     presented: Presented,
     cause: Cause,
     is_whole: bool,
-) -> Result<String, NoMemory>
+) -> Result<(), NoMemory>
     requires { IsTrue (is_well_formed scene.now.board.now) }
 {
     let Some(lane) = claimed_lane(scene, presented) else {
-        return Ok(String::new(scene.alloc));
+        return Ok(());
     };
     let Some(lanes) = scene.kept.lanes_to(scene.board, lane.bus) else {
-        return Ok(String::new(scene.alloc));
+        return Ok(());
     };
     let here = lanes.lane(lane.up);
     match cause {
-        Cause::Full => {
-            let owed = scene.past.accepted(scene.alloc, lane, here.owed())?;
-            list_of(scene, "owed on", lane, owed.as_slice())
-        }
-        Cause::NoSlot => {
-            let slots = here.held().iter();
-            let kept: Vec<OpId> = slots.map(|slot| slot.op).collect(scene.alloc)?;
-            list_of(scene, "kept on", lane, kept.as_slice())
-        }
+        Cause::Full => put_owed(text, scene, lane, here.owed()),
+        Cause::NoSlot => put_kept(text, scene, lane, here.held()),
         Cause::Waiting | Cause::Behind => {
             let noted = Presented {
                 by: scene.rule.noted(presented.by),
                 ..presented
             };
             match own_slot(scene.board, noted, here.held()) {
-                Some(slot) => waited_words(scene, lane, slot, is_whole),
-                None => Ok(String::new(scene.alloc)),
+                Some(slot) => put_waited(text, scene, lane, slot, is_whole),
+                None => Ok(()),
             }
         }
     }
 }
 
-/// Operations by name, behind a lane.
-fn list_of(scene: &Scene, what: &str, lane: Lane, ops: &[OpId]) -> Result<String, NoMemory> {
-    let word = LaneWord(lane);
-    let mut list = format!(in scene.alloc; "{what} {word}:")?;
-    for op in ops {
-        let op = op_word(scene.alloc, scene.board, *op)?;
-        write!(list, " {op}")?;
+/// The posted writes whose credit has not come back, by name.
+fn put_owed(text: &mut String, scene: &Scene, lane: Lane, owed: u8) -> Result<(), NoMemory> {
+    write!(text, "owed on {}:", LaneWord(lane))?;
+    for op in &scene.past.accepted(scene.alloc, lane, owed)? {
+        put_named(text, scene, *op)?;
     }
-    Ok(list)
+    Ok(())
+}
+
+/// The delayed requests that are kept, by name.
+fn put_kept(text: &mut String, scene: &Scene, lane: Lane, held: &[Slot]) -> Result<(), NoMemory> {
+    write!(text, "kept on {}:", LaneWord(lane))?;
+    for slot in held {
+        put_named(text, scene, slot.op)?;
+    }
+    Ok(())
+}
+
+fn put_named(text: &mut String, scene: &Scene, op: OpId) -> Result<(), NoMemory> {
+    text.push_str(" ")?;
+    scene.put_op(text, op)
 }
 
 /// Where the request of a slot is, or its completion: on the lanes of the furthest bridge that
 /// holds a slot for it, or that this bridge latched it.
-fn waited_words(scene: &Scene, lane: Lane, slot: Slot, is_whole: bool) -> Result<String, NoMemory> {
+fn put_waited(
+    text: &mut String,
+    scene: &Scene,
+    lane: Lane,
+    slot: Slot,
+    is_whole: bool,
+) -> Result<(), NoMemory> {
     match furthest(scene, slot.op) {
         Some((event, further, held)) if !is_same(further, lane) => {
             if is_whole {
-                return place_words(scene, further, held, true);
+                return put_slot(text, scene, further, held, true);
             }
             let word = LaneWord(further);
-            Ok(format!(in scene.alloc; "it was latched into {word} at event {event}")?)
+            write!(text, "it was latched into {word} at event {event}")?;
+            Ok(())
         }
-        _ => place_words(scene, lane, slot, is_whole),
+        _ => put_slot(text, scene, lane, slot, is_whole),
     }
 }
 
@@ -154,77 +191,96 @@ fn slot_of(scene: &Scene, lane: Lane, op: OpId) -> Option<Slot> {
 }
 
 /// Where on the lanes of its bridge the request of a slot is, or its completion.
-fn place_words(scene: &Scene, lane: Lane, slot: Slot, is_whole: bool) -> Result<String, NoMemory> {
+fn put_slot(
+    text: &mut String,
+    scene: &Scene,
+    lane: Lane,
+    slot: Slot,
+    is_whole: bool,
+) -> Result<(), NoMemory> {
     let Some(lanes) = scene.kept.lanes_to(scene.board, lane.bus) else {
-        return Ok(String::new(scene.alloc));
+        return Ok(());
     };
     let here = lanes.lane(lane.up);
-    let back = lanes.lane(!lane.up);
-    let word = LaneWord(lane);
-    let back_word = LaneWord(back_of(lane));
     if place_of_ask(here.flight(), slot.number).is_some() {
-        return Ok(format!(in scene.alloc; "its request is in flight on {word}")?);
+        write!(text, "its request is in flight on {}", LaneWord(lane))?;
+        return Ok(());
     }
     if let Some(place) = place_of_ask(here.standing(), slot.number) {
-        let request = request_words(scene, lane, slot)?;
+        put_request(text, scene, lane, slot)?;
         if !is_whole {
-            return Ok(request);
+            return Ok(());
         }
-        let behind = behind_at(scene, lane, place, here.standing())?;
-        return Ok(format!(in scene.alloc; "{request}{behind}")?);
+        return put_behind_at(text, scene, lane, place, here.standing());
     }
+    let back = lanes.lane(!lane.up);
     if let Some(place) = place_of_completion(back.standing(), slot.number) {
-        return completion_words(scene, back_of(lane), slot, place, back.standing());
+        put_completion(text, scene, lane, slot.op)?;
+        return put_place(text, scene, back_of(lane), place, back.standing());
     }
-    if place_of_completion(back.flight(), slot.number).is_some() {
-        return Ok(format!(in scene.alloc; "its completion is in flight on {back_word}")?);
-    }
-    Ok(format!(in scene.alloc;
-        "the word that its request was dropped is in flight on {back_word}"
-    )?)
+    put_far(
+        text,
+        lane,
+        place_of_completion(back.flight(), slot.number).is_some(),
+    )
+}
+
+/// The completion is on its way to the bridge, or the word that its request was dropped.
+fn put_far(text: &mut String, lane: Lane, is_completion: bool) -> Result<(), NoMemory> {
+    let what = if is_completion {
+        "its completion"
+    } else {
+        "the word that its request was dropped"
+    };
+    write!(text, "{what} is in flight on {}", LaneWord(back_of(lane)))?;
+    Ok(())
 }
 
 /// A request of a slot, as it stands on a lane.
-fn request_words(scene: &Scene, lane: Lane, slot: Slot) -> Result<String, NoMemory> {
+fn put_request(text: &mut String, scene: &Scene, lane: Lane, slot: Slot) -> Result<(), NoMemory> {
     let item = Carried::Ask {
         op: slot.op,
         slot: slot.number,
     };
-    let word = LaneWord(lane);
-    let since = scene.since_words(lane, item)?;
-    Ok(format!(in scene.alloc; "its request stands on {word}{since}")?)
+    write!(text, "its request stands on {}", LaneWord(lane))?;
+    scene.put_since(text, lane, item)
 }
 
 /// Behind what the item waits that stands at this place of a lane.
-fn behind_at(
+fn put_behind_at(
+    text: &mut String,
     scene: &Scene,
     lane: Lane,
     place: usize,
     standing: &[Carried],
-) -> Result<String, NoMemory> {
+) -> Result<(), NoMemory> {
     let (older, rest) = standing.split_at(place.min(standing.len()));
-    match rest.first().copied() {
-        Some(item) => scene.behind_words(lane, item, older),
-        None => Ok(String::new(scene.alloc)),
+    match rest {
+        [item, ..] => scene.put_behind(text, lane, *item, older),
+        [] => Ok(()),
     }
 }
 
-/// A completion as it stands at this place of a lane, and behind what it waits.
-fn completion_words(
+/// The completion of an operation, which goes back on the bridge of the lane.
+fn put_completion(text: &mut String, scene: &Scene, lane: Lane, op: OpId) -> Result<(), NoMemory> {
+    text.push_str("the completion of ")?;
+    scene.put_op(text, op)?;
+    write!(text, " stands on {}", LaneWord(back_of(lane)))?;
+    Ok(())
+}
+
+/// Since when the item at this place of a lane stands there, and behind what it waits.
+fn put_place(
+    text: &mut String,
     scene: &Scene,
     lane: Lane,
-    slot: Slot,
     place: usize,
     standing: &[Carried],
-) -> Result<String, NoMemory> {
-    let op = op_word(scene.alloc, scene.board, slot.op)?;
-    let word = LaneWord(lane);
-    let since = match standing.get(place) {
-        Some(item) => scene.since_words(lane, *item)?,
-        None => String::new(scene.alloc),
-    };
-    let behind = behind_at(scene, lane, place, standing)?;
-    Ok(format!(in scene.alloc; "the completion of {op} stands on {word}{since}{behind}")?)
+) -> Result<(), NoMemory> {
+    if let Some(item) = standing.get(place) {
+        scene.put_since(text, lane, *item)?;
+    }
+    put_behind_at(text, scene, lane, place, standing)
 }
 
 /// The place of the delayed request for the slot.

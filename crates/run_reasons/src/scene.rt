@@ -1,10 +1,10 @@
 use crate::past::Past;
-use crate::words::{event_line, item_words, since_words};
+use crate::words::{put_item, put_line, put_op, put_since};
 use board_model::{Board, Lane, end_of};
 use history_model::{Answer, Carried, Event, Rule};
 use judge_state::Kept;
 use machine_steps::{completion_answer, may_go, reads};
-use pci_command::NoMemory;
+use pci_command::{NoMemory, OpId};
 use std::alloc::Global;
 
 /// What is so after the events before the one that is told of.
@@ -20,35 +20,46 @@ pub(crate) struct Scene<'a> {
 
 impl<'a> Scene<'a> {
     /// An item as it stands on a lane: what it is, and since when.
-    pub(crate) fn standing_words(&self, lane: Lane, item: Carried) -> Result<String, NoMemory> {
-        let words = item_words(self.alloc, self.board, item)?;
-        let since = self.since_words(lane, item)?;
-        Ok(format!(in self.alloc; "{words}{since}")?)
+    pub(crate) fn put_standing(
+        &self,
+        text: &mut String,
+        lane: Lane,
+        item: Carried,
+    ) -> Result<(), NoMemory> {
+        put_item(text, self.board, item)?;
+        self.put_since(text, lane, item)
     }
 
     /// Since when an item stands on a lane.
-    pub(crate) fn since_words(&self, lane: Lane, item: Carried) -> Result<String, NoMemory> {
-        since_words(self.alloc, self.past.since(lane, item))
+    pub(crate) fn put_since(
+        &self,
+        text: &mut String,
+        lane: Lane,
+        item: Carried,
+    ) -> Result<(), NoMemory> {
+        put_since(text, self.past.since(lane, item))
     }
 
     /// Behind what an item stands on a lane that it has to wait for, if it has to.
-    pub(crate) fn behind_words(
+    pub(crate) fn put_behind(
         &self,
+        text: &mut String,
         lane: Lane,
         item: Carried,
         older: &[Carried],
-    ) -> Result<String, NoMemory> {
-        let bus = end_of(self.board, lane);
-        let first = match self.equal_before(bus, item, older) {
+    ) -> Result<(), NoMemory> {
+        if let Some(other) = self.first_before(end_of(self.board, lane), item, older) {
+            text.push_str(", behind ")?;
+            self.put_standing(text, lane, other)?;
+        }
+        Ok(())
+    }
+
+    /// The first of what is older that the item waits for.
+    fn first_before(&self, bus: u8, item: Carried, older: &[Carried]) -> Option<Carried> {
+        match self.equal_before(bus, item, older) {
             Some(other) => Some(other),
             None => self.not_passed(bus, item, older),
-        };
-        match first {
-            Some(other) => {
-                let other = self.standing_words(lane, other)?;
-                Ok(format!(in self.alloc; ", behind {other}")?)
-            }
-            None => Ok(String::new(self.alloc)),
         }
     }
 
@@ -100,8 +111,13 @@ impl<'a> Scene<'a> {
         }
     }
 
+    /// An operation as a trace names it.
+    pub(crate) fn put_op(&self, text: &mut String, op: OpId) -> Result<(), NoMemory> {
+        put_op(text, self.board, op)
+    }
+
     /// The line of an event, as a trace has it.
-    pub(crate) fn line(&self, event: &Event) -> Result<String, NoMemory> {
-        event_line(self.alloc, self.board, event)
+    pub(crate) fn put_line(&self, text: &mut String, event: &Event) -> Result<(), NoMemory> {
+        put_line(text, self.board, event)
     }
 }

@@ -4,7 +4,7 @@ mod held;
 mod unfound;
 
 use crate::reason::Reason;
-use crate::seen::act::reason_of_act;
+use crate::seen::act::{Refusal, reason_of_act};
 use crate::seen::unfound::reason_of_none;
 use observe_told::{RefusedLog, Retold};
 use pci_command::NoMemory;
@@ -14,7 +14,12 @@ use std::alloc::Global;
 pub fn reason_of_log(alloc: Global, refused: RefusedLog) -> Result<Option<Reason>, NoMemory> {
     let RefusedLog { log, board, told } = refused;
     match told {
-        Retold::Acts(told) => reason_of_act(alloc, log, board, told),
+        Retold::Acts(told) => reason_of_act(&Refusal {
+            alloc,
+            log,
+            board,
+            told,
+        }),
         Retold::Nothing(unfound) => reason_of_none(alloc, log, board, *unfound),
     }
 }

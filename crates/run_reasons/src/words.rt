@@ -1,9 +1,8 @@
-//! The words of a message for operations, items and events.
+//! The words of a message for operations, items and events, each put behind a text.
 use board_model::{Board, Place, end_of};
 use history_model::{Carried, Event, Mark, Step};
 use machine_steps::reads;
 use pci_command::{NoMemory, OpId, Outcome};
-use std::alloc::Global;
 use trace_text::{ByWord, LaneWord, has_line, print_operation, step_word, target_name};
 
 /// What an item is in the ordering table: its name, and the row and column there.
@@ -26,10 +25,9 @@ pub(crate) fn kind_words(board: &Board, item: Carried) -> KindWords {
 }
 
 /// An operation as a trace names it.
-pub(crate) fn op_word(alloc: Global, board: &Board, op: OpId) -> Result<String, NoMemory> {
-    let mut word = String::new(alloc);
-    print_operation(&mut word, board, &op)?;
-    Ok(word)
+pub(crate) fn put_op(text: &mut String, board: &Board, op: OpId) -> Result<(), NoMemory> {
+    print_operation(text, board, &op)?;
+    Ok(())
 }
 
 /// The operation that an item is of, if it is of one.
@@ -41,42 +39,53 @@ pub(crate) fn op_of_item(item: Carried) -> Option<OpId> {
 }
 
 /// An item: its operation and what it is.
-pub(crate) fn item_words(alloc: Global, board: &Board, item: Carried) -> Result<String, NoMemory> {
+pub(crate) fn put_item(text: &mut String, board: &Board, item: Carried) -> Result<(), NoMemory> {
     match op_of_item(item) {
         Some(op) => {
-            let op = op_word(alloc, board, op)?;
-            let kind = kind_words(board, item).name;
-            Ok(format!(in alloc; "{op} ({kind})")?)
+            put_op(text, board, op)?;
+            write!(text, " ({})", kind_words(board, item).name)?;
         }
-        None => match item {
-            Carried::Room => Ok(String::from_str(alloc, "a credit for a posted write")?),
-            _ => Ok(String::from_str(alloc, "the word that a request was dropped")?),
-        },
+        None => text.push_str(word_of_no_operation(item))?,
+    }
+    Ok(())
+}
+
+/// The operation that an item is of, or what it is.
+pub(crate) fn put_item_op(text: &mut String, board: &Board, item: Carried) -> Result<(), NoMemory> {
+    match op_of_item(item) {
+        Some(op) => put_op(text, board, op),
+        None => put_item(text, board, item),
     }
 }
 
-/// Since which event something is so, behind what that is; nothing where that is not known.
-pub(crate) fn since_words(alloc: Global, since: Option<usize>) -> Result<String, NoMemory> {
-    match since {
-        Some(event) => Ok(format!(in alloc; " since event {event}")?),
-        None => Ok(String::new(alloc)),
+fn word_of_no_operation(item: Carried) -> &'static str {
+    match item {
+        Carried::Room => "a credit for a posted write",
+        _ => "the word that a request was dropped",
     }
+}
+
+/// Since which event something is so; nothing where that is not known.
+pub(crate) fn put_since(text: &mut String, since: Option<usize>) -> Result<(), NoMemory> {
+    if let Some(event) = since {
+        write!(text, " since event {event}")?;
+    }
+    Ok(())
 }
 
 /// A number of things: of one of them without its last letter.
-pub(crate) fn counted(alloc: Global, count: u8, things: &str) -> Result<String, NoMemory> {
-    let words = match things.strip_suffix("s") {
-        Some(thing) if count == 1 => format!(in alloc; "1 {thing}")?,
-        _ => format!(in alloc; "{count} {things}")?,
-    };
-    Ok(words)
+pub(crate) fn put_counted(text: &mut String, count: u8, things: &str) -> Result<(), NoMemory> {
+    match things.strip_suffix("s") {
+        Some(thing) if count == 1 => write!(text, "1 {thing}")?,
+        _ => write!(text, "{count} {things}")?,
+    }
+    Ok(())
 }
 
-/// The line of an event, as a trace has it; empty where the board has not what it names.
-pub(crate) fn event_line(alloc: Global, board: &Board, event: &Event) -> Result<String, NoMemory> {
-    let mut text = String::new(alloc);
+/// The line of an event, as a trace has it; nothing where the board has not what it names.
+pub(crate) fn put_line(text: &mut String, board: &Board, event: &Event) -> Result<(), NoMemory> {
     if !has_line(board, event) {
-        return Ok(text);
+        return Ok(());
     }
     match *event {
         Event::Arrive { lane, mark } => {
@@ -92,12 +101,12 @@ pub(crate) fn event_line(alloc: Global, board: &Board, event: &Event) -> Result<
             place,
         } => {
             write!(text, "{bus} {} {} ", step_word(step), ByWord(by))?;
-            print_operation(&mut text, board, &op)?;
-            put_place(&mut text, board, place)?;
-            put_result(&mut text, step)?;
+            put_op(text, board, op)?;
+            put_place(text, board, place)?;
+            put_result(text, step)?;
         }
     }
-    Ok(text)
+    Ok(())
 }
 
 fn mark_word(mark: Mark) -> &'static str {

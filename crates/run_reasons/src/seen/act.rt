@@ -1,7 +1,7 @@
 use crate::reason::Reason;
-use crate::seen::held::held_words;
-use crate::words::op_word;
-use board_model::{Board, Lane, Place};
+use crate::seen::held::put_held;
+use crate::words::put_op;
+use board_model::{Board, Place};
 use history_model::{Event, Step};
 use observe_told::{ActsTold, Brought, LineWord, Log, Refused, Seen, WhyNot};
 use pci_command::{NoMemory, Outcome};
@@ -10,42 +10,26 @@ use trace_text::{step_word, target_name};
 
 /// What a refused act is told by.
 #[derive(Clone, Copy, Debug)]
-struct Refusal<'a> {
-    alloc: Global,
-    log: &'a Log,
-    board: &'a Board,
-    told: &'a ActsTold,
+pub(crate) struct Refusal<'a> {
+    pub(crate) alloc: Global,
+    pub(crate) log: &'a Log,
+    pub(crate) board: &'a Board,
+    pub(crate) told: &'a ActsTold,
 }
 
 /// Why an act is refused, if one is: its operation and the reason, and what of the ordering table
 /// forbids it.
-pub(crate) fn reason_of_act(
-    alloc: Global,
-    log: &Log,
-    board: &Board,
-    told: &ActsTold,
-) -> Result<Option<Reason>, NoMemory> {
-    let Some(refused) = told.refused else {
-        return Ok(None);
-    };
-    let scene = Refusal {
-        alloc,
-        log,
-        board,
-        told,
-    };
-    let words = scene.words(refused)?;
-    let text = match told.acts.as_slice().get(told.taken) {
-        Some(Event::Act { op, .. }) => {
-            let op = op_word(alloc, board, *op)?;
-            format!(in alloc; "{op}: {words}")?
-        }
-        _ => words,
-    };
-    match scene.row(refused)? {
-        Some(note) => Ok(Some(Reason::with(alloc, text, note)?)),
-        None => Ok(Some(Reason::new(alloc, text))),
+pub(crate) fn reason_of_act(refusal: &Refusal) -> Result<Option<Reason>, NoMemory> {
+    match refusal.told.refused {
+        Some(refused) => Ok(Some(reason_of(refusal, refused)?)),
+        None => Ok(None),
     }
+}
+
+fn reason_of(refusal: &Refusal, refused: Refused) -> Result<Reason, NoMemory> {
+    let mut reason = Reason::new(refusal.alloc);
+    refusal.put_reason(&mut reason, refused)?;
+    Ok(reason)
 }
 
 impl<'a> Refusal<'a> {
@@ -57,156 +41,174 @@ impl<'a> Refusal<'a> {
         self.log.word_of(line)
     }
 
-    /// What of the ordering table forbids it.
-    fn row(&self, refused: Refused) -> Result<Option<String>, NoMemory> {
-        let Some(seen) = self.seen(refused.line) else {
-            return Ok(None);
-        };
-        let row = match refused.reason {
-            WhyNot::BehindWrite { .. } => row_of(seen),
-            WhyNot::CompletionBehind { .. } => completion_row_of(seen),
-            _ => return Ok(None),
-        };
-        let text = format!(in self.alloc; "row {row}, column posted memory write: No")?;
-        Ok(Some(text))
+    fn put_reason(&self, reason: &mut Reason, refused: Refused) -> Result<(), NoMemory> {
+        if let Some(Event::Act { op, .. }) = self.told.acts.as_slice().get(self.told.taken) {
+            put_op(&mut reason.text, self.board, *op)?;
+            reason.text.push_str(": ")?;
+        }
+        self.put_words(&mut reason.text, refused)?;
+        match self.row(refused) {
+            Some(row) => reason.note(format!(in self.alloc;
+                "row {row}, column posted memory write: No"
+            )?),
+            None => Ok(()),
+        }
     }
 
-    fn words(&self, refused: Refused) -> Result<String, NoMemory> {
+    /// The row of the ordering table that forbids it, if one does.
+    fn row(&self, refused: Refused) -> Option<&'static str> {
+        let seen = self.seen(refused.line)?;
+        match refused.reason {
+            WhyNot::BehindWrite { .. } => Some(row_of(seen)),
+            WhyNot::CompletionBehind { .. } => Some(completion_row_of(seen)),
+            _ => None,
+        }
+    }
+
+    fn put_words(&self, text: &mut String, refused: Refused) -> Result<(), NoMemory> {
         match refused.reason {
             WhyNot::BehindWrite { bridge, item } => {
-                let op = op_word(self.alloc, self.board, item.op)?;
-                let words = format!(in self.alloc; "it went before {op} (posted memory write)")?;
-                self.not_left(words, bridge, item)
+                text.push_str("it went before ")?;
+                put_op(text, self.board, item.op)?;
+                text.push_str(" (posted memory write)")?;
+                self.put_not_left(text, bridge, item)
             }
             WhyNot::CompletionBehind { bridge, item } => {
-                let op = op_word(self.alloc, self.board, item.op)?;
-                let words = format!(in self.alloc; "its completion went before {op}")?;
-                self.not_left(words, bridge, item)
+                text.push_str("its completion went before ")?;
+                put_op(text, self.board, item.op)?;
+                self.put_not_left(text, bridge, item)
             }
             WhyNot::BehindEqual { item, .. } => {
-                let op = op_word(self.alloc, self.board, item.op)?;
+                text.push_str("it went before ")?;
+                put_op(text, self.board, item.op)?;
                 let latched = self.line(item.line);
-                let mut words = format!(in self.alloc; "it went before {op}, ")?;
-                write!(words, "the same request, latched at {latched}")?;
-                Ok(words)
+                write!(text, ", the same request, latched at {latched}")?;
+                Ok(())
             }
-            WhyNot::NotAsked { bridge, first } => self.not_asked(bridge, first),
+            WhyNot::NotAsked { bridge, first } => self.put_not_asked(text, bridge, first),
             WhyNot::Left { bridge, line } => {
-                let line = self.line(line);
-                Ok(format!(in self.alloc; "it left bridge {bridge} at {line}")?)
+                write!(text, "it left bridge {bridge} at {}", self.line(line))?;
+                Ok(())
             }
             WhyNot::NotItsTurn => {
-                Ok(String::from_str(self.alloc, "another operation of its master is open")?)
+                text.push_str("another operation of its master is open")?;
+                Ok(())
             }
-            reason => self.answer_words(refused, reason),
+            reason => self.put_answer(text, refused, reason),
         }
     }
 
-    /// Where and when a posted write came to the bridge that holds it, behind these words.
-    fn not_left(&self, mut words: String, bridge: u8, item: Brought) -> Result<String, NoMemory> {
+    /// Where and when a posted write came to the bridge that holds it.
+    fn put_not_left(&self, text: &mut String, bridge: u8, item: Brought) -> Result<(), NoMemory> {
         let line = self.line(item.line);
         let bus = self.seen(item.line).map_or(0, |seen| seen.bus);
-        write!(words, ", posted on bus {bus} at {line}")?;
-        write!(words, ", which has not left bridge {bridge}")?;
-        Ok(words)
+        write!(
+            text,
+            ", posted on bus {bus} at {line}, which has not left bridge {bridge}"
+        )?;
+        Ok(())
     }
 
-    fn not_asked(&self, bridge: u8, first: Option<u32>) -> Result<String, NoMemory> {
-        let mut words = format!(in self.alloc; "bridge {bridge} had not been asked for it")?;
-        match first {
-            Some(line) => {
-                let line = self.line(line);
-                write!(words, " when it began: the first Retry is {line}")?;
-                Ok(words)
-            }
-            None => Ok(words),
+    fn put_not_asked(
+        &self,
+        text: &mut String,
+        bridge: u8,
+        first: Option<u32>,
+    ) -> Result<(), NoMemory> {
+        write!(text, "bridge {bridge} had not been asked for it")?;
+        if let Some(line) = first {
+            write!(
+                text,
+                " when it began: the first Retry is {}",
+                self.line(line)
+            )?;
         }
+        Ok(())
     }
 
     /// The reasons that lie in how the act is answered.
-    fn answer_words(&self, refused: Refused, reason: WhyNot) -> Result<String, NoMemory> {
+    fn put_answer(
+        &self,
+        text: &mut String,
+        refused: Refused,
+        reason: WhyNot,
+    ) -> Result<(), NoMemory> {
         match reason {
             WhyNot::MadeFor { read, item, .. } => {
-                let read = self.line(read);
-                let op = op_word(self.alloc, self.board, item.op)?;
-                let asked = self.line(item.line);
-                let mut words = format!(in self.alloc; "the completion of {read}, ")?;
-                write!(words, "was made for {op}, which asked at {asked}")?;
-                Ok(words)
+                write!(text, "the completion of {}, was made for ", self.line(read))?;
+                put_op(text, self.board, item.op)?;
+                write!(text, ", which asked at {}", self.line(item.line))?;
             }
-            WhyNot::CompletionIs { outcome, line } => self.completion(outcome, line),
+            WhyNot::CompletionIs { outcome, line } => self.put_completion(text, outcome, line)?,
             WhyNot::FullOfWrites { bridge, posted } => {
-                let held = self.held(Step::Accept)?;
-                Ok(format!(in self.alloc; "bridge {bridge} holds {posted} posted writes: {held}")?)
+                write!(text, "bridge {bridge} holds {posted} posted writes: ")?;
+                self.put_held(text, Step::Accept)?;
             }
             WhyNot::FullOfRequests { bridge, delayed } => {
-                let mut words = format!(in self.alloc; "bridge {bridge} holds {delayed} ")?;
-                let held = self.held(Step::Latch)?;
-                write!(words, "delayed requests: {held}")?;
-                Ok(words)
+                write!(text, "bridge {bridge} holds {delayed} delayed requests: ")?;
+                self.put_held(text, Step::Latch)?;
             }
             WhyNot::TargetHolds {
                 target,
                 value,
                 written,
-            } => self.target_holds(target, value, written),
+            } => self.put_target(text, target, value, written)?,
             WhyNot::AnsweredBy { step } => {
-                Ok(format!(in self.alloc; "it comes to another act: {}", step_word(step))?)
+                write!(text, "it comes to another act: {}", step_word(step))?;
             }
             WhyNot::NotCome { bridge } | WhyNot::NoCompletion { bridge } => {
-                Ok(format!(in self.alloc; "there is no completion for it in bridge {bridge}")?)
+                write!(text, "there is no completion for it in bridge {bridge}")?;
             }
-            _ => Ok(format!(in self.alloc; "{}", self.line(refused.line))?),
+            _ => write!(text, "{}", self.line(refused.line))?,
         }
+        Ok(())
     }
 
-    fn completion(&self, outcome: Outcome, line: u32) -> Result<String, NoMemory> {
+    fn put_completion(
+        &self,
+        text: &mut String,
+        outcome: Outcome,
+        line: u32,
+    ) -> Result<(), NoMemory> {
         let line = self.line(line);
-        Ok(match outcome {
+        match outcome {
             Outcome::Value(value) => {
-                format!(in self.alloc; "its completion is {value:08x}, read at {line}")?
+                write!(text, "its completion is {value:08x}, read at {line}")?;
             }
-            Outcome::Written => format!(in self.alloc; "its completion is ok, made at {line}")?,
+            Outcome::Written => write!(text, "its completion is ok, made at {line}")?,
             Outcome::Aborted | Outcome::Nobody => {
-                format!(in self.alloc; "its completion is abort, made at {line}")?
+                write!(text, "its completion is abort, made at {line}")?;
             }
-        })
+        }
+        Ok(())
     }
 
     /// What the bridge holds that was to take the refused act.
-    fn held(&self, step: Step) -> Result<String, NoMemory> {
-        let told = self.told;
-        match told.acts.as_slice().get(told.taken) {
+    fn put_held(&self, text: &mut String, step: Step) -> Result<(), NoMemory> {
+        match self.told.acts.as_slice().get(self.told.taken) {
             Some(
                 Event::Act {
                     place: Place::Lane(lane),
                     ..
                 },
-            ) => self.held_on(*lane, step),
-            _ => Ok(String::new(self.alloc)),
+            ) => put_held(text, self, *lane, step),
+            _ => Ok(()),
         }
     }
 
-    fn held_on(&self, lane: Lane, step: Step) -> Result<String, NoMemory> {
-        held_words(self.alloc, self.log, self.board, self.told, lane, step)
-    }
-
-    fn target_holds(
+    fn put_target(
         &self,
+        text: &mut String,
         target: u16,
         value: u32,
         written: Option<u32>,
-    ) -> Result<String, NoMemory> {
+    ) -> Result<(), NoMemory> {
         let name = target_name(self.board, target);
-        match written {
-            Some(line) => {
-                let number = self.line(line).line;
-                Ok(format!(in self.alloc;
-                    "{name} holds {value:08x} there, written at line {number}"
-                )?)
-            }
-            None => Ok(format!(in self.alloc; "{name} holds {value:08x} there")?),
+        write!(text, "{name} holds {value:08x} there")?;
+        if let Some(line) = written {
+            write!(text, ", written at line {}", self.line(line).line)?;
         }
+        Ok(())
     }
 }
 

@@ -1,29 +1,31 @@
-use crate::words::op_word;
-use board_model::{Board, Lane, Place};
+use crate::seen::act::Refusal;
+use crate::words::put_op;
+use board_model::{Lane, Place};
 use history_model::{By, Event, Step};
-use observe_told::{ActsTold, Brought, Log};
+use observe_told::{ActsTold, Brought};
 use pci_command::{NoMemory, OpId};
 use std::alloc::Global;
 
 /// The operations that the lane took by this step and still holds, each with its line.
-pub(crate) fn held_words(
-    alloc: Global,
-    log: &Log,
-    board: &Board,
-    told: &ActsTold,
+pub(crate) fn put_held(
+    text: &mut String,
+    refusal: &Refusal,
     lane: Lane,
     step: Step,
-) -> Result<String, NoMemory> {
-    let mut text = String::new(alloc);
-    for held in &held_ops(alloc, told, lane, step)? {
-        if !text.is_empty() {
+) -> Result<(), NoMemory> {
+    let held = held_ops(refusal.alloc, refusal.told, lane, step)?;
+    put_all(text, refusal, held.as_slice())
+}
+
+fn put_all(text: &mut String, refusal: &Refusal, held: &[Brought]) -> Result<(), NoMemory> {
+    for (place, held) in held.iter().enumerate() {
+        if place > 0 {
             text.push_str("; ")?;
         }
-        let op = op_word(alloc, board, held.op)?;
-        let line = log.word_of(held.line);
-        write!(text, "{op}, {line}")?;
+        put_op(text, refusal.board, held.op)?;
+        write!(text, ", {}", refusal.log.word_of(held.line))?;
     }
-    Ok(text)
+    Ok(())
 }
 
 fn held_ops(

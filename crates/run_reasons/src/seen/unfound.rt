@@ -13,48 +13,65 @@ pub(crate) fn reason_of_none(
     board: &Board,
     unfound: Unfound,
 ) -> Result<Option<Reason>, NoMemory> {
-    let text = match unfound {
+    let mut reason = Reason::new(alloc);
+    if put_unfound(&mut reason.text, log, board, unfound)? {
+        Ok(Some(reason))
+    } else {
+        Ok(None)
+    }
+}
+
+/// Whether it is a verdict on a bridge, which stands behind the text then.
+fn put_unfound(
+    text: &mut String,
+    log: &Log,
+    board: &Board,
+    unfound: Unfound,
+) -> Result<bool, NoMemory> {
+    match unfound {
         Unfound::NotHeld {
             line,
             bridge,
             phase,
             oldest,
         } => {
-            let write = write_word(alloc, log, HeldPhase { line, phase })?;
-            let mut words = format!(in alloc; "bridge {bridge} writes {write}: ")?;
-            match oldest {
-                Some(held) => {
-                    let oldest = held_word(alloc, log, board, held)?;
-                    write!(words, "the oldest write that it holds is {oldest}")?;
-                }
-                None => words.push_str("it holds no write")?,
-            }
-            words
+            write!(text, "bridge {bridge} writes ")?;
+            put_write(text, log, HeldPhase { line, phase })?;
+            put_oldest(text, log, board, oldest)?;
+            Ok(true)
         }
         Unfound::NotAsked { bridge, .. } => {
-            format!(in alloc; "nobody is asking bridge {bridge} for it at that time")?
+            write!(text, "nobody is asking bridge {bridge} for it at that time")?;
+            Ok(true)
         }
-        Unfound::NoMemory => return Err(NoMemory),
-        _ => return Ok(None),
-    };
-    Ok(Some(Reason::new(alloc, text)))
-}
-
-/// A data phase that a bridge holds, who posted it and when.
-fn held_word(alloc: Global, log: &Log, board: &Board, held: HeldPhase) -> Result<String, NoMemory> {
-    let write = write_word(alloc, log, held)?;
-    let line = log.word_of(held.line);
-    match log.lines.as_slice().get(held.line as usize) {
-        Some(seen) => {
-            let who = who_word(alloc, board, seen)?;
-            Ok(format!(in alloc; "{write}, posted by {who} at {line}")?)
-        }
-        None => Ok(write),
+        Unfound::NoMemory => Err(NoMemory),
+        _ => Ok(false),
     }
 }
 
+/// The oldest data phase that a bridge holds, who posted it and when.
+fn put_oldest(
+    text: &mut String,
+    log: &Log,
+    board: &Board,
+    oldest: Option<HeldPhase>,
+) -> Result<(), NoMemory> {
+    let Some(held) = oldest else {
+        text.push_str(": it holds no write")?;
+        return Ok(());
+    };
+    text.push_str(": the oldest write that it holds is ")?;
+    put_write(text, log, held)?;
+    if let Some(seen) = log.lines.as_slice().get(held.line as usize) {
+        text.push_str(", posted by ")?;
+        put_who(text, board, seen)?;
+        write!(text, " at {}", log.word_of(held.line))?;
+    }
+    Ok(())
+}
+
 /// A data phase of a line and its address: `091b0115 to 10000184`.
-fn write_word(alloc: Global, log: &Log, held: HeldPhase) -> Result<String, NoMemory> {
+fn put_write(text: &mut String, log: &Log, held: HeldPhase) -> Result<(), NoMemory> {
     let seen = log.lines.as_slice().get(held.line as usize);
     let (phase, address) = match seen {
         Some(seen) => (
@@ -63,7 +80,8 @@ fn write_word(alloc: Global, log: &Log, held: HeldPhase) -> Result<String, NoMem
         ),
         None => (Phase::default(), 0),
     };
-    Ok(format!(in alloc; "{} to {}", DataWord(phase), Address(address))?)
+    write!(text, "{} to {}", DataWord(phase), Address(address))?;
+    Ok(())
 }
 
 fn phase_of(log: &Log, seen: &Seen, phase: u32) -> Phase {
@@ -81,9 +99,10 @@ fn address_of(seen: &Seen, phase: u32) -> u64 {
 }
 
 /// Who drove the line: a master's name, or a lane.
-fn who_word(alloc: Global, board: &Board, seen: &Seen) -> Result<String, NoMemory> {
+fn put_who(text: &mut String, board: &Board, seen: &Seen) -> Result<(), NoMemory> {
     match seen.who {
-        Who::Master(master) => Ok(format!(in alloc; "{}", master_name(board, master))?),
-        Who::Lane(lane) => Ok(format!(in alloc; "{}", LaneWord(lane))?),
+        Who::Master(master) => text.push_str(master_name(board, master))?,
+        Who::Lane(lane) => write!(text, "{}", LaneWord(lane))?,
     }
+    Ok(())
 }

@@ -1,8 +1,8 @@
 ghost use Rattle.std.specs.Prelude.{◌≡◌, ◌≢◌, ◌^◌, ◌<◌, ◌≤◌, length, vec_len, IfOk, IfSome};
 ghost use Rattle.io_ports.specs.Faults.{Rose};
-ghost use Rattle.pcitree.specs.Reading.{ReadsWhole, ReadsPiece};
+ghost use Rattle.io_ports.specs.Reading.{ReadsWhole, ReadsPiece};
 
-use io_ports::Source;
+use crate::Source;
 use std::alloc::{AllocError, Global};
 
 /// One read takes at most so many bytes.
@@ -10,15 +10,18 @@ const BUFFER: usize = 65_536;
 
 /// Why a source was not read to its end.
 #[derive(Clone, Copy, Debug, PartialEq, Eq)]
-pub(crate) enum ReadError {
+pub enum ReadError {
+    /// There is no memory for what it holds.
     NoMemory,
+    /// A call of it failed.
     Failed,
+    /// It held more than it may.
     TooLong,
 }
 
 impl From<AllocError> for ReadError {
     ghost use Rattle.std.specs.Prelude.{◌≡◌};
-    ghost use Rattle.pcitree.specs.declared.reading.ReadError.TheVariants.{NoMemory};
+    ghost use Rattle.io_ports.specs.declared.reading.ReadError.TheVariants.{NoMemory};
 
     ghost from_gives = { λ _ error. error ≡ NoMemory };
 
@@ -28,7 +31,7 @@ impl From<AllocError> for ReadError {
 }
 
 /// All bytes that the source holds, of which there may be at most `limit`.
-pub(crate) fn read_all<S: Source>(
+pub fn read_all<S: Source>(
     alloc: Global,
     source: &mut S,
     limit: usize,
@@ -75,7 +78,8 @@ fn read_piece<S: Source>(
     Ok(count)
 }
 
-fn zeros(alloc: Global) -> Result<Vec<u8>, AllocError>
+/// Room for one read.
+pub(crate) fn zeros(alloc: Global) -> Result<Vec<u8>, AllocError>
     ensures { IfOk result (λ buffer. vec_len buffer ≡ BUFFER) }
 {
     vec![in alloc; 0u8; BUFFER]

@@ -1,6 +1,6 @@
 use Rattle.std.proofs.Common.{arith}
-use Rattle.pcitree.proofs.AppendLemmas.{Appends-take}
-use Rattle.pcitree.proofs.writing.write_all.Goals as goal
+use Rattle.io_ports.proofs.AppendLemmas.{Appends-take}
+use Rattle.io_ports.proofs.writing.write_all.Goals as goal
 
 -- what was written so far, and the next piece
 pub pieces-preserved : goal.pieces-preserved

@@ -1,15 +1,15 @@
 ghost use Rattle.std.specs.Prelude.{◌≡◌, ◌+◌, ◌-◌, ◌<◌, ◌≤◌, min, length, take, drop, IfOk, OnOk, OnErr};
 ghost use Rattle.std.specs.Io.KnownBytes.{Appends, Keeps};
 ghost use Rattle.io_ports.specs.Faults.{Rose};
-ghost use Rattle.pcitree.specs.Writing.{WritesFront, WritesPiece};
+ghost use Rattle.io_ports.specs.Writing.{WritesFront, WritesPiece};
 
-use io_ports::{Failed, Sink};
+use crate::{Failed, Sink};
 
 /// A piece has at most so many bytes.
 const PIECE: usize = 65_536;
 
 /// Writes the text, in pieces that are each as long as they can be.
-pub(crate) fn write_all<K: Sink>(sink: &mut K, text: &[u8]) -> Result<(), Failed>
+pub fn write_all<K: Sink>(sink: &mut K, text: &[u8]) -> Result<(), Failed>
     ensures written { OnOk result (Appends (K.taken sink.old) (K.taken sink.new) text.now) }
     ensures front { OnErr result (WritesFront (K.taken sink.old) (K.taken sink.new) text.now) }
     ensures failed { OnErr result (Rose (K.faults sink.old) (K.faults sink.new)) }
