@@ -42,8 +42,8 @@ front_no_comment line =
     let n = position_or_len is_comment line in
     let least = length-take n line in
     λ k d inside.
-        let before : k < n = omega (arith, least) in
-        rw (get_or-take n line k d before) (fails_before_first is_comment line k d before)
+    let before : k < n = omega (arith, least) in
+    rw (get_or-take n line k d before) (fails_before_first is_comment line k d before)
 
 pub uncommented_again : (line : List ℕ) → uncommented (uncommented line) ≡ uncommented line
 uncommented_again line = uncommented_all (uncommented line) (front_no_comment line)
@@ -144,9 +144,9 @@ plain_front rest line size is front =
     let least = length-take size rest in
     let long : length line ≡ length (take size rest) = ap length front in
     λ k d inside.
-        let before : k < size = omega (arith, least, long) in
-        let within : k < position_or_len is_no_plain rest = omega (arith, is) in
-        rw front (rw (get_or-take size rest k d before) (plain_at rest k d within))
+    let before : k < size = omega (arith, least, long) in
+    let within : k < position_or_len is_no_plain rest = omega (arith, is) in
+    rw front (rw (get_or-take size rest k d before) (plain_at rest k d within))
 
 pub plain_is : (rest line : List ℕ) (size : ℕ) → size ≡ position_or_len is_no_plain rest → size ≤ length rest → line ≡ take size rest → size ≤ 256 → IsPlain line
 plain_is rest line size is inside front short =

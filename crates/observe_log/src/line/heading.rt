@@ -1,5 +1,5 @@
 ghost use Rattle.std.specs.Prelude.{◌≡◌, true, [], ◌∷◌, MatchResult};
-ghost use Rattle.board_statements.specs.Words.{hex, long, long_of};
+ghost use Rattle.board_statements.specs.Words.{hex, hex_of, decimal_of, long, long_of};
 ghost use Rattle.observe_log.specs.Plain.{StandsAlone, Reads};
 ghost use Rattle.observe_log.specs.Readers.{Gives, misread, one_word, as_in_boards};
 ghost use Rattle.observe_log.specs.Words.{of_kind, times_of, bus_by, bus_form, who_in, command_of};
@@ -69,7 +69,7 @@ fn take_bus(board: &Board, words: &mut LineWords) -> Result<u8, AtWord>
     ensures { Gives result words.new (bus_form board.now words.old) }
 {
     let word = next(words, 1)?;
-    let Ok(number) = decimal(word) else {
+    let Some(number) = number_of(word) else {
         return Err(misread(1));
     };
     match u8::try_from(number) {
@@ -78,6 +78,16 @@ fn take_bus(board: &Board, words: &mut LineWords) -> Result<u8, AtWord>
             word: 1,
             fault: LogLineFault::NotThere,
         }),
+    }
+}
+
+/// A decimal as in boards.
+fn number_of(word: &[u8]) -> Option<u32>
+    ensures { Reads result (decimal_of 0 4294967295 word.now) }
+{
+    match decimal(word) {
+        Ok(number) => Some(number),
+        Err(_fault) => None,
     }
 }
 
@@ -147,9 +157,19 @@ fn take_port_address(words: &mut LineWords) -> Result<Addressed, AtWord>
     ensures { Gives result words.new (dword_by (as_in_boards 4 (hex 8 words.old))) }
 {
     let word = next(words, 4)?;
-    match hex(word, 8) {
-        Ok(address) if address % 4 == 0 => Ok(Addressed::Byte(u64::from(address))),
+    match port_of(word) {
+        Some(address) if address % 4 == 0 => Ok(Addressed::Byte(u64::from(address))),
         _ => Err(misread(4)),
+    }
+}
+
+/// HEX as in boards.
+fn port_of(word: &[u8]) -> Option<u32>
+    ensures { Reads result (hex_of 8 word.now) }
+{
+    match hex(word, 8) {
+        Ok(number) => Some(number),
+        Err(_fault) => None,
     }
 }
 

@@ -1,4 +1,4 @@
-use Rattle.std.proofs.Common.{length, ap, arith}
+use Rattle.std.proofs.Common.{length, ap, refl, arith}
 use Rattle.observe_log.proofs.PlainLemmas.{few_words}
 use Rattle.observe_log.proofs.plain.words_at.Goals as goal
 
@@ -9,5 +9,5 @@ returns-then-plain-clause-few c =
 
 pub returns-then-is_readable-clause-few : goal.returns-then-is_readable-clause-few
 returns-then-is_readable-clause-few c =
-    let short = c.if-is_readable.ensures.short tt in
+    let short = c.if-is_readable.ensures.short refl in
     omega (arith, few_words c.args.line.now, ap length c.new.ensures, short)
