@@ -1,5 +1,5 @@
 -- Lines without a comment, and words that stand alone.
-use Rattle.std.proofs.Common.{◌≡◌, ℕ, ◌+◌, ◌-◌, ◌<◌, ◌≤◌, Bool, true, false, cond, not, ltb, eqb, List, [], ◌∷◌, length, take, drop, get_or, Option, Some, Bor, refl, ap, sym, subst, ◌∙◌, arith}
+use Rattle.std.proofs.Common.{◌≡◌, ℕ, ◌+◌, ◌-◌, ◌<◌, ◌≤◌, Bool, true, false, cond, ltb, List, [], ◌∷◌, length, take, drop, get_or, Option, Some, Bor, refl, ap, sym, subst, ◌∙◌, arith}
 use Rattle.std.specs.List.{All, position_or_len, slice_split, onto_first, filter, list_all}
 use Rattle.std.proofs.lemmas.Bool.Decides.{nat_tests}
 use Rattle.std.proofs.lemmas.List.{take_all, length-take, length-take-le, get_or-take, get_or-drop, length-drop}
@@ -10,7 +10,6 @@ use Rattle.board_text.specs.Lines.{is_newline, is_allowed, lines_of}
 use Rattle.board_text.specs.Tokens.{is_separator, is_comment, uncommented, words_in, words_of}
 use Rattle.board_text.proofs.CutLemmas.{next_step}
 use Rattle.board_text.proofs.NextLemmas.{is_word, kept, words_few}
-use Rattle.observe_log.specs.Boards.{is_readable}
 use Rattle.observe_log.specs.Plain.{is_plain, is_no_plain, IsPlain, StandsAlone, with_next}
 
 -- A byte of one kind.

@@ -1,16 +1,15 @@
 -- Words as boards have them: a number of at most eight digits, and any other word, which is read alone.
-use Rattle.std.proofs.Common.{◌≡◌, ℕ, ◌+◌, ◌^◌, ◌<◌, ◌≤◌, Bool, true, false, cond, eqb, leb, ◌&&◌, ◌||◌, List, [], ◌∷◌, length, Option, Some, None, Result, Ok, Err, refl, ap, sym, ◌∙◌, arith}
+use Rattle.std.proofs.Common.{◌≡◌, ℕ, ◌^◌, ◌<◌, Bool, true, false, eqb, leb, ◌&&◌, List, [], ◌∷◌, Result, Ok, Err, refl, ap, sym, ◌∙◌, arith}
 use Rattle.std.specs.List.{list_all}
 use Rattle.std.specs.Char.{is_digit}
 use Rattle.std.proofs.lemmas.Bool.{and_parts, false≢true}
 use Rattle.std.proofs.lemmas.Bool.Decides.{nat_tests}
-use Rattle.pci_command.specs.declared.phases.Phase.{Phase}
 use Rattle.board_text.specs.declared.numbers.NumberFault.{NumberFault}
 use Rattle.board_text.specs.Numbers.{is_numeral, hex_answer, decimal_answer, number_fault}
 use Rattle.board_text.specs.Tokens.{words_of}
 use Rattle.text_faults.specs.declared.board_line.LineFault.{LineFault}
-use Rattle.board_statements.specs.Words.{with_rest, one_word, Gives, hex_of, decimal_of, has_mark, long_of, data_word_of}
-use Rattle.observe_log.specs.Plain.{StandsAlone, Reads}
+use Rattle.board_statements.specs.Words.{with_rest, one_word, hex_of, decimal_of, has_mark, long_of, data_word_of}
+use Rattle.observe_log.specs.Plain.{StandsAlone}
 
 -- Numbers.
 

@@ -1,4 +1,3 @@
-use Rattle.std.proofs.Common.{arith}
 use Rattle.observe_log.proofs.PlainLemmas.{plain_is, plain_step}
 use Rattle.observe_log.proofs.plain.plain_line.Goals as goal
 
