@@ -1,21 +1,23 @@
 -- The raisers of a poll that are not left out: of those of a stretch that come before the poll at most the last, and all others.
-use Rattle.std.proofs.Common.{◌≡◌, ℕ, suc, ◌+◌, ◌-◌, ◌<◌, ◌≤◌, Bool, true, false, not, ◌&&◌, ◌||◌, ◌==◌, nat_lt, cond, eqb-true, eq-eqb, List, [], ◌∷◌, ◌++◌, append_assoc, append-nil, length, take, drop, get_or, Option, Some, None, refl, sym, ap, subst, ◌∙◌, arith}
-use Rattle.std.specs.List.{filter, list_any, AllByRecursion}
-use Rattle.std.proofs.lemmas.List.{take-append-drop}
+use Rattle.std.proofs.Common.{◌≡◌, ℕ, suc, ◌+◌, ◌-◌, ◌<◌, ◌≤◌, Bool, true, false, not, ◌&&◌, ◌||◌, ◌==◌, nat_lt, cond, eqb-true, eq-eqb, List, [], ◌∷◌, ◌++◌, append_assoc, append-nil, length, take, drop, get_or, reverse, Option, Some, None, IfSome, refl, sym, ap, subst, ◌∙◌, arith}
+use Rattle.std.specs.List.{filter, find, list_any, AllByRecursion}
+use Rattle.std.proofs.lemmas.List.{take-append-drop, reverse-append}
 use Rattle.std.proofs.lemmas.Bool.{and_parts, ltb-true, false≢true}
 use Rattle.std.proofs.lemmas.Bool.Decides.{nat_tests}
-use Rattle.list_facts.proofs.EachLemmas.{Each-weaker}
+use Rattle.list_facts.proofs.EachLemmas.{Each-weaker, Each-both}
 use Rattle.pci_command.specs.declared.op_id.OpId.{OpId}
 use Rattle.pci_command.specs.Same.{same_op}
 use Rattle.history_model.proofs.facts.RequestLemmas.{same_op_true}
 use Rattle.safe_model.specs.Clocks.{greater}
+use Rattle.safe_table.specs.declared.polls.awaited.Awaited.{Awaited}
 use Rattle.safe_table.specs.declared.writers.write.WordWrite.{WordWrite}
 use Rattle.safe_table.specs.Rows.{ProgramRows, known_in}
 use Rattle.safe_table.specs.Landing.{joined}
-use Rattle.safe_table.specs.Looks.{clock_in, clock_past, before_in, no_more_in, leaves_out, left_out_in, is_reached_in, known_to, KnowAlike, TellAlike, TellsNothing, is_behind, IsOrdered}
-use Rattle.safe_table.specs.Stretches.{Stretch, end_of, AreBefore, PartsBefore, ends_with, AreAmong, stay, list_of, first_in, PutsRun, is_reached_at}
+use Rattle.safe_table.specs.Looks.{clock_in, clock_past, before_in, no_more_in, leaves_out, left_out_in, is_reached_in, known_to, most_in, KnowAlike, TellAlike, TellsNothing, is_behind, IsOrdered}
+use Rattle.safe_table.specs.Polls.{raises_it, staying}
+use Rattle.safe_table.specs.Stretches.{Stretch, end_of, AreBefore, PartsAt, PartsBefore, IsParted, ends_with, AreAmong, stay, list_of, first_in, PutsRun, is_reached_at}
 use Rattle.safe_table.proofs.RaiserLemmas.{known_append, known_falls, behind_same, behind_less, behind_knows, no_less, least_low}
-use Rattle.safe_table.proofs.StretchLemmas.{any_append, EndsWith, ends_at, ends_not, stretch_take, stretch_drop, before_end, runs_cons, runs_none, any_at}
+use Rattle.safe_table.proofs.StretchLemmas.{any_append, EndsWith, end_cons, ends_at, ends_not, each_take, each_filter, stretch_filter, stretch_front, stretch_back, before_end, joined_append, runs_cons, runs_none, any_at}
 
 -- Tests and lists.
 
@@ -56,16 +58,26 @@ any_each f g (w ∷ ws) each = ap (λ b. b || list_any f ws) each.0 ∙ ap (λ b
 any_last : (test : WordWrite → Bool) (front : List WordWrite) (last : WordWrite) → test last ≡ true → list_any test (front ++ last ∷ []) ≡ true
 any_last test front last is = any_append test front (last ∷ []) ∙ or_right (list_any test front) (test last || false) (ap (λ b. b || false) is)
 
-any_take : (test : WordWrite → Bool) (n : ℕ) (ws : List WordWrite) → list_any test (take n ws) ≡ true → list_any test ws ≡ true
-any_take test n ws some =
-    ap (list_any test) (sym (take-append-drop n ws)) ∙ any_append test (take n ws) (drop n ws) ∙ ap (λ b. b || list_any test (drop n ws)) some
-
-any_filter : (kept test : WordWrite → Bool) (ws : List WordWrite) → list_any test (filter kept ws) ≡ list_any (λ f. kept f && test f) ws
+pub any_filter : (kept test : WordWrite → Bool) (ws : List WordWrite) → list_any test (filter kept ws) ≡ list_any (λ f. kept f && test f) ws
 any_filter kept test [] = refl
 any_filter kept test (w ∷ ws) =
     let rest : List WordWrite = filter kept ws in
     let P : Bool → Type 0 = λ b. list_any test (cond b (w ∷ rest) rest) ≡ ((b && test w) || list_any (λ f. kept f && test f) ws) in
     elim (kept w) as P [ true ↦ ap (λ t. test w || t) (any_filter kept test ws) | false ↦ any_filter kept test ws ]
+
+any_kept : (kept test : WordWrite → Bool) (ws : List WordWrite) → list_any test (filter kept ws) ≡ true → list_any test ws ≡ true
+any_kept kept test [] some = some
+any_kept kept test (w ∷ ws) some =
+    let rest : List WordWrite = filter kept ws in
+    let P : Bool → Type 0 = λ b. list_any test (cond b (w ∷ rest) rest) ≡ true → (test w || list_any test ws) ≡ true in
+    (elim (kept w) as P [
+      | true ↦ λ one. or_cases (test w) (list_any test rest) ((test w || list_any test ws) ≡ true) one (λ here. ap (λ b. b || list_any test ws) here) (λ later. or_right (test w) (list_any test ws) (any_kept kept test ws later))
+      | false ↦ λ later. or_right (test w) (list_any test ws) (any_kept kept test ws later)
+    ]) some
+
+and_not : (a b : Bool) → b ≡ false → (a && b) ≡ false
+and_not true b is = is
+and_not false b is = refl
 
 filter_append : (test : WordWrite → Bool) (xs ys : List WordWrite) → filter test (xs ++ ys) ≡ filter test xs ++ filter test ys
 filter_append test [] ys = refl
@@ -90,11 +102,45 @@ turned : (b : Bool) (ws : List WordWrite) → cond (not b) ws [] ≡ cond b [] w
 turned true ws = refl
 turned false ws = refl
 
-each_filter : (P : WordWrite → Type 0) (test : WordWrite → Bool) (ws : List WordWrite) → AllByRecursion P ws → AllByRecursion P (filter test ws)
-each_filter P test [] each = tt
-each_filter P test (w ∷ ws) each =
-    let Q : Bool → Type 0 = λ b. AllByRecursion P (cond b (w ∷ filter test ws) (filter test ws)) in
-    elim (test w) as Q [ true ↦ (each.0, each_filter P test ws each.1) | false ↦ each_filter P test ws each.1 ]
+-- The first and the last of those of a list that pass a test.
+
+abbrev or_then : Option WordWrite → Option WordWrite → Option WordWrite
+or_then (Some w) found = Some w
+or_then None found = found
+
+found_append : (test : WordWrite → Bool) (xs ys : List WordWrite) → find test (xs ++ ys) ≡ or_then (find test xs) (find test ys)
+found_append test [] ys = refl
+found_append test (x ∷ xs) ys =
+    let P : Bool → Type 0 = λ b. cond b (Some x) (find test (xs ++ ys)) ≡ or_then (cond b (Some x) (find test xs)) (find test ys) in
+    elim (test x) as P [ true ↦ refl | false ↦ found_append test xs ys ]
+
+end_behind : (w : WordWrite) (ws : List WordWrite) → end_of (w ∷ ws) ≡ or_then (end_of ws) (Some w)
+end_behind w [] = refl
+end_behind w (v ∷ ws) =
+    let P : Option WordWrite → Type 0 = λ found. end_of (v ∷ ws) ≡ found → found ≡ or_then found (Some w) in
+    end_cons w v ws
+    ∙ (elim (end_of (v ∷ ws)) as P [
+      | Some last ↦ λ _. refl
+      | None ↦ λ none. let never : v ∷ ws ≡ [] = ends_not (v ∷ ws) none in cc
+    ]) refl
+
+pub last_found : (test : WordWrite → Bool) (ws : List WordWrite) → find test (reverse ws) ≡ end_of (filter test ws)
+last_found test [] = refl
+last_found test (w ∷ ws) =
+    let rest : List WordWrite = filter test ws in
+    let none : Option WordWrite = None in
+    let P : Bool → Type 0 = λ b. or_then (end_of rest) (cond b (Some w) none) ≡ end_of (cond b (w ∷ rest) rest) in
+    let nothing : (found : Option WordWrite) → or_then found None ≡ found = λ found. elim found as (λ f. or_then f None ≡ f) [ Some v ↦ refl | None ↦ refl ] in
+    ap (find test) (reverse-append (w ∷ []) ws)
+    ∙ found_append test (reverse ws) (w ∷ [])
+    ∙ ap (λ found. or_then found (find test (w ∷ []))) (last_found test ws)
+    ∙ (elim (test w) as P [ true ↦ sym (end_behind w rest) | false ↦ nothing (end_of rest) ])
+
+pub first_found : (test : WordWrite → Bool) (ws : List WordWrite) → list_of (find test ws) ≡ first_in (filter test ws)
+first_found test [] = refl
+first_found test (w ∷ ws) =
+    let P : Bool → Type 0 = λ b. list_of (cond b (Some w) (find test ws)) ≡ first_in (cond b (w ∷ filter test ws) (filter test ws)) in
+    elim (test w) as P [ true ↦ refl | false ↦ first_found test ws ]
 
 -- What lands no more.
 
@@ -155,8 +201,28 @@ own_clock rows o =
     subst P (sym (eq-eqb o.master o.master refl)) here
 
 -- With those of the stretches that are left these raisers know what all do.
-pub record Told (rows : List ProgramRows) (p : OpId) (writes : List WordWrite) (raising rest : List (List WordWrite)) (found : List WordWrite) : Type 0 where
-  pub alike : KnowAlike rows (found ++ stay rows p writes (joined rest)) (stay rows p writes (joined raising))
+pub record Told (rows : List ProgramRows) (p : OpId) (awaited : Awaited) (writes : List WordWrite) (raising rest : List (List WordWrite)) (found : List WordWrite) : Type 0 where
+  pub alike : KnowAlike rows (found ++ staying rows p awaited writes (joined rest)) (staying rows p awaited writes (joined raising))
+
+-- Parts of a stretch.
+
+pub parted : (rows : List ProgramRows) (p : OpId) (run before beyond : List WordWrite) (count : ℕ) → PartsBefore rows p run count → before ≡ take count run → beyond ≡ drop count run → IsParted rows p run before beyond
+parted rows p run before beyond count parts before_is beyond_is = record {
+  all = ap (λ ws. ws ++ beyond) before_is ∙ ap (λ ws. take count run ++ ws) beyond_is ∙ take-append-drop count run;
+  low = subst (AreBefore rows p) (sym before_is) parts.low;
+  high = subst (AllByRecursion (λ (w : WordWrite). before_in rows w.op p ≡ false)) (sym beyond_is) parts.high;
+}
+
+-- and of those of it that pass a test
+pub parted_filter : (rows : List ProgramRows) (p : OpId) (test : WordWrite → Bool) (run before beyond : List WordWrite) → IsParted rows p run before beyond → IsParted rows p (filter test run) (filter test before) (filter test beyond)
+parted_filter rows p test run before beyond parts = record {
+  all = sym (filter_append test before beyond) ∙ ap (filter test) parts.all;
+  low = each_filter (λ w. before_in rows w.op p ≡ true) test before parts.low;
+  high = each_filter (λ w. before_in rows w.op p ≡ false) test beyond parts.high;
+}
+
+pub among_filter : (writes these : List WordWrite) (kept : WordWrite → Bool) → AreAmong writes these → AreAmong writes (filter kept these)
+among_filter writes these kept among test some = among test (any_kept kept test these some)
 
 -- By a table that rises along programs, and in which who comes after an operation comes after all that it does.
 
@@ -208,17 +274,19 @@ module _ (rows : List ProgramRows) (ordered : IsOrdered rows) where
   module _ (p : OpId) where
     -- Who is left out.
 
-    pub run_leaves_out : (f : WordWrite) (run before two : List WordWrite) (count less : ℕ) (answer : Bool) → Stretch run → PartsBefore rows p run count → before ≡ take count run → less ≡ length before - 2 → two ≡ drop less before → answer ≡ list_any (ends_with rows f) two → answer ≡ left_out_in rows p run f
-    run_leaves_out f run before two count less answer stretch parts before_is less_is two_is answer_is =
-        let front : List WordWrite = take count run in
-        let behind : List WordWrite = drop count run in
+    pub run_leaves_out : (f : WordWrite) (run before beyond two : List WordWrite) (less : ℕ) (answer : Bool) → Stretch run → IsParted rows p run before beyond → less ≡ length before - 2 → two ≡ drop less before → answer ≡ list_any (ends_with rows f) two → answer ≡ left_out_in rows p run f
+    run_leaves_out f run before beyond two less answer stretch parts less_is two_is answer_is =
         let L : WordWrite → Bool = leaves_out rows p f in
         let E : WordWrite → Bool = ends_with rows f in
-        let two_so : two ≡ drop (length front - 2) front = two_is ∙ ap (λ n. drop n before) less_is ∙ ap (λ (ws : List WordWrite). drop (length ws - 2) ws) before_is in
-        let firsts : list_any L front ≡ list_any E front = any_each L E front (Each-weaker (λ x. before_in rows x.op p ≡ true) (λ x. L x ≡ E x) (λ x is. ap (λ t. t && E x) is) front parts.low) in
-        let none : list_any L behind ≡ false = any_each L (λ x. false) behind (Each-weaker (λ x. before_in rows x.op p ≡ false) (λ x. L x ≡ false) (λ x is. ap (λ t. t && E x) is) behind parts.high) ∙ any_none (λ x. false) (λ x. refl) behind in
-        answer_is ∙ ap (list_any E) two_so ∙ last_two f front (stretch_take count run stretch)
-        ∙ sym (ap (list_any L) (sym (take-append-drop count run)) ∙ any_append L front behind ∙ ap (λ b. list_any L front || b) none ∙ or_false (list_any L front) ∙ firsts)
+        let two_so : two ≡ drop (length before - 2) before = two_is ∙ ap (λ n. drop n before) less_is in
+        let firsts : list_any L before ≡ list_any E before = any_each L E before (Each-weaker (λ x. before_in rows x.op p ≡ true) (λ x. L x ≡ E x) (λ x is. ap (λ t. t && E x) is) before parts.low) in
+        let none : list_any L beyond ≡ false = any_each L (λ x. false) beyond (Each-weaker (λ x. before_in rows x.op p ≡ false) (λ x. L x ≡ false) (λ x is. ap (λ t. t && E x) is) beyond parts.high) ∙ any_none (λ x. false) (λ x. refl) beyond in
+        answer_is ∙ ap (list_any E) two_so ∙ last_two f before (stretch_front before beyond (subst Stretch (sym parts.all) stretch))
+        ∙ sym (ap (list_any L) (sym parts.all) ∙ any_append L before beyond ∙ ap (λ b. list_any L before || b) none ∙ or_false (list_any L before) ∙ firsts)
+
+    -- one of the stretches that leaves it out is enough
+    pub guess_leaves_out : (f : WordWrite) (runs : List (List WordWrite)) (i : ℕ) (item run : List WordWrite) (answer : Bool) → i < length runs → item ≡ get_or runs i item → run ≡ item → answer ≡ left_out_in rows p run f → answer ≡ true → true ≡ left_out_in rows p (joined runs) f
+    guess_leaves_out f runs i item run answer within is same answer_is met = sym (any_at (leaves_out rows p f) runs i item run within is same (sym answer_is ∙ met))
 
     -- what leaves a raiser out comes after it, so that it comes before the poll too
     left_before : (f x : WordWrite) → leaves_out rows p f x ≡ true → before_in rows f.op p ≡ true
@@ -264,6 +332,16 @@ module _ (rows : List ProgramRows) (ordered : IsOrdered rows) where
 
     pub none_stays : (writes before : List WordWrite) → end_of before ≡ None → stay rows p writes before ≡ []
     none_stays writes before is = ap (filter (λ f. not (left_out_in rows p writes f))) (ends_not before is)
+
+    -- of those that pass a test
+    pub last_raiser_stays : (awaited : Awaited) (writes before : List WordWrite) (last : WordWrite) (left : Bool) (found : Option WordWrite) → Some last ≡ find (raises_it awaited) (reverse before) → left ≡ left_out_in rows p writes last → list_of found ≡ cond left [] (last ∷ []) → Stretch before → AreBefore rows p before → AreAmong writes before
+        → stay rows p writes (filter (raises_it awaited) before) ≡ list_of found
+    last_raiser_stays awaited writes before last left found is left_is found_is stretch each among =
+        let kept : WordWrite → Bool = raises_it awaited in
+        last_stays writes (filter kept before) last left found (sym (is ∙ last_found kept before)) left_is found_is (stretch_filter kept before stretch) (each_filter (λ w. before_in rows w.op p ≡ true) kept before each) (among_filter writes before kept among)
+
+    pub no_raiser_stays : (awaited : Awaited) (writes before : List WordWrite) → None ≡ find (raises_it awaited) (reverse before) → stay rows p writes (filter (raises_it awaited) before) ≡ []
+    no_raiser_stays awaited writes before is = none_stays writes (filter (raises_it awaited) before) (sym (is ∙ last_found (raises_it awaited) before))
 
     -- What a poll is told.
 
@@ -320,31 +398,29 @@ module _ (rows : List ProgramRows) (ordered : IsOrdered rows) where
 
     -- A stretch of raisers.
 
-    module _ (writes run before beyond : List WordWrite) (count : ℕ) (stretch : Stretch run) (parts : PartsBefore rows p run count) (before_is : before ≡ take count run) (beyond_is : beyond ≡ drop count run) where
+    module _ (writes run before beyond : List WordWrite) (stretch : Stretch run) (parts : IsParted rows p run before beyond) where
       stay_parts : stay rows p writes run ≡ stay rows p writes before ++ beyond
       stay_parts =
           let test : WordWrite → Bool = λ f. not (left_out_in rows p writes f) in
-          let front : List WordWrite = take count run in
-          let behind : List WordWrite = drop count run in
-          ap (filter test) (sym (take-append-drop count run)) ∙ filter_append test front behind
-          ∙ ap (λ ws. filter test front ++ ws) (beyond_stay writes behind parts.high ∙ sym beyond_is)
-          ∙ ap (λ ws. filter test ws ++ beyond) (sym before_is)
+          ap (filter test) (sym parts.all) ∙ filter_append test before beyond
+          ∙ ap (λ ws. filter test before ++ ws) (beyond_stay writes beyond parts.high)
 
       pub before_stretch : Stretch before
-      before_stretch = subst Stretch (sym before_is) (stretch_take count run stretch)
+      before_stretch = stretch_front before beyond (subst Stretch (sym parts.all) stretch)
 
-      pub before_each : AreBefore rows p before
-      before_each = subst (AreBefore rows p) (sym before_is) parts.low
+      pub beyond_stretch : Stretch beyond
+      beyond_stretch = stretch_back before beyond (subst Stretch (sym parts.all) stretch)
 
       pub before_among : AreAmong writes run → AreAmong writes before
-      before_among among test some = among test (any_take test count run (ap (list_any test) (sym before_is) ∙ some))
+      before_among among test some =
+          among test (ap (list_any test) (sym parts.all) ∙ any_append test before beyond ∙ ap (λ b. b || list_any test beyond) some)
 
       -- one that comes before it stays
       pub run_ended : (last : WordWrite) (old new : List WordWrite) → stay rows p writes before ≡ list_of (Some last) → new ≡ old ++ last ∷ [] → PutsRun rows p writes run old new true
       run_ended last old new stays new_is =
           let test : WordWrite → Bool = λ f. not (left_out_in rows p writes f) in
           let B : WordWrite → Type 0 = λ w. before_in rows w.op p ≡ true in
-          let one : AllByRecursion B (last ∷ []) = subst (AllByRecursion B) stays (each_filter B test before before_each) in
+          let one : AllByRecursion B (last ∷ []) = subst (AllByRecursion B) stays (each_filter B test before parts.low) in
           let all : stay rows p writes run ≡ last ∷ beyond = stay_parts ∙ ap (λ ws. ws ++ beyond) stays in
           record {
             alike = λ never. absurd (false≢true (sym never));
@@ -355,7 +431,7 @@ module _ (rows : List ProgramRows) (ordered : IsOrdered rows) where
       pub run_goes_on : (old new : List WordWrite) → stay rows p writes before ≡ list_of None → new ≡ old ++ first_in beyond → PutsRun rows p writes run old new false
       run_goes_on old new stays new_is =
           let all : stay rows p writes run ≡ beyond = stay_parts ∙ ap (λ ws. ws ++ beyond) stays in
-          let behind : Stretch beyond = subst Stretch (sym beyond_is) (stretch_drop count run stretch) in
+          let behind : Stretch beyond = beyond_stretch in
           record {
             alike = λ _ rest most other.
                 let K : List WordWrite → ℕ = λ ws. known_to rows ws most other in
@@ -383,39 +459,120 @@ module _ (rows : List ProgramRows) (ordered : IsOrdered rows) where
     pub one_reached : (writes before : List WordWrite) (last : WordWrite) (answer : Bool) → stay rows p writes before ≡ list_of (Some last) → answer ≡ is_reached_at rows last → answer ≡ list_any (is_reached_at rows) (stay rows p writes before)
     one_reached writes before last answer stays is = is ∙ sym (or_false (is_reached_at rows last)) ∙ ap (list_any (is_reached_at rows)) (sym stays)
 
-    -- All stretches of raisers.
+    -- Of all writes of a stretch those that are raisers.
 
-    module _ (writes : List WordWrite) (raising : List (List WordWrite)) where
-      pub none_told : (found : List WordWrite) → found ≡ [] → Told rows p writes raising raising found
-      none_told found none = record { alike = λ most other. ap (λ ws. known_to rows (ws ++ stay rows p writes (joined raising)) most other) none }
+    module _ (awaited : Awaited) (writes run before beyond : List WordWrite) (stretch : Stretch run) (parts : IsParted rows p run before beyond) where
+      abbrev kept : WordWrite → Bool
+      kept = raises_it awaited
 
-      stay_cons : (i : ℕ) (item run : List WordWrite) → i < length raising → item ≡ get_or raising i item → run ≡ item → stay rows p writes (joined (drop i raising)) ≡ stay rows p writes run ++ stay rows p writes (joined (drop (i + 1) raising))
-      stay_cons i item run within is same =
+      -- the last that comes before it stays
+      pub raisers_ended : (last : WordWrite) (old new : List WordWrite) → stay rows p writes (filter kept before) ≡ list_of (Some last) → new ≡ old ++ last ∷ [] → PutsRun rows p writes (filter kept run) old new true
+      raisers_ended = run_ended writes (filter kept run) (filter kept before) (filter kept beyond) (stretch_filter kept run stretch) (parted_filter rows p kept run before beyond parts)
+
+      pub raisers_in : (found : Option WordWrite) → stay rows p writes (filter kept before) ≡ list_of found → IfSome found (λ last. PutsRun rows p writes (filter kept run) [] (last ∷ []) true)
+      raisers_in None stays = tt
+      raisers_in (Some last) stays = raisers_ended last [] (last ∷ []) stays refl
+
+      pub raisers_go_on : (old new : List WordWrite) → stay rows p writes (filter kept before) ≡ list_of None → new ≡ old ++ first_in (filter kept beyond) → PutsRun rows p writes (filter kept run) old new false
+      raisers_go_on = run_goes_on writes (filter kept run) (filter kept before) (filter kept beyond) (stretch_filter kept run stretch) (parted_filter rows p kept run before beyond parts)
+
+      pub raisers_reached : (answer behind : Bool) → answer ≡ (behind || list_any (is_reached_at rows) (stay rows p writes (filter kept before))) → behind ≡ list_any (is_reached_at rows) (filter kept beyond) → answer ≡ list_any (λ f. kept f && is_reached_in rows p writes f) run
+      raisers_reached answer behind answer_is behind_is =
+          run_reached writes (filter kept run) (filter kept before) (filter kept beyond) (stretch_filter kept run stretch) (parted_filter rows p kept run before beyond parts) answer behind answer_is behind_is
+          ∙ any_filter kept (is_reached_in rows p writes) run
+
+    -- All stretches of writes among which raisers are.
+
+    module _ (awaited : Awaited) (writes : List WordWrite) (raising : List (List WordWrite)) where
+      abbrev those : List WordWrite → List WordWrite
+      those these = staying rows p awaited writes these
+
+      those_append : (xs ys : List WordWrite) → those (xs ++ ys) ≡ those xs ++ those ys
+      those_append xs ys =
           let test : WordWrite → Bool = λ f. not (left_out_in rows p writes f) in
-          ap (filter test) (runs_cons raising i item run within is same) ∙ filter_append test run (joined (drop (i + 1) raising))
+          let kept : WordWrite → Bool = raises_it awaited in
+          ap (filter test) (filter_append kept xs ys) ∙ filter_append test (filter kept xs) (filter kept ys)
 
-      pub told_on : (i : ℕ) (item run old new : List WordWrite) (ended : Bool) → i < length raising → item ≡ get_or raising i item → run ≡ item → PutsRun rows p writes run old new ended → ended ≡ false → Told rows p writes raising (drop i raising) old → Told rows p writes raising (drop (i + 1) raising) new
+      pub none_told : (found : List WordWrite) → found ≡ [] → Told rows p awaited writes raising raising found
+      none_told found none = record { alike = λ most other. ap (λ ws. known_to rows (ws ++ those (joined raising)) most other) none }
+
+      those_cons : (i : ℕ) (item run : List WordWrite) → i < length raising → item ≡ get_or raising i item → run ≡ item → those (joined (drop i raising)) ≡ those run ++ those (joined (drop (i + 1) raising))
+      those_cons i item run within is same = ap those (runs_cons raising i item run within is same) ∙ those_append run (joined (drop (i + 1) raising))
+
+      pub told_on : (i : ℕ) (item run old new : List WordWrite) (ended : Bool) → i < length raising → item ≡ get_or raising i item → run ≡ item → PutsRun rows p writes (filter (raises_it awaited) run) old new ended → ended ≡ false → Told rows p awaited writes raising (drop i raising) old
+          → Told rows p awaited writes raising (drop (i + 1) raising) new
       told_on i item run old new ended within is same puts is_not so_far = record {
         alike = λ most other.
-            puts.alike is_not (stay rows p writes (joined (drop (i + 1) raising))) most other
-            ∙ sym (ap (λ ws. known_to rows (old ++ ws) most other) (stay_cons i item run within is same))
+            puts.alike is_not (those (joined (drop (i + 1) raising))) most other
+            ∙ sym (ap (λ ws. known_to rows (old ++ ws) most other) (those_cons i item run within is same))
             ∙ so_far.alike most other;
       }
 
-      pub told_ended : (i : ℕ) (item run old new : List WordWrite) (ended : Bool) → i < length raising → item ≡ get_or raising i item → run ≡ item → PutsRun rows p writes run old new ended → ended ≡ true → Told rows p writes raising (drop i raising) old → TellAlike rows p new (stay rows p writes (joined raising))
-      told_ended i item run old new ended within is same puts answer so_far =
-          let rest : List WordWrite = stay rows p writes (joined (drop (i + 1) raising)) in
-          let here : List WordWrite = stay rows p writes run in
+      pub told_ended : (i : ℕ) (item run old new : List WordWrite) (ended : Bool) → i < length raising → item ≡ get_or raising i item → run ≡ item → PutsRun rows p writes (filter (raises_it awaited) run) old new ended → ended ≡ true → TellAlike rows p new (those (joined raising))
+      told_ended i item run old new ended within is same puts answer =
+          let front : List (List WordWrite) = take i raising in
+          let rest : List WordWrite = joined (drop (i + 1) raising) in
           let nothing = puts.nothing answer in
-          let low : TellsNothing rows p (old ++ (here ++ rest)) = nothing_behind old (here ++ rest) (nothing_ahead here rest nothing.1) in
+          let here : List WordWrite = those run ++ those rest in
+          let whole : those (joined raising) ≡ those (joined front) ++ here =
+          ap (λ rs. those (joined rs)) (sym (take-append-drop i raising)) ∙ ap those (joined_append front (drop i raising)) ∙ those_append (joined front) (joined (drop i raising))
+          ∙ ap (λ ws. those (joined front) ++ ws) (those_cons i item run within is same) in
+          let low : TellsNothing rows p (those (joined front) ++ here) = nothing_behind (those (joined front)) here (nothing_ahead (those run) (those rest) nothing.1) in
           λ most other.
-          nothing_alike new (old ++ (here ++ rest)) nothing.0 low most other
-          ∙ ap (greater (clock_in rows p other)) (sym (ap (λ ws. known_to rows (old ++ ws) most other) (stay_cons i item run within is same)) ∙ so_far.alike most other)
+          nothing_alike new (those (joined front) ++ here) nothing.0 low most other
+          ∙ ap (λ ws. most_in rows p ws most other) (sym whole)
 
-      pub told_all : (i : ℕ) (found : List WordWrite) → length raising ≤ i → Told rows p writes raising (drop i raising) found → TellAlike rows p found (stay rows p writes (joined raising))
+      pub told_all : (i : ℕ) (found : List WordWrite) → length raising ≤ i → Told rows p awaited writes raising (drop i raising) found → TellAlike rows p found (those (joined raising))
       told_all i found past so_far most other =
-          let none : stay rows p writes (joined (drop i raising)) ≡ [] = ap (filter (λ f. not (left_out_in rows p writes f))) (runs_none raising i past) in
+          let none : those (joined (drop i raising)) ≡ [] = ap those (runs_none raising i past) in
           ap (greater (clock_in rows p other)) (sym (ap (λ ws. known_to rows ws most other) (ap (λ ws. found ++ ws) none ∙ append-nil found)) ∙ so_far.alike most other)
+
+  -- No run comes to those of a stretch whose index is below what is known of their program before the first of them.
+
+  abbrev counts_more : WordWrite → WordWrite → Type 0
+  counts_more first v = (clock_in rows first.op first.op.master ≤ clock_in rows v.op first.op.master) × (v.op.master ≡ first.op.master)
+
+  unreached : (first v : WordWrite) → counts_more first v → v.op.index < clock_in rows first.op first.op.master → is_reached_at rows v ≡ false
+  unreached first v more less =
+      let rise = more.0 in
+      let here : v.op.index < clock_in rows v.op v.op.master = subst (λ m. v.op.index < clock_in rows v.op m) (sym more.1) (omega (arith, rise, less)) in
+      ap not (lt_true v.op.index (clock_in rows v.op v.op.master) here)
+
+  none_kept : (awaited : Awaited) (ws : List WordWrite) → AllByRecursion (λ (w : WordWrite). is_reached_at rows w ≡ false) ws → list_any (λ f. raises_it awaited f && is_reached_at rows f) ws ≡ false
+  none_kept awaited ws each =
+      let T : WordWrite → Bool = λ f. raises_it awaited f && is_reached_at rows f in
+      any_each T (λ f. false) ws (Each-weaker (λ w. is_reached_at rows w ≡ false) (λ w. T w ≡ false) (λ w is. and_not (raises_it awaited w) (is_reached_at rows w) is) ws each)
+      ∙ any_none (λ f. false) (λ f. refl) ws
+
+  reached_core : (awaited : Awaited) (w : WordWrite) (ws : List WordWrite) (count : ℕ) → Stretch (w ∷ ws) → PartsAt (clock_in rows w.op w.op.master) (w ∷ ws) count → list_any (λ f. raises_it awaited f && is_reached_at rows f) (drop count (w ∷ ws)) ≡ list_any (is_reached_at rows) (filter (raises_it awaited) (w ∷ ws))
+  reached_core awaited w ws count stretch parts =
+      let T : WordWrite → Bool = λ f. raises_it awaited f && is_reached_at rows f in
+      let front : List WordWrite = take count (w ∷ ws) in
+      let behind : List WordWrite = drop count (w ∷ ws) in
+      let L : WordWrite → Type 0 = λ v. v.op.index < clock_in rows w.op w.op.master in
+      let more : AllByRecursion (counts_more w) (w ∷ ws) = ((omega arith, refl), Each-weaker (λ v. is_behind w v ≡ true) (counts_more w) (λ v is. (behind_clock w v is w.op.master, sym (behind_same w v is))) ws stretch.0) in
+      let none : AllByRecursion (λ (v : WordWrite). is_reached_at rows v ≡ false) front =
+      Each-weaker (λ v. counts_more w v × L v) (λ v. is_reached_at rows v ≡ false) (λ v two. unreached w v two.0 two.1) front (Each-both (counts_more w) L front (each_take (counts_more w) count (w ∷ ws) more) parts.low) in
+      sym (any_filter (raises_it awaited) (is_reached_at rows) (w ∷ ws)
+      ∙ ap (list_any T) (sym (take-append-drop count (w ∷ ws))) ∙ any_append T front behind ∙ ap (λ b. b || list_any T behind) (none_kept awaited front none))
+
+  pub some_reached : (awaited : Awaited) (writes rest : List WordWrite) (d : WordWrite) (known count : ℕ) (answer : Bool) → 1 ≤ length writes → known ≡ clock_in rows (get_or writes 0 d).op (get_or writes 0 d).op.master → Stretch writes → PartsAt known writes count → rest ≡ drop count writes
+      → answer ≡ list_any (λ f. raises_it awaited f && is_reached_at rows f) rest → answer ≡ list_any (is_reached_at rows) (filter (raises_it awaited) writes)
+  some_reached awaited [] rest d known count answer some known_is stretch parts rest_is is = absurd (omega (arith, some))
+  some_reached awaited (w ∷ ws) rest d known count answer some known_is stretch parts rest_is is =
+      is ∙ ap (list_any (λ f. raises_it awaited f && is_reached_at rows f)) rest_is ∙ reached_core awaited w ws count stretch (subst (λ n. PartsAt n (w ∷ ws) count) known_is parts)
+
+  pub none_reached : (awaited : Awaited) (writes : List WordWrite) → length writes < 1 → false ≡ list_any (is_reached_at rows) (filter (raises_it awaited) writes)
+  none_reached awaited [] none = refl
+  none_reached awaited (w ∷ ws) none = absurd (omega (arith, none))
+
+-- the same of all writes of the stretches
+pub told_of : (rows : List ProgramRows) (p : OpId) (awaited : Awaited) (found writes raising these those : List WordWrite) → these ≡ writes → those ≡ raising → TellAlike rows p found (staying rows p awaited these those) → TellAlike rows p found (staying rows p awaited writes raising)
+told_of rows p awaited found writes raising these those writes_are raising_are alike =
+    subst (λ ws. TellAlike rows p found (staying rows p awaited ws raising)) writes_are (subst (λ ws. TellAlike rows p found (staying rows p awaited these ws)) raising_are alike)
+
+pub among_of : (writes raising these those : List WordWrite) → these ≡ writes → those ≡ raising → AreAmong writes raising → AreAmong these those
+among_of writes raising these those writes_are raising_are among = subst (λ ws. AreAmong ws those) (sym writes_are) (subst (AreAmong writes) (sym raising_are) among)
 
 -- each of a stretch is one of all
 pub among_at : (writes : List WordWrite) (runs : List (List WordWrite)) (i : ℕ) (item run : List WordWrite) → i < length runs → item ≡ get_or runs i item → run ≡ item → AreAmong writes (joined runs) → AreAmong writes run

@@ -1,5 +1,5 @@
 -- Writes of a word as stretches: how they come together, and what the parts of a stretch are.
-use Rattle.std.proofs.Common.{◌≡◌, ℕ, zero, suc, ◌+◌, ◌-◌, ◌<◌, ◌≤◌, Bool, true, false, ◌&&◌, ◌||◌, ◌==◌, nat_lt, cond, List, [], ◌∷◌, ◌++◌, append_assoc, append-nil, length, take, drop, get_or, set, slice_get, slice_set, Option, Some, None, refl, sym, ap, subst, ◌∙◌, arith}
+use Rattle.std.proofs.Common.{◌≡◌, ℕ, zero, suc, ◌+◌, ◌-◌, ◌<◌, ◌≤◌, Bool, true, false, ◌&&◌, ◌||◌, ◌==◌, nat_lt, nat_le, cond, List, [], ◌∷◌, ◌++◌, append_assoc, append-nil, length, take, drop, get_or, set, slice_get, slice_set, Option, Some, None, refl, sym, ap, subst, ◌∙◌, arith}
 use Rattle.std.specs.List.{filter, list_any, list_all, AllByRecursion}
 use Rattle.std.specs.List.Sorted.{IsPartitionedBy, IsPartitionPoint}
 use Rattle.std.proofs.Math.Seq.{drop-cons}
@@ -8,13 +8,11 @@ use Rattle.std.proofs.lemmas.Bool.{ltb-true}
 use Rattle.std.proofs.lemmas.Bool.Decides.{nat_tests}
 use Rattle.list_facts.proofs.EachLemmas.{Each-weaker, Each-both, Each-push}
 use Rattle.pci_command.specs.declared.op_id.OpId.{OpId}
-use Rattle.safe_table.specs.declared.polls.awaited.Awaited.{Awaited}
 use Rattle.safe_table.specs.declared.writers.write.WordWrite.{WordWrite}
 use Rattle.safe_table.specs.Rows.{ProgramRows}
 use Rattle.safe_table.specs.Landing.{joined}
 use Rattle.safe_table.specs.Looks.{clock_in, before_in, any_before, is_behind}
-use Rattle.safe_table.specs.Polls.{raises_it}
-use Rattle.safe_table.specs.Stretches.{Stretch, AreStretches, AreStretchesOf, is_last_of, AreSummed, end_of, goes_on, pushed_at, pushed, PartsAt, PartsBefore, first_before}
+use Rattle.safe_table.specs.Stretches.{Stretch, AreStretches, AreStretchesOf, is_last_of, AreSummed, end_of, goes_on, pushed_at, pushed, PartsAt, PartsBefore, IsParted, is_from, first_before}
 use Rattle.safe_table.proofs.RaiserLemmas.{behind_same, behind_less}
 
 -- Lists.
@@ -24,7 +22,7 @@ each_at P [] j d each within = absurd (omega (arith, within))
 each_at P (w ∷ ws) zero d each within = each.0
 each_at P (w ∷ ws) (suc j) d each within = each_at P ws j d each.1 (omega (arith, within))
 
-each_take : (P : WordWrite → Type 0) (n : ℕ) (ws : List WordWrite) → AllByRecursion P ws → AllByRecursion P (take n ws)
+pub each_take : (P : WordWrite → Type 0) (n : ℕ) (ws : List WordWrite) → AllByRecursion P ws → AllByRecursion P (take n ws)
 each_take P zero ws each = tt
 each_take P (suc n) [] each = tt
 each_take P (suc n) (w ∷ ws) each = (each.0, each_take P n ws each.1)
@@ -50,7 +48,7 @@ any_append test (x ∷ xs) ys =
 
 -- The last of a list.
 
-end_cons : {X : Type 0} (x y : X) (ys : List X) → end_of (x ∷ (y ∷ ys)) ≡ end_of (y ∷ ys)
+pub end_cons : {X : Type 0} (x y : X) (ys : List X) → end_of (x ∷ (y ∷ ys)) ≡ end_of (y ∷ ys)
 end_cons x y ys =
     let here : length (x ∷ (y ∷ ys)) - 1 ≡ suc (length ys) = omega arith in
     let there : length (y ∷ ys) - 1 ≡ length ys = omega arith in
@@ -106,6 +104,32 @@ stretch_drop zero ws is = is
 stretch_drop (suc n) [] is = tt
 stretch_drop (suc n) (w ∷ ws) is = stretch_drop n ws is.1
 
+each_left : (P : WordWrite → Type 0) (xs ys : List WordWrite) → AllByRecursion P (xs ++ ys) → AllByRecursion P xs
+each_left P [] ys each = tt
+each_left P (x ∷ xs) ys each = (each.0, each_left P xs ys each.1)
+
+pub stretch_front : (xs ys : List WordWrite) → Stretch (xs ++ ys) → Stretch xs
+stretch_front [] ys is = tt
+stretch_front (x ∷ xs) ys is = (each_left (λ v. is_behind x v ≡ true) xs ys is.0, stretch_front xs ys is.1)
+
+pub stretch_back : (xs ys : List WordWrite) → Stretch (xs ++ ys) → Stretch ys
+stretch_back [] ys is = is
+stretch_back (x ∷ xs) ys is = stretch_back xs ys is.1
+
+pub each_filter : (P : WordWrite → Type 0) (test : WordWrite → Bool) (ws : List WordWrite) → AllByRecursion P ws → AllByRecursion P (filter test ws)
+each_filter P test [] each = tt
+each_filter P test (w ∷ ws) each =
+    let Q : Bool → Type 0 = λ b. AllByRecursion P (cond b (w ∷ filter test ws) (filter test ws)) in
+    elim (test w) as Q [ true ↦ (each.0, each_filter P test ws each.1) | false ↦ each_filter P test ws each.1 ]
+
+-- some of a stretch are one
+pub stretch_filter : (test : WordWrite → Bool) (ws : List WordWrite) → Stretch ws → Stretch (filter test ws)
+stretch_filter test [] is = tt
+stretch_filter test (w ∷ ws) is =
+    let Q : Bool → Type 0 = λ b. Stretch (cond b (w ∷ filter test ws) (filter test ws)) in
+    let later : Stretch (filter test ws) = stretch_filter test ws is.1 in
+    elim (test w) as Q [ true ↦ (each_filter (λ v. is_behind w v ≡ true) test ws is.0, later) | false ↦ later ]
+
 -- of a stretch that has a last one the others stand before it
 pub before_end : (front : List WordWrite) (last : WordWrite) → Stretch (front ++ last ∷ []) → AllByRecursion (λ (w : WordWrite). is_behind w last ≡ true) front
 before_end [] last is = tt
@@ -124,7 +148,7 @@ run_on w run (Some last) is goes stretch =
     let ends : EndsWith run last = ends_at run last is in
     subst (λ ws. Stretch (ws ++ w ∷ [])) (sym ends.is) (stretch_on ends.front last w (subst Stretch ends.is stretch) goes)
 
-joined_append : (xs ys : List (List WordWrite)) → joined (xs ++ ys) ≡ joined xs ++ joined ys
+pub joined_append : (xs ys : List (List WordWrite)) → joined (xs ++ ys) ≡ joined xs ++ joined ys
 joined_append [] ys = refl
 joined_append (x ∷ xs) ys = ap (λ ws. x ++ ws) (joined_append xs ys) ∙ sym (append_assoc x (joined xs) (joined ys))
 
@@ -192,37 +216,34 @@ summed_with w old new last both summed new_is both_is =
 pub joined_with : (w : WordWrite) (old new : List (List WordWrite)) (last : Bool) → AreSummed old last → new ≡ pushed w old → joined new ≡ joined old ++ w ∷ []
 joined_with w old new last summed new_is = ap joined new_is ∙ (pushed_so w old summed.each).all
 
--- Those of some writes that bring what is waited for.
+-- Some writes as stretches.
 
-module _ (awaited : Awaited) (writes : List WordWrite) where
-  -- with those of the writes that are left they are all
-  pub record Raising (rest : List WordWrite) (runs : List (List WordWrite)) : Type 0 where
-    pub all : joined runs ++ filter (raises_it awaited) rest ≡ filter (raises_it awaited) writes
+module _ (writes : List WordWrite) where
+  -- with the writes that are left they are all
+  pub record Made (rest : List WordWrite) (runs : List (List WordWrite)) : Type 0 where
+    pub all : joined runs ++ rest ≡ writes
     pub each : AreStretches runs
 
-  pub none_raising : (runs : List (List WordWrite)) → runs ≡ [] → Raising writes runs
-  none_raising runs none = subst (Raising writes) (sym none) (record { all = refl; each = tt })
+  pub none_made : (runs : List (List WordWrite)) → runs ≡ [] → Made writes runs
+  none_made runs none = subst (Made writes) (sym none) (record { all = refl; each = tt })
 
-  pub raising_on : (i : ℕ) (d w : WordWrite) (old new : List (List WordWrite)) → i < length writes → w ≡ get_or writes i d → new ≡ cond (raises_it awaited w) (pushed w old) old → Raising (drop i writes) old → Raising (drop (i + 1) writes) new
-  raising_on i d w old new within is new_is so_far =
+  pub made_on : (i : ℕ) (d w : WordWrite) (old new : List (List WordWrite)) → i < length writes → w ≡ get_or writes i d → new ≡ pushed w old → Made (drop i writes) old → Made (drop (i + 1) writes) new
+  made_on i d w old new within is new_is so_far =
       let more : i + 1 ≡ suc i = omega arith in
       let rest : List WordWrite = drop (i + 1) writes in
-      let later : List WordWrite = filter (raises_it awaited) rest in
       let parts : drop i writes ≡ w ∷ rest = drop-cons writes i d within ∙ ap (λ v. v ∷ drop (suc i) writes) (sym is) ∙ sym (ap (λ n. w ∷ drop n writes) more) in
-      let here : Raising (w ∷ rest) old = subst (λ ws. Raising ws old) parts so_far in
+      let here : Made (w ∷ rest) old = subst (λ ws. Made ws old) parts so_far in
       let pushes : Pushes w old (pushed w old) = pushed_so w old here.each in
-      let P : Bool → Type 0 = λ b. joined old ++ cond b (w ∷ later) later ≡ filter (raises_it awaited) writes → Raising rest (cond b (pushed w old) old) in
-      subst (Raising rest) (sym new_is)
-      ((elim (raises_it awaited w) as P [
-        | true ↦ λ all. record { all = ap (λ ws. ws ++ later) pushes.all ∙ append_assoc (joined old) (w ∷ []) later ∙ all; each = pushes.each }
-        | false ↦ λ all. record { all = all; each = here.each }
-      ]) here.all)
+      subst (Made rest) (sym new_is) (record { all = ap (λ ws. ws ++ rest) pushes.all ∙ append_assoc (joined old) (w ∷ []) rest ∙ here.all; each = pushes.each })
 
-  pub raising_over : (i : ℕ) (runs : List (List WordWrite)) → length writes ≤ i → Raising (drop i writes) runs → AreStretchesOf (filter (raises_it awaited) writes) runs
-  raising_over i runs past so_far =
+  pub made_over : (i : ℕ) (runs : List (List WordWrite)) → length writes ≤ i → Made (drop i writes) runs → AreStretchesOf writes runs
+  made_over i runs past so_far =
       let none : drop i writes ≡ [] = drop_all i writes past in
-      let over : Raising [] runs = subst (λ ws. Raising ws runs) none so_far in
+      let over : Made [] runs = subst (λ ws. Made ws runs) none so_far in
       record { all = sym (append-nil (joined runs)) ∙ over.all; each = over.each }
+
+  pub made_summed : (runs : List (List WordWrite)) (last : Bool) → AreStretchesOf writes runs → last ≡ list_all is_last_of writes → AreSummed runs last
+  made_summed runs last are is = record { each = are.each; last_is = is ∙ sym (ap (list_all is_last_of) are.all) }
 
 -- Parts of a stretch.
 
@@ -234,6 +255,12 @@ lt_false a b more = grind (arith, nat_tests)
 
 from_false : (a b : ℕ) → nat_lt a b ≡ false → b ≤ a
 from_false a b is = grind (arith, nat_tests)
+
+from_not : (a b : ℕ) → nat_le b a ≡ true → b ≤ a
+from_not a b is = grind (arith, nat_tests)
+
+from_so : (a b : ℕ) → nat_le b a ≡ false → a < b
+from_so a b is = grind (arith, nat_tests)
 
 -- what a binary search asks
 pub is_parted : (bound : ℕ) (ws : List WordWrite) → Stretch ws → IsPartitionedBy (λ (w : WordWrite). nat_lt w.op.index bound) ws
@@ -257,6 +284,44 @@ point_parts bound (w ∷ ws) zero within point =
 point_parts bound (w ∷ ws) (suc count) within point =
     let later = point_parts bound ws count (omega (arith, within)) (λ k d low high. point.0 (suc k) d (omega arith) (omega (arith, high)), λ k d low high. point.1 (suc k) d (omega (arith, low)) (omega (arith, high))) in
     record { low = (ltb-true w.op.index bound (point.0 0 w (omega arith) (omega arith)), later.low); high = later.high }
+
+-- where the first is not below, none is
+pub none_below : (bound : ℕ) (run : List WordWrite) → Stretch run → is_from (slice_get run 0) bound ≡ true → PartsAt bound run 0
+none_below bound [] stretch from = record { low = tt; high = tt }
+none_below bound (w ∷ ws) stretch from =
+    let least : bound ≤ w.op.index = from_not w.op.index bound from in
+    record {
+      low = tt;
+      high =
+          (least, Each-weaker (λ v. is_behind w v ≡ true) (λ v. bound ≤ v.op.index) (λ v behind. let up = behind_less w v behind in omega (arith, least, up)) ws stretch.0);
+    }
+
+all_taken : (ws : List WordWrite) → take (length ws) ws ≡ ws
+all_taken [] = refl
+all_taken (w ∷ ws) = ap (λ vs. w ∷ vs) (all_taken ws)
+
+all_dropped : (ws : List WordWrite) → drop (length ws) ws ≡ []
+all_dropped [] = refl
+all_dropped (w ∷ ws) = all_dropped ws
+
+below_end : (bound : ℕ) (run : List WordWrite) (last : WordWrite) → end_of run ≡ Some last → Stretch run → last.op.index < bound → AllByRecursion (λ (w : WordWrite). w.op.index < bound) run
+below_end bound run last is stretch below =
+    let L : WordWrite → Type 0 = λ w. w.op.index < bound in
+    let ends : EndsWith run last = ends_at run last is in
+    let firsts : AllByRecursion L ends.front = Each-weaker (λ w. is_behind w last ≡ true) L (λ w behind. let up = behind_less w last behind in omega (arith, below, up)) ends.front (before_end ends.front last (subst Stretch ends.is stretch)) in
+    subst (AllByRecursion L) (sym ends.is) (Each-push L ends.front last firsts below)
+
+all_below_at : (bound : ℕ) (run : List WordWrite) (found : Option WordWrite) → end_of run ≡ found → Stretch run → is_from found bound ≡ false → AllByRecursion (λ (w : WordWrite). w.op.index < bound) run
+all_below_at bound run None is stretch below = cc
+all_below_at bound run (Some last) is stretch below = below_end bound run last is stretch (from_so last.op.index bound below)
+
+-- where the last is below, all are
+pub all_below : (bound count : ℕ) (run : List WordWrite) → Stretch run → is_from (end_of run) bound ≡ false → count ≡ length run → PartsAt bound run count
+all_below bound count run stretch below all =
+    let L : WordWrite → Type 0 = λ w. w.op.index < bound in
+    let H : WordWrite → Type 0 = λ w. bound ≤ w.op.index in
+    let each : AllByRecursion L run = all_below_at bound run (end_of run) refl stretch below in
+    subst (PartsAt bound run) (sym all) (record { low = subst (AllByRecursion L) (sym (all_taken run)) each; high = subst (AllByRecursion H) (sym (all_dropped run)) tt })
 
 -- those below what the poll knows of their master come before it
 parts_before : (rows : List ProgramRows) (p : OpId) (w : WordWrite) (ws : List WordWrite) (count : ℕ) → Stretch (w ∷ ws) → PartsAt (clock_in rows p w.op.master) (w ∷ ws) count → PartsBefore rows p (w ∷ ws) count

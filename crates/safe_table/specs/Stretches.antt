@@ -1,5 +1,5 @@
 -- Writes of a word as stretches: of one master, one behind another in its program.
-use Rattle.std.specs.Prelude.{◌≡◌, ℕ, ◌-◌, ◌<◌, ◌≤◌, Bool, true, false, List, [], ◌∷◌, ◌++◌, length, take, drop, filter, Option, Some, None, not, ◌&&◌, slice_get, slice_set, if◌then◌else◌}
+use Rattle.std.specs.Prelude.{◌≡◌, ℕ, ◌-◌, ◌<◌, ◌≤◌, Bool, true, false, List, [], ◌∷◌, ◌++◌, length, take, drop, filter, Option, Some, None, not, nat_le, ◌&&◌, slice_get, slice_set, if◌then◌else◌}
 use Rattle.std.specs.List.{list_all, list_any, AllByRecursion}
 use Rattle.pci_command.specs.declared.op_id.OpId.{OpId}
 use Rattle.pci_command.specs.Same.{same_op}
@@ -67,6 +67,17 @@ AreBefore rows p writes = AllByRecursion (λ (w : WordWrite). before_in rows w.o
 pub record PartsBefore (rows : List ProgramRows) (p : OpId) (run : List WordWrite) (count : ℕ) : Type 0 where
   pub low : AreBefore rows p (take count run)
   pub high : AllByRecursion (λ (w : WordWrite). before_in rows w.op p ≡ false) (drop count run)
+
+-- a stretch is those of it that come before the poll, and then those that do not
+pub record IsParted (rows : List ProgramRows) (p : OpId) (run before beyond : List WordWrite) : Type 0 where
+  pub all : before ++ beyond ≡ run
+  pub low : AreBefore rows p before
+  pub high : AllByRecursion (λ (w : WordWrite). before_in rows w.op p ≡ false) beyond
+
+-- there is no write here that has an index below this
+abbrev pub is_from : Option WordWrite → ℕ → Bool
+is_from None bound = true
+is_from (Some w) bound = nat_le bound w.op.index
 
 -- the first of a stretch comes before the poll
 abbrev pub first_before : List ProgramRows → OpId → List WordWrite → Bool

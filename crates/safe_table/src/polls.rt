@@ -6,6 +6,6 @@ mod looks;
 mod polls;
 mod stays;
 
-pub(crate) use awaited::{Awaited, any_of, awaited_by};
+pub(crate) use awaited::{Awaited, any_of, awaited_by, enabled};
 pub(crate) use looks::is_before;
 pub use polls::Polls;

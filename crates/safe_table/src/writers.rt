@@ -9,8 +9,9 @@ mod table;
 mod words;
 mod write;
 
+pub(crate) use lists::Listed;
 pub use named::first_named;
-pub(crate) use stretches::{count_below, is_behind, stretches_of};
+pub(crate) use stretches::{Stretches, count_below, is_behind, stretches_of};
 pub use table::Writers;
 pub use write::WordWrite;
 pub(crate) use write::WordWrites;

@@ -6,7 +6,7 @@ ghost use Rattle.history_model.specs.Words.{opens_as};
 ghost use Rattle.safe_model.specs.Raisers.{is_met_by, is_whole, is_plain, brings_met};
 ghost use Rattle.law_safe.specs.largest.Tests.{wish_of};
 ghost use Rattle.audit_landings.specs.Hits.{dword};
-ghost use Rattle.safe_table.specs.Lists.{any_of, met_by, is_whole_at};
+ghost use Rattle.safe_table.specs.Lists.{any_of, met_by};
 ghost use Rattle.safe_table.specs.Polls.{wish_for, raises_it, is_clean_write};
 
 use crate::writers::{WordWrite, first_named};
@@ -90,13 +90,6 @@ impl Awaited {
         Awaited { wanted, ..self }
     }
 
-    /// Whether the write enables all bytes that the mask looks at.
-    pub(crate) fn is_whole(&self, write: &WordWrite) -> bool
-        ensures { result ≡ is_whole_at self.now write.now }
-    {
-        is_whole(self.mask, write.phase)
-    }
-
     /// Whether the write writes all that the mask looks at, and where it brings a value that meets
     /// it, does so last.
     pub(crate) fn is_clean(&self, write: &WordWrite) -> bool
@@ -121,7 +114,7 @@ fn is_whole(mask: u32, phase: Phase) -> bool
 
 /// The bits that a data phase writes: those that one of all ones leaves where there were zeros.
 #[tactic(auto, using(crate::proofs::KeptLemmas::ones_left))]
-fn enabled(phase: Phase) -> u32
+pub(crate) fn enabled(phase: Phase) -> u32
     ensures { result ≡ bit_and (enabled_bits phase.enables) 0xffff_ffff }
 {
     let ones = Phase {

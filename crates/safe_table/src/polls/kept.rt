@@ -8,10 +8,10 @@ ghost use Rattle.safe_table.specs.Polls.{is_clean_write, raises_it, staying};
 ghost use Rattle.safe_table.specs.Writes.{ListsWrites, writes_at};
 
 use crate::known::ClockTable;
-use crate::polls::awaited::{Awaited, any_of, awaited_by};
+use crate::polls::awaited::{Awaited, awaited_by};
 use crate::polls::looks::is_any_before;
 use crate::polls::stays::{is_any_first_before, is_any_reached, raisers_among};
-use crate::writers::{WordWrite, Writers, stretches_of};
+use crate::writers::{Listed, Stretches, WordWrite, Writers, stretches_of};
 use board_model::Board;
 use pci_command::{NoMemory, OpId};
 use std::alloc::Global;
@@ -85,13 +85,23 @@ fn is_behind_some(awaited: &Awaited, table: &ClockTable, writers: &Writers, poll
     ensures { result ≡ any_before table.now poll (writes_at awaited.now.word writers.now) }
 {
     match writers.lists(*awaited) {
-        Some(listed) => is_any_first_before(table, poll, listed.writes),
+        Some(listed) => is_any_first_before(table, poll, listed.writes.runs()),
         None => is_any_before(table, poll, writers.of_word(awaited.word)),
     }
 }
 
-/// Of the raisers of a poll those that tell it what all do. Where the writes of its dword are too
-/// many to be listed under its mask they are put together anew.
+/// All writes of a dword, where none are listed.
+fn alone(writes: &Stretches) -> Listed<'_>
+    ensures writes { result.writes.now ≡ writes.now }
+    ensures raising { result.raising.now ≡ writes.now }
+{
+    Listed {
+        writes,
+        raising: writes,
+    }
+}
+
+/// Of the raisers of a poll those that tell it what all do.
 fn raisers_for(
     alloc: Global,
     awaited: Awaited,
@@ -104,13 +114,33 @@ fn raisers_for(
         (staying table.now poll awaited (writes_at awaited.word writers.now)
         (writes_at awaited.word writers.now))) }
 {
-    if let Some(listed) = writers.lists(awaited) {
-        return raisers_among(alloc, table, poll, listed.writes, listed.raising);
+    match writers.lists(awaited) {
+        Some(listed) => {
+            let found = raisers_among(alloc, table, poll, awaited, listed)?;
+            Ok(found)
+        }
+        None => {
+            let words = writers.of_word(awaited.word);
+            let found = raisers_anew(alloc, awaited, table, words, poll)?;
+            Ok(found)
+        }
     }
-    let words = writers.of_word(awaited.word);
-    let writes = stretches_of(alloc, any_of(awaited.word), words)?;
-    let raising = stretches_of(alloc, awaited, words)?;
-    let found = raisers_among(alloc, table, poll, writes.as_slice(), raising.as_slice())?;
+}
+
+/// The same where the writes of the dword are not listed: they are put together anew.
+fn raisers_anew(
+    alloc: Global,
+    awaited: Awaited,
+    table: &ClockTable,
+    words: &[WordWrite],
+    poll: OpId,
+) -> Result<Vec<WordWrite>, NoMemory>
+    requires { IsOrdered table.now }
+    ensures { IfOk result (λ found. TellAlike table.now poll found.items
+        (staying table.now poll awaited words.now words.now)) }
+{
+    let writes = stretches_of(alloc, words)?;
+    let found = raisers_among(alloc, table, poll, awaited, alone(&writes))?;
     Ok(found)
 }
 
@@ -123,17 +153,33 @@ fn is_raised_for(
     poll: OpId,
 ) -> Result<bool, NoMemory>
     requires { IsOrdered table.now }
-    ensures { IfOk result (λ yes. yes ≡ list_any (λ f. raises_it awaited f && is_reached_in
+    ensures { IfOk result (λ raised. raised ≡ list_any (λ f. raises_it awaited f && is_reached_in
         table.now poll (writes_at awaited.word writers.now) f)
         (writes_at awaited.word writers.now)) }
 {
-    if let Some(listed) = writers.lists(awaited) {
-        return Ok(is_any_reached(table, poll, listed.writes, listed.raising));
+    match writers.lists(awaited) {
+        Some(listed) => Ok(is_any_reached(table, poll, awaited, listed)),
+        None => {
+            let words = writers.of_word(awaited.word);
+            let raised = is_raised_anew(alloc, awaited, table, words, poll)?;
+            Ok(raised)
+        }
     }
-    let words = writers.of_word(awaited.word);
-    let writes = stretches_of(alloc, any_of(awaited.word), words)?;
-    let raising = stretches_of(alloc, awaited, words)?;
-    Ok(is_any_reached(table, poll, writes.as_slice(), raising.as_slice()))
+}
+
+fn is_raised_anew(
+    alloc: Global,
+    awaited: Awaited,
+    table: &ClockTable,
+    words: &[WordWrite],
+    poll: OpId,
+) -> Result<bool, NoMemory>
+    requires { IsOrdered table.now }
+    ensures { IfOk result (λ raised. raised ≡ list_any (λ f. raises_it awaited f
+        && is_reached_in table.now poll words.now f) words.now) }
+{
+    let writes = stretches_of(alloc, words)?;
+    Ok(is_any_reached(table, poll, awaited, alone(&writes)))
 }
 
 impl KeptPoll {

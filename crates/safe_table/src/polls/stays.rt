@@ -1,16 +1,19 @@
-ghost use Rattle.std.specs.Prelude.{◌≡◌, ◌≤◌, ◌+◌, ◌++◌, ◌∷◌, [], IfOk, OnOk, length, nat_lt};
-ghost use Rattle.std.specs.Prelude.{if◌then◌else◌};
-ghost use Rattle.std.specs.List.{list_any};
+ghost use Rattle.std.specs.Prelude.{◌≡◌, ◌≤◌, ◌+◌, ◌++◌, ◌∷◌, ◌&&◌, [], IfOk, OnOk, length, nat_lt};
+ghost use Rattle.std.specs.Prelude.{IfSome, true, reverse, if◌then◌else◌};
+ghost use Rattle.std.specs.List.{filter, find, list_any};
+ghost use Rattle.std.specs.Option.{option_copied};
 ghost use Rattle.safe_table.specs.Landing.{joined};
 ghost use Rattle.safe_table.specs.Looks.{any_before, clock_in, no_more_in, left_out_in};
 ghost use Rattle.safe_table.specs.Looks.{is_reached_in, TellAlike, IsOrdered};
+ghost use Rattle.safe_table.specs.Polls.{raises_it, staying};
 ghost use Rattle.safe_table.specs.Stretches.{Stretch, AreStretches, first_before, PartsBefore};
 ghost use Rattle.safe_table.specs.Stretches.{AreBefore, AreAmong, PutsRun, ends_with, first_in};
-ghost use Rattle.safe_table.specs.Stretches.{is_reached_at, list_of, stay};
+ghost use Rattle.safe_table.specs.Stretches.{IsParted, is_reached_at, list_of, stay};
 
 use crate::known::ClockTable;
+use crate::polls::awaited::Awaited;
 use crate::polls::looks::is_before;
-use crate::writers::{WordWrite, WordWrites, count_below, is_behind};
+use crate::writers::{Listed, WordWrite, WordWrites, count_below, is_behind};
 use pci_command::{NoMemory, OpId, same_op};
 use std::alloc::Global;
 
@@ -37,83 +40,169 @@ fn is_first_before(table: &ClockTable, poll: OpId, run: &WordWrites) -> bool
     }
 }
 
-/// Of these raisers of a poll those that tell it what all do that the writes of its dword do not
-/// leave out.
+/// Of the raisers of a poll among these writes those that tell it what all do that the writes of
+/// its dword do not leave out.
 ///
 /// Of the raisers of a stretch that come before the poll the last alone may stay, since it leaves
 /// out the others. Where it does, the poll is told of nothing: whoever comes after a write knows all
 /// that the write does. Those that do not come before the poll all stay, since what leaves a write
 /// out comes after it; the first of them knows no more than the others.
+///
+/// The stretch where one stayed is the first that is looked at the next time: most often it stays
+/// again, and one look is enough.
 pub(crate) fn raisers_among(
     alloc: Global,
     table: &ClockTable,
     poll: OpId,
-    writes: &[WordWrites],
-    raising: &[WordWrites],
+    awaited: Awaited,
+    listed: Listed<'_>,
 ) -> Result<Vec<WordWrite>, NoMemory>
     requires ordered { IsOrdered table.now }
-    requires writes { AreStretches writes.now }
-    requires raising { AreStretches raising.now }
-    requires among { AreAmong (joined writes.now) (joined raising.now) }
+    requires among { AreAmong listed.writes.now listed.raising.now }
     ensures { IfOk result (λ found. TellAlike table.now poll found.items
-        (stay table.now poll (joined writes.now) (joined raising.now))) }
+        (staying table.now poll awaited listed.entry.writes.now listed.entry.raising.now)) }
 {
+    match guessed(table, poll, awaited, listed) {
+        Some(last) => one(alloc, last),
+        None => raisers_among_all(alloc, table, poll, awaited, listed),
+    }
+}
+
+fn one(alloc: Global, write: WordWrite) -> Result<Vec<WordWrite>, NoMemory>
+    ensures { IfOk result (λ list. list.items ≡ write ∷ []) }
+{
+    let mut list = Vec::new(alloc);
+    list.push(write)?;
+    Ok(list)
+}
+
+/// A raiser that comes before the poll and stays, if there is one in the stretch where there was
+/// the last time.
+fn guessed(
+    table: &ClockTable,
+    poll: OpId,
+    awaited: Awaited,
+    listed: Listed<'_>,
+) -> Option<WordWrite>
+    requires ordered { IsOrdered table.now }
+    requires among { AreAmong listed.writes.now listed.raising.now }
+    ensures { IfSome result (λ last. TellAlike table.now poll (last ∷ [])
+        (staying table.now poll awaited listed.entry.writes.now listed.entry.raising.now)) }
+{
+    let writes = listed.writes.runs();
+    let raising = listed.raising.runs();
+    match raising.get(listed.raising.guess()) {
+        Some(these) => staying_in(table, poll, awaited, writes, these),
+        None => None,
+    }
+}
+
+/// Of the raisers of a stretch that come before the poll the one that stays, if there is one.
+fn staying_in(
+    table: &ClockTable,
+    poll: OpId,
+    awaited: Awaited,
+    writes: &[WordWrites],
+    run: &WordWrites,
+) -> Option<WordWrite>
+    requires ordered { IsOrdered table.now }
+    requires writes { AreStretches writes.now }
+    requires run { Stretch run.now }
+    requires among { AreAmong (joined writes.now) run.now }
+    ensures { IfSome result (λ last. PutsRun table.now poll (joined writes.now)
+        (filter (raises_it awaited) run.now) [] (last ∷ []) true) }
+{
+    let (before, _) = parts(table, poll, run.as_slice());
+    staying_last(table, poll, awaited, writes, before, run)
+}
+
+/// The same as all of them are looked at, one stretch after another.
+fn raisers_among_all(
+    alloc: Global,
+    table: &ClockTable,
+    poll: OpId,
+    awaited: Awaited,
+    listed: Listed<'_>,
+) -> Result<Vec<WordWrite>, NoMemory>
+    requires ordered { IsOrdered table.now }
+    requires among { AreAmong listed.writes.now listed.raising.now }
+    ensures { IfOk result (λ found. TellAlike table.now poll found.items
+        (staying table.now poll awaited listed.entry.writes.now listed.entry.raising.now)) }
+{
+    let writes = listed.writes.runs();
+    let raising = listed.raising.runs();
     let mut found = Vec::new(alloc);
-    put_raisers(&mut found, table, poll, writes, raising)?;
+    let ended = put_raisers(&mut found, table, poll, awaited, writes, raising)?;
+    listed.raising.guess_next(ended);
     Ok(found)
 }
 
+/// The place of the stretch where one that comes before the poll stays, if there is one.
 fn put_raisers(
     found: &mut Vec<WordWrite>,
     table: &ClockTable,
     poll: OpId,
+    awaited: Awaited,
     writes: &[WordWrites],
     raising: &[WordWrites],
-) -> Result<(), NoMemory>
+) -> Result<Option<usize>, NoMemory>
     requires ordered { IsOrdered table.now }
     requires writes { AreStretches writes.now }
     requires raising { AreStretches raising.now }
     requires among { AreAmong (joined writes.now) (joined raising.now) }
     requires none { found.old.items ≡ [] }
     ensures { OnOk result (TellAlike table.now poll found.new.items
-        (stay table.now poll (joined writes.now) (joined raising.now))) }
+        (staying table.now poll awaited (joined writes.now) (joined raising.now))) }
 {
-    for run in raising {
-        let ended = put_run(found, table, poll, writes, run.as_slice())?;
+    for (place, run) in raising.iter().enumerate() {
+        let ended = put_run(found, table, poll, awaited, writes, run)?;
         if ended {
-            return Ok(());
+            return Ok(Some(place));
         }
     }
-    Ok(())
+    Ok(None)
 }
 
-/// Of a stretch the last that comes before the poll, if it stays, or else the first that does not;
-/// whether it was the former.
+/// Of the raisers of a stretch the last that comes before the poll, if it stays, or else the first
+/// that does not; whether it was the former.
 fn put_run(
     found: &mut Vec<WordWrite>,
     table: &ClockTable,
     poll: OpId,
+    awaited: Awaited,
     writes: &[WordWrites],
-    run: &[WordWrite],
+    run: &WordWrites,
 ) -> Result<bool, NoMemory>
     requires ordered { IsOrdered table.now }
     requires writes { AreStretches writes.now }
     requires run { Stretch run.now }
     requires among { AreAmong (joined writes.now) run.now }
-    ensures { IfOk result (PutsRun table.now poll (joined writes.now) run.now
-        found.old.items found.new.items) }
+    ensures { IfOk result (PutsRun table.now poll (joined writes.now)
+        (filter (raises_it awaited) run.now) found.old.items found.new.items) }
 {
-    let (before, beyond) = run.split_at(count_before(table, poll, run));
-    match staying_last(table, poll, writes, before) {
+    let (before, beyond) = parts(table, poll, run.as_slice());
+    match staying_last(table, poll, awaited, writes, before, run) {
         Some(last) => {
             found.push(last)?;
             Ok(true)
         }
         None => {
-            put_first(found, beyond)?;
+            put_first(found, awaited, beyond)?;
             Ok(false)
         }
     }
+}
+
+/// Those of a stretch that come before the poll, and those that do not.
+fn parts<'a>(
+    table: &ClockTable,
+    poll: OpId,
+    run: &'a [WordWrite],
+) -> (&'a [WordWrite], &'a [WordWrite])
+    requires { Stretch run.now }
+    ensures { IsParted table.now poll run.now result.0.now result.1.now }
+{
+    run.split_at(count_before(table, poll, run))
 }
 
 /// How many of a stretch come before the poll, from the first on.
@@ -133,20 +222,33 @@ fn count_before(table: &ClockTable, poll: OpId, run: &[WordWrite]) -> usize
 fn staying_last(
     table: &ClockTable,
     poll: OpId,
+    awaited: Awaited,
     writes: &[WordWrites],
     before: &[WordWrite],
+    run: &WordWrites,
 ) -> Option<WordWrite>
     requires ordered { IsOrdered table.now }
     requires writes { AreStretches writes.now }
     requires run { Stretch before.now }
     requires before { AreBefore table.now poll before.now }
     requires among { AreAmong (joined writes.now) before.now }
-    ensures { stay table.now poll (joined writes.now) before.now ≡ list_of result }
+    ensures { stay table.now poll (joined writes.now) (filter (raises_it awaited) before.now) ≡
+        list_of result }
 {
-    match before.last() {
-        Some(last) => one_unless(is_left_out(table, poll, writes, last), last),
+    match last_raising(awaited, before) {
+        Some(last) => one_unless(is_left_out(table, poll, writes, last, run), last),
         None => None,
     }
+}
+
+/// The last of these that brings what is waited for.
+fn last_raising(awaited: Awaited, writes: &[WordWrite]) -> Option<&WordWrite>
+    ensures { option_copied result ≡ find (raises_it awaited) (reverse writes.now) }
+{
+    writes
+        .iter()
+        .rev()
+        .find(|write| awaited.is_raised_by(write))
 }
 
 fn one_unless(left_out: bool, write: &WordWrite) -> Option<WordWrite>
@@ -155,23 +257,64 @@ fn one_unless(left_out: bool, write: &WordWrite) -> Option<WordWrite>
     if left_out { None } else { Some(*write) }
 }
 
-fn put_first(found: &mut Vec<WordWrite>, run: &[WordWrite]) -> Result<(), NoMemory>
-    ensures { OnOk result (found.new.items ≡ found.old.items ++ first_in run.now) }
+/// The first of these that brings what is waited for.
+fn put_first(
+    found: &mut Vec<WordWrite>,
+    awaited: Awaited,
+    writes: &[WordWrite],
+) -> Result<(), NoMemory>
+    ensures { OnOk result
+        (found.new.items ≡ found.old.items ++ first_in (filter (raises_it awaited) writes.now)) }
 {
-    if let [first, ..] = run {
-        found.push(*first)?;
+    match first_raising(awaited, writes) {
+        Some(first) => {
+            found.push(*first)?;
+            Ok(())
+        }
+        None => Ok(()),
     }
-    Ok(())
 }
 
-/// Whether the raiser is left out by one of the writes.
-fn is_left_out(table: &ClockTable, poll: OpId, writes: &[WordWrites], raiser: &WordWrite) -> bool
+fn first_raising(awaited: Awaited, writes: &[WordWrite]) -> Option<&WordWrite>
+    ensures { option_copied result ≡ find (raises_it awaited) writes.now }
+{
+    writes.iter().find(|write| awaited.is_raised_by(write))
+}
+
+/// Whether the raiser, which is of the stretch, is left out by one of the writes. Most often it is
+/// so by one of the stretch by which one of it was the last time.
+fn is_left_out(
+    table: &ClockTable,
+    poll: OpId,
+    writes: &[WordWrites],
+    raiser: &WordWrite,
+    run: &WordWrites,
+) -> bool
     requires ordered { IsOrdered table.now }
     requires writes { AreStretches writes.now }
     ensures { result ≡ left_out_in table.now poll (joined writes.now) raiser.now }
 {
-    for run in writes {
-        if is_left_out_in(table, poll, run.as_slice(), raiser) {
+    match writes.get(run.guess()) {
+        Some(guess) if is_left_out_in(table, poll, guess.as_slice(), raiser) => true,
+        _ => is_left_out_by_any(table, poll, writes, raiser, run),
+    }
+}
+
+/// The same, and where to look first the next time.
+fn is_left_out_by_any(
+    table: &ClockTable,
+    poll: OpId,
+    writes: &[WordWrites],
+    raiser: &WordWrite,
+    run: &WordWrites,
+) -> bool
+    requires ordered { IsOrdered table.now }
+    requires writes { AreStretches writes.now }
+    ensures { result ≡ left_out_in table.now poll (joined writes.now) raiser.now }
+{
+    for (place, these) in writes.iter().enumerate() {
+        if is_left_out_in(table, poll, these.as_slice(), raiser) {
+            run.guess_next(place);
             return true;
         }
     }
@@ -185,7 +328,7 @@ fn is_left_out_in(table: &ClockTable, poll: OpId, run: &[WordWrite], raiser: &Wo
     requires run { Stretch run.now }
     ensures { result ≡ left_out_in table.now poll run.now raiser.now }
 {
-    let (before, _) = run.split_at(count_before(table, poll, run));
+    let (before, _) = parts(table, poll, run);
     let (_, two) = before.split_at(before.len().saturating_sub(2));
     is_ended_by(table, raiser, two)
 }
@@ -218,10 +361,32 @@ fn has_ended(table: &ClockTable, first: OpId, second: OpId) -> bool
     usize::from(first.index) + 1 < table.look(second, first.master)
 }
 
-/// Whether some run of the board may come to one of these raisers that the writes do not leave out.
+/// Whether some run of the board may come to one of the raisers among these writes that the writes
+/// of the dword do not leave out.
 pub(crate) fn is_any_reached(
     table: &ClockTable,
     poll: OpId,
+    awaited: Awaited,
+    listed: Listed<'_>,
+) -> bool
+    requires ordered { IsOrdered table.now }
+    requires among { AreAmong listed.writes.now listed.raising.now }
+    ensures { result ≡ list_any (is_reached_in table.now poll listed.entry.writes.now)
+        (filter (raises_it awaited) listed.entry.raising.now) }
+{
+    is_any_run_reached(
+        table,
+        poll,
+        awaited,
+        listed.writes.runs(),
+        listed.raising.runs(),
+    )
+}
+
+fn is_any_run_reached(
+    table: &ClockTable,
+    poll: OpId,
+    awaited: Awaited,
     writes: &[WordWrites],
     raising: &[WordWrites],
 ) -> bool
@@ -229,11 +394,11 @@ pub(crate) fn is_any_reached(
     requires writes { AreStretches writes.now }
     requires raising { AreStretches raising.now }
     requires among { AreAmong (joined writes.now) (joined raising.now) }
-    ensures { result ≡
-        list_any (is_reached_in table.now poll (joined writes.now)) (joined raising.now) }
+    ensures { result ≡ list_any (λ f. raises_it awaited f
+        && is_reached_in table.now poll (joined writes.now) f) (joined raising.now) }
 {
     for run in raising {
-        if is_run_reached(table, poll, writes, run.as_slice()) {
+        if is_run_reached(table, poll, awaited, writes, run) {
             return true;
         }
     }
@@ -241,29 +406,58 @@ pub(crate) fn is_any_reached(
 }
 
 /// The same of one stretch.
-fn is_run_reached(table: &ClockTable, poll: OpId, writes: &[WordWrites], run: &[WordWrite]) -> bool
+fn is_run_reached(
+    table: &ClockTable,
+    poll: OpId,
+    awaited: Awaited,
+    writes: &[WordWrites],
+    run: &WordWrites,
+) -> bool
     requires ordered { IsOrdered table.now }
     requires writes { AreStretches writes.now }
     requires run { Stretch run.now }
     requires among { AreAmong (joined writes.now) run.now }
-    ensures { result ≡ list_any (is_reached_in table.now poll (joined writes.now)) run.now }
+    ensures { result ≡ list_any (λ f. raises_it awaited f
+        && is_reached_in table.now poll (joined writes.now) f) run.now }
 {
-    let (before, beyond) = run.split_at(count_before(table, poll, run));
-    has_reached(table, beyond) || is_last_reached(table, poll, writes, before)
+    let (before, beyond) = parts(table, poll, run.as_slice());
+    has_reached(table, awaited, beyond)
+        || is_last_reached(table, poll, awaited, writes, before, run)
 }
 
-fn has_reached(table: &ClockTable, writes: &[WordWrite]) -> bool
-    ensures { result ≡ list_any (is_reached_at table.now) writes.now }
+/// Whether some run may come to one of these that brings what is waited for.
+///
+/// Where no run comes to the first of them, no run does to those whose index is below what is known
+/// of their own program before that one.
+fn has_reached(table: &ClockTable, awaited: Awaited, writes: &[WordWrite]) -> bool
+    requires ordered { IsOrdered table.now }
+    requires run { Stretch writes.now }
+    ensures { result ≡ list_any (is_reached_at table.now) (filter (raises_it awaited) writes.now) }
 {
-    writes.iter().any(|write| is_reached(table, write))
+    match writes {
+        [first, ..] => {
+            let known = table.look(first.op, first.op.master);
+            let (_, rest) = writes.split_at(count_below(writes, known));
+            has_any_reached(table, awaited, rest)
+        }
+        [] => false,
+    }
+}
+
+fn has_any_reached(table: &ClockTable, awaited: Awaited, writes: &[WordWrite]) -> bool
+    ensures { result ≡ list_any (λ f. raises_it awaited f && is_reached_at table.now f) writes.now }
+{
+    writes.iter().any(|write| awaited.is_raised_by(write) && is_reached(table, write))
 }
 
 /// The same of those of a stretch that come before the poll, where they are not left out.
 fn is_last_reached(
     table: &ClockTable,
     poll: OpId,
+    awaited: Awaited,
     writes: &[WordWrites],
     before: &[WordWrite],
+    run: &WordWrites,
 ) -> bool
     requires ordered { IsOrdered table.now }
     requires writes { AreStretches writes.now }
@@ -271,9 +465,9 @@ fn is_last_reached(
     requires before { AreBefore table.now poll before.now }
     requires among { AreAmong (joined writes.now) before.now }
     ensures { result ≡ list_any (is_reached_at table.now)
-        (stay table.now poll (joined writes.now) before.now) }
+        (stay table.now poll (joined writes.now) (filter (raises_it awaited) before.now)) }
 {
-    match staying_last(table, poll, writes, before) {
+    match staying_last(table, poll, awaited, writes, before, run) {
         Some(last) => is_reached(table, &last),
         None => false,
     }

@@ -1,40 +1,47 @@
-ghost use Rattle.std.specs.Prelude.{◌≡◌, ◌≤◌, OnOk, IfOk, length};
+ghost use Rattle.std.specs.Prelude.{◌≡◌, IfOk, OnOk, List};
 ghost use Rattle.std.specs.List.{list_all};
 ghost use Rattle.board_tree.specs.Decodable.{IsDecodable};
-ghost use Rattle.audit_clocks.specs.Tables.{list_in};
 ghost use Rattle.safe_table.specs.Lists.{AddsFor, AddsUnder, KeepsLists};
-ghost use Rattle.safe_table.specs.Lists.{any_of, mask_of, is_whole_at};
+ghost use Rattle.safe_model.specs.Raisers.{is_whole};
+ghost use Rattle.safe_table.specs.declared.writers.write.WordWrite.{WordWrite};
+ghost use Rattle.safe_table.specs.Lists.{mask_of, shared_bits, is_last_if_raising};
 
-use crate::polls::{Awaited, any_of, awaited_by};
+use crate::list::polls_of;
+use crate::polls::{Awaited, any_of, awaited_by, enabled};
 use crate::writers::by_awaited::ByAwaited;
 use crate::writers::stretches::Stretches;
 use crate::writers::words::Words;
 use crate::writers::write::{WordWrite, WordWrites};
-use board_model::{Board, Op, Word};
+use board_model::{Board, Word};
 use board_tree::Tree;
 use pci_command::{NoMemory, OpId};
 use std::alloc::Global;
 use std::marker::Model;
 
-/// How many writes are listed at most. Under one mask each write of a dword brings one value, so it
-/// takes several masks to need more.
+/// How many writes are listed at most for the masks of polls, beside all writes of their dwords.
 const MOST_LISTED: usize = 131_072;
 
-/// As stretches the writes of a dword, and those of them that bring what is waited for.
+/// How many times a write is looked at under a mask at most, so that few masks are listed where very
+/// many are waited for under.
+const MOST_LOOKED: usize = 2_097_152;
+
+/// As stretches the writes of a dword, and some of them, among which are all that bring what is
+/// waited for: where those are not listed it is all writes.
 #[derive(Clone, Copy, Drop)]
 pub(crate) struct Listed<'a> {
-    pub writes: &'a [WordWrites],
-    pub raising: &'a [WordWrites],
+    pub writes: &'a Stretches,
+    pub raising: &'a Stretches,
 }
 
-/// For what polls wait for the writes that bring it; for masks under which all writes of a dword are
-/// listed, each for the value that it brings, whether each enables all bytes that the mask looks at;
-/// and how many more writes may be listed.
+/// For what polls wait for the writes that bring it, if they are listed under its mask; for those
+/// masks the bits that each write of the dword writes; and how many more writes may be listed, and
+/// looked at.
 #[derive(Debug, Drop)]
 pub(crate) struct Lists {
     lists: ByAwaited<Stretches>,
-    masks: ByAwaited<bool>,
+    masks: ByAwaited<u32>,
     room: usize,
+    looks: usize,
 }
 
 impl Model for Lists {
@@ -46,23 +53,22 @@ impl Model for Lists {
 }
 
 impl Lists {
-    ghost use Rattle.std.specs.Prelude.{List, [], IfSome, true, false, ◌&&◌};
-    ghost use Rattle.std.specs.List.{filter};
+    ghost use Rattle.std.specs.Prelude.{Some, IfSome, true, false};
     ghost use Rattle.board_model.specs.declared.word.Word.{Word};
-    ghost use Rattle.safe_table.specs.declared.writers.write.WordWrite.{WordWrite};
-    ghost use Rattle.safe_table.specs.Lists.{list_for, is_listed, AreListed};
-    ghost use Rattle.safe_table.specs.Polls.{raises_it, is_clean_write};
-    ghost use Rattle.safe_table.specs.Stretches.{AreStretchesOf, is_last_of};
+    ghost use Rattle.safe_table.specs.Lists.{found_for, is_listed, is_whole_at};
+    ghost use Rattle.safe_table.specs.Lists.{AreListed, AwaitsOnly};
+    ghost use Rattle.safe_table.specs.Polls.{is_clean_write};
     ghost use Rattle.safe_table.specs.Writes.{writes_at};
 
-    /// None is listed.
+    /// Nothing is waited for.
     fn new(alloc: Global) -> Lists
-        ensures { result ≡ record { lists = []; masks = [] } }
+        ensures { AwaitsOnly result }
     {
         Lists {
             lists: ByAwaited::new(alloc),
             masks: ByAwaited::new(alloc),
             room: MOST_LISTED,
+            looks: MOST_LOOKED,
         }
     }
 
@@ -73,33 +79,55 @@ impl Lists {
             AreListed entries awaited listed.writes.now listed.raising.now) }
     {
         let writes = self.listed(any_of(awaited.word))?;
-        let raising = self.listed(awaited)?;
-        Some(Listed { writes, raising })
+        match self.listed(awaited) {
+            Some(raising) => Some(Listed { writes, raising }),
+            None => Some(Listed {
+                writes,
+                raising: writes,
+            }),
+        }
     }
 
-    /// Whether each write of the dword is clean, where they are listed.
+    /// Whether each write of the dword is clean, where that is known without a look at each.
     pub(crate) fn are_clean(&self, awaited: Awaited) -> Option<bool>
         ensures { IfSome result (λ clean. (entries : List (Word × List WordWrite)) →
             KeepsLists entries self.now →
             clean ≡ list_all (is_clean_write awaited) (writes_at awaited.word entries)) }
     {
-        let whole = self.masks.get(mask_of(awaited))?;
-        Some(self.are_last(awaited, *whole))
+        let bits = self.masks.get(any_of(awaited.word))?;
+        let whole = covers(*bits, awaited.mask);
+        match self.listed(awaited) {
+            Some(raising) => Some(raising.are_last() && whole),
+            None => self.are_clean_by_all(awaited, whole),
+        }
+    }
+
+    /// The same where those that bring what is waited for are not listed, by whether each writes all
+    /// that the mask looks at.
+    fn are_clean_by_all(&self, awaited: Awaited, whole: bool) -> Option<bool>
+        ensures { IfSome result (λ clean. (entries : List (Word × List WordWrite)) →
+            KeepsLists entries self.now →
+            whole ≡ list_all (is_whole_at awaited) (writes_at awaited.word entries) →
+            clean ≡ list_all (is_clean_write awaited) (writes_at awaited.word entries)) }
+    {
+        let writes = self.listed(any_of(awaited.word))?;
+        Some(whole && raise_last(awaited, writes))
     }
 
     /// Those that bring what is waited for, where all writes are listed under the mask.
-    fn listed(&self, awaited: Awaited) -> Option<&[WordWrites]>
-        ensures { IfSome result (λ runs. (is_listed awaited self.now ≡ true)
-            × AreStretchesOf (list_for awaited self.now.lists) runs.now) }
+    fn listed(&self, awaited: Awaited) -> Option<&Stretches>
+        ensures { IfSome result (λ list. (is_listed awaited self.now ≡ true)
+            × (found_for awaited self.now.lists ≡ Some list.now)) }
     {
         if self.has(awaited) {
-            Some(self.runs(awaited))
+            self.lists.get(awaited)
         } else {
             None
         }
     }
 
-    /// Whether all writes of the dword are listed, each for the value that it brings under the mask.
+    /// Whether all writes of the dword are listed that bring a value under the mask that is waited
+    /// for.
     fn has(&self, awaited: Awaited) -> bool
         ensures { result ≡ is_listed awaited self.now }
     {
@@ -109,38 +137,57 @@ impl Lists {
         }
     }
 
-    /// The list for what is waited for.
-    fn runs(&self, awaited: Awaited) -> &[WordWrites]
-        ensures { AreStretchesOf (list_for awaited self.now.lists) result.now }
+    /// This is waited for, before anything is listed.
+    fn expect(&mut self, alloc: Global, awaited: Awaited) -> Result<(), NoMemory>
+        requires { AwaitsOnly self.old }
+        ensures { OnOk result (AwaitsOnly self.new) }
     {
-        match self.lists.get(awaited) {
-            Some(list) => list.runs(),
-            None => &[],
+        if self.lists.get(awaited).is_none() {
+            self.lists.put(awaited, Stretches::new(alloc))?;
         }
+        Ok(())
     }
 
-    /// Whether the dword is the last of each of the list, and this is so too.
-    fn are_last(&self, awaited: Awaited, too: bool) -> bool
-        ensures { result ≡ (list_all is_last_of (list_for awaited self.now.lists) && too) }
+    /// The same of all of these, and that the dword is written at all.
+    fn expect_all(&mut self, alloc: Global, all: &[Awaited]) -> Result<(), NoMemory>
+        requires { AwaitsOnly self.old }
+        ensures { OnOk result (AwaitsOnly self.new) }
     {
-        match self.lists.get(awaited) {
-            Some(list) => list.are_last() && too,
-            None => too,
+        for awaited in all {
+            self.expect(alloc, any_of(awaited.word))?;
+            self.expect(alloc, *awaited)?;
         }
+        Ok(())
     }
 
-    /// The writes of a dword are listed, and those of them that bring what is waited for.
-    fn keep(&mut self, alloc: Global, words: &Words, awaited: Awaited) -> Result<(), NoMemory>
+    /// For each of these the writes of the dword are listed, and those of them that bring it.
+    fn keep_all(&mut self, alloc: Global, words: &Words, all: &[Awaited]) -> Result<(), NoMemory>
         requires { KeepsLists words.now self.old }
         ensures { OnOk result (KeepsLists words.now self.new) }
     {
-        self.keep_under(alloc, words, any_of(awaited.word))?;
-        self.keep_under(alloc, words, mask_of(awaited))
+        for awaited in all {
+            self.keep(alloc, words, any_of(awaited.word))?;
+            self.keep_if_room(alloc, words, mask_of(*awaited))?;
+        }
+        Ok(())
     }
 
-    /// The writes of a dword are listed, each for the value that it brings under the mask, if they
-    /// were not yet, and there is room.
-    fn keep_under(&mut self, alloc: Global, words: &Words, mask: Awaited) -> Result<(), NoMemory>
+    /// The same under the mask, if there is room, where it was not done yet.
+    fn keep_if_room(&mut self, alloc: Global, words: &Words, mask: Awaited) -> Result<(), NoMemory>
+        requires mask { mask.wanted ≡ 0 }
+        requires kept { KeepsLists words.now self.old }
+        ensures { OnOk result (KeepsLists words.now self.new) }
+    {
+        if self.takes(mask, words.of_word(mask.word)) {
+            self.keep(alloc, words, mask)
+        } else {
+            Ok(())
+        }
+    }
+
+    /// Under the mask the writes of a dword are listed that bring what is waited for, if they were
+    /// not yet.
+    fn keep(&mut self, alloc: Global, words: &Words, mask: Awaited) -> Result<(), NoMemory>
         requires mask { mask.wanted ≡ 0 }
         requires kept { KeepsLists words.now self.old }
         ensures { OnOk result (KeepsLists words.now self.new) }
@@ -149,22 +196,36 @@ impl Lists {
         if self.has(mask) {
             return Ok(());
         }
-        if !self.takes(writes.len()) {
-            return Ok(());
-        }
         self.put_under(alloc, mask, writes)
     }
 
-    /// Whether there is room for so many writes more, which they take then.
-    fn takes(&mut self, count: usize) -> bool
+    /// Whether there is room for those of these writes that bring what is waited for under the mask,
+    /// which they take then.
+    fn takes(&mut self, mask: Awaited, writes: &[WordWrite]) -> bool
         ensures { self.new ≡ self.old }
     {
-        if count <= self.room {
-            self.room -= count;
-            true
-        } else {
-            false
+        if self.has(mask) || self.looks < writes.len() {
+            return false;
         }
+        self.looks -= writes.len();
+        match self.room_under(mask, writes) {
+            Some(room) => {
+                self.room = room;
+                true
+            }
+            None => false,
+        }
+    }
+
+    /// How much room they leave, where there is room for them.
+    fn room_under(&self, mask: Awaited, writes: &[WordWrite]) -> Option<usize> {
+        let mut room = self.room;
+        for write in writes {
+            if self.lists.get(mask.met_by(write)).is_some() {
+                room = room.checked_sub(1)?;
+            }
+        }
+        Some(room)
     }
 
     fn put_under(
@@ -179,9 +240,30 @@ impl Lists {
             writes.now ≡ writes_at mask.word entries → KeepsLists entries self.new) }
     {
         put_all(&mut self.lists, alloc, mask, writes)?;
-        self.masks.put(mask, are_whole(mask, writes))?;
+        self.masks.put(mask, shared_bits(writes))?;
         Ok(())
     }
+}
+
+/// Whether the dword is the last of each of the writes that brings what is waited for.
+fn raise_last(awaited: Awaited, writes: &Stretches) -> bool
+    ensures { result ≡ list_all (is_last_if_raising awaited) writes.now }
+{
+    writes.are_last() || each_raises_last(awaited, writes.runs())
+}
+
+fn each_raises_last(awaited: Awaited, runs: &[WordWrites]) -> bool
+    ensures { result ≡ list_all (λ run. list_all (is_last_if_raising awaited) run) runs.now }
+{
+    runs.iter()
+        .all(|run| run_raises_last(awaited, run.as_slice()))
+}
+
+fn run_raises_last(awaited: Awaited, run: &[WordWrite]) -> bool
+    ensures { result ≡ list_all (is_last_if_raising awaited) run.now }
+{
+    run.iter()
+        .all(|write| write.last || !awaited.is_raised_by(write))
 }
 
 /// The mask of what is waited for.
@@ -194,14 +276,27 @@ fn mask_of(awaited: Awaited) -> Awaited
     }
 }
 
-/// Whether each of the writes enables all bytes that the mask looks at.
-fn are_whole(mask: Awaited, writes: &[WordWrite]) -> bool
-    ensures { result ≡ list_all (is_whole_at mask) writes.now }
+/// The bits that each of the writes writes.
+fn shared_bits(writes: &[WordWrite]) -> u32
+    ensures { result ≡ shared_bits writes.now }
 {
-    writes.iter().all(|write| mask.is_whole(write))
+    let mut bits = 0xffff_ffff;
+    for write in writes {
+        bits &= enabled(write.phase);
+    }
+    bits
 }
 
-/// Each of these writes of a dword is listed for the value that it brings under the mask.
+/// Whether each of the writes that write no less than these bits writes all that the mask looks at.
+fn covers(bits: u32, mask: u32) -> bool
+    ensures { (writes : List WordWrite) → bits ≡ shared_bits writes →
+        result ≡ list_all (λ w. is_whole mask w.phase) writes }
+{
+    bits & mask == mask
+}
+
+/// Each of these writes of a dword is listed for the value that it brings under the mask, if that
+/// is waited for.
 fn put_all(
     lists: &mut ByAwaited<Stretches>,
     alloc: Global,
@@ -216,7 +311,7 @@ fn put_all(
     Ok(())
 }
 
-/// The write is listed for what is waited for, behind the others.
+/// If this is waited for the write is listed for it, behind the others.
 fn put(
     lists: &mut ByAwaited<Stretches>,
     alloc: Global,
@@ -225,73 +320,34 @@ fn put(
 ) -> Result<(), NoMemory>
     ensures { OnOk result (AddsFor awaited write lists.old lists.new) }
 {
-    let found = lists.take(awaited);
-    let list = stretches_or_none(alloc, found).with(alloc, write)?;
-    lists.put(awaited, list)?;
-    Ok(())
-}
-
-fn stretches_or_none(alloc: Global, found: Option<Stretches>) -> Stretches
-    ensures { result ≡ list_in found }
-{
-    match found {
-        Some(list) => list,
-        None => Stretches::new(alloc),
+    if let Some(found) = lists.take(awaited) {
+        let list = found.with(alloc, write)?;
+        lists.put(awaited, list)?;
     }
+    Ok(())
 }
 
 /// For each poll of the board.
 pub(crate) fn lists_of(alloc: Global, tree: &Tree, words: &Words) -> Result<Lists, NoMemory>
     ensures { IfOk result (KeepsLists words.now) }
 {
+    let polls = polls_of(alloc, tree)?;
+    let all = all_awaited(alloc, tree.board(), polls.as_slice())?;
     let mut lists = Lists::new(alloc);
-    let board = tree.board();
-    for (number, master) in board.masters.as_slice().iter().enumerate() {
-        let ops = master.ops.as_slice();
-        keep_program(&mut lists, alloc, board, words, number as u16, ops)?;
-    }
+    lists.expect_all(alloc, all.as_slice())?;
+    lists.keep_all(alloc, words, all.as_slice())?;
     Ok(lists)
 }
 
-/// The same of the program of one master.
-fn keep_program(
-    lists: &mut Lists,
-    alloc: Global,
-    board: &Board,
-    words: &Words,
-    master: u16,
-    ops: &[Op],
-) -> Result<(), NoMemory>
-    requires decodable { IsDecodable board.now }
-    requires few { length ops.now ≤ 1024 }
-    requires kept { KeepsLists words.now lists.old }
-    ensures { OnOk result (KeepsLists words.now lists.new) }
+/// What these polls wait for.
+fn all_awaited(alloc: Global, board: &Board, polls: &[OpId]) -> Result<Vec<Awaited>, NoMemory>
+    requires { IsDecodable board.now }
 {
-    for place in 0..ops.len() {
-        let op = OpId {
-            master,
-            index: place as u16,
-            attempt: 0,
-        };
-        keep_op(lists, alloc, board, words, op)?;
+    let mut all = Vec::new(alloc);
+    for poll in polls {
+        if let Some(awaited) = awaited_by(board, *poll) {
+            all.push(awaited)?;
+        }
     }
-    Ok(())
-}
-
-/// Of one operation: nothing where it is no poll that has a word.
-fn keep_op(
-    lists: &mut Lists,
-    alloc: Global,
-    board: &Board,
-    words: &Words,
-    op: OpId,
-) -> Result<(), NoMemory>
-    requires decodable { IsDecodable board.now }
-    requires kept { KeepsLists words.now lists.old }
-    ensures { OnOk result (KeepsLists words.now lists.new) }
-{
-    match awaited_by(board, op) {
-        Some(awaited) => lists.keep(alloc, words, awaited),
-        None => Ok(()),
-    }
+    Ok(all)
 }

@@ -1,22 +1,24 @@
-ghost use Rattle.std.specs.Prelude.{◌≡◌, ◌≤◌, ◌&&◌, [], IfOk, OnOk, length, if◌then◌else◌};
-ghost use Rattle.std.specs.List.{filter, list_all};
+ghost use Rattle.std.specs.Prelude.{◌≡◌, ◌≤◌, ◌&&◌, ◌++◌, [], IfOk, OnOk, length};
+ghost use Rattle.std.specs.List.{list_all};
 ghost use Rattle.safe_table.specs.Looks.{is_behind};
-ghost use Rattle.safe_table.specs.Polls.{raises_it};
 ghost use Rattle.safe_table.specs.Stretches.{Stretch, AreStretchesOf, PartsAt};
-ghost use Rattle.safe_table.specs.Stretches.{end_of, goes_on, pushed, is_last_of};
+ghost use Rattle.safe_table.specs.Stretches.{end_of, goes_on, pushed, is_from, is_last_of};
+ghost use Rattle.std.specs.Option.{option_copied};
 
-use crate::polls::Awaited;
 use crate::writers::write::{WordWrite, WordWrites};
 use pci_command::NoMemory;
 use std::alloc::Global;
+use std::cell::Cell;
 use std::marker::Model;
 
 /// Writes of one dword as stretches, in each of which they are of one master, one behind another in
-/// its program; and whether the dword is the last of each of them.
+/// its program; whether the dword is the last of each of them; and a guess at a stretch that is to
+/// be looked at first, of which nothing is claimed.
 #[derive(Debug, Drop)]
 pub(crate) struct Stretches {
     runs: Vec<WordWrites>,
     last: bool,
+    guess: Cell<usize>,
 }
 
 impl Model for Stretches {
@@ -33,7 +35,7 @@ impl Model for Stretches {
 }
 
 impl Stretches {
-    ghost use Rattle.std.specs.Prelude.{◌∷◌, ◌++◌};
+    ghost use Rattle.std.specs.Prelude.{◌∷◌};
 
     /// None.
     pub(crate) fn new(alloc: Global) -> Stretches
@@ -42,6 +44,7 @@ impl Stretches {
         Stretches {
             runs: Vec::new(alloc),
             last: true,
+            guess: Cell::new(0),
         }
     }
 
@@ -49,10 +52,14 @@ impl Stretches {
     pub(crate) fn with(self, alloc: Global, write: WordWrite) -> Result<Stretches, NoMemory>
         ensures { IfOk result (λ list. list ≡ self ++ write ∷ []) }
     {
-        let Stretches { mut runs, last } = self;
+        let Stretches {
+            mut runs,
+            last,
+            guess,
+        } = self;
         push(&mut runs, alloc, write)?;
         let last = both(last, write.last);
-        Ok(Stretches { runs, last })
+        Ok(Stretches { runs, last, guess })
     }
 
     /// The stretches.
@@ -67,6 +74,18 @@ impl Stretches {
         ensures { result ≡ list_all is_last_of self.now }
     {
         self.last
+    }
+
+    /// Which stretch to look at first.
+    pub(crate) fn guess(&self) -> usize {
+        self.guess.get()
+    }
+
+    /// From now on this one, if it is one.
+    pub(crate) fn guess_next(&self, place: Option<usize>) {
+        if let Some(place) = place {
+            self.guess.set(place);
+        }
     }
 }
 
@@ -106,54 +125,62 @@ pub(crate) fn is_behind(first: &WordWrite, second: &WordWrite) -> bool
     first.op.master == second.op.master && first.op.index < second.op.index
 }
 
-/// Of these writes those that bring what is waited for.
-pub(crate) fn stretches_of(
-    alloc: Global,
-    awaited: Awaited,
-    writes: &[WordWrite],
-) -> Result<Vec<WordWrites>, NoMemory>
-    ensures { IfOk result
-        (λ runs. AreStretchesOf (filter (raises_it awaited) writes.now) runs.items) }
+/// These writes as stretches.
+pub(crate) fn stretches_of(alloc: Global, writes: &[WordWrite]) -> Result<Stretches, NoMemory>
+    ensures { IfOk result (λ list. list ≡ writes.now) }
 {
     let mut runs = Vec::new(alloc);
-    put_raising(&mut runs, alloc, awaited, writes)?;
-    Ok(runs)
+    push_all(&mut runs, alloc, writes)?;
+    Ok(Stretches {
+        runs,
+        last: are_last(writes),
+        guess: Cell::new(0),
+    })
 }
 
-fn put_raising(
-    runs: &mut Vec<WordWrites>,
-    alloc: Global,
-    awaited: Awaited,
-    writes: &[WordWrite],
-) -> Result<(), NoMemory>
+fn are_last(writes: &[WordWrite]) -> bool
+    ensures { result ≡ list_all is_last_of writes.now }
+{
+    writes.iter().all(|write| write.last)
+}
+
+fn push_all(runs: &mut Vec<WordWrites>, alloc: Global, writes: &[WordWrite]) -> Result<(), NoMemory>
     requires { runs.old.items ≡ [] }
-    ensures { OnOk result (AreStretchesOf (filter (raises_it awaited) writes.now) runs.new.items) }
+    ensures { OnOk result (AreStretchesOf writes.now runs.new.items) }
 {
     for write in writes {
-        push_raising(runs, alloc, awaited, write)?;
+        push(runs, alloc, *write)?;
     }
     Ok(())
 }
 
-/// The write, if it brings what is waited for.
-fn push_raising(
-    runs: &mut Vec<WordWrites>,
-    alloc: Global,
-    awaited: Awaited,
-    write: &WordWrite,
-) -> Result<(), NoMemory>
-    ensures { OnOk result (runs.new.items ≡
-        (if raises_it awaited write.now then pushed write.now runs.old.items else runs.old.items)) }
+/// How many of a stretch have an index below this. Where not all or none have, it takes a binary
+/// search.
+pub(crate) fn count_below(run: &[WordWrite], bound: usize) -> usize
+    requires { Stretch run.now }
+    ensures within { result ≤ length run.now }
+    ensures parts { PartsAt bound run.now result }
 {
-    if awaited.is_raised_by(write) {
-        push(runs, alloc, *write)
+    if is_from(run.first(), bound) {
+        0
+    } else if is_from(run.last(), bound) {
+        point_below(run, bound)
     } else {
-        Ok(())
+        run.len()
     }
 }
 
-/// How many of a stretch have an index below this. It takes a binary search.
-pub(crate) fn count_below(run: &[WordWrite], bound: usize) -> usize
+/// Whether there is no write here that has an index below this.
+fn is_from(write: Option<&WordWrite>, bound: usize) -> bool
+    ensures { result ≡ is_from (option_copied write.entry) bound }
+{
+    match write {
+        Some(write) => bound <= usize::from(write.op.index),
+        None => true,
+    }
+}
+
+fn point_below(run: &[WordWrite], bound: usize) -> usize
     requires { Stretch run.now }
     ensures within { result ≤ length run.now }
     ensures parts { PartsAt bound run.now result }

@@ -2,6 +2,7 @@ ghost use Rattle.std.specs.Prelude.{◌≡◌};
 
 use pci_command::{NoMemory, OpId, Phase};
 use std::alloc::Global;
+use std::cell::Cell;
 use std::marker::Model;
 
 /// A write of a dword: the data phase that it brings there, whether it is posted, and whether the
@@ -14,10 +15,11 @@ pub struct WordWrite {
     pub last: bool,
 }
 
-/// The writes of one dword.
+/// Writes of one dword, and a guess at a place where to look first, of which nothing is claimed.
 #[derive(Debug, Drop)]
 pub(crate) struct WordWrites {
     writes: Vec<WordWrite>,
+    guess: Cell<usize>,
 }
 
 impl Model for WordWrites {
@@ -36,9 +38,7 @@ impl WordWrites {
     pub(crate) fn new(alloc: Global) -> WordWrites
         ensures { result ≡ [] }
     {
-        WordWrites {
-            writes: Vec::new(alloc),
-        }
+        WordWrites::of(Vec::new(alloc))
     }
 
     /// One.
@@ -47,14 +47,17 @@ impl WordWrites {
     {
         let mut writes = Vec::new(alloc);
         writes.push(write)?;
-        Ok(WordWrites { writes })
+        Ok(WordWrites::of(writes))
     }
 
     /// These.
     pub(crate) fn of(writes: Vec<WordWrite>) -> WordWrites
         ensures { result ≡ writes.items }
     {
-        WordWrites { writes }
+        WordWrites {
+            writes,
+            guess: Cell::new(0),
+        }
     }
 
     /// All of them.
@@ -68,9 +71,9 @@ impl WordWrites {
     pub(crate) fn with(self, write: WordWrite) -> Result<WordWrites, NoMemory>
         ensures { IfOk result (λ writes. writes ≡ self ++ write ∷ []) }
     {
-        let WordWrites { mut writes } = self;
+        let WordWrites { mut writes, guess } = self;
         writes.push(write)?;
-        Ok(WordWrites { writes })
+        Ok(WordWrites { writes, guess })
     }
 
     /// The same, in its place.
@@ -79,5 +82,15 @@ impl WordWrites {
     {
         self.writes.push(write)?;
         Ok(())
+    }
+
+    /// Where to look first.
+    pub(crate) fn guess(&self) -> usize {
+        self.guess.get()
+    }
+
+    /// From now on there.
+    pub(crate) fn guess_next(&self, place: usize) {
+        self.guess.set(place);
     }
 }

@@ -1,26 +1,17 @@
-use Rattle.std.proofs.Common.{refl, sym, ◌∙◌}
+use Rattle.std.proofs.Common.{◌&&◌, sym, ap, ◌∙◌}
+use Rattle.std.specs.List.{filter, list_any}
 use Rattle.safe_table.specs.Landing.{joined}
 use Rattle.safe_table.specs.Looks.{is_reached_in}
-use Rattle.safe_table.proofs.StretchLemmas.{none_so_far, some_here, none_in_all, stretch_at}
-use Rattle.safe_table.proofs.StayLemmas.{among_at}
+use Rattle.safe_table.specs.Polls.{raises_it}
+use Rattle.safe_table.proofs.StayLemmas.{among_of, any_filter}
 use Rattle.safe_table.proofs.polls.stays.is_any_reached.Goals as goal
 
-pub loop-run-init : goal.loop-run-init
-loop-run-init c = refl
-
-pub is_run_reached-requires-clause-run : goal.is_run_reached-requires-clause-run
-is_run_reached-requires-clause-run c = stretch_at c.args.raising.now c.loop-run.run-index c.run-item.result c.as_slice.result.now c.loop-run-test.true c.run-item.is c.as_slice.ensures c.requires.raising
-
-pub is_run_reached-requires-clause-among : goal.is_run_reached-requires-clause-among
-is_run_reached-requires-clause-among c = among_at (joined c.args.writes.now) c.args.raising.now c.loop-run.run-index c.run-item.result c.as_slice.result.now c.loop-run-test.true c.run-item.is c.as_slice.ensures c.requires.among
-
-pub loop-run-preserved : goal.loop-run-preserved
-loop-run-preserved c =
-    none_so_far (is_reached_in c.args.table.now c.args.poll (joined c.args.writes.now)) c.args.raising.now c.loop-run.run-index c.run-item.result c.as_slice.result.now c.loop-run-test.true c.run-item.is c.as_slice.ensures (sym c.is_run_reached.ensures ∙ c.if-is_run_reached.false) c.loop-run.invariant
-
-pub returns-then-is_run_reached : goal.returns-then-is_run_reached
-returns-then-is_run_reached c =
-    some_here (is_reached_in c.args.table.now c.args.poll (joined c.args.writes.now)) c.args.raising.now c.loop-run.run-index c.run-item.result c.as_slice.result.now c.loop-run-test.true c.run-item.is c.as_slice.ensures (sym c.is_run_reached.ensures ∙ c.if-is_run_reached.true) c.loop-run.invariant
+pub is_any_run_reached-requires-clause-among : goal.is_any_run_reached-requires-clause-among
+is_any_run_reached-requires-clause-among c = among_of c.args.listed.writes.now c.args.listed.raising.now (joined c.runs.result.now) (joined c.runs-2.result.now) c.runs.ensures.all c.runs-2.ensures.all c.requires.among
 
 pub returns : goal.returns
-returns c = none_in_all (is_reached_in c.args.table.now c.args.poll (joined c.args.writes.now)) c.args.raising.now c.loop-run.run-index c.loop-run-test.false c.loop-run.invariant
+returns c =
+    c.is_any_run_reached.ensures
+    ∙ sym (any_filter (raises_it c.args.awaited) (is_reached_in c.args.table.now c.args.poll (joined c.runs.result.now)) (joined c.runs-2.result.now))
+    ∙ ap (λ ws. list_any (is_reached_in c.args.table.now c.args.poll ws) (filter (raises_it c.args.awaited) (joined c.runs-2.result.now))) c.runs.ensures.all
+    ∙ ap (λ ws. list_any (is_reached_in c.args.table.now c.args.poll c.args.listed.writes.now) (filter (raises_it c.args.awaited) ws)) c.runs-2.ensures.all

@@ -1,13 +1,14 @@
 use Rattle.std.proofs.Common.{sym, ap}
-use Rattle.std.specs.List.{list_any}
+use Rattle.std.specs.List.{filter, list_any}
 use Rattle.safe_table.specs.Landing.{joined}
+use Rattle.safe_table.specs.Polls.{raises_it}
 use Rattle.safe_table.specs.Stretches.{is_reached_at}
 use Rattle.safe_table.proofs.StayLemmas.{one_reached}
 use Rattle.safe_table.proofs.polls.stays.is_last_reached.Goals as goal
 
 pub returns-in-Some : goal.returns-in-Some
 returns-in-Some c =
-    one_reached c.args.table.now c.requires.ordered c.args.poll (joined c.args.writes.now) c.args.before.now c.in-Some.last c.is_reached.result c.in-Some.ensures c.is_reached.ensures
+    one_reached c.args.table.now c.requires.ordered c.args.poll (joined c.args.writes.now) (filter (raises_it c.args.awaited) c.args.before.now) c.in-Some.last c.is_reached.result c.in-Some.ensures c.is_reached.ensures
 
 pub returns-in-None : goal.returns-in-None
 returns-in-None c = sym (ap (list_any (is_reached_at c.args.table.now)) c.in-None.ensures)

@@ -4,5 +4,5 @@ use Rattle.safe_table.proofs.StayLemmas.{Told}
 use Rattle.safe_table.proofs.polls.stays.put_raisers.Given as goal
 
 -- those of the stretches so far
-abbrev pub invariant-loop-run : goal.invariant-loop-run
-invariant-loop-run l = Told l.table l.poll (joined l.writes) l.raising (drop l.run-index l.raising) l.found.items
+abbrev pub invariant-loop-place : goal.invariant-loop-place
+invariant-loop-place l = Told l.table l.poll l.awaited (joined l.writes) l.raising (drop l.place l.raising) l.found.items

@@ -1,11 +1,12 @@
-use Rattle.std.proofs.Common.{rules, of_calls, Bool, nat_lt}
-use Rattle.std.proofs.lemmas.Fn.{always_returns_same}
-use Rattle.safe_table.specs.declared.writers.write.WordWrite.{WordWrite}
-use Rattle.safe_table.proofs.StretchLemmas.{is_parted, point_parts}
+use Rattle.std.proofs.Common.{refl, sym, ap, ◌∙◌}
+use Rattle.safe_table.specs.Stretches.{is_from}
+use Rattle.safe_table.proofs.StretchLemmas.{none_below, all_below}
 use Rattle.safe_table.proofs.writers.stretches.count_below.Goals as goal
 
-pub returns-clause-parts : goal.returns-clause-parts
-returns-clause-parts c =
-    let test : WordWrite → Bool = λ w. nat_lt w.op.index c.args.bound in
-    let point = c.partition_point.ensures.partitioned test (always_returns_same _ _ _ (λ a r f k. search (rules, of_calls))) (is_parted c.args.bound c.args.run.now c.requires) in
-    point_parts c.args.bound c.args.run.now c.partition_point.result c.partition_point.ensures.bound point
+pub returns-then-is_from-clause-parts : goal.returns-then-is_from-clause-parts
+returns-then-is_from-clause-parts c =
+    none_below c.args.bound c.args.run.now c.requires (ap (λ f. is_from f c.args.bound) (sym c.first.ensures.value) ∙ sym c.is_from.ensures ∙ c.if-is_from.true)
+
+pub returns-else-is_from-2-clause-parts : goal.returns-else-is_from-2-clause-parts
+returns-else-is_from-2-clause-parts c =
+    all_below c.args.bound _ c.args.run.now c.requires (ap (λ f. is_from f c.args.bound) (sym c.last.ensures.value) ∙ sym c.is_from-else-is_from.ensures ∙ c.if-is_from-2.false) refl
