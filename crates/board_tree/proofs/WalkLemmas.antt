@@ -133,17 +133,17 @@ claims_elsewhere bus space address target apart = and_left (target.bus == bus) (
 
 -- who was looked at does not claim
 pub looked_no : (bus : ℕ) (space : Space) (address : ℕ) (found : Option Target) (looked : Bool) → looked ≡ claims_at space address found → looked ≡ false → (target : Target) → found ≡ Some target → claims bus space address target ≡ false
-looked_no bus space address found looked told no target is =
-    and_right (target.bus == bus) (list_any (range_holds space address) target.ranges) (ap (claims_at space address) (sym is) ∙ (sym told ∙ no))
+looked_no bus space address found looked told is_no target is =
+    and_right (target.bus == bus) (list_any (range_holds space address) target.ranges) (ap (claims_at space address) (sym is) ∙ (sym told ∙ is_no))
 
 -- or claims, and is the first that does
 pub looked_yes : (bus : ℕ) (space : Space) (address : ℕ) (targets : List Target) (place : ℕ) (looked : Bool) → Fails (claims bus space address) targets place → IsOn (λ (target : Target). target.bus) targets bus place
     → place < length targets → looked ≡ claims_at space address (slice_get targets place) → looked ≡ true → Some place ≡ position_from (claims bus space address) 0 targets
-looked_yes bus space address targets place looked fails on inside told yes =
+looked_yes bus space address targets place looked fails on inside told is_yes =
     let somebody = there_is targets place inside in
     let target : Target = somebody.0 in
     let is : slice_get targets place ≡ Some target = somebody.1 in
-    let in_range : list_any (range_holds space address) target.ranges ≡ true = ap (claims_at space address) (sym is) ∙ (sym told ∙ yes) in
+    let in_range : list_any (range_holds space address) target.ranges ≡ true = ap (claims_at space address) (sym is) ∙ (sym told ∙ is_yes) in
     let passes : claims bus space address target ≡ true = and_from (target.bus == bus) (list_any (range_holds space address) target.ranges) (eq-eqb target.bus bus (on target is)) in_range in
     let sum : place ≡ 0 + place = omega arith in
     ap Some sum ∙ sym (first_place (claims bus space address) targets 0 place target fails is passes)
@@ -154,16 +154,16 @@ pub decodes_elsewhere : (bus : ℕ) (space : Space) (address : ℕ) → FailsEls
 decodes_elsewhere bus space address bridge apart = and_left (bridge.parent == bus) (bridge_holds space address bridge) (ne_eqb bridge.parent bus apart)
 
 pub held_no : (bus : ℕ) (space : Space) (address : ℕ) (found : Option Bridge) (looked : Bool) → looked ≡ holds_at space address found → looked ≡ false → (bridge : Bridge) → found ≡ Some bridge → decodes_down bus space address bridge ≡ false
-held_no bus space address found looked told no bridge is =
-    and_right (bridge.parent == bus) (bridge_holds space address bridge) (ap (holds_at space address) (sym is) ∙ (sym told ∙ no))
+held_no bus space address found looked told is_no bridge is =
+    and_right (bridge.parent == bus) (bridge_holds space address bridge) (ap (holds_at space address) (sym is) ∙ (sym told ∙ is_no))
 
 pub held_yes : (bus : ℕ) (space : Space) (address : ℕ) (bridges : List Bridge) (place : ℕ) (looked : Bool) → Fails (decodes_down bus space address) bridges place → IsOn (λ (bridge : Bridge). bridge.parent) bridges bus place
     → place < length bridges → looked ≡ holds_at space address (slice_get bridges place) → looked ≡ true → slice_get bridges place ≡ find (decodes_down bus space address) bridges
-held_yes bus space address bridges place looked fails on inside told yes =
+held_yes bus space address bridges place looked fails on inside told is_yes =
     let somebody = there_is bridges place inside in
     let bridge : Bridge = somebody.0 in
     let is : slice_get bridges place ≡ Some bridge = somebody.1 in
-    let in_window : bridge_holds space address bridge ≡ true = ap (holds_at space address) (sym is) ∙ (sym told ∙ yes) in
+    let in_window : bridge_holds space address bridge ≡ true = ap (holds_at space address) (sym is) ∙ (sym told ∙ is_yes) in
     let passes : decodes_down bus space address bridge ≡ true = and_from (bridge.parent == bus) (bridge_holds space address bridge) (eq-eqb bridge.parent bus (on bridge is)) in_window in
     is ∙ sym (first_found (decodes_down bus space address) bridges place bridge fails is passes)
 

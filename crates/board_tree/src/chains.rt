@@ -27,6 +27,7 @@ impl Chains {
         ensures first { self.new.first ≡ slice_set self.old.first bus place }
         ensures next { self.new.next ≡
             slice_set self.old.next place (slice_index self.old.first bus) }
+        ensures small { bus < 256 }
     {
         let behind = self.first[bus as usize];
         self.next[place as usize] = behind;

@@ -1,4 +1,4 @@
-ghost use Rattle.std.specs.Prelude.{◌≡◌, ◌<◌, ◌≤◌, length, slice_get};
+ghost use Rattle.std.specs.Prelude.{◌≡◌, ◌≤◌, length, slice_get};
 ghost use Rattle.board_model.specs.Ways.{primary_in};
 ghost use Rattle.board_tree.specs.Chains.{AreChained};
 ghost use Rattle.board_tree.specs.Decodable.{IsDecodable};
@@ -73,8 +73,7 @@ fn by_secondary(bridges: &[Bridge]) -> Chains
 
 /// The bus of the target at the place.
 fn bus_of(targets: &[Target], place: usize) -> u8
-    ensures value { result ≡ bus_of_target (slice_get targets.now place) }
-    ensures fits { result < 256 }
+    ensures { result ≡ bus_of_target (slice_get targets.now place) }
 {
     match targets.get(place) {
         Some(target) => target.bus,
@@ -84,8 +83,7 @@ fn bus_of(targets: &[Target], place: usize) -> u8
 
 /// The bus above the bridge at the place.
 fn primary_at(bridges: &[Bridge], place: usize) -> u8
-    ensures value { result ≡ primary_in (slice_get bridges.now place) }
-    ensures fits { result < 256 }
+    ensures { result ≡ primary_in (slice_get bridges.now place) }
 {
     match bridges.get(place) {
         Some(bridge) => bridge.parent,
@@ -95,8 +93,7 @@ fn primary_at(bridges: &[Bridge], place: usize) -> u8
 
 /// The bus below the bridge at the place.
 fn secondary_at(bridges: &[Bridge], place: usize) -> u8
-    ensures value { result ≡ secondary_in (slice_get bridges.now place) }
-    ensures fits { result < 256 }
+    ensures { result ≡ secondary_in (slice_get bridges.now place) }
 {
     match bridges.get(place) {
         Some(bridge) => bridge.bus,

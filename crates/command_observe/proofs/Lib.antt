@@ -1,4 +1,3 @@
 pub mod ServedLemmas
 pub mod ActLemmas
-pub mod CommentLemmas
 pub mod AnswerLemmas

@@ -17,7 +17,7 @@ use Rattle.command_observe.specs.declared.drafting.Untold.{Untold}
 use Rattle.command_observe.specs.declared.drafting.Untold.TheVariants as untolds
 use Rattle.command_observe.specs.declared.telling.RunTold.{RunTold}
 use Rattle.command_observe.specs.Answers.{TellsActs}
-use Rattle.command_observe.specs.Comments.{AreComments}
+use Rattle.trace_roundtrip.specs.Comments.{AreComments}
 
 -- the event is no arrival
 abbrev pub is_act : Event → Bool

@@ -1,4 +1,3 @@
 pub mod Logs
 pub mod Answers
-pub mod Comments
 pub mod Judging

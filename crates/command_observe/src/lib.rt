@@ -5,7 +5,6 @@
 
 mod acting;
 mod answer;
-mod comments;
 mod drafting;
 mod holding;
 mod notes;

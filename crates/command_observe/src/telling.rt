@@ -4,11 +4,10 @@ ghost use Rattle.board_model.specs.WellFormed.{is_well_formed};
 ghost use Rattle.law_early.specs.Early.{acts_of};
 ghost use Rattle.observe_log.specs.Told.{Tells};
 ghost use Rattle.observe_order.specs.Going.{EndsLanded};
-ghost use Rattle.command_observe.specs.Comments.{AreComments};
+ghost use Rattle.trace_roundtrip.specs.Comments.{AreComments};
 ghost use Rattle.command_observe.specs.Judging.{IsRunOf};
 
 use crate::acting::acts_of;
-use crate::comments::are_comments;
 use crate::drafting::{Told, Untold, number_of, told_by, unheld};
 use crate::notes::comments;
 use crate::reading::TreeLog;
@@ -21,6 +20,7 @@ use observe_told::Log;
 use pci_command::{List, NoMemory};
 use program_status::LogRefusal;
 use std::alloc::Global;
+use trace_roundtrip::are_comments;
 
 /// A run of the board of a tree, and what is said of it.
 #[derive(Debug, Drop)]

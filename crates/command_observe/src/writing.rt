@@ -6,10 +6,9 @@ ghost use Rattle.board_model.specs.Valid.{IsValid};
 ghost use Rattle.trace_text.specs.Events.{HasLine};
 ghost use Rattle.trace_reader.specs.Traces.{trace_read};
 ghost use Rattle.observe_order.specs.Going.{EndsLanded};
-ghost use Rattle.command_observe.specs.Comments.{AreComments};
+ghost use Rattle.trace_roundtrip.specs.Comments.{AreComments};
 
 use crate::acting::acts_of;
-use crate::comments::with_comments;
 use crate::drafting::{Told, Untold, told_by, unheld};
 use crate::reading::TreeLog;
 use crate::telling::{RunTold, said_of};
@@ -21,7 +20,7 @@ use observe_order::Ordered;
 use observe_told::{ActsTold, Log};
 use pci_command::{List, NoMemory};
 use std::alloc::Global;
-use trace_roundtrip::run_text;
+use trace_roundtrip::{run_text, with_comments};
 use trace_text::{has_line, print_trace};
 
 /// A trace text of acts, and of which line of the log each of them is, by its place from 0.

@@ -2,3 +2,4 @@ pub mod NewlineLemmas
 pub mod BoardPartLemmas
 pub mod EventPartLemmas
 pub mod TraceLemmas
+pub mod CommentLemmas

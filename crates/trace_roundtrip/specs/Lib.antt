@@ -1,3 +1,4 @@
 pub mod Printed
+pub mod Comments
 pub mod events
 pub mod runs

@@ -4,6 +4,7 @@
 //! have (`runs_have_lines`).
 #![tactic(auto)]
 
+mod comments;
 mod events;
 mod names;
 mod printed;
@@ -22,6 +23,7 @@ ghost use Rattle.trace_text.specs.Traces.{trace_of};
 ghost use Rattle.trace_reader.specs.Traces.{trace_read};
 ghost use Rattle.trace_roundtrip.specs.events.Fits.{EventFits};
 
+pub use comments::{are_comments, with_comments};
 pub use events::{end_lines_are_read, event_lines_are_read};
 pub use names::{numbers_are_read, operations_are_read, targets_are_read};
 pub use runs::{completions_say_how, runs_have_lines};

@@ -18,8 +18,8 @@ loop-place-preserved c =
     let targets = c.args.targets.now in
     let place : ℕ = c.loop-place.place - 1 in
     let as_many = length-map targets (λ (target : Target). target.bus) in
-    let is = c.bus_of.ensures.value ∙ read_bus (λ (target : Target). target.bus) bus_of_target refl (λ _. refl) targets place in
-    linked_more c.loop-place.place place c.bus_of.result (buses_of targets) c.loop-place.chains c.put.new.self (omega (arith, c.loop-place-test.true)) (omega (arith, c.loop-place-test.true, as_many)) c.bus_of.ensures.fits is
+    let is = c.bus_of.ensures ∙ read_bus (λ (target : Target). target.bus) bus_of_target refl (λ _. refl) targets place in
+    linked_more c.loop-place.place place c.bus_of.result (buses_of targets) c.loop-place.chains c.put.new.self (omega (arith, c.loop-place-test.true)) (omega (arith, c.loop-place-test.true, as_many)) c.put.ensures.small is
     c.loop-place.invariant c.put.ensures.first c.put.ensures.next
 
 pub returns : goal.returns

@@ -18,8 +18,8 @@ loop-place-preserved c =
     let bridges = c.args.bridges.now in
     let place : ℕ = c.loop-place.place - 1 in
     let as_many = length-map bridges (λ (bridge : Bridge). bridge.bus) in
-    let is = c.secondary_at.ensures.value ∙ read_bus (λ (bridge : Bridge). bridge.bus) secondary_in refl (λ _. refl) bridges place in
-    linked_more c.loop-place.place place c.secondary_at.result (secondaries_of bridges) c.loop-place.chains c.put.new.self (omega (arith, c.loop-place-test.true)) (omega (arith, c.loop-place-test.true, as_many)) c.secondary_at.ensures.fits is
+    let is = c.secondary_at.ensures ∙ read_bus (λ (bridge : Bridge). bridge.bus) secondary_in refl (λ _. refl) bridges place in
+    linked_more c.loop-place.place place c.secondary_at.result (secondaries_of bridges) c.loop-place.chains c.put.new.self (omega (arith, c.loop-place-test.true)) (omega (arith, c.loop-place-test.true, as_many)) c.put.ensures.small is
     c.loop-place.invariant c.put.ensures.first c.put.ensures.next
 
 pub returns : goal.returns

@@ -4,15 +4,15 @@ ghost use Rattle.std.specs.Prelude.{◌≡◌, ◌++◌, List, Ok, IfOk, IfSome,
 ghost use Rattle.board_model.specs.declared.board.Board.{Board};
 ghost use Rattle.history_model.specs.declared.event.Event.{Event};
 ghost use Rattle.trace_reader.specs.Traces.{trace_read};
-ghost use Rattle.command_observe.specs.Comments.{begins_comment, IsCommentLine, AreComments};
-ghost use Rattle.command_observe.specs.Comments.{IsBehindTwo};
+ghost use Rattle.trace_roundtrip.specs.Comments.{begins_comment, IsCommentLine, AreComments};
+ghost use Rattle.trace_roundtrip.specs.Comments.{IsBehindTwo};
 
 use board_text::{check_line, next_line};
 use std::alloc::{AllocError, Global};
 
 /// Whether a text is lines of comments, each with its newline.
 #[tactic(auto, using(crate::proofs::CommentLemmas::comments_none, crate::proofs::CommentLemmas::comments_all))]
-pub(crate) fn are_comments(text: &[u8]) -> bool
+pub fn are_comments(text: &[u8]) -> bool
     ensures { IsTrue result → AreComments text.now }
 {
     let mut at = 0;
@@ -44,7 +44,7 @@ fn begins_comment(line: &[u8]) -> bool
 }
 
 /// The trace text with these comments behind the first line of its board.
-pub(crate) fn with_comments(alloc: Global, text: &[u8], said: &[u8]) -> Result<Vec<u8>, AllocError>
+pub fn with_comments(alloc: Global, text: &[u8], said: &[u8]) -> Result<Vec<u8>, AllocError>
     requires { AreComments said.now }
     ensures { (board : Board) (events : List Event) → trace_read text.now ≡ Ok (board, events) →
         IfOk result (λ whole. trace_read whole.items ≡ Ok (board, events)) }

@@ -1,6 +1,6 @@
 use Rattle.std.proofs.Common.{◌≡◌, ◌++◌, take, drop}
-use Rattle.command_observe.proofs.CommentLemmas.{commented}
-use Rattle.command_observe.proofs.comments.with_comments.Goals as goal
+use Rattle.trace_roundtrip.proofs.CommentLemmas.{commented}
+use Rattle.trace_roundtrip.proofs.comments.with_comments.Goals as goal
 
 pub returns-in-Some : goal.returns-in-Some
 returns-in-Some c =

@@ -24,7 +24,7 @@ use Rattle.trace_reader.specs.declared.lines.line.TraceLine.TheVariants.{Happens
 use Rattle.trace_reader.specs.lines.Lines.{line_of}
 use Rattle.trace_reader.specs.Traces.{nothing_behind, at_end, events_by, events_read, with_before, until_events, with_events, by_board, by_parts, by_first, trace_read}
 use Rattle.trace_roundtrip.proofs.BoardPartLemmas.{draft_of}
-use Rattle.command_observe.specs.Comments.{begins_comment, IsCommentLine, AreComments, IsBehindTwo, CommentsTo}
+use Rattle.trace_roundtrip.specs.Comments.{begins_comment, IsCommentLine, AreComments, IsBehindTwo, CommentsTo}
 
 -- A comment is skipped.
 

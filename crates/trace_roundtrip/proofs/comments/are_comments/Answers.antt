@@ -1,6 +1,6 @@
 use Rattle.std.proofs.Common.{arith}
-use Rattle.command_observe.proofs.CommentLemmas.{comments_more}
-use Rattle.command_observe.proofs.comments.are_comments.Goals as goal
+use Rattle.trace_roundtrip.proofs.CommentLemmas.{comments_more}
+use Rattle.trace_roundtrip.proofs.comments.are_comments.Goals as goal
 
 pub loop-line-preserved : goal.loop-line-preserved
 loop-line-preserved c =

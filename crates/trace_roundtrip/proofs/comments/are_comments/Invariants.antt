@@ -1,6 +1,6 @@
 use Rattle.std.proofs.Common.{◌+◌, ◌-◌, length}
-use Rattle.command_observe.specs.Comments.{CommentsTo}
-use Rattle.command_observe.proofs.comments.are_comments.Given as goal
+use Rattle.trace_roundtrip.specs.Comments.{CommentsTo}
+use Rattle.trace_roundtrip.proofs.comments.are_comments.Given as goal
 
 -- the lines so far are comments
 abbrev pub invariant-loop-line : goal.invariant-loop-line
