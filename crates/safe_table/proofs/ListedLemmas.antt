@@ -1,5 +1,5 @@
 -- Lists of the writes that bring what is waited for: what is kept of them is so.
-use Rattle.std.proofs.Common.{◌≡◌, ℕ, suc, ◌+◌, ◌<◌, ◌≤◌, Bool, true, false, ◌&&◌, ◌||◌, ◌==◌, not, cond, eqb, eqb-true, eq-eqb, bit_and, ◌%◌, ◌^◌, List, [], ◌∷◌, ◌++◌, append_assoc, append-nil, length, drop, get_or, is_some, Option, Some, None, IfSome, refl, sym, ap, subst, ◌∙◌, arith}
+use Rattle.std.proofs.Common.{◌≡◌, ℕ, suc, ◌+◌, ◌<◌, ◌≤◌, Bool, true, false, ◌&&◌, ◌||◌, ◌==◌, not, cond, eqb, eqb-true, eq-eqb, bit_and, ◌^◌, List, [], ◌∷◌, ◌++◌, append_assoc, append-nil, length, drop, get_or, is_some, Option, Some, None, IfSome, refl, sym, ap, subst, ◌∙◌, arith}
 use Rattle.std.specs.List.{filter, list_all, list_any}
 use Rattle.std.specs.Map.{lookup}
 use Rattle.std.specs.Int.Bits.{and_zero_l, or_zero_l}

@@ -12,7 +12,7 @@ use Rattle.safe_table.specs.declared.writers.write.WordWrite.{WordWrite}
 use Rattle.safe_table.specs.Rows.{ProgramRows}
 use Rattle.safe_table.specs.Landing.{joined}
 use Rattle.safe_table.specs.Looks.{clock_in, before_in, any_before, is_behind}
-use Rattle.safe_table.specs.Stretches.{Stretch, AreStretches, AreStretchesOf, is_last_of, AreSummed, end_of, goes_on, pushed_at, pushed, PartsAt, PartsBefore, IsParted, is_from, first_before}
+use Rattle.safe_table.specs.Stretches.{Stretch, AreStretches, AreStretchesOf, is_last_of, AreSummed, end_of, goes_on, pushed_at, pushed, PartsAt, PartsBefore, is_from, first_before}
 use Rattle.safe_table.proofs.RaiserLemmas.{behind_same, behind_less}
 
 -- Lists.
@@ -93,16 +93,6 @@ behind_through a b c first second =
     let one = behind_less a b first in
     let two = behind_less b c second in
     behind_so a.op.master c.op.master a.op.index c.op.index (behind_same a b first ∙ behind_same b c second) (omega (arith, one, two))
-
-pub stretch_take : (n : ℕ) (ws : List WordWrite) → Stretch ws → Stretch (take n ws)
-stretch_take zero ws is = tt
-stretch_take (suc n) [] is = tt
-stretch_take (suc n) (w ∷ ws) is = (each_take (λ v. is_behind w v ≡ true) n ws is.0, stretch_take n ws is.1)
-
-pub stretch_drop : (n : ℕ) (ws : List WordWrite) → Stretch ws → Stretch (drop n ws)
-stretch_drop zero ws is = is
-stretch_drop (suc n) [] is = tt
-stretch_drop (suc n) (w ∷ ws) is = stretch_drop n ws is.1
 
 each_left : (P : WordWrite → Type 0) (xs ys : List WordWrite) → AllByRecursion P (xs ++ ys) → AllByRecursion P xs
 each_left P [] ys each = tt

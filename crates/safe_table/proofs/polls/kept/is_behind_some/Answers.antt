@@ -1,4 +1,4 @@
-use Rattle.std.proofs.Common.{ap, sym, ◌∙◌}
+use Rattle.std.proofs.Common.{ap, ◌∙◌}
 use Rattle.safe_table.specs.Looks.{any_before}
 use Rattle.safe_table.proofs.ListedLemmas.{listed_before}
 use Rattle.safe_table.proofs.polls.kept.is_behind_some.Goals as goal

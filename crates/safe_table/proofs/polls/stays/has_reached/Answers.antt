@@ -1,4 +1,4 @@
-use Rattle.std.proofs.Common.{get_or, refl, arith}
+use Rattle.std.proofs.Common.{arith}
 use Rattle.safe_table.proofs.StayLemmas.{some_reached, none_reached}
 use Rattle.safe_table.proofs.polls.stays.has_reached.Goals as goal
 

@@ -1,4 +1,4 @@
-use Rattle.std.proofs.Common.{◌&&◌, sym, ap, ◌∙◌}
+use Rattle.std.proofs.Common.{sym, ap, ◌∙◌}
 use Rattle.std.specs.List.{filter, list_any}
 use Rattle.safe_table.specs.Landing.{joined}
 use Rattle.safe_table.specs.Looks.{is_reached_in}

@@ -1,5 +1,3 @@
-use Rattle.std.proofs.Common.{subst, sym, ◌∙◌}
-use Rattle.safe_table.specs.Stretches.{Stretch}
 use Rattle.safe_table.proofs.StretchLemmas.{stretch_at}
 use Rattle.safe_table.proofs.StayLemmas.{guess_leaves_out}
 use Rattle.safe_table.proofs.polls.stays.is_left_out.Goals as goal

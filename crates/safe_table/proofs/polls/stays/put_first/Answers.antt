@@ -1,6 +1,4 @@
-use Rattle.std.proofs.Common.{◌≡◌, ◌++◌, List, Option, Some, None, append-nil, sym, ap, ◌∙◌}
-use Rattle.std.specs.List.{filter}
-use Rattle.safe_table.specs.declared.writers.write.WordWrite.{WordWrite}
+use Rattle.std.proofs.Common.{◌++◌, append-nil, sym, ap, ◌∙◌}
 use Rattle.safe_table.specs.Polls.{raises_it}
 use Rattle.safe_table.specs.Stretches.{list_of}
 use Rattle.safe_table.proofs.StayLemmas.{first_found}

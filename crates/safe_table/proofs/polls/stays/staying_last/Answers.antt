@@ -1,4 +1,3 @@
-use Rattle.std.proofs.Common.{sym}
 use Rattle.safe_table.specs.Landing.{joined}
 use Rattle.safe_table.proofs.StayLemmas.{last_raiser_stays, no_raiser_stays}
 use Rattle.safe_table.proofs.polls.stays.staying_last.Goals as goal

@@ -1,7 +1,6 @@
-use Rattle.std.proofs.Common.{◌≡◌, true, refl, subst, Option, Some, List}
-use Rattle.safe_table.specs.Lists.{found_for, is_listed, any_of}
+use Rattle.std.proofs.Common.{◌≡◌, true, refl, subst, Some}
+use Rattle.safe_table.specs.Lists.{found_for, is_listed}
 use Rattle.safe_table.specs.declared.polls.awaited.Awaited.{Awaited}
-use Rattle.safe_table.specs.declared.writers.write.WordWrite.{WordWrite}
 use Rattle.safe_table.proofs.ListedLemmas.{all_found, both_listed, alone_listed}
 use Rattle.safe_table.proofs.writers.lists.Lists.of.Goals as goal
 
