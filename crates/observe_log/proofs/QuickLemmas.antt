@@ -1,15 +1,20 @@
--- Words as boards have them: a number of at most eight digits, and any other word, which is read alone.
-use Rattle.std.proofs.Common.{◌≡◌, ℕ, ◌^◌, ◌<◌, Bool, true, false, eqb, leb, ◌&&◌, List, [], ◌∷◌, Result, Ok, Err, refl, ap, sym, ◌∙◌, arith}
+-- Numbers digit by digit, and words as boards have them: a number of at most eight digits, and any other word, which is read alone.
+use Rattle.std.proofs.Common.{◌≡◌, ℕ, ◌+◌, ◌*◌, ◌^◌, ◌<◌, ◌≤◌, Bool, true, false, eqb, leb, ltb, ◌&&◌, List, [], ◌∷◌, length, take, get_or, Result, Ok, Err, refl, ap, sym, ◌∙◌, arith}
 use Rattle.std.specs.List.{list_all}
-use Rattle.std.specs.Char.{is_digit}
+use Rattle.std.specs.Char.{is_digit, digit_value}
+use Rattle.std.specs.Str.Parse.{digits_value}
+use Rattle.std.proofs.lemmas.List.{length-take}
+use Rattle.std.proofs.lemmas.List.Folds.{list_all_more}
 use Rattle.std.proofs.lemmas.Bool.{and_parts, false≢true}
 use Rattle.std.proofs.lemmas.Bool.Decides.{nat_tests}
 use Rattle.board_text.specs.declared.numbers.NumberFault.{NumberFault}
 use Rattle.board_text.specs.Numbers.{is_numeral, hex_answer, decimal_answer, number_fault}
 use Rattle.board_text.specs.Tokens.{words_of}
+use Rattle.board_text.proofs.DigitLemmas.{digits_step, digits_below}
 use Rattle.text_faults.specs.declared.board_line.LineFault.{LineFault}
 use Rattle.board_statements.specs.Words.{with_rest, one_word, hex_of, decimal_of, has_mark, long_of, data_word_of}
 use Rattle.observe_log.specs.Plain.{StandsAlone}
+use Rattle.observe_log.specs.Words.{is_short_numeral}
 
 -- Numbers.
 
@@ -56,26 +61,47 @@ no_mark mark (byte ∷ word) none all =
     let here : eqb byte mark ≡ false = apart mark byte none parts.0 in
     rw here (no_mark mark word none parts.1)
 
-are_digits : (word : List ℕ) (n : ℕ) → hex_answer word 8 ≡ number_so n → list_all (λ byte. is_digit byte 16) word ≡ true
-are_digits word n read =
-    let P : Bool → Type 0 = λ b. is_numeral 16 word ≡ b → list_all (λ byte. is_digit byte 16) word ≡ true in
-    (elim (is_numeral 16 word) as P [
-      | true ↦ λ is. (and_parts _ _ is).1
-      | false ↦ λ is. let none = rw is at read in absurd cc
-    ]) refl
+-- Numbers of at most eight digits.
 
-pub long_number : (word : List ℕ) (n : ℕ) → hex_answer word 8 ≡ number_so n → long_of true word ≡ Ok n
+hex_is : (word : List ℕ) → is_short_numeral 16 8 word ≡ true → hex_answer word 8 ≡ number_so (digits_value 16 word)
+hex_is word short =
+    let parts = and_parts (is_numeral 16 word) (leb (length word) 8) short in
+    let numeral = parts.0 in
+    let few : ltb 8 (length word) ≡ false = grind (arith, nat_tests) in
+    rw (numeral, few) refl
+
+digits_of_short : (word : List ℕ) → is_short_numeral 16 8 word ≡ true → list_all (λ byte. is_digit byte 16) word ≡ true
+digits_of_short word short = (and_parts _ _ (and_parts (is_numeral 16 word) (leb (length word) 8) short).0).1
+
+pub long_number : (word : List ℕ) (n : ℕ) → is_short_numeral 16 8 word ≡ true → n ≡ digits_value 16 word → long_of true word ≡ Ok n
 unfolding long_of
-long_number word n read =
-    let unmarked : has_mark 58 word ≡ false = no_mark 58 word refl (are_digits word n read) in
-    rw unmarked (hex_number word n read)
+long_number word n short is =
+    let unmarked : has_mark 58 word ≡ false = no_mark 58 word refl (digits_of_short word short) in
+    rw unmarked (hex_number word (digits_value 16 word) (hex_is word short) ∙ ap (λ (m : ℕ). Ok m) (sym is))
 
-pub phase_number : (word : List ℕ) (n : ℕ) → hex_answer word 8 ≡ number_so n → data_word_of word ≡ Ok (record { value = n; enables = 15 })
+pub phase_number : (word : List ℕ) (n : ℕ) → is_short_numeral 16 8 word ≡ true → n ≡ digits_value 16 word → data_word_of word ≡ Ok (record { value = n; enables = 15 })
 unfolding data_word_of
-phase_number word n read =
-    let unmarked : has_mark 47 word ≡ false = no_mark 47 word refl (are_digits word n read) in
-    let number = hex_number word n read in
+phase_number word n short is =
+    let unmarked : has_mark 47 word ≡ false = no_mark 47 word refl (digits_of_short word short) in
+    let number : hex_of 8 word ≡ Ok n = hex_number word (digits_value 16 word) (hex_is word short) ∙ ap (λ (m : ℕ). Ok m) (sym is) in
     rw (unmarked, number) refl
+
+-- The digits so far.
+
+pub digits_more : (radix : ℕ) (word : List ℕ) (i digit : ℕ) → i < length word → digit ≡ digit_value (get_or word i 0) → digit < radix → list_all (λ byte. is_digit byte radix) (take i word) ≡ true → list_all (λ byte. is_digit byte radix) (take (i + 1) word) ≡ true
+digits_more radix word i digit inside read small so_far =
+    let here : is_digit (get_or word i 0) radix ≡ true = rw (← read) (grind (arith, nat_tests)) in
+    rw (list_all_more (λ byte. is_digit byte radix) word i 0 inside, so_far, here) refl
+
+pub digits_fit : (radix most value : ℕ) (word : List ℕ) (i : ℕ) → 0 < radix → length word ≤ most → list_all (λ byte. is_digit byte radix) (take i word) ≡ true → value ≡ digits_value radix (take i word) → value < radix ^ most
+digits_fit radix most value word i base short all is =
+    let size = length-take i word in
+    rw is (digits_below radix most (take i word) base all (omega (arith, size)))
+
+pub digits_small : (radix most value digit : ℕ) (word : List ℕ) (i : ℕ) → 0 < radix → i < length word → length word ≤ most → list_all (λ byte. is_digit byte radix) (take (i + 1) word) ≡ true
+    → value ≡ digits_value radix (take i word) → digit ≡ digit_value (get_or word i 0) → value * radix + digit < radix ^ most
+digits_small radix most value digit word i base inside short all is read =
+    digits_fit radix most (value * radix + digit) word (i + 1) base short all (digits_step radix value digit word i inside is read)
 
 -- A word that is read alone.
 

@@ -78,7 +78,7 @@ fn length_of_plain(text: &[u8]) -> usize
 fn is_plain(byte: u8) -> bool
     ensures { result ≡ is_plain byte }
 {
-    (byte == b'\t' || (b' '..=b'~').contains(&byte)) && byte != b'#'
+    (b'$'..=b'~').contains(&byte) || (b' '..=b'"').contains(&byte) || byte == b'\t'
 }
 
 /// The words of a line that can be read.

@@ -1,5 +1,5 @@
 ghost use Rattle.std.specs.Prelude.{◌≡◌, ◌≤◌, [], length};
-ghost use Rattle.observe_log.specs.Lines.{ending_of, data_read, data_fault, is_single};
+ghost use Rattle.observe_log.specs.Lines.{abort_of, ending_of, data_read, data_fault, is_single};
 ghost use Rattle.observe_log.specs.Lines.{is_single_write, needs_data, most_offered, past_offered};
 ghost use Rattle.observe_log.specs.Lines.{past_space, room_from};
 ghost use Rattle.board_statements.specs.Words.{data_word_of};
@@ -8,8 +8,8 @@ ghost use Rattle.observe_log.specs.Plain.{StandsAlone, Reads};
 
 use crate::fault::{AtWord, LineStop, misread};
 use crate::line::LineWords;
+use crate::line::words::number_in;
 use board_statements::{Words, is_word};
-use board_text::hex;
 use observe_told::{Addressed, Ending};
 use pci_command::{Command, Phase, Space};
 use text_faults::LogLineFault;
@@ -44,11 +44,17 @@ pub(crate) fn read_data(
 fn ending_of(word: &[u8]) -> Option<Ending>
     ensures { result ≡ ending_of word.now }
 {
-    if is_word(word, b"done") {
-        Some(Ending::Done)
-    } else if is_word(word, b"retry") {
-        Some(Ending::Retry)
-    } else if is_word(word, b"tabort") {
+    match word {
+        b"done" => Some(Ending::Done),
+        b"retry" => Some(Ending::Retry),
+        _ => abort_of(word),
+    }
+}
+
+fn abort_of(word: &[u8]) -> Option<Ending>
+    ensures { result ≡ abort_of word.now }
+{
+    if is_word(word, b"tabort") {
         Some(Ending::TargetAbort)
     } else if is_word(word, b"nobody") {
         Some(Ending::Nobody)
@@ -62,9 +68,12 @@ fn phase_of(word: &[u8]) -> Option<Phase>
     requires { StandsAlone word.now }
     ensures { Reads result (data_word_of word.now) }
 {
-    match hex(word, 8) {
-        Ok(value) => Some(Phase { value, enables: 15 }),
-        Err(_other) => marked_phase_of(word),
+    match number_in(word, 16, 8) {
+        Some(value) => Some(Phase {
+            value: value as u32,
+            enables: 15,
+        }),
+        None => marked_phase_of(word),
     }
 }
 

@@ -7,7 +7,7 @@ ghost use Rattle.observe_log.specs.Words.{register_of, dword_by, address_in, hea
 
 use crate::fault::{AtWord, misread};
 use crate::line::LineWords;
-use crate::line::words::{command_of, register_of, times_of, who_in};
+use crate::line::words::{command_of, number_in, register_of, times_of, who_in};
 use board_model::{Board, is_bus};
 use board_statements::Words;
 use board_text::{decimal, hex};
@@ -136,9 +136,9 @@ fn long_of(word: &[u8]) -> Option<u64>
     requires { StandsAlone word.now }
     ensures { Reads result (long_of true word.now) }
 {
-    match hex(word, 8) {
-        Ok(number) => Some(u64::from(number)),
-        Err(_other) => marked_long_of(word),
+    match number_in(word, 16, 8) {
+        Some(number) => Some(number),
+        None => marked_long_of(word),
     }
 }
 
