@@ -119,7 +119,7 @@ def refused_among_empty_lines(place):
 # The header of a bridge: which registers say its windows, which bytes are none of a bridge, and which windows they say. All by hand.
 
 HEADER = (
-    "34 12 00 01 07 00 00 00 00 00 04 06 00 00 01 00 00 00 00 00 00 00 00 00 01 02 00 f1 01 00 00 "
+    "34 12 00 01 07 00 00 00 00 00 04 06 00 00 01 00 00 00 00 00 00 00 00 00 00 01 02 00 f1 01 00 00 "
     "00 80 10 80 f0 ff" + 26 * " 00"
 )
 # What stands behind `bridge 1 on 0 dev 1 last 2`, and the bytes from an offset on.
@@ -139,7 +139,7 @@ SHOWN = [
     ("pref 00000001:00000000 00000001:000fffff", 0x24, "01 00 01 00 01 00 00 00 01 00 00 00"),
     ("pref fff00000 00000001:000fffff", 0x24, "f1 ff 01 00 00 00 00 00 01 00 00 00"),
     ("pref 00000000 ffffffff:ffffffff", 0x24, "01 00 f1 ff 00 00 00 00 ff ff ff ff"),
-    ("abort", 0x3E, "20 00"),
+    ("abort 1", 0x3E, "20 00"),
 ]
 # Bytes from an offset on in place of those of HEADER, and the fault of the header, if it has one.
 TAKEN = [

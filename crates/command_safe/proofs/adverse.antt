@@ -1,4 +1,3 @@
-pub mod WordLemmas
 pub mod ServedLemmas
 pub mod WrittenLemmas
 pub mod AnswerLemmas

@@ -5,10 +5,8 @@ ghost use Rattle.program_input.specs.Traces.{IsCompleteTrace};
 ghost use Rattle.command_safe.specs.adverse.Answers.{AnswersAdverse};
 
 mod answer;
-mod operation;
 
 pub use answer::answer_adverse;
-pub use operation::names_operation;
 
 /// What adverse writes is the text of a valid board and of a complete run of it.
 pub fn adverse_traces_are_complete()

@@ -4,5 +4,5 @@
 pub mod adverse;
 pub mod safe;
 
-pub use adverse::{adverse_traces_are_complete, answer_adverse, names_operation};
+pub use adverse::{adverse_traces_are_complete, answer_adverse};
 pub use safe::answer_safe;

@@ -3,3 +3,4 @@ mod EarlyLemmas
 mod IdleLemmas
 mod RingLemmas
 mod TurnsLemmas
+pub mod WordLemmas

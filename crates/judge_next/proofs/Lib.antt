@@ -6,3 +6,4 @@ pub mod CourseLemmas
 pub mod FlightLemmas
 pub mod AllowedLemmas
 pub mod EachLineLemmas
+pub mod QuietLemmas

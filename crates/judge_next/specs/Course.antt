@@ -1,6 +1,6 @@
 -- What is known beside the state that is kept, so that the next event is looked for only where something may have
 -- changed: the lines of each bus, which buses are quiet, and where something is in flight.
-use Rattle.std.specs.Prelude.{◌≡◌, ℕ, Bool, true, List, Some, None, length, slice_get}
+use Rattle.std.specs.Prelude.{◌≡◌, ℕ, Bool, true, List, Some, None, slice_get}
 use Rattle.board_model.specs.declared.board.Board.{Board}
 use Rattle.board_model.specs.Fits.{BoardFits}
 use Rattle.history_model.specs.declared.event.Event.{Event}
@@ -11,6 +11,7 @@ use Rattle.judge_next.specs.declared.course.Course.{Course}
 use Rattle.judge_next.specs.Lines.{AreLines}
 use Rattle.judge_next.specs.Now.{act_on_now}
 use Rattle.judge_next.specs.Flights.{KnowsFlights}
+use Rattle.judge_next.specs.Quiet.{AreFlags}
 
 -- on a bus that is known to be quiet there is no act
 abbrev pub KnowsQuiet : Board → KeptState → List Bool → Type 0
@@ -22,8 +23,8 @@ pub record IsCourse (board : Board) (h : List Event) (c : Course) : Type 0 where
   -- its bus numbers are as wide as their fields
   pub fits : BoardFits board
   pub lines : AreLines board c.lines.items
-  pub all_buses : length c.quiet.items ≡ 256
-  pub quiet : KnowsQuiet board c.kept c.quiet.items
+  pub flags : AreFlags c.quiet
+  pub quiet : KnowsQuiet board c.kept c.quiet.buses.items
   pub flights : KnowsFlights board c.kept c.flights
 
 -- for some run of the board

@@ -1,4 +1,5 @@
 pub mod Lines
 pub mod Now
 pub mod Flights
+pub mod Quiet
 pub mod Course

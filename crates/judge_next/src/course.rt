@@ -1,6 +1,5 @@
-ghost use Rattle.std.specs.Prelude.{◌≡◌, ◌↔◌, ◌∷◌, true, false, List, length, slice_get, Some, None, IfOk, IfNone, IfSome, OnOk, OnErr, IsTrue};
+ghost use Rattle.std.specs.Prelude.{◌≡◌, ◌↔◌, ◌∷◌, List, None, IfOk, IfNone, IfSome, OnOk, OnErr, IsTrue};
 ghost use Rattle.std.specs.Option.{option_or};
-ghost use Rattle.std.proofs.Math.ListN.{set};
 ghost use Rattle.board_model.specs.WellFormed.{is_well_formed};
 ghost use Rattle.board_model.specs.declared.board.Board.{Board};
 ghost use Rattle.board_tree.specs.Sites.{AreSites};
@@ -23,10 +22,12 @@ ghost use Rattle.judge_next.specs.Lines.{AreLines};
 ghost use Rattle.judge_next.specs.Now.{arrival_on, lane_now, master_now, act_on_now};
 ghost use Rattle.judge_next.specs.Course.{KnowsQuiet, IsCourse, HasCourse, IsArrival};
 ghost use Rattle.judge_next.specs.Flights.{KnowsFlights};
+ghost use Rattle.judge_next.specs.Quiet.{AreFlags};
 
 use crate::acts::{act_of_lane, act_of_lanes, act_of_master, act_of_masters};
 use crate::flights::Flights;
 use crate::lines::Lines;
+use crate::quiet::Quiet;
 use board_model::{Board, Lane, board_fits};
 use board_tree::{Sites, Tree};
 use history_model::{Event, Why};
@@ -41,7 +42,7 @@ use std::alloc::Global;
 pub struct Course {
     kept: Kept,
     lines: Vec<Lines>,
-    quiet: Vec<bool>,
+    quiet: Quiet,
     flights: Flights,
 }
 
@@ -54,7 +55,7 @@ impl Course {
         // its bus numbers are as wide as their fields
         board_fits(board);
         let lines = all_lines(alloc, board)?;
-        let quiet = vec![in alloc; false; 256]?;
+        let quiet = Quiet::none(alloc)?;
         let flights = Flights::new(alloc, &kept, board, lines.as_slice())?;
         Ok(Course {
             kept,
@@ -81,7 +82,7 @@ impl Course {
         match self.kept.step(tree, event) {
             Ok(()) => {
                 let board = tree.board();
-                wake(&mut self.quiet, bus_of(board, event));
+                self.quiet.mark(bus_of(board, event), false);
                 self.flights.look_again(&self.kept, board, event);
                 Ok(())
             }
@@ -186,30 +187,6 @@ fn all_lines(alloc: Global, board: &Board) -> Result<Vec<Lines>, NoMemory>
     Ok(lines)
 }
 
-/// The bus is not known to be quiet any more.
-fn wake(quiet: &mut Vec<bool>, bus: u8)
-    requires { length quiet.old.items ≡ 256 }
-    ensures { quiet.new.items ≡ set quiet.old.items bus false }
-{
-    quiet[bus as usize] = false;
-}
-
-/// Whether the bus is known to be quiet.
-fn is_quiet(quiet: &Vec<bool>, bus: u8) -> bool
-    requires { length quiet.now.items ≡ 256 }
-    ensures { result ≡ true → slice_get quiet.now.items bus ≡ Some true }
-{
-    quiet[bus as usize]
-}
-
-/// The bus is known to be quiet from now on.
-fn hush(quiet: &mut Vec<bool>, bus: u8)
-    requires { length quiet.old.items ≡ 256 }
-    ensures { quiet.new.items ≡ set quiet.old.items bus true }
-{
-    quiet[bus as usize] = true;
-}
-
 /// The first arrival, and where there is none the first act.
 fn next_now(
     kept: &Kept,
@@ -217,17 +194,17 @@ fn next_now(
     sites: &Sites,
     flights: &Flights,
     lines: &[Lines],
-    quiet: &mut Vec<bool>,
+    quiet: &mut Quiet,
 ) -> Option<Event>
     requires formed { IsTrue (is_well_formed board.now) }
     requires sites { AreSites board.now sites.now }
     requires flights { KnowsFlights board.now kept.now flights.now }
     requires lines { AreLines board.now lines.now }
-    requires all { length quiet.old.items ≡ 256 }
-    requires known { KnowsQuiet board.now kept.now quiet.old.items }
+    requires flags { AreFlags quiet.old }
+    requires known { KnowsQuiet board.now kept.now quiet.old.buses.items }
     ensures value { result ≡ option_or (first_bus (arrival_on board.now kept.now)) (first_bus (act_on_now board.now kept.now)) }
-    ensures all { length quiet.new.items ≡ 256 }
-    ensures known { KnowsQuiet board.now kept.now quiet.new.items }
+    ensures flags { AreFlags quiet.new }
+    ensures known { KnowsQuiet board.now kept.now quiet.new.buses.items }
 {
     match flights.first(kept, board) {
         Some(event) => Some(event),
@@ -235,25 +212,26 @@ fn next_now(
     }
 }
 
-/// The first act, by increasing bus and there by line. Buses that are known to be quiet are passed
-/// over, and those that are found to be are known from then on.
+/// The first act, by increasing bus and there by line. It is looked for from a bus on below which all
+/// are known to be quiet. Others that are known to be are passed over, and those that are found to be
+/// are known from then on.
 fn first_act(
     kept: &Kept,
     board: &Board,
     sites: &Sites,
     lines: &[Lines],
-    quiet: &mut Vec<bool>,
+    quiet: &mut Quiet,
 ) -> Option<Event>
     requires formed { IsTrue (is_well_formed board.now) }
     requires sites { AreSites board.now sites.now }
     requires lines { AreLines board.now lines.now }
-    requires all { length quiet.old.items ≡ 256 }
-    requires known { KnowsQuiet board.now kept.now quiet.old.items }
+    requires flags { AreFlags quiet.old }
+    requires known { KnowsQuiet board.now kept.now quiet.old.buses.items }
     ensures value { result ≡ first_bus (act_on_now board.now kept.now) }
-    ensures all { length quiet.new.items ≡ 256 }
-    ensures known { KnowsQuiet board.now kept.now quiet.new.items }
+    ensures flags { AreFlags quiet.new }
+    ensures known { KnowsQuiet board.now kept.now quiet.new.buses.items }
 {
-    for bus in 0..256u16 {
+    for bus in quiet.from..256u16 {
         if let Some(event) = act_at(kept, board, sites, lines, quiet, bus as u8) {
             return Some(event);
         }
@@ -267,25 +245,26 @@ fn act_at(
     board: &Board,
     sites: &Sites,
     lines: &[Lines],
-    quiet: &mut Vec<bool>,
+    quiet: &mut Quiet,
     bus: u8,
 ) -> Option<Event>
     requires formed { IsTrue (is_well_formed board.now) }
     requires sites { AreSites board.now sites.now }
     requires lines { AreLines board.now lines.now }
-    requires all { length quiet.old.items ≡ 256 }
-    requires known { KnowsQuiet board.now kept.now quiet.old.items }
+    requires flags { AreFlags quiet.old }
+    requires known { KnowsQuiet board.now kept.now quiet.old.buses.items }
     ensures value { result ≡ act_on_now board.now kept.now bus }
-    ensures all { length quiet.new.items ≡ 256 }
-    ensures known { KnowsQuiet board.now kept.now quiet.new.items }
+    ensures flags { AreFlags quiet.new }
+    ensures known { KnowsQuiet board.now kept.now quiet.new.buses.items }
 {
-    if is_quiet(quiet, bus) {
+    if quiet.knows(bus) {
+        quiet.mark(bus, true);
         return None;
     }
     match act_on(kept, board, sites, lines, bus) {
         Some(event) => Some(event),
         None => {
-            hush(quiet, bus);
+            quiet.mark(bus, true);
             None
         }
     }

@@ -143,7 +143,7 @@ fn arrival_on_lane(kept: &Kept, board: &Board, still: &Vec<bool>, lane: Lane) ->
 }
 
 /// Whether the bridge to the bus is known to be still.
-fn is_known(still: &Vec<bool>, bus: u8) -> bool
+pub(crate) fn is_known(still: &Vec<bool>, bus: u8) -> bool
     requires { length still.now.items ≡ 256 }
     ensures { result ≡ true → slice_get still.now.items bus ≡ Some true }
 {
@@ -161,7 +161,7 @@ fn look_at(still: &mut Vec<bool>, kept: &Kept, board: &Board, bus: Option<u8>)
     }
 }
 
-fn note(still: &mut Vec<bool>, bus: u8, is_still: bool)
+pub(crate) fn note(still: &mut Vec<bool>, bus: u8, is_still: bool)
     requires { length still.old.items ≡ 256 }
     ensures all { length still.new.items ≡ 256 }
     ensures known { still.new.items ≡ set still.old.items bus is_still }

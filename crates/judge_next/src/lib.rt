@@ -7,6 +7,7 @@ mod acts;
 mod course;
 mod flights;
 mod lines;
+mod quiet;
 
 pub use course::Course;
 pub use lines::Lines;

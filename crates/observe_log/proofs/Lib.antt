@@ -1,4 +1,6 @@
 pub mod WordLemmas
+pub mod PlainLemmas
+pub mod QuickLemmas
 pub mod DataLemmas
 pub mod EndLemmas
 pub mod PartLemmas

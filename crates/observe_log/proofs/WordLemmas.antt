@@ -1,9 +1,5 @@
--- How many words a line has, and how many are left behind its first five.
-use Rattle.std.proofs.Common.{◌≡◌, ℕ, ◌+◌, ◌%◌, ◌≤◌, Bool, true, false, cond, eqb, ltb, leb, ◌&&◌, List, [], ◌∷◌, length, Result, Ok, Err, arith, refl, ap}
-use Rattle.std.proofs.lemmas.List.Sums.{length-filter, count_by-le-length}
-use Rattle.std.proofs.lemmas.List.Splits.{length-slice_split}
-use Rattle.std.proofs.lemmas.List.{length-take}
-use Rattle.std.specs.List.{slice_split, position_or_len}
+-- How many words are left behind the first five of a line.
+use Rattle.std.proofs.Common.{◌≡◌, ℕ, ◌%◌, ◌≤◌, Bool, true, false, cond, eqb, leb, ◌&&◌, List, [], ◌∷◌, length, Result, Ok, Err, arith, refl, ap}
 use Rattle.pci_command.specs.Command.{space_of}
 use Rattle.pci_command.specs.declared.command.Space.{Space}
 use Rattle.pci_command.specs.declared.command.Space.TheVariants.{Mem, Io, Cfg}
@@ -11,7 +7,6 @@ use Rattle.board_model.specs.declared.board.Board.{Board}
 use Rattle.board_model.specs.Valid.{is_bus}
 use Rattle.text_faults.specs.declared.board_line.LineFault.{LineFault}
 use Rattle.board_statements.specs.Words.{with_rest as board_with_rest, one_word as board_word, decimal, hex_of, decimal_of, long_of}
-use Rattle.board_text.specs.Tokens.{is_separator, is_comment, uncommented, words_of}
 use Rattle.text_faults.specs.declared.log_line.LogLineFault.{LogLineFault}
 use Rattle.text_faults.specs.declared.log_line.LogLineFault.TheVariants.{NotThere}
 use Rattle.observe_log.specs.declared.fault.AtWord.{AtWord}
@@ -136,13 +131,3 @@ shrinks_heading board =
 -- so many words are left behind the heading
 pub heading_shrinks : (board : Board) (words rest : List (List ℕ)) (heading : Heading) → heading_form board words ≡ so heading rest → length rest ≤ length words
 heading_shrinks board words rest heading read = (shrinks_heading board).short words heading rest read
-
--- no more words than bytes, but for one
-pub few_words : (line : List ℕ) → length (words_of line) ≤ length line + 1
-few_words line =
-    let pieces = length-filter (λ piece. ltb 0 (length piece)) (slice_split is_separator (uncommented line)) in
-    let some = count_by-le-length (λ piece. ltb 0 (length piece)) (slice_split is_separator (uncommented line)) in
-    let cuts = length-slice_split is_separator (uncommented line) in
-    let separators = count_by-le-length is_separator (uncommented line) in
-    let short = length-take (position_or_len is_comment line) line in
-    omega (arith, pieces, some, cuts, separators, short)

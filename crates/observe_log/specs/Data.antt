@@ -1,26 +1,11 @@
 -- How data words are taken from the words of a line.
-use Rattle.std.specs.Prelude.{◌≡◌, ℕ, ◌+◌, ◌≤◌, List, [], ◌∷◌, ◌++◌, length, Option, Some, None, Result, Ok, Err}
+use Rattle.std.specs.Prelude.{◌≡◌, ℕ, ◌+◌, ◌≤◌, List, [], ◌++◌, length, Result, Ok, Err}
 use Rattle.pci_command.specs.declared.phases.Phase.{Phase}
 use Rattle.text_faults.specs.declared.or_no_memory.OrNoMemory.{OrNoMemory}
 use Rattle.text_faults.specs.declared.or_no_memory.OrNoMemory.TheVariants.{Fault, NoMemory}
 use Rattle.observe_log.specs.declared.fault.AtWord.{AtWord}
 use Rattle.observe_told.specs.declared.seen.Ending.{Ending}
-use Rattle.observe_log.specs.Lines.{ending_of, data_read}
-
--- RESULT, if it is the next word
-abbrev pub ending_at_front : List (List ℕ) → Option Ending
-ending_at_front [] = None
-ending_at_front (word ∷ words) = ending_of word
-
--- the words behind RESULT, where it is there
-abbrev pub behind_if_some : Option Ending → List (List ℕ) → List (List ℕ) → List (List ℕ)
-behind_if_some None here behind = here
-behind_if_some (Some ending) here behind = behind
-
--- the words behind it, if it is the next word, and else all words
-abbrev pub behind_ending : List (List ℕ) → List (List ℕ)
-behind_ending [] = []
-behind_ending (word ∷ words) = behind_if_some (ending_of word) (word ∷ words) words
+use Rattle.observe_log.specs.Lines.{data_read}
 
 -- data words were put behind those before, and counted
 pub record Shows (before after : List Phase) (count : ℕ) (ending : Ending) (read : Result (List Phase × Ending) AtWord) : Type 0 where

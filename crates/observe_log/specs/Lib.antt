@@ -1,5 +1,6 @@
 pub mod Readers
 pub mod Words
+pub mod Plain
 pub mod Lines
 pub mod Data
 pub mod Reading

@@ -22,14 +22,19 @@ use Rattle.observe_log.specs.Words.{heading_form}
 
 -- WORD.. RESULT
 
+-- RESULT of an abort
+abbrev pub abort_of : List ℕ → Option Ending
+abort_of word =
+    if bytes_eq word (codes "tabort") then Some TargetAbort
+    else if bytes_eq word (codes "nobody") then Some Nobody
+    else None
+
 -- RESULT
 abbrev pub ending_of : List ℕ → Option Ending
 ending_of word =
     if bytes_eq word (codes "done") then Some Done
     else if bytes_eq word (codes "retry") then Some Retry
-    else if bytes_eq word (codes "tabort") then Some TargetAbort
-    else if bytes_eq word (codes "nobody") then Some Nobody
-    else None
+    else abort_of word
 
 -- RESULT is the last word; before it each word is a data word
 abbrev pub data_by : (List Phase → Result (List Phase × Ending) AtWord) → ℕ → List Phase → List (List ℕ) → Option Ending → Result Phase LineFault → Result (List Phase × Ending) AtWord

@@ -1,5 +1,5 @@
 -- What a log text is read as: a board and what was seen on its buses, or the first fault with the number of its line.
-use Rattle.std.specs.Prelude.{◌≡◌, ℕ, Bool, false, ◌+◌, List, [], ◌∷◌, length, Option, Some, None, Result, Ok, Err, not, ◌&&◌, nat_lt, codes, if◌then◌else◌}
+use Rattle.std.specs.Prelude.{◌≡◌, ℕ, Bool, false, ◌+◌, List, [], ◌∷◌, length, Option, Some, None, Result, Ok, Err, not, ◌==◌, ◌&&◌, nat_lt, codes, if◌then◌else◌}
 use Rattle.std.specs.List.{list_any}
 use Rattle.std.specs.Str.{bytes_eq}
 use Rattle.board_model.specs.declared.board.Board.{Board}
@@ -48,10 +48,14 @@ abbrev pub at_line : ℕ → Result Read AtWord → Result Read LogFault
 at_line number (Ok read) = Ok read
 at_line number (Err fault) = Err (OfLog number fault.word fault.fault)
 
--- one line behind what was read before: a transaction, or no words
+-- the words of one line behind what was read before: a transaction, or none
+abbrev pub words_line : Board → ℕ → Read → List (List ℕ) → Result Read LogFault
+words_line board number so_far words =
+    if length words == 0 then Ok so_far else at_line number (line_read board number so_far words)
+
+-- one line behind what was read before
 abbrev pub one_line : Board → ℕ → Read → List ℕ → Result Read LogFault
-one_line board number so_far line =
-    if has_words line then at_line number (line_read board number so_far (words_of line)) else Ok so_far
+one_line board number so_far line = words_line board number so_far (words_of line)
 
 -- the lines behind one that was read
 abbrev pub then_lines : (Read → Result Read LogFault) → Result Read LogFault → Result Read LogFault

@@ -35,9 +35,13 @@ of_kind (Some value) = Ok value
 
 -- START-END
 
+-- digits of a base alone, one or more and at most so many
+abbrev pub is_short_numeral : ℕ → ℕ → List ℕ → Bool
+is_short_numeral radix most word = is_numeral radix word && nat_le (length word) most
+
 -- a decimal of 1 to 18 digits
 abbrev pub time_of : List ℕ → Option ℕ
-time_of word = if is_numeral 10 word && nat_le (length word) 18 then Some (digits_value 10 word) else None
+time_of word = if is_short_numeral 10 18 word then Some (digits_value 10 word) else None
 
 -- two times, the first not above the second
 abbrev pub ordered : ℕ → ℕ → Option (ℕ × ℕ)

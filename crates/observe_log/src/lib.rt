@@ -10,6 +10,7 @@ mod fault;
 mod line;
 mod lines;
 mod parts;
+mod plain;
 mod reading;
 mod row;
 mod rows;

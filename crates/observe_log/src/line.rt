@@ -1,7 +1,9 @@
 //! A line of a log behind `log`, word by word.
+mod cut;
 mod data;
 mod heading;
 mod words;
 
+pub(crate) use cut::LineWords;
 pub(crate) use data::{data_fault, read_data};
 pub(crate) use heading::read_heading;

@@ -1,13 +1,16 @@
-ghost use Rattle.std.specs.Prelude.{◌≡◌, ◌+◌, ◌<◌, ◌≤◌, ◌^◌, length, drop};
+ghost use Rattle.std.specs.Prelude.{◌≡◌, ◌+◌, ◌<◌, ◌≤◌, ◌^◌, ◌&&◌, not, codes, length, drop};
 ghost use Rattle.std.specs.List.{list_any};
 ghost use Rattle.board_text.specs.Lines.{lines_of};
-ghost use Rattle.observe_log.specs.Logs.{has_words, is_last, behind_end, one_line, lines_read};
+ghost use Rattle.observe_log.specs.Logs.{has_words, is_word_alone, behind_end, words_line};
+ghost use Rattle.observe_log.specs.Logs.{lines_read};
 ghost use Rattle.observe_log.specs.Lines.{Read};
 ghost use Rattle.observe_log.specs.Reading.{AddsAll};
 
 use crate::LogFault;
 use crate::fault::LineStop;
-use crate::parts::{is_readable, is_word_alone, of_line};
+use crate::line::LineWords;
+use crate::parts::{is_readable, of_line};
+use crate::plain::{line_at, words_at};
 use crate::reading::Reading;
 use board_model::Board;
 use board_statements::has_words;
@@ -30,14 +33,14 @@ pub(crate) fn read_lines(
 {
     let mut number = first;
     let mut at = from;
-    while let Some((line, next)) = next_line(bytes, at) {
-        if !is_readable(line) {
+    while let Some((line, next, plain)) = line_at(bytes, at) {
+        let Some(mut words) = words_at(line, plain) else {
             return Err(OrNoMemory::Fault(of_line(number, LogLineFault::Misread)));
-        }
-        if is_last(line, bytes, next) {
+        };
+        if is_last(&words, bytes, next) {
             return behind_end(bytes, next, number + 1);
         }
-        match read_line(board, line, number, reading) {
+        match read_line(board, &mut words, number, reading) {
             Ok(()) => {}
             Err(fault) => return Err(fault),
         }
@@ -47,20 +50,20 @@ pub(crate) fn read_lines(
     Err(OrNoMemory::Fault(of_line(number, LogLineFault::NoEndLine)))
 }
 
-/// Reads a line that is not the last one with words.
+/// Reads a line that is not the last one with words, by its words.
 fn read_line(
     board: &Board,
-    line: &[u8],
+    words: &mut LineWords,
     number: u32,
     reading: &mut Reading,
 ) -> Result<(), OrNoMemory<LogFault>>
-    requires { length line.now ≤ 256 }
-    ensures { AddsAll result reading.new (one_line board.now number reading.old line.now) }
+    requires { length words.old ≤ 257 }
+    ensures { AddsAll result reading.new (words_line board.now number reading.old words.old) }
 {
-    if !has_words(line) {
+    if words.is_done() {
         return Ok(());
     }
-    match reading.read(board, number, line) {
+    match reading.read(board, number, words) {
         Ok(()) => Ok(()),
         Err(LineStop::Fault(at)) => Err(OrNoMemory::Fault(LogFault::Log {
             line: number,
@@ -71,11 +74,12 @@ fn read_line(
     }
 }
 
-/// Whether the line is `end`, and the lines from `next` on have no words.
-fn is_last(line: &[u8], bytes: &[u8], next: usize) -> bool
-    ensures { result ≡ is_last line.now (lines_of (drop next bytes.now)) }
+/// Whether a line is `end`, and the lines from `next` on have no words.
+fn is_last(words: &LineWords, bytes: &[u8], next: usize) -> bool
+    ensures { result ≡ (is_word_alone (codes "end") words.now
+        && not (list_any has_words (lines_of (drop next bytes.now)))) }
 {
-    is_word_alone(line, b"end") && !have_words(bytes, next)
+    words.is_alone(b"end") && !have_words(bytes, next)
 }
 
 fn have_words(bytes: &[u8], from: usize) -> bool

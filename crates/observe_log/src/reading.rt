@@ -2,9 +2,8 @@ ghost use Rattle.std.specs.Prelude.{[]};
 ghost use Rattle.observe_log.specs.Reading.{KnowsEnds, TellsEnd};
 
 use crate::fault::{AtWord, LineStop};
-use crate::line::{data_fault, read_data, read_heading};
+use crate::line::{LineWords, data_fault, read_data, read_heading};
 use board_model::Board;
-use board_statements::Words;
 use observe_told::Seen;
 use pci_command::{List, Phase};
 use std::alloc::Global;
@@ -34,7 +33,6 @@ impl Model for Reading {
 
 impl Reading {
     ghost use Rattle.std.specs.Prelude.{◌≡◌, ◌≤◌, length};
-    ghost use Rattle.board_text.specs.Tokens.{words_of};
     ghost use Rattle.observe_log.specs.Lines.{nothing_read, line_read};
     ghost use Rattle.observe_log.specs.Reading.{Adds};
 
@@ -58,15 +56,19 @@ impl Reading {
         (List::from_vec(lines), List::from_vec(phases))
     }
 
-    /// Reads the line of this number.
-    pub(crate) fn read(&mut self, board: &Board, number: u32, line: &[u8]) -> Result<(), LineStop>
-        requires { length line.now ≤ 256 }
-        ensures { Adds result self.new (line_read board.now number self.old (words_of line.now)) }
+    /// Reads the line of this number, by its words.
+    pub(crate) fn read(
+        &mut self,
+        board: &Board,
+        number: u32,
+        words: &mut LineWords,
+    ) -> Result<(), LineStop>
+        requires { length words.old ≤ 257 }
+        ensures { Adds result self.new (line_read board.now number self.old words.old) }
     {
-        let mut words = Words::new(line);
-        let heading = read_heading(board, &mut words)?;
+        let heading = read_heading(board, words)?;
         let first = self.phases.len();
-        let (count, ending) = read_data(&mut words, &mut self.phases)?;
+        let (count, ending) = read_data(words, &mut self.phases)?;
         if let Some(fault) = data_fault(heading.command, heading.address, count, ending) {
             return Err(LineStop::Fault(fault));
         }

@@ -28,7 +28,7 @@ use Rattle.command_boards.specs.import.Answers.{AnswersImport, RefusesImport, Is
 use Rattle.command_boards.specs.tree.Answers.{AnswersTree}
 use Rattle.program_input.specs.Protocols.{RefusesProtocol, IsProtocolText}
 use Rattle.command_safe.specs.safe.Answers.{AnswersSafe}
-use Rattle.command_safe.specs.adverse.Operation.{names_operation}
+use Rattle.judge_adverse.specs.Operation.{names_operation}
 use Rattle.command_safe.specs.adverse.Answers.{AnswersAdverse, RefusesAdverse, IsShowable}
 use Rattle.command_observe.specs.Answers.{AnswersObserve, AnswersActs, RefusesObserve, IsToldSurely}
 use Rattle.program_words.specs.declared.Form.{Form}

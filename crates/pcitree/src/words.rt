@@ -5,8 +5,8 @@ ghost use Rattle.pcitree.specs.Words.{names_file, fits, fitting, is_of, form_of,
 ghost use Rattle.pcitree.specs.Given.{number_in, number_of};
 
 use command_runs::names_rounds;
-use command_safe::names_operation;
 use command_traces::{Rows, names_event, rows_of};
+use judge_adverse::names_operation;
 use program_words::{FORMS, Form, Part};
 
 /// Whether the word, behind another, is as the part has it.

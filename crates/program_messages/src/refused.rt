@@ -6,4 +6,4 @@ mod reading;
 
 pub use cut::{SomeLines, board_part, without_lines, word_lines};
 pub use leaving_out::smallest;
-pub use reading::{TOO_LONG, is_refused};
+pub use reading::TOO_LONG;

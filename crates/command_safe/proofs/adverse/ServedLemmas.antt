@@ -12,7 +12,7 @@ use Rattle.program_status.specs.Subjects.Subject.{Memory, Input}
 use Rattle.program_status.specs.declared.status.Status.{Status}
 use Rattle.program_status.specs.declared.status.Status.TheVariants.{NoMemory, NotShown}
 use Rattle.judge_adverse.specs.declared.run.Pair.{Pair}
-use Rattle.command_safe.specs.adverse.Operation.{read_of, write_of}
+use Rattle.judge_adverse.specs.Operation.{read_of, write_of}
 use Rattle.judge_adverse.specs.Runs.{MayWait, GoesOnElse}
 use Rattle.command_safe.specs.adverse.Answers.{NamesPair, IsHidden, IsShowable, RefusesAdverse}
 use Rattle.command_safe.specs.adverse.Answers.IsHidden.{no_pair, waits}

@@ -8,7 +8,7 @@ use Rattle.program_status.specs.declared.status.Status.{Status}
 use Rattle.program_status.specs.declared.status.Status.TheVariants.{NoMemory, NotShown}
 use Rattle.trace_roundtrip.specs.Printed.{IsTraceOf}
 use Rattle.judge_adverse.specs.declared.run.Pair.{Pair}
-use Rattle.command_safe.specs.adverse.Operation.{read_of, write_of}
+use Rattle.judge_adverse.specs.Operation.{read_of, write_of}
 use Rattle.judge_adverse.specs.Runs.{IsAdverse, MayWait, GoesOnElse}
 
 -- the words name this read and this write of the board

@@ -4,9 +4,8 @@ ghost use Rattle.command_safe.specs.adverse.Answers.{AnswersAdverse, RefusesAdve
 ghost use Rattle.command_safe.specs.adverse.Answers.{NamesPair, IsNoPair, ShowsPair};
 ghost use Rattle.command_safe.specs.adverse.Answers.{ShowsAdverse, HidesPair, HidesAs};
 
-use crate::adverse::operation::{read_of, write_of};
 use board_tree::Tree;
-use judge_adverse::{Pair, adverse_run};
+use judge_adverse::{Pair, adverse_run, read_of, write_of};
 use program_input::read_protocol;
 use program_status::Status;
 use std::alloc::Global;

@@ -1,11 +1,15 @@
 ghost use Rattle.std.specs.Prelude.{◌≡◌, ◌≤◌, [], length};
-ghost use Rattle.observe_log.specs.Lines.{ending_of, data_read, data_fault, is_single};
+ghost use Rattle.observe_log.specs.Lines.{abort_of, ending_of, data_read, data_fault, is_single};
 ghost use Rattle.observe_log.specs.Lines.{is_single_write, needs_data, most_offered, past_offered};
 ghost use Rattle.observe_log.specs.Lines.{past_space, room_from};
-ghost use Rattle.observe_log.specs.Data.{TellsData, ending_at_front, behind_ending};
+ghost use Rattle.board_statements.specs.Words.{data_word_of};
+ghost use Rattle.observe_log.specs.Data.{TellsData};
+ghost use Rattle.observe_log.specs.Plain.{StandsAlone, Reads};
 
 use crate::fault::{AtWord, LineStop, misread};
-use board_statements::Words;
+use crate::line::LineWords;
+use crate::line::words::number_in;
+use board_statements::{Words, is_word};
 use observe_told::{Addressed, Ending};
 use pci_command::{Command, Phase, Space};
 use text_faults::LogLineFault;
@@ -13,43 +17,74 @@ use text_faults::LogLineFault;
 /// `WORD.. RESULT`, up to the end of the line: how many data words stand there, and how the
 /// transaction ended. The data words are put behind the phases.
 pub(crate) fn read_data(
-    words: &mut Words,
+    words: &mut LineWords,
     phases: &mut Vec<Phase>,
 ) -> Result<(usize, Ending), LineStop>
     requires { length words.old ≤ 1000 }
     ensures { TellsData result phases.old.items phases.new.items (data_read 5 [] words.old) }
 {
     let mut count = 0;
-    loop {
-        if let Some(ending) = take_ending(words) {
+    while let Some(word) = words.take() {
+        if let Some(ending) = ending_of(word) {
             if words.is_done() {
                 return Ok((count, ending));
             }
             return Err(LineStop::Fault(misread(count + 6)));
         }
-        match words.data_word() {
-            Ok(phase) => phases.push(phase)?,
-            Err(_other) => return Err(LineStop::Fault(misread(count + 5))),
+        match phase_of(word) {
+            Some(phase) => phases.push(phase)?,
+            None => return Err(LineStop::Fault(misread(count + 5))),
         }
         count += 1;
     }
+    Err(LineStop::Fault(misread(count + 5)))
 }
 
-/// RESULT, if it is the next word, which is then taken.
-fn take_ending(words: &mut Words) -> Option<Ending>
-    ensures tells { result ≡ ending_at_front words.old }
-    ensures takes { words.new ≡ behind_ending words.old }
+/// RESULT.
+fn ending_of(word: &[u8]) -> Option<Ending>
+    ensures { result ≡ ending_of word.now }
 {
-    if words.skips(b"done") {
-        Some(Ending::Done)
-    } else if words.skips(b"retry") {
-        Some(Ending::Retry)
-    } else if words.skips(b"tabort") {
+    match word {
+        b"done" => Some(Ending::Done),
+        b"retry" => Some(Ending::Retry),
+        _ => abort_of(word),
+    }
+}
+
+fn abort_of(word: &[u8]) -> Option<Ending>
+    ensures { result ≡ abort_of word.now }
+{
+    if is_word(word, b"tabort") {
         Some(Ending::TargetAbort)
-    } else if words.skips(b"nobody") {
+    } else if is_word(word, b"nobody") {
         Some(Ending::Nobody)
     } else {
         None
+    }
+}
+
+/// A data word as in boards: mostly HEX, with all bytes enabled.
+fn phase_of(word: &[u8]) -> Option<Phase>
+    requires { StandsAlone word.now }
+    ensures { Reads result (data_word_of word.now) }
+{
+    match number_in(word, 16, 8) {
+        Some(value) => Some(Phase {
+            value: value as u32,
+            enables: 15,
+        }),
+        None => marked_phase_of(word),
+    }
+}
+
+fn marked_phase_of(word: &[u8]) -> Option<Phase>
+    requires { StandsAlone word.now }
+    ensures { Reads result (data_word_of word.now) }
+{
+    let mut words = Words::new(word);
+    match words.data_word() {
+        Ok(phase) => Some(phase),
+        Err(_fault) => None,
     }
 }
 

@@ -1,13 +1,16 @@
 ghost use Rattle.std.specs.Prelude.{◌≡◌, true, [], ◌∷◌, MatchResult};
-ghost use Rattle.board_statements.specs.Words.{hex, long};
+ghost use Rattle.board_statements.specs.Words.{hex, hex_of, decimal_of, long, long_of};
+ghost use Rattle.observe_log.specs.Plain.{StandsAlone, Reads};
 ghost use Rattle.observe_log.specs.Readers.{Gives, misread, one_word, as_in_boards};
 ghost use Rattle.observe_log.specs.Words.{of_kind, times_of, bus_by, bus_form, who_in, command_of};
 ghost use Rattle.observe_log.specs.Words.{register_of, dword_by, address_in, heading_form};
 
 use crate::fault::{AtWord, misread};
-use crate::line::words::{command_of, register_of, times_of, who_in};
+use crate::line::LineWords;
+use crate::line::words::{command_of, number_in, register_of, times_of, who_in};
 use board_model::{Board, is_bus};
 use board_statements::Words;
+use board_text::{decimal, hex};
 use observe_told::{Addressed, Who};
 use pci_command::{Command, Space};
 use text_faults::LogLineFault;
@@ -25,7 +28,7 @@ pub(crate) struct Heading {
 
 /// `START-END BUS WHO COMMAND ADDRESS`
 #[tactic(auto, unfolding(crate::specs::Words::heading_form))]
-pub(crate) fn read_heading(board: &Board, words: &mut Words) -> Result<Heading, AtWord>
+pub(crate) fn read_heading(board: &Board, words: &mut LineWords) -> Result<Heading, AtWord>
     ensures { Gives result words.new (heading_form board.now words.old) }
 {
     let (start, end) = take_times(words)?;
@@ -44,27 +47,29 @@ pub(crate) fn read_heading(board: &Board, words: &mut Words) -> Result<Heading, 
 }
 
 /// The next word, which is at this place.
-fn next<'a>(words: &mut Words<'a>, place: usize) -> Result<&'a [u8], AtWord>
-    ensures { MatchResult result (λ word. words.old ≡ word.now ∷ words.new)
+fn next<'a>(words: &mut LineWords<'a>, place: usize) -> Result<&'a [u8], AtWord>
+    ensures { MatchResult result
+        (λ word. (words.old ≡ word.now ∷ words.new) × StandsAlone word.now)
         (λ fault. (fault ≡ misread place) × (words.old ≡ [])) }
 {
     match words.take() {
-        Ok(word) => Ok(word),
-        Err(_missing) => Err(misread(place)),
+        Some(word) => Ok(word),
+        None => Err(misread(place)),
     }
 }
 
-fn take_times(words: &mut Words) -> Result<(u64, u64), AtWord>
+fn take_times(words: &mut LineWords) -> Result<(u64, u64), AtWord>
     ensures { Gives result words.new (one_word 0 (λ word. of_kind (times_of word)) words.old) }
 {
     let word = next(words, 0)?;
     times_of(word).ok_or(misread(0))
 }
 
-fn take_bus(board: &Board, words: &mut Words) -> Result<u8, AtWord>
+fn take_bus(board: &Board, words: &mut LineWords) -> Result<u8, AtWord>
     ensures { Gives result words.new (bus_form board.now words.old) }
 {
-    let Ok(number) = words.decimal(0, u32::MAX) else {
+    let word = next(words, 1)?;
+    let Some(number) = number_of(word) else {
         return Err(misread(1));
     };
     match u8::try_from(number) {
@@ -76,7 +81,17 @@ fn take_bus(board: &Board, words: &mut Words) -> Result<u8, AtWord>
     }
 }
 
-fn take_who(board: &Board, bus: u8, words: &mut Words) -> Result<Who, AtWord>
+/// A decimal as in boards.
+fn number_of(word: &[u8]) -> Option<u32>
+    ensures { Reads result (decimal_of 0 4294967295 word.now) }
+{
+    match decimal(word) {
+        Ok(number) => Some(number),
+        Err(_fault) => None,
+    }
+}
+
+fn take_who(board: &Board, bus: u8, words: &mut LineWords) -> Result<Who, AtWord>
     ensures { Gives result words.new (one_word 2 (who_in board.now bus) words.old) }
 {
     let word = next(words, 2)?;
@@ -89,14 +104,14 @@ fn take_who(board: &Board, bus: u8, words: &mut Words) -> Result<Who, AtWord>
     }
 }
 
-fn take_command(words: &mut Words) -> Result<Command, AtWord>
+fn take_command(words: &mut LineWords) -> Result<Command, AtWord>
     ensures { Gives result words.new (one_word 3 (λ word. of_kind (command_of word)) words.old) }
 {
     let word = next(words, 3)?;
     command_of(word).ok_or(misread(3))
 }
 
-fn take_address(space: Space, words: &mut Words) -> Result<Addressed, AtWord>
+fn take_address(space: Space, words: &mut LineWords) -> Result<Addressed, AtWord>
     ensures { Gives result words.new (address_in space words.old) }
 {
     match space {
@@ -106,25 +121,59 @@ fn take_address(space: Space, words: &mut Words) -> Result<Addressed, AtWord>
     }
 }
 
-fn take_memory_address(words: &mut Words) -> Result<Addressed, AtWord>
+fn take_memory_address(words: &mut LineWords) -> Result<Addressed, AtWord>
     ensures { Gives result words.new (dword_by (as_in_boards 4 (long true words.old))) }
 {
-    match words.long(true) {
-        Ok(address) if address % 4 == 0 => Ok(Addressed::Byte(address)),
+    let word = next(words, 4)?;
+    match long_of(word) {
+        Some(address) if address % 4 == 0 => Ok(Addressed::Byte(address)),
         _ => Err(misread(4)),
     }
 }
 
-fn take_port_address(words: &mut Words) -> Result<Addressed, AtWord>
+/// An address as in boards: mostly HEX, else `UPPER:LOWER`.
+fn long_of(word: &[u8]) -> Option<u64>
+    requires { StandsAlone word.now }
+    ensures { Reads result (long_of true word.now) }
+{
+    match number_in(word, 16, 8) {
+        Some(number) => Some(number),
+        None => marked_long_of(word),
+    }
+}
+
+fn marked_long_of(word: &[u8]) -> Option<u64>
+    requires { StandsAlone word.now }
+    ensures { Reads result (long_of true word.now) }
+{
+    let mut words = Words::new(word);
+    match words.long(true) {
+        Ok(number) => Some(number),
+        Err(_fault) => None,
+    }
+}
+
+fn take_port_address(words: &mut LineWords) -> Result<Addressed, AtWord>
     ensures { Gives result words.new (dword_by (as_in_boards 4 (hex 8 words.old))) }
 {
-    match words.hex() {
-        Ok(address) if address % 4 == 0 => Ok(Addressed::Byte(u64::from(address))),
+    let word = next(words, 4)?;
+    match port_of(word) {
+        Some(address) if address % 4 == 0 => Ok(Addressed::Byte(u64::from(address))),
         _ => Err(misread(4)),
     }
 }
 
-fn take_register(words: &mut Words) -> Result<Addressed, AtWord>
+/// HEX as in boards.
+fn port_of(word: &[u8]) -> Option<u32>
+    ensures { Reads result (hex_of 8 word.now) }
+{
+    match hex(word, 8) {
+        Ok(number) => Some(number),
+        Err(_fault) => None,
+    }
+}
+
+fn take_register(words: &mut LineWords) -> Result<Addressed, AtWord>
     ensures { Gives result words.new (one_word 4 (λ word. of_kind (register_of word)) words.old) }
 {
     let word = next(words, 4)?;

@@ -1,12 +1,13 @@
 //! What one word is read as.
-ghost use Rattle.std.specs.Prelude.{◌≡◌, ◌<◌, ◌≤◌, ◌^◌, length, is_some, nat_le, true, Ok, IfSome};
+ghost use Rattle.std.specs.Prelude.{◌≡◌, ◌<◌, ◌≤◌, ◌^◌, length, is_some, nat_le, true, false, Ok};
+ghost use Rattle.std.specs.Prelude.{IfSome, MatchOption};
 ghost use Rattle.std.specs.Option.{option_map, option_and_then};
-ghost use Rattle.std.specs.List.{list_all, position};
-ghost use Rattle.std.specs.Char.{is_digit};
+ghost use Rattle.std.specs.List.{position};
 ghost use Rattle.std.specs.Str.Parse.{digits_value};
 ghost use Rattle.board_model.specs.declared.agents.Master.{Master as MasterAgent};
-ghost use Rattle.board_text.specs.Numbers.{is_numeral, decimal_answer};
-ghost use Rattle.observe_log.specs.Words.{time_of, ordered, times_of, is_driver, as_place};
+ghost use Rattle.board_text.specs.Numbers.{decimal_answer};
+ghost use Rattle.observe_log.specs.Words.{is_short_numeral, time_of, ordered, times_of};
+ghost use Rattle.observe_log.specs.Words.{is_driver, as_place};
 ghost use Rattle.observe_log.specs.Words.{bridge_by, lane_to, lane_in, who_by, who_in};
 ghost use Rattle.observe_log.specs.Words.{register_command_of, command_of, part_of, device_of};
 ghost use Rattle.observe_log.specs.Words.{type_0_of, type_1_of, behind_dot, register_of};
@@ -50,42 +51,37 @@ fn ordered(start: u64, end: u64) -> Option<(u64, u64)>
 fn time_of(word: &[u8]) -> Option<u64>
     ensures { result ≡ time_of word.now }
 {
-    if is_numeral(word) && word.len() <= 18 {
-        Some(value_of(word))
-    } else {
-        None
+    match number_in(word, 10, 18) {
+        Some(time) => Some(time),
+        None => None,
     }
 }
 
-fn is_numeral(word: &[u8]) -> bool
-    ensures { result ≡ is_numeral 10 word.now }
+/// The number that 1 to `most` digits of this base write, read in one pass.
+#[inline(always)]
+pub(crate) fn number_in(word: &[u8], radix: u32, most: usize) -> Option<u64>
+    requires base { 0 < radix }
+    requires fits { radix ^ most ≤ 2 ^ 64 }
+    ensures number { MatchOption result (is_short_numeral radix most word.now ≡ false)
+        (λ number. (is_short_numeral radix most word.now ≡ true) ×
+        (number ≡ digits_value radix word.now)) }
+    ensures below { IfSome result (λ number. number < radix ^ most) }
 {
-    !word.is_empty() && are_digits(word)
-}
-
-fn are_digits(word: &[u8]) -> bool
-    ensures { result ≡ list_all (λ byte. is_digit byte 10) word.now }
-{
-    word.iter().all(|byte| is_digit(*byte))
-}
-
-fn is_digit(byte: u8) -> bool
-    ensures { result ≡ is_digit byte 10 }
-{
-    value_of_digit(byte) < 10
-}
-
-/// The number that at most 18 digits write.
-fn value_of(word: &[u8]) -> u64
-    requires digits { list_all (λ byte. is_digit byte 10) word.now ≡ true }
-    requires short { length word.now ≤ 18 }
-    ensures { result ≡ digits_value 10 word.now }
-{
-    let mut value = 0;
+    if word.is_empty() {
+        return None;
+    }
+    if word.len() > most {
+        return None;
+    }
+    let mut value: u64 = 0;
     for byte in word {
-        value = value * 10 + u64::from(value_of_digit(*byte));
+        let digit = value_of_digit(*byte);
+        if digit >= radix {
+            return None;
+        }
+        value = value * u64::from(radix) + u64::from(digit);
     }
-    value
+    Some(value)
 }
 
 /// A master of the board on the bus, or a lane that ends on it.
@@ -161,34 +157,25 @@ fn bridge_in(board: &Board, number: &[u8]) -> Option<u8>
 pub(crate) fn command_of(word: &[u8]) -> Option<Command>
     ensures { result ≡ command_of word.now }
 {
-    if is_word(word, b"mr") {
-        Some(Command::MemRead)
-    } else if is_word(word, b"mrl") {
-        Some(Command::MemReadLine)
-    } else if is_word(word, b"mrm") {
-        Some(Command::MemReadMultiple)
-    } else if is_word(word, b"ior") {
-        Some(Command::IoRead)
-    } else if is_word(word, b"mw") {
-        Some(Command::MemWrite)
-    } else if is_word(word, b"mwi") {
-        Some(Command::MemWriteInvalidate)
-    } else if is_word(word, b"iow") {
-        Some(Command::IoWrite)
-    } else {
-        register_command_of(word)
+    match word {
+        b"mr" => Some(Command::MemRead),
+        b"mrl" => Some(Command::MemReadLine),
+        b"mrm" => Some(Command::MemReadMultiple),
+        b"ior" => Some(Command::IoRead),
+        b"mw" => Some(Command::MemWrite),
+        b"mwi" => Some(Command::MemWriteInvalidate),
+        b"iow" => Some(Command::IoWrite),
+        _ => register_command_of(word),
     }
 }
 
 fn register_command_of(word: &[u8]) -> Option<Command>
     ensures { result ≡ register_command_of word.now }
 {
-    if is_word(word, b"cfr") {
-        Some(Command::CfgRead)
-    } else if is_word(word, b"cfw") {
-        Some(Command::CfgWrite)
-    } else {
-        None
+    match word {
+        b"cfr" => Some(Command::CfgRead),
+        b"cfw" => Some(Command::CfgWrite),
+        _ => None,
     }
 }
 

@@ -1,30 +1,31 @@
-use Rattle.std.proofs.Common.{◌≡◌, ◌∷◌, true, false, drop, ap, sym, ◌∙◌, arith}
+use Rattle.std.proofs.Common.{◌≡◌, ◌∷◌, false, drop, ap, sym, ◌∙◌, arith}
 use Rattle.board_text.specs.Lines.{lines_of}
-use Rattle.observe_log.specs.Boards.{is_readable}
 use Rattle.observe_log.specs.Logs.{is_last, lines_read}
-use Rattle.observe_log.proofs.LineLemmas.{line_more, all_fail}
+use Rattle.observe_log.proofs.LineLemmas.{not_last, line_more, all_fail}
 use Rattle.observe_log.proofs.lines.read_lines.Goals as goal
 
 pub returns-in-Err : goal.returns-in-Err
 returns-in-Err c =
     let text = c.args.bytes.now in
     let line = c.in-Some.line.now in
+    let words = c.in-Some-words_at.words in
+    let cut = c.in-Some-words_at.ensures.readable in
     let rest = lines_of (drop c.in-Some.next text) in
-    let readable : is_readable line ≡ true = sym c.is_readable.ensures.readable ∙ c.if-not-is_readable.false in
-    let more : is_last line rest ≡ false = sym c.is_last.ensures ∙ c.if-is_last.false in
+    let more : is_last line rest ≡ false = not_last line rest words c.is_last.result cut.1 c.is_last.ensures c.if-is_last.false in
     let whole : lines_read c.args.board.now c.loop-line.number c.loop-line.reading (line ∷ rest) ≡ lines_read c.args.board.now c.args.first c.args.reading.now (lines_of (drop c.args.from text)) =
     ap (lines_read c.args.board.now c.loop-line.number c.loop-line.reading) (sym c.in-Some.ensures.line) ∙ c.loop-line.invariant.lines in
-    all_fail c.args.board.now c.loop-line.number c.loop-line.reading c.read_line.new.reading line rest _ readable more whole c.in-Err.fault c.in-Err.ensures
+    all_fail c.args.board.now c.loop-line.number c.loop-line.reading c.read_line.new.reading line rest words _ cut.0 more cut.1 whole c.in-Err.fault c.in-Err.ensures
 
 pub loop-line-preserved : goal.loop-line-preserved
 loop-line-preserved c =
     let text = c.args.bytes.now in
     let line = c.in-Some.line.now in
+    let words = c.in-Some-words_at.words in
+    let cut = c.in-Some-words_at.ensures.readable in
     let rest = lines_of (drop c.in-Some.next text) in
     let old = c.loop-line.invariant in
-    let readable : is_readable line ≡ true = sym c.is_readable.ensures.readable ∙ c.if-not-is_readable.false in
-    let more : is_last line rest ≡ false = sym c.is_last.ensures ∙ c.if-is_last.false in
-    let step = line_more c.args.board.now c.loop-line.number c.loop-line.reading c.read_line.new.reading line rest readable more c.in-Ok.ensures in
+    let more : is_last line rest ≡ false = not_last line rest words c.is_last.result cut.1 c.is_last.ensures c.if-is_last.false in
+    let step = line_more c.args.board.now c.loop-line.number c.loop-line.reading c.read_line.new.reading line rest words cut.0 more cut.1 c.in-Ok.ensures in
     let whole : lines_read c.args.board.now c.loop-line.number c.loop-line.reading (line ∷ rest) ≡ lines_read c.args.board.now c.args.first c.args.reading.now (lines_of (drop c.args.from text)) =
     ap (lines_read c.args.board.now c.loop-line.number c.loop-line.reading) (sym c.in-Some.ensures.line) ∙ old.lines in
     record {

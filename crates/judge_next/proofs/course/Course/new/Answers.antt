@@ -1,4 +1,4 @@
-use Rattle.std.proofs.Common.{◌≡◌, Bool, true, false, List, replicate, Some, length, sym, ap, slice_get, subst}
+use Rattle.std.proofs.Common.{◌≡◌, Bool, true, List, Some, sym, slice_get, subst}
 use Rattle.board_model.specs.Fits.{BoardFits}
 use Rattle.judge_next.specs.Lines.{AreLines}
 use Rattle.judge_next.specs.Flights.{KnowsFlights}
@@ -9,13 +9,12 @@ use Rattle.judge_next.proofs.course.Course.new.Goals as goal
 pub returns : goal.returns
 returns c = λ h stands.
     let lines : AreLines c.args.tree.now c.in_ok-lines.lines.items = subst (λ board. AreLines board c.in_ok-lines.lines.items) c.board-board.ensures.value c.in_ok-lines.ensures in
-    let none : c.in_ok-quiet.quiet.items ≡ replicate 256 false = c.in_ok-quiet.ensures.items_if_clones_equal (λ _ e. e) in
     record {
       stands = stands;
       fits = subst BoardFits c.board-board.ensures.value c.board_fits.ensures;
       lines = lines;
-      all_buses = ap length none;
-      quiet = λ bus is. absurd (none_stands 256 bus (subst (λ (flags : List Bool). slice_get flags bus ≡ Some true) none is));
+      flags = c.in_ok-quiet.ensures.flags;
+      quiet = λ bus is. absurd (none_stands 256 bus (subst (λ (flags : List Bool). slice_get flags bus ≡ Some true) c.in_ok-quiet.ensures.none is));
       flights = subst (λ board. KnowsFlights board c.args.kept c.in_ok-flights.flights) c.board-board.ensures.value c.in_ok-flights.ensures;
     }
 

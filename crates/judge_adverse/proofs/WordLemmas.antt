@@ -6,7 +6,7 @@ use Rattle.pci_command.specs.declared.phases.Phase.{Phase}
 use Rattle.pci_command.specs.declared.request.Request.{Request}
 use Rattle.board_model.specs.declared.agents.Target.{Target as TargetAgent}
 use Rattle.board_model.specs.Ways.{aborts_at, dwords_from, dwords_of, words_at}
-use Rattle.command_safe.specs.adverse.Operation.{has_word_in}
+use Rattle.judge_adverse.specs.Operation.{has_word_in}
 
 -- a list with a member is not empty
 filled : {X : Type 0} (x : X) (xs : List X) → nat_lt 0 (length (x ∷ xs)) ≡ true

@@ -9,8 +9,8 @@ ghost use Rattle.history_model.specs.Knowledge.{words_named};
 ghost use Rattle.safe_model.specs.Clocks.{is_poll};
 ghost use Rattle.trace_reader.specs.lines.Words.{at_most, number_of, master_in, has_no_zero_before};
 ghost use Rattle.judge_adverse.specs.Runs.{reads_word};
-ghost use Rattle.command_safe.specs.adverse.Operation.{has_word_in, is_index, names_operation};
-ghost use Rattle.command_safe.specs.adverse.Operation.{operation_of, read_of, write_of};
+ghost use Rattle.judge_adverse.specs.Operation.{has_word_in, is_index, names_operation};
+ghost use Rattle.judge_adverse.specs.Operation.{operation_of, read_of, write_of};
 
 use board_model::{Board, Master, Name, Op, Place, Target, is_in_ranges, op_of, request_on};
 use board_statements::parts;
@@ -55,7 +55,7 @@ fn has_no_zero_before(digits: &[u8]) -> bool
 
 /// The read, no poll, of a word that the word names. There is none exactly where it names no such
 /// read.
-pub(crate) fn read_of(tree: &Tree, word: &[u8]) -> Option<OpId>
+pub fn read_of(tree: &Tree, word: &[u8]) -> Option<OpId>
     ensures { result ≡ read_of tree.now word.now }
 {
     let board = tree.board();
@@ -68,7 +68,7 @@ pub(crate) fn read_of(tree: &Tree, word: &[u8]) -> Option<OpId>
 }
 
 /// The write that the word names. There is none exactly where it names no write.
-pub(crate) fn write_of(tree: &Tree, word: &[u8]) -> Option<OpId>
+pub fn write_of(tree: &Tree, word: &[u8]) -> Option<OpId>
     ensures { result ≡ write_of tree.now word.now }
 {
     let board = tree.board();
@@ -152,7 +152,7 @@ fn has_word(board: &Board, op: OpId) -> bool
 }
 
 /// The same from the bus on.
-#[tactic(auto, using(crate::proofs::adverse::WordLemmas::words_in))]
+#[tactic(auto, using(crate::proofs::WordLemmas::words_in))]
 fn has_word_from(board: &Board, op: &Op, bus: u8) -> bool
     requires { IsDecodable board.now }
     ensures { result ≡ nat_lt 0 (length (words_of board.now op.now bus)) }
