@@ -4,6 +4,7 @@ ghost use Rattle.pci_command.specs.declared.request.Request.{Request as RequestO
 ghost use Rattle.board_model.specs.declared.board.Board.{Board as BoardTree};
 ghost use Rattle.board_model.specs.declared.bridge.Place.TheVariants.{Target, Lane as LaneOf};
 ghost use Rattle.history_model.specs.Answers.{header_answer, bridge_to};
+ghost use Rattle.board_model.specs.Claims.{claim};
 ghost use Rattle.board_model.specs.WellFormed.{is_well_formed};
 
 use crate::Given;
@@ -13,7 +14,8 @@ use crate::places::{
 use crate::port::Port;
 use crate::steps::{as_answer, nobody, rest_of, sent_over, step_of};
 use arrayvec::ArrayVec;
-use board_model::{Board, Lane, Place, claim, request_of};
+use board_model::{Board, Lane, Place, request_of};
+use board_tree::{Tree, claim_with};
 use bus_agents::{MasterState, Through};
 use bus_face::Offer;
 use bus_targets::TargetState;
@@ -125,7 +127,7 @@ impl Bus {
     /// What the operation is answered that the initiator of this line presents, with what that does
     /// at whoever claims it; a Retry changes nothing. What goes over a bridge has the stamp. None, and
     /// nothing is done, where a lane presents it and its lane back claims it.
-    pub fn answer(&mut self, board: &Board, line: u8, op: OpId, stamp: u32) -> Option<Given>
+    pub fn answer(&mut self, board: &Tree, line: u8, op: OpId, stamp: u32) -> Option<Given>
         requires { IsTrue (is_well_formed board.now) }
         ensures shape { shape_of self.new ≡ shape_of self.old }
         ensures arrivals { arrivals_at self.new ≡ arrivals_at self.old }
@@ -137,7 +139,7 @@ impl Bus {
         ensures retried { IfSome result (λ given. BusStaysAtRetry self.old given.answer self.new) }
         ensures turns { IfNone result (TurnsBack board.now self.old line op) }
     {
-        match request_of(board, op, self.bus) {
+        match request_of(board.board(), op, self.bus) {
             Some(request) => self.answer_request(board, line, op, &request, stamp),
             None => Some(nobody()),
         }
@@ -146,7 +148,7 @@ impl Bus {
     /// The same of an operation with this request.
     fn answer_request(
         &mut self,
-        board: &Board,
+        board: &Tree,
         line: u8,
         op: OpId,
         request: &Request,
@@ -164,9 +166,10 @@ impl Bus {
         ensures turns { IfNone result (RequestTurns board.now self.old line op request.now) }
     {
         let rest = rest_of(request, self.through.of(op));
-        match claim(board, self.bus, &rest) {
-            Place::Target(target) => Some(self.target_answer(board, target, op, &rest)),
-            Place::Header(bus) => Some(header_given(board, bus, &rest)),
+        let plain = board.board();
+        match claim_on(board, self.bus, &rest) {
+            Place::Target(target) => Some(self.target_answer(plain, target, op, &rest)),
+            Place::Header(bus) => Some(header_given(plain, bus, &rest)),
             Place::Lane(lane) => self.lane_answer(lane, line, op, request, stamp),
             Place::Nobody => Some(nobody()),
         }
@@ -230,6 +233,21 @@ impl Bus {
             }
         }
     }
+}
+
+/// Who claims the request on the bus.
+fn claim_on(board: &Tree, bus: u8, request: &Request) -> Place
+    ensures { result ≡ claim board.now bus request.now }
+{
+    let plain = board.board();
+    let space = request.command.space();
+    claim_with(
+        plain,
+        Some(board.sites()),
+        bus,
+        space,
+        u128::from(request.address),
+    )
 }
 
 /// The header of a bridge is read.

@@ -14,6 +14,7 @@ ghost use Rattle.bus_core.specs.Serves.{Serves, SendsStamped, SendsApart, IsAt, 
 use crate::places::{end_at, tell_master, want_at};
 use crate::{Acted, Bus, Sent, Served};
 use board_model::{Board, Lane};
+use board_tree::Tree;
 use bus_face::Offer;
 use history_model::{Answer, By, Event, Step};
 use machine_steps::lane_outcome;
@@ -22,7 +23,7 @@ use pci_command::OpId;
 impl Bus {
     /// The master at this place presents its turn, if its program did not end. A Retry changes
     /// nothing.
-    pub fn serve_master(&mut self, board: &Board, place: u8, stamp: u32) -> Served
+    pub fn serve_master(&mut self, board: &Tree, place: u8, stamp: u32) -> Served
         requires formed { IsTrue (is_well_formed board.now) }
         requires place { place < length self.old.masters }
         requires few { 9 + place < 256 }
@@ -40,7 +41,7 @@ impl Bus {
     }
 
     /// The operation is the turn of the master at this place.
-    fn serve_turn(&mut self, board: &Board, place: u8, op: OpId, stamp: u32) -> Served
+    fn serve_turn(&mut self, board: &Tree, place: u8, op: OpId, stamp: u32) -> Served
         requires formed { IsTrue (is_well_formed board.now) }
         requires place { place < length self.old.masters }
         requires few { 9 + place < 256 }
@@ -51,12 +52,13 @@ impl Bus {
         ensures serves { (master : MasterView) → slice_get self.old.masters place ≡ Some master → master.turn ≡ Some op → Serves board.now Master op self.old result self.new }
         ensures retried { result ≡ Retried → self.new ≡ self.old }
     {
+        let plain = board.board();
         match self.answer(board, 9 + place, op, stamp) {
             None => Served::TurnsBack,
             Some(given) => match given.answer {
                 Answer::Retry { .. } => Served::Retried,
                 Answer::Gives { step, place: at } => {
-                    tell_master(self.masters.as_mut_slice(), place as usize, board, step);
+                    tell_master(self.masters.as_mut_slice(), place as usize, plain, step);
                     let event = Event::Act {
                         bus: self.bus,
                         by: By::Master,
@@ -76,7 +78,7 @@ impl Bus {
 
     /// The lane of the port at this place presents what it offers. Its line is its place. A Retry
     /// changes nothing.
-    pub fn serve_offer(&mut self, board: &Board, place: u8, offer: &Offer, stamp: u32) -> Served
+    pub fn serve_offer(&mut self, board: &Tree, place: u8, offer: &Offer, stamp: u32) -> Served
         requires formed { IsTrue (is_well_formed board.now) }
         requires place { place < length self.old.ports }
         requires offered { IfSome (slice_get self.old.ports place)
@@ -88,13 +90,14 @@ impl Bus {
         ensures serves { (port : PortView) → slice_get self.old.ports place ≡ Some port → Serves board.now (ByLane port.lane) offer.now.op self.old result self.new }
         ensures retried { result ≡ Retried → self.new ≡ self.old }
     {
+        let plain = board.board();
         match self.answer(board, place, offer.op, stamp) {
             None => Served::TurnsBack,
             Some(given) => match given.answer {
                 Answer::Retry { .. } => Served::Retried,
                 Answer::Gives { step, place: at } => {
                     let lane = self.lane_of(place as usize);
-                    let back = self.tell_lane(board, place as usize, offer, step, stamp);
+                    let back = self.tell_lane(plain, place as usize, offer, step, stamp);
                     let event = Event::Act {
                         bus: self.bus,
                         by: By::Lane(lane),

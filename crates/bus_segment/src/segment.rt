@@ -13,6 +13,7 @@ ghost use Rattle.bus_segment.specs.Turn.{Does, Records, Finishes, Keeps, Takes};
 
 use crate::ends::{has_room, receive_at, send_at, send_both, sent_at, stamp_of};
 use board_model::{Board, Lane};
+use board_tree::Tree;
 use bus_core::{Acted, Arrival, Bus, Served};
 use bus_face::Offer;
 use history_model::{Event, Stamped};
@@ -127,7 +128,7 @@ impl<L: LaneEnd + Drop> Segment<L> {
 
     /// The master at this place is granted the bus: it presents its turn, if its program did not
     /// end.
-    pub fn serve_master(&mut self, board: &Board, place: u8)
+    pub fn serve_master(&mut self, board: &Tree, place: u8)
         requires formed { IsTrue (is_well_formed board.now) }
         requires place { place < length self.old.bus.masters }
         requires few { 9 + place < 256 }
@@ -155,7 +156,7 @@ impl<L: LaneEnd + Drop> Segment<L> {
     }
 
     /// The lane of the port at this place is granted the bus, and presents what it offers.
-    pub fn serve_offer(&mut self, board: &Board, place: u8, offer: &Offer)
+    pub fn serve_offer(&mut self, board: &Tree, place: u8, offer: &Offer)
         requires formed { IsTrue (is_well_formed board.now) }
         requires place { place < length self.old.bus.ports }
         requires offered { IfSome (slice_get self.old.bus.ports place)

@@ -23,6 +23,7 @@ pub fn merge(alloc: Global, parts: List<List<Stamped>>) -> Result<List<Event>, N
         (λ events. history_of events ≡ events_of (reverse (merged parts))) }
 {
     let all = gather(alloc, parts.as_slice())?;
+    drop(parts);
     let sorted = sort(all)?;
     strip(alloc, sorted.as_slice())
 }

@@ -4,7 +4,7 @@ ghost use Rattle.bus_segment.specs.turns.Works.{GivesOnlyRetries};
 ghost use Rattle.engine_runs.specs.Loop.{seen, all_seen, IsReady, AreReady, Worked, AllWorked};
 ghost use Rattle.engine_runs.specs.Loop.{AreMarkedIdle};
 
-use board_model::Board;
+use board_tree::Tree;
 use bus_segment::Worker;
 use lane_items::LaneEnd;
 use pci_command::NoMemory;
@@ -14,7 +14,7 @@ use pci_command::NoMemory;
 pub(crate) fn work_all<L: LaneEnd + Drop>(
     workers: &mut [Worker<L>],
     idle: &mut [bool],
-    board: &Board,
+    board: &Tree,
     phase: u32,
 ) -> Result<bool, NoMemory>
     requires valid { IsValid board.now }
@@ -37,7 +37,7 @@ pub(crate) fn work_all<L: LaneEnd + Drop>(
 fn work<L: LaneEnd + Drop>(
     worker: &mut Worker<L>,
     idle: &mut bool,
-    board: &Board,
+    board: &Tree,
     phase: u32,
 ) -> Result<bool, NoMemory>
     requires valid { IsValid board.now }

@@ -10,7 +10,6 @@ use crate::first::{all_above, all_workers};
 use crate::merging::merge_all;
 use crate::phase::work_all;
 use crate::settling::{Above, settle_all};
-use board_model::Board;
 use board_tree::Tree;
 use bus_segment::Worker;
 use engine_phases::{
@@ -37,7 +36,7 @@ pub fn run_steady(alloc: Global, tree: &Tree) -> Result<List<Event>, NoMemory>
     let segments = segments(alloc, tree, ends)?;
     let workers = all_workers(alloc, segments)?;
     let above = all_above(alloc, tree.board())?;
-    run_all(alloc, tree.board(), workers, above.as_slice())
+    run_all(alloc, tree, workers, above.as_slice())
 }
 
 /// More phases than there ever are: each but the last one makes an event.
@@ -47,7 +46,7 @@ const TOO_MANY_PHASES: u32 = 500_001;
 /// board.
 fn run_all<L: LaneEnd + Drop>(
     alloc: Global,
-    board: &Board,
+    board: &Tree,
     mut workers: Vec<Worker<L>>,
     above: &[Above],
 ) -> Result<List<Event>, NoMemory>
@@ -74,7 +73,7 @@ fn none_idle(alloc: Global, buses: usize) -> Result<Vec<bool>, NoMemory>
 fn run_phases<L: LaneEnd + Drop>(
     workers: &mut [Worker<L>],
     idle: &mut [bool],
-    board: &Board,
+    board: &Tree,
     above: &[Above],
 ) -> Result<(), NoMemory>
     requires valid { IsValid board.now }
@@ -97,7 +96,7 @@ fn run_phases<L: LaneEnd + Drop>(
 fn run_phase<L: LaneEnd + Drop>(
     workers: &mut [Worker<L>],
     idle: &mut [bool],
-    board: &Board,
+    board: &Tree,
     above: &[Above],
     phases: u32,
 ) -> Result<bool, NoMemory>

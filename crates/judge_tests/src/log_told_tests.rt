@@ -1,4 +1,10 @@
+ghost use Rattle.std.specs.Prelude.{IsTrue};
+ghost use Rattle.board_model.specs.WellFormed.{is_well_formed};
+
+use board_model::Board;
+use history_model::Event;
 use observe_log::{is_told, read_log};
+use observe_told::Log;
 use std::test::Fail;
 use trace_reader::read_trace;
 
@@ -38,17 +44,27 @@ events
 end 5
 ";
 
+/// The line of each act, from 0; and the same with the last ones the wrong way round.
+const LINES: [u32; 5] = [0, 1, 2, 3, 4];
+
+const CROSSED: [u32; 5] = [0, 1, 4, 3, 2];
+
 #[test]
 fn a_run_is_told_by_its_log(rt: HostRuntime) -> Result<(), Fail> {
     let log = read_log(rt.alloc(), LOG)?;
     let (board, acts) = read_trace(rt.alloc(), TRACE)?;
-    let in_order = [0, 1, 2, 3, 4];
-    let told = is_told(rt.alloc(), &log, &board, acts.as_slice(), &in_order)?;
+    told_in_order(&rt, &log, &board, acts.as_slice())
+}
+
+/// By the lines in this order, and not by others, nor for another board.
+fn told_in_order(rt: &HostRuntime, log: &Log, board: &Board, acts: &[Event]) -> Result<(), Fail>
+    requires { IsTrue (is_well_formed log.now.board) }
+{
+    let told = is_told(rt.alloc(), log, board, acts, LINES.as_slice())?;
     assert!(rt; told);
-    let crossed = [0, 1, 4, 3, 2];
-    let told = is_told(rt.alloc(), &log, &board, acts.as_slice(), &crossed)?;
+    let told = is_told(rt.alloc(), log, board, acts, CROSSED.as_slice())?;
     assert!(rt; !told);
-    let told = is_told(rt.alloc(), &log, &log.board, acts.as_slice(), &in_order)?;
+    let told = is_told(rt.alloc(), log, &log.board, acts, LINES.as_slice())?;
     assert!(rt; !told);
     Ok(())
 }

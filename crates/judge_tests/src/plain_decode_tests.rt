@@ -11,6 +11,7 @@ use board_model::{Bridge, Window, one_claimant, op_of, ways_end};
 use board_tree::Tree;
 use pci_command::{Command, OpId, Request, Space};
 use plain_decode::{CfgRoute, Hop, claim_down, claim_up, convert_cfg, next_hop, way_length};
+use std::process::Abort;
 use std::test::Fail;
 
 /// Two bridges in a row, with one window, and a master on bus 0 that reads behind them.
@@ -43,10 +44,15 @@ fn next_of(tree: &Tree, bus: u8, request: &Request) -> Hop
 #[test]
 fn requests_go_on(rt: HostRuntime) -> Result<(), Fail> {
     let (tree, _events) = worked(rt.alloc(), TWO_BRIDGES)?;
+    goes_on(&rt, &tree);
+    Ok(())
+}
+
+fn goes_on(rt: &impl Abort, tree: &Tree) {
     let op = OpId::default();
     let there = op_of(tree.board(), op).is_some();
     assert!(rt; there);
-    assert_eq!(rt; way_length(&tree, op), 2);
+    assert_eq!(rt; way_length(tree, op), 2);
     for (bus, command, address, hop) in [
         (0, Command::MemRead, 0x8000_0020, Hop::Down(1)),
         (1, Command::MemRead, 0x8000_0020, Hop::Down(2)),
@@ -61,13 +67,8 @@ fn requests_go_on(rt: HostRuntime) -> Result<(), Fail> {
             address,
             ..Request::default()
         };
-        assert_eq!(rt;
-            next_of(&tree, bus, &request),
-            hop,
-            "{address:08x} on {bus}"
-        );
+        assert_eq!(rt; next_of(tree, bus, &request), hop, "{address:08x} on {bus}");
     }
-    Ok(())
 }
 
 /// The bridge to bus 1 on bus 0, with bus 2 behind it and a memory window of 1 MiB.

@@ -1,4 +1,5 @@
-use board_model::Op;
+use board_model::{Master, Op};
+use std::process::Abort;
 use std::test::Fail;
 use traffic_generator::{Rounds, generate};
 
@@ -8,8 +9,14 @@ use traffic_generator::{Rounds, generate};
 fn one_round_is_drawn(rt: HostRuntime) -> Result<(), Fail> {
     let rounds = Rounds::new(1).ok_or("no rounds")?;
     let tree = generate(rt.alloc(), &rounds)?;
-    let masters = tree.board().masters.as_slice();
-    let first = masters.first().ok_or("no master")?;
+    assert_eq!(rt; tree.bound(), 97);
+    first_of_three(&rt, tree.board().masters.as_slice())
+}
+
+fn first_of_three(rt: &impl Abort, masters: &[Master]) -> Result<(), Fail> {
+    let [first, _, _] = masters else {
+        return Err("three masters".into());
+    };
     match first.ops.as_slice() {
         [
             Op::Write {
@@ -24,9 +31,8 @@ fn one_round_is_drawn(rt: HostRuntime) -> Result<(), Fail> {
             assert_eq!(rt; phases.len(), 7);
             let word = phases.as_slice().first().ok_or("no word")?;
             assert_eq!(rt; word.value, 0x2781_c46b);
+            Ok(())
         }
-        _ => return Err("other operations".into()),
+        _ => Err("other operations".into()),
     }
-    assert_eq!(rt; (masters.len(), tree.bound()), (3, 97));
-    Ok(())
 }

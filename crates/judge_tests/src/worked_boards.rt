@@ -1,4 +1,4 @@
-ghost use Rattle.std.specs.Prelude.{◌<◌, ◌^◌, IfOk, length};
+ghost use Rattle.std.specs.Prelude.{◌<◌, ◌^◌, IfOk, OnOk, length};
 ghost use Rattle.history_model.specs.Runs.{Run, history_of};
 
 use board_tree::{Tree, validate};
@@ -26,8 +26,16 @@ pub(crate) fn complete_run(alloc: Global, text: &[u8]) -> Result<(Tree, List<Eve
     ensures { IfOk result (λ read. Run read.0 (history_of read.1)) }
 {
     let (tree, events) = worked(alloc, text)?;
-    match check(alloc, &tree, events.as_slice())? {
-        Verdict::Complete => Ok((tree, events)),
+    is_complete(alloc, &tree, events.as_slice())?;
+    Ok((tree, events))
+}
+
+fn is_complete(alloc: Global, tree: &Tree, events: &[Event]) -> Result<(), Fail>
+    requires { length events.now < 2 ^ 32 }
+    ensures { OnOk result (Run tree.now (history_of events.now)) }
+{
+    match check(alloc, tree, events)? {
+        Verdict::Complete => Ok(()),
         Verdict::Incomplete { .. } | Verdict::NotRun { .. } => Err("no complete run".into()),
     }
 }

@@ -36,7 +36,8 @@ pub(crate) fn answer<R: Threads + Sync, G: Gate + Sync>(
     Ok(pcitree(rt, alloc, words.as_slice(), source, sink, gate))
 }
 
-fn words(alloc: Global, line: &str) -> Result<Vec<String>, Fail> {
+/// The words of a line.
+pub(crate) fn words(alloc: Global, line: &str) -> Result<Vec<String>, Fail> {
     let mut words = Vec::new(alloc);
     for word in line.split_whitespace() {
         words.push(String::from_str(alloc, word)?)?;

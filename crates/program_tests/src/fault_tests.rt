@@ -1,7 +1,7 @@
 //! Each call of a port fails in turn, and a sink fills up. What is wanted stands in the tables, and
 //! was worked out by hand.
-use crate::calls::{answer, sink, source};
-use io_ports::{SureSink, SureSource};
+use crate::calls::{answer, sink, source, words};
+use io_ports::{MemorySink, MemorySource, SureSink, SureSource};
 use pci_command::List;
 use pcitree::{NoGate, Status, pcitree_surely};
 use std::test::Fail;
@@ -36,18 +36,16 @@ end 2
 /// Seven calls give the board, and the eighth is its end.
 #[test]
 fn each_call_of_the_source_fails_in_turn(rt: HostRuntime) -> Result<(), Fail> {
-    for call in 1..=8u32 {
+    for call in 1..=9u32 {
         let mut source = source(rt.alloc(), BOARD, call)?;
         let mut sink = sink(rt.alloc(), 1024, 0)?;
-        let status = answer(&rt, rt.alloc(), RUN, &mut source, &mut sink, &NoGate)?;
-        assert_eq!(rt; status, Status::ReadFault, "at call {call}");
-        assert_eq!(rt; sink.bytes().len(), 0, "at call {call}");
+        let (status, taken) = if call < 9 {
+            (Status::ReadFault, 0)
+        } else {
+            (Status::Done, 181)
+        };
+        ends_so(&rt, &mut source, &mut sink, status, taken)?;
     }
-    let mut whole = source(rt.alloc(), BOARD, 9)?;
-    let mut taken = sink(rt.alloc(), 1024, 0)?;
-    let status = answer(&rt, rt.alloc(), RUN, &mut whole, &mut taken, &NoGate)?;
-    assert_eq!(rt; status, Status::Done);
-    assert_eq!(rt; taken.bytes(), TRACE.as_bytes());
     Ok(())
 }
 
@@ -74,27 +72,34 @@ fn each_call_of_the_sink_fails_in_turn(rt: HostRuntime) -> Result<(), Fail> {
     ] {
         let mut source = source(rt.alloc(), BOARD, 0)?;
         let mut sink = sink(rt.alloc(), size, call)?;
-        let found = answer(&rt, rt.alloc(), RUN, &mut source, &mut sink, &NoGate)?;
-        assert_eq!(rt; found, status, "at call {call}, with room for {size}");
-        let front = TRACE.as_bytes().get(..taken).ok_or("no front")?;
-        assert_eq!(rt; sink.bytes(), front, "at call {call}, with room for {size}");
+        ends_so(&rt, &mut source, &mut sink, status, taken)?;
     }
+    Ok(())
+}
+
+/// The call ends with this status, and the sink took so many bytes of the trace.
+fn ends_so(
+    rt: &HostRuntime,
+    source: &mut MemorySource,
+    sink: &mut MemorySink,
+    status: Status,
+    taken: usize,
+) -> Result<(), Fail> {
+    let found = answer(rt, rt.alloc(), RUN, source, sink, &NoGate)?;
+    assert_eq!(rt; found, status, "where {taken} bytes are taken");
+    let front = TRACE.as_bytes().get(..taken).ok_or("no front")?;
+    assert_eq!(rt; sink.bytes(), front, "where {taken} bytes are taken");
     Ok(())
 }
 
 #[test]
 fn ports_that_never_fail(rt: HostRuntime) -> Result<(), Fail> {
-    let alloc = rt.alloc();
-    let words = vec![in alloc;
-        String::from_str(alloc, "run")?,
-        String::from_str(alloc, "--steady")?,
-        String::from_str(alloc, "f")?,
-    ]?;
-    let mut source = SureSource::new(List::from_vec(BOARD.as_bytes().to_vec(alloc)?));
+    let words = words(rt.alloc(), RUN)?;
+    let mut source = SureSource::new(List::from_vec(BOARD.as_bytes().to_vec(rt.alloc())?));
     let mut sink = SureSink::new();
     let answer = pcitree_surely(
         &rt,
-        alloc,
+        rt.alloc(),
         words.as_slice(),
         &mut source,
         &mut sink,

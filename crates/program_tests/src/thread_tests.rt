@@ -174,16 +174,19 @@ fn call<R: Threads + Sync, G: Gate + Sync>(
 
 #[test]
 fn as_many_threads_run_as_there_are_buses(rt: HostRuntime) -> Result<(), Fail> {
-    let alloc = rt.alloc();
     let gate = BothMeet {
         met: AtomicU64::new(0),
         alone: AtomicU64::new(0),
     };
-    let (status, trace) = call(&rt, alloc, "run f", DEPTH_ONE, &gate)?;
+    let (status, trace) = call(&rt, rt.alloc(), "run f", DEPTH_ONE, &gate)?;
     assert_eq!(rt; status, Status::Done);
     assert_eq!(rt; gate.alone.load(Ordering::SeqCst), 0);
-    let trace = str::from_utf8(&trace).map_err(|_| "no text")?;
-    let (status, verdict) = call(&rt, alloc, "check f", trace, &NoGate)?;
+    is_complete(&rt, &trace)
+}
+
+fn is_complete(rt: &HostRuntime, trace: &[u8]) -> Result<(), Fail> {
+    let trace = str::from_utf8(trace).map_err(|_| "no text")?;
+    let (status, verdict) = call(rt, rt.alloc(), "check f", trace, &NoGate)?;
     assert_eq!(rt; status, Status::Done);
     assert_eq!(rt;
         verdict.as_slice(),
@@ -194,25 +197,30 @@ fn as_many_threads_run_as_there_are_buses(rt: HostRuntime) -> Result<(), Fail> {
 
 #[test]
 fn what_is_read_depends_on_which_bus_was_held(rt: HostRuntime) -> Result<(), Fail> {
-    let alloc = rt.alloc();
     for (held, text, turns) in [
         (1, WRITTEN_FIRST, [Some(1), Some(3)]),
         (0, READ_FIRST, [Some(1), Some(1)]),
     ] {
         let gate = Hold::new(held);
-        let (status, trace) = call(&rt, alloc, "run f", TWO_BUSES, &gate)?;
+        let (status, trace) = call(&rt, rt.alloc(), "run f", TWO_BUSES, &gate)?;
         assert_eq!(rt; status, Status::Done, "with bus {held} held");
-        assert_eq!(rt;
-            gate.alone.load(Ordering::SeqCst),
-            0,
-            "with bus {held} held"
-        );
-        assert_eq!(rt;
-            [gate.first_turn(0), gate.first_turn(1)],
-            turns,
-            "with bus {held} held"
-        );
+        was_held(&rt, &gate, turns);
         assert_eq!(rt; trace.as_slice(), text.as_bytes(), "with bus {held} held");
     }
     Ok(())
+}
+
+fn was_held(rt: &HostRuntime, gate: &Hold, turns: [Option<u64>; 2]) {
+    assert_eq!(rt;
+        gate.alone.load(Ordering::SeqCst),
+        0,
+        "with bus {} held",
+        gate.held
+    );
+    assert_eq!(rt;
+        [gate.first_turn(0), gate.first_turn(1)],
+        turns,
+        "with bus {} held",
+        gate.held
+    );
 }

@@ -28,13 +28,31 @@ pub(crate) fn read_events(
     ensures read { Tells result (events_read board.now first [] (lines_of (drop from bytes.now))) }
     ensures few { IfOk result (λ events. length events < 2 ^ 32) }
 {
-    let Ok(names) = Names::new(alloc, board) else {
-        return Err(OrNoMemory::NoMemory);
-    };
+    match Names::new(alloc, board) {
+        Ok(names) => events_named(alloc, &names, bytes, from, first),
+        Err(_) => Err(OrNoMemory::NoMemory),
+    }
+}
+
+/// The same, by the names of the board, which it is lent: so a line that is at fault lets go of
+/// the events alone.
+fn events_named(
+    alloc: Global,
+    names: &Names,
+    bytes: &[u8],
+    from: usize,
+    first: u32,
+) -> Result<List<Event>, OrNoMemory<TraceFault>>
+    requires short { length bytes.now < 2 ^ 31 }
+    requires within { from ≤ length bytes.now + 1 }
+    requires small { first ≤ from + 1 }
+    ensures read { Tells result (events_read names.now first [] (lines_of (drop from bytes.now))) }
+    ensures few { IfOk result (λ events. length events < 2 ^ 32) }
+{
     let mut events = Vec::new(alloc);
     let mut number = first;
     let mut at = from;
-    while let Some((_line, next, read)) = read_line_at(&names, bytes, at) {
+    while let Some((_line, next, read)) = read_line_at(names, bytes, at) {
         match read {
             Ok(TraceLine::Happens(event)) => events.push(event)?,
             Ok(TraceLine::Ends(count)) => {

@@ -12,7 +12,7 @@ ghost use Rattle.bus_segment.specs.turns.Again.{MayTurn, DoesTurn};
 use crate::Segment;
 use crate::turns::receiving::receive_all;
 use crate::turns::serving::serve_all;
-use board_model::Board;
+use board_tree::Tree;
 use bus_agents::Arbiter;
 use history_model::Stamped;
 use lane_items::LaneEnd;
@@ -102,7 +102,7 @@ impl<L: LaneEnd + Drop> Worker<L> {
     /// Receives what came over the bridges of the bus, up to 32 items from each, and then serves
     /// once each initiator that presents something, in the order in which the arbiter grants the
     /// bus; how many events that made. The board is that of the segment.
-    pub fn turn(&mut self, board: &Board) -> u32
+    pub fn turn(&mut self, board: &Tree) -> u32
         requires valid { IsValid board.now }
         requires going { self.old.segment.stopped ≡ false }
         requires ends { length self.old.segment.ends.items ≡ length self.old.segment.bus.ports }
@@ -147,7 +147,7 @@ impl<L: LaneEnd + Drop> Worker<L> {
 
     /// The same, where the bus may be known to be idle: whoever presents something there gets a Retry,
     /// as after a turn that made no event. So if nothing is received then, nobody is served.
-    pub fn turn_again(&mut self, board: &Board, idle: bool) -> u32
+    pub fn turn_again(&mut self, board: &Tree, idle: bool) -> u32
         requires may { MayTurn board.now self.old }
         requires idle { idle ≡ true → GivesOnlyRetries board.now self.old.segment.bus }
         ensures turn { DoesTurn L.had L.sent L.got L.kept L.paired board.now self.old self.new result }
@@ -155,7 +155,7 @@ impl<L: LaneEnd + Drop> Worker<L> {
             GivesOnlyRetries board.now self.new.segment.bus }
     {
         let before = self.segment.recorded();
-        receive_all(&mut self.segment, board);
+        receive_all(&mut self.segment, board.board());
         let came = (self.segment.recorded() - before) as u32;
         if rests(self.segment.stopped(), idle, came) {
             return came;

@@ -3,7 +3,7 @@ ghost use Rattle.engine_runs.specs.Loop.{seen};
 ghost use Rattle.engine_runs.specs.threads.Turns.{HasRoom, HasTurned, Ran, EachRan};
 
 use crate::threads::Gate;
-use board_model::Board;
+use board_tree::Tree;
 use bus_segment::{Worker, steps_go_on};
 use lane_items::LaneEnd;
 use std::thread;
@@ -15,7 +15,7 @@ pub(crate) fn work_all<L: LaneEnd + Drop + Send, R: Threads + Sync, G: Gate + Sy
     rt: &R,
     gate: &G,
     threads: usize,
-    board: &Board,
+    board: &Tree,
     workers: &mut [Worker<L>],
 )
     requires { All (λ w. HasRoom board.now w) workers.old }
@@ -26,7 +26,7 @@ pub(crate) fn work_all<L: LaneEnd + Drop + Send, R: Threads + Sync, G: Gate + Sy
 }
 
 /// The turns of one bus.
-fn work<L: LaneEnd + Drop, G: Gate>(gate: &G, board: &Board, worker: &mut Worker<L>)
+fn work<L: LaneEnd + Drop, G: Gate>(gate: &G, board: &Tree, worker: &mut Worker<L>)
     requires { HasRoom board.now worker.old }
     ensures { Ran L.had L.sent L.got L.kept L.paired board.now (seen worker.old) (seen worker.new) }
 {
@@ -42,7 +42,7 @@ fn work<L: LaneEnd + Drop, G: Gate>(gate: &G, board: &Board, worker: &mut Worker
 }
 
 /// One turn: whether another one follows it.
-fn turn<L: LaneEnd + Drop, G: Gate>(gate: &G, board: &Board, worker: &mut Worker<L>) -> bool
+fn turn<L: LaneEnd + Drop, G: Gate>(gate: &G, board: &Tree, worker: &mut Worker<L>) -> bool
     requires { HasRoom board.now worker.old }
     ensures { HasTurned L.had L.sent L.got L.kept L.paired board.now (seen worker.old)
         worker.new result }

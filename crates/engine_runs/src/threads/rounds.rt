@@ -10,7 +10,6 @@ use crate::threads::Gate;
 use crate::threads::begin::{begin_all, next_stamp, recorded};
 use crate::threads::phase::work_all;
 use crate::{Above, all_above, all_workers, merge_all, settle_all};
-use board_model::Board;
 use board_tree::Tree;
 use bus_segment::Worker;
 use engine_phases::{
@@ -43,7 +42,7 @@ pub fn run_rings<R: Threads + Sync, G: Gate + Sync>(
     let segments = segments(alloc, tree, ends)?;
     let workers = all_workers(alloc, segments)?;
     let above = all_above(alloc, tree.board())?;
-    run_all(rt, alloc, gate, tree.board(), workers, above.as_slice())
+    run_all(rt, alloc, gate, tree, workers, above.as_slice())
 }
 
 /// More phases than there ever are: each but the last one makes an event.
@@ -58,7 +57,7 @@ fn run_all<L: LaneEnd + Drop + Send, R: Threads + Sync, G: Gate + Sync>(
     rt: &R,
     alloc: Global,
     gate: &G,
-    board: &Board,
+    board: &Tree,
     mut workers: Vec<Worker<L>>,
     above: &[Above],
 ) -> Result<List<Event>, NoMemory>
@@ -99,7 +98,7 @@ struct Round {
 fn run_phase<L: LaneEnd + Drop + Send, R: Threads + Sync, G: Gate + Sync>(
     rt: &R,
     gate: &G,
-    board: &Board,
+    board: &Tree,
     workers: &mut [Worker<L>],
     above: &[Above],
     round: Round,

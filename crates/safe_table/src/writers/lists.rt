@@ -21,9 +21,11 @@ use std::marker::Model;
 /// How many writes are listed at most for the masks of polls, beside all writes of their dwords.
 const MOST_LISTED: usize = 131_072;
 
-/// How many times a write is looked at under a mask at most, so that few masks are listed where very
-/// many are waited for under.
+/// How many times a write is looked up under a mask at most.
 const MOST_LOOKED: usize = 2_097_152;
+
+/// How many polls there are at least of a mask that is worth a look-up of each write.
+const WORTH_LISTING: usize = 32;
 
 /// As stretches the writes of a dword, and some of them, among which are all that bring what is
 /// waited for: where those are not listed it is all writes.
@@ -34,12 +36,13 @@ pub(crate) struct Listed<'a> {
 }
 
 /// For what polls wait for the writes that bring it, if they are listed under its mask; for those
-/// masks the bits that each write of the dword writes; and how many more writes may be listed, and
-/// looked at.
+/// masks the bits that each write of the dword writes; how many polls there are of each mask; and
+/// how many more writes may be listed, and looked up.
 #[derive(Debug, Drop)]
 pub(crate) struct Lists {
     lists: ByAwaited<Stretches>,
     masks: ByAwaited<u32>,
+    polls: ByAwaited<usize>,
     room: usize,
     looks: usize,
 }
@@ -67,6 +70,7 @@ impl Lists {
         Lists {
             lists: ByAwaited::new(alloc),
             masks: ByAwaited::new(alloc),
+            polls: ByAwaited::new(alloc),
             room: MOST_LISTED,
             looks: MOST_LOOKED,
         }
@@ -156,8 +160,25 @@ impl Lists {
         for awaited in all {
             self.expect(alloc, any_of(awaited.word))?;
             self.expect(alloc, *awaited)?;
+            self.count(mask_of(*awaited))?;
         }
         Ok(())
+    }
+
+    /// One poll more of the mask.
+    fn count(&mut self, mask: Awaited) -> Result<(), NoMemory>
+        ensures { self.new ≡ self.old }
+    {
+        let polls = self.polls_of(mask).saturating_add(1);
+        self.polls.put(mask, polls)
+    }
+
+    /// How many polls there are of the mask.
+    fn polls_of(&self, mask: Awaited) -> usize {
+        match self.polls.get(mask) {
+            Some(polls) => *polls,
+            None => 0,
+        }
     }
 
     /// For each of these the writes of the dword are listed, and those of them that bring it.
@@ -172,7 +193,7 @@ impl Lists {
         Ok(())
     }
 
-    /// The same under the mask, if there is room, where it was not done yet.
+    /// The same under the mask, if that is worth it and there is room, where it was not done yet.
     fn keep_if_room(&mut self, alloc: Global, words: &Words, mask: Awaited) -> Result<(), NoMemory>
         requires mask { mask.wanted ≡ 0 }
         requires kept { KeepsLists words.now self.old }
@@ -199,12 +220,12 @@ impl Lists {
         self.put_under(alloc, mask, writes)
     }
 
-    /// Whether there is room for those of these writes that bring what is waited for under the mask,
-    /// which they take then.
+    /// Whether those of these writes are to be listed that bring what is waited for under the mask, so
+    /// that they take their room.
     fn takes(&mut self, mask: Awaited, writes: &[WordWrite]) -> bool
         ensures { self.new ≡ self.old }
     {
-        if self.has(mask) || self.looks < writes.len() {
+        if self.has(mask) || self.polls_of(mask) < WORTH_LISTING || self.looks < writes.len() {
             return false;
         }
         self.looks -= writes.len();

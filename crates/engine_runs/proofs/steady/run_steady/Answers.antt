@@ -14,5 +14,5 @@ run_all-requires-clause-steady c =
     let first = c.in_ok-segments.ensures in
     let hangs = subst (λ b. AreAboveOf b c.in_ok-above.above.items) c.board.ensures.value c.in_ok-above.ensures in
     steady_first tree c.board.ensures.valid _ _ first _ _ _ _ _ fresh refl (record { none_sent = refl; none_got = refl; none_kept = refl }) tt
-    (all_alike tree c.board.ensures.valid _ _ first fresh c.in_ok-ends.ensures.ends) c.board-2.result.now _ c.in_ok-above.above.items c.as_slice.result.now
-    c.board-2.ensures.value c.in_ok-workers.ensures c.as_slice.ensures.value hangs
+    (all_alike tree c.board.ensures.valid _ _ first fresh c.in_ok-ends.ensures.ends) tree _ c.in_ok-above.above.items c.as_slice.result.now
+    refl c.in_ok-workers.ensures c.as_slice.ensures.value hangs

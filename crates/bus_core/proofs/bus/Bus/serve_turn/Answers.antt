@@ -1,5 +1,8 @@
 use Rattle.std.proofs.Common.{◌≡◌, ◌+◌, List, None, ap, subst, sym, ◌∙◌, arith}
 use Rattle.std.proofs.lemmas.List.{with_items_is}
+use Rattle.std.specs.Prelude.{IsTrue}
+use Rattle.board_model.specs.declared.board.Board.{Board}
+use Rattle.board_model.specs.WellFormed.{is_well_formed}
 use Rattle.history_model.specs.declared.event.By.TheVariants.{Master}
 use Rattle.history_model.specs.declared.event.Event.TheVariants.{Act}
 use Rattle.history_model.specs.declared.item.Answer.{Answer}
@@ -12,6 +15,9 @@ use Rattle.bus_core.specs.Places.{TellsMaster}
 use Rattle.bus_core.specs.Serves.{BusPresents}
 use Rattle.bus_core.proofs.TellLemmas.{master_turns, master_retried, master_did}
 use Rattle.bus_core.proofs.bus.Bus.serve_turn.Goals as goal
+
+pub tell_master-requires-clause-formed : goal.tell_master-requires-clause-formed
+tell_master-requires-clause-formed c = subst (λ (b : Board). IsTrue (is_well_formed b)) (sym c.board-plain.ensures.value) c.requires.formed
 
 pub returns-in-None-clause-serves : goal.returns-in-None-clause-serves
 returns-in-None-clause-serves c = λ master there turn.
@@ -28,7 +34,8 @@ returns-in-Gives-clause-serves c = λ master there turn.
     let new : List MasterView → BusView = λ masters. record { bus = c.self.inside.bus; ports = c.self.inside.ports.items; masters = masters; targets = c.self.inside.targets.items; through = c.self.inside.through } in
     let answers = subst (λ (a : Answer). BusAnswers c.args.board.now c.args.self.now (9 + c.args.place) c.args.op a c.in-Some.given.over c.answer.new.self) c.in-Gives.is c.in-Some.ensures.answers in
     let mid_answers = subst (λ (s : BusView). BusAnswers c.args.board.now c.args.self.now (9 + c.args.place) c.args.op (Gives c.in-Gives.step c.in-Gives.at) c.in-Some.given.over s) (sym c.self.view_is) answers in
-    let tells = subst (λ (ms : List MasterView). TellsMaster c.args.board.now c.args.place c.in-Gives.step ms c.tell_master.new.masters) c.as_mut_slice.ensures.value c.tell_master.ensures in
+    let told = subst (λ (ms : List MasterView). TellsMaster c.board-plain.result.now c.args.place c.in-Gives.step ms c.tell_master.new.masters) c.as_mut_slice.ensures.value c.tell_master.ensures in
+    let tells = subst (λ (b : Board). TellsMaster b c.args.place c.in-Gives.step mid.masters c.tell_master.new.masters) c.board-plain.ensures.value told in
     let same : mid.masters ≡ c.args.self.now.masters = ap (λ (s : BusView). s.masters) c.self.view_is ∙ c.in-Some.ensures.masters in
     let items = with_items_is c.self.inside.masters c.tell_master.new.masters (omega arith) in
     let bus : c.self.inside.bus ≡ c.args.self.now.bus = ap (λ (s : BusView). s.bus) c.self.view_is ∙ ap (λ (s : Shape). s.bus) c.in-Some.ensures.shape in

@@ -1,5 +1,5 @@
 use denote.Param.Send.{sendable}
-use Rattle.std.proofs.Common.{sym, subst}
+use Rattle.std.proofs.Common.{refl, sym, subst}
 use Rattle.lane_ends.proofs.ring.SendLemmas.{ring_end_send}
 use Rattle.engine_runs.specs.First.{AreLinked, AreAboveOf}
 use Rattle.engine_runs.proofs.Laws.{linked}
@@ -17,5 +17,5 @@ run_all-requires-clause-rounds g c κs within =
     let tree = c.args.tree.now in
     let first = c.in_ok-segments.ensures in
     let hangs = subst (λ b. AreAboveOf b c.in_ok-above.above.items) c.board.ensures.value c.in_ok-above.ensures in
-    rounds_first tree c.board.ensures.valid _ _ first _ _ _ _ _ c.in_ok-ends.ensures.pairs c.board-2.result.now _ c.in_ok-above.above.items c.as_slice.result.now
-    c.board-2.ensures.value c.in_ok-workers.ensures c.as_slice.ensures.value hangs
+    rounds_first tree c.board.ensures.valid _ _ first _ _ _ _ _ c.in_ok-ends.ensures.pairs tree _ c.in_ok-above.above.items c.as_slice.result.now
+    refl c.in_ok-workers.ensures c.as_slice.ensures.value hangs

@@ -1,12 +1,17 @@
 use Rattle.std.proofs.Common.{◌≡◌, ℕ, ◌+◌, ◌-◌, ◌*◌, ◌==◌, ◌&&◌, ◌≤◌, true, false, length, sym, subst, ◌∙◌, arith}
 use Rattle.std.proofs.lemmas.Bool.{and_parts, eqb-true}
+use Rattle.board_model.specs.declared.board.Board.{Board}
+use Rattle.board_model.specs.Valid.{IsValid}
 use Rattle.bus_core.specs.Bus.{BusView, shape_of}
-use Rattle.bus_segment.specs.turns.Works.{seen, AllRetried, GivesOnlyRetries}
+use Rattle.bus_segment.specs.turns.Works.{seen, Works, AllRetried, GivesOnlyRetries}
 use Rattle.bus_segment.proofs.turns.WorkLemmas.{works_further}
 use Rattle.bus_segment.proofs.turns.LineLemmas.{lanes_many, masters_many}
 use Rattle.bus_segment.proofs.turns.QuietLemmas.{nothing_to_do, only_retries, retried_again}
 use Rattle.bus_segment.proofs.turns.AgainLemmas.{works_turn, or_neither, or_second}
 use Rattle.bus_segment.proofs.turns.worker.Worker.turn_again.Goals as goal
+
+pub receive_all-requires-clause-valid : goal.receive_all-requires-clause-valid
+receive_all-requires-clause-valid g c = subst IsValid (sym c.board.ensures.value) c.requires.may.valid
 
 pub returns-clause-turn : goal.returns-clause-turn
 returns-clause-turn g c =
@@ -15,12 +20,14 @@ returns-clause-turn g c =
     let was = c.args.self.now in
     let may = c.requires.may in
     let r = c.receive_all.ensures in
+    let works = subst (λ (b : Board). Works {End = End} E.had E.sent E.got E.kept E.paired b (32 * length was.segment.bus.ports) (seen was.segment.bus was.segment.stamp was.segment.stopped)
+    (seen c.receive_all.new.segment.bus c.receive_all.new.segment.stamp c.receive_all.new.segment.stopped) was.segment.ends.items c.receive_all.new.segment.ends.items was.segment.events.items c.receive_all.new.segment.events.items) c.board.ensures.value r.works in
     let s = c.serve_all.ensures in
     let on : c.receive_all.new.segment.stopped ≡ false = sym c.stopped.ensures ∙ or_neither _ _ (sym c.rests.ensures ∙ c.if-rests.false) in
     let few_ports = may.few_ports in
     let both = works_further {End = End} E.had E.sent E.got E.kept E.paired c.args.board.now (32 * length was.segment.bus.ports) 152 (seen was.segment.bus was.segment.stamp was.segment.stopped)
     (seen c.receive_all.new.segment.bus c.receive_all.new.segment.stamp c.receive_all.new.segment.stopped) (seen c.serve_all.new.segment.bus c.serve_all.new.segment.stamp c.serve_all.new.segment.stopped)
-    was.segment.ends.items c.receive_all.new.segment.ends.items c.serve_all.new.segment.ends.items was.segment.events.items c.receive_all.new.segment.events.items c.serve_all.new.segment.events.items may.going on r.works s.works in
+    was.segment.ends.items c.receive_all.new.segment.ends.items c.serve_all.new.segment.ends.items was.segment.events.items c.receive_all.new.segment.events.items c.serve_all.new.segment.events.items may.going on works s.works in
     let few : length (shape_of was.segment.bus).lanes ≤ 9 = omega (arith, lanes_many was.segment.bus, few_ports) in
     let few_masters = may.few_masters in
     let agents : length (shape_of was.segment.bus).masters ≤ 8 = omega (arith, masters_many was.segment.bus, few_masters) in
@@ -45,11 +52,13 @@ returns-then-rests-clause-turn g c =
     let was = c.args.self.now in
     let may = c.requires.may in
     let r = c.receive_all.ensures in
+    let works = subst (λ (b : Board). Works {End = End} E.had E.sent E.got E.kept E.paired b (32 * length was.segment.bus.ports) (seen was.segment.bus was.segment.stamp was.segment.stopped)
+    (seen c.receive_all.new.segment.bus c.receive_all.new.segment.stamp c.receive_all.new.segment.stopped) was.segment.ends.items c.receive_all.new.segment.ends.items was.segment.events.items c.receive_all.new.segment.events.items) c.board.ensures.value r.works in
     let few_ports = may.few_ports in
     let few : length (shape_of was.segment.bus).lanes ≤ 9 = omega (arith, lanes_many was.segment.bus, few_ports) in
     let few_masters = may.few_masters in
     let agents : length (shape_of was.segment.bus).masters ≤ 8 = omega (arith, masters_many was.segment.bus, few_masters) in
-    works_turn {End = End} E.had E.sent E.got E.kept E.paired c.args.board.now (32 * length was.segment.bus.ports) was (record { segment = c.receive_all.new.segment; arbiter = was.arbiter }) _ (omega (arith, few_ports)) r.works may.counts (omega arith)
+    works_turn {End = End} E.had E.sent E.got E.kept E.paired c.args.board.now (32 * length was.segment.bus.ports) was (record { segment = c.receive_all.new.segment; arbiter = was.arbiter }) _ (omega (arith, few_ports)) works may.counts (omega arith)
     (λ same still.
     let rests = or_second _ _ (sym c.rests.ensures ∙ c.if-rests.true) (c.stopped.ensures ∙ still) in
     let idle = and_parts _ _ rests in
