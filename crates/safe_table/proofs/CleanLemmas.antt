@@ -111,9 +111,15 @@ clean_in_two awaited (w ∷ ws) =
     ∙ two_core (is_whole awaited.mask w.phase) (raises_it awaited w) w.last wholes (not rest)
     ∙ ap (λ b. (is_whole awaited.mask w.phase && wholes) && b) (early_core (raises_it awaited w) w.last rest ∙ ap not (sym (early_one awaited w ws)))
 
-pub clean_so : (awaited : Awaited) (writes those : List WordWrite) (early : List ℕ) (whole some clean : Bool) → those ≡ writes → whole ≡ list_all (λ (w : WordWrite). is_whole awaited.mask w.phase) those → early ≡ early_values those → some ≡ list_any (is_met_by awaited.mask awaited.wanted) early
-    → clean ≡ (whole && not some) → clean ≡ list_all (is_clean_write awaited) writes
-clean_so awaited writes those early whole some clean are whole_is early_is some_is is =
-    is ∙ ap (λ b. b && not some) whole_is
+pub clean_if : (awaited : Awaited) (writes those : List WordWrite) (early : List ℕ) (whole some : Bool) → those ≡ writes → whole ≡ list_all (λ (w : WordWrite). is_whole awaited.mask w.phase) those → early ≡ early_values those → some ≡ list_any (is_met_by awaited.mask awaited.wanted) early
+    → whole ≡ true → not some ≡ list_all (is_clean_write awaited) writes
+clean_if awaited writes those early whole some are whole_is early_is some_is all =
+    ap (λ b. b && not some) (sym all ∙ whole_is)
     ∙ ap (λ b. list_all (λ (w : WordWrite). is_whole awaited.mask w.phase) those && not b) (some_is ∙ ap (list_any (is_met_by awaited.mask awaited.wanted)) early_is)
+    ∙ sym (clean_in_two awaited those) ∙ ap (list_all (is_clean_write awaited)) are
+
+-- or not each writes all that the mask looks at
+pub clean_unless : (awaited : Awaited) (writes those : List WordWrite) (whole : Bool) → those ≡ writes → whole ≡ list_all (λ (w : WordWrite). is_whole awaited.mask w.phase) those → whole ≡ false → whole ≡ list_all (is_clean_write awaited) writes
+clean_unless awaited writes those whole are whole_is not_all =
+    not_all ∙ ap (λ b. b && not (list_any (is_met_by awaited.mask awaited.wanted) (early_values those))) (sym not_all ∙ whole_is)
     ∙ sym (clean_in_two awaited those) ∙ ap (list_all (is_clean_write awaited)) are

@@ -24,14 +24,14 @@ module _ (test : ℕ → Bool) where
   abbrev fails : ℕ → Bool
   fails n = not (test n)
 
-  abbrev before_first : List ℕ → ℕ
+  abbrev pub before_first : List ℕ → ℕ
   before_first ns = prefix_len fails ns
 
   pub none_first : (ns : List ℕ) → list_any test ns ≡ false → length ns ≡ before_first ns
   none_first [] none = refl
   none_first (n ∷ ns) none =
-      let P : Bool → Type 0 = λ b. (b || list_any test ns) ≡ false → 1 + length ns ≡ cond (not b) (1 + before_first ns) 0 in
-      (elim (test n) as P [ true ↦ λ never. absurd (false≢true (sym never)) | false ↦ λ later. ap (λ k. 1 + k) (none_first ns later) ]) none
+      let P : Bool → Type 0 = λ b. (b || list_any test ns) ≡ false → length (n ∷ ns) ≡ cond (not b) (1 + before_first ns) 0 in
+      (elim (test n) as P [ true ↦ λ never. absurd (false≢true (sym never)) | false ↦ λ later. let rest = none_first ns later in omega (arith, rest) ]) none
 
   before_cons : (ns : List ℕ) (i : ℕ) (d : ℕ) → i < length ns → before_first (drop i ns) ≡ cond (not (test (get_or ns i d))) (1 + before_first (drop (i + 1) ns)) 0
   before_cons ns i d within =
@@ -99,7 +99,7 @@ module _ (test : ℕ → Bool) where
   some_last (n ∷ ns) some = let here : to_last (n ∷ ns) ≡ 1 + to_last ns = ap (λ b. cond b (1 + to_last ns) 0) some in omega (arith, here)
 
   last_behind : (xs ys : List ℕ) → list_any test ys ≡ true → to_last (xs ++ ys) ≡ length xs + to_last ys
-  last_behind [] ys some = refl
+  last_behind [] ys some = omega arith
   last_behind (x ∷ xs) ys some =
       let later = last_behind xs ys some in
       let any : (test x || list_any test (xs ++ ys)) ≡ true = ap (λ b. test x || b) (list_any-append test xs ys ∙ ap (λ b. list_any test xs || b) some ∙ or_right (list_any test xs)) ∙ or_right (test x) in

@@ -1,5 +1,5 @@
 -- What is kept of the writes of each word, one write after another.
-use Rattle.std.proofs.Common.{◌≡◌, ℕ, zero, suc, ◌+◌, ◌<◌, ◌≤◌, Bool, true, false, ◌&&◌, ◌==◌, eqb, eqb-true, cond, List, [], ◌∷◌, ◌++◌, append_assoc, append-nil, length, drop, get_or, map, Option, Some, None, refl, sym, IfSome, ap, subst, ◌∙◌, arith, ◌⊎◌, inl, inr, ⊎_elim}
+use Rattle.std.proofs.Common.{◌≡◌, ℕ, zero, suc, ◌+◌, ◌<◌, ◌≤◌, Bool, true, false, ◌&&◌, ◌==◌, eqb, eqb-true, cond, List, [], ◌∷◌, ◌++◌, append_assoc, append-nil, length, drop, get_or, map, Option, Some, None, refl, sym, ap, subst, ◌∙◌, arith, ◌⊎◌, inl, inr, ⊎_elim}
 use Rattle.std.proofs.Math.Seq.{drop-cons}
 use Rattle.std.specs.List.{filter, list_any}
 use Rattle.std.proofs.lemmas.Bool.{and_parts}
@@ -32,7 +32,7 @@ use Rattle.audit_clocks.specs.Tables.{list_in, same_word, found_in, TakesWord, P
 use Rattle.audit_clocks.proofs.TableLemmas.{same_word_true}
 use Rattle.audit_landings.specs.Hits.{dword}
 use Rattle.safe_table.specs.declared.writers.write.WordWrite.{WordWrite}
-use Rattle.safe_table.specs.Writes.{op_in, IsWordWrite, AreWrites, writes_at, ListsWrites, KeepsLists, is_none_of, kept_for, kept_of, kept_by, Adds}
+use Rattle.safe_table.specs.Writes.{op_in, IsWordWrite, AreWrites, writes_at, ListsWrites, is_none_of, kept_for, kept_of, kept_by, Adds}
 
 -- One write more.
 
@@ -306,18 +306,3 @@ lists_all board old new none adds =
           let is : writes_at word new ≡ kept = adds.each word ∙ ap (λ es. writes_at word es ++ kept) none in
           subst (AreWrites board (dword word) (writes_of board (dword word))) (sym is) (are_kept board (dword word) (ops_by 0 board.masters));
     }
-
--- As stretches.
-
-pub none_kept : (entries lists : List (Word × List WordWrite)) → lists ≡ [] → KeepsLists entries lists
-none_kept entries lists none = subst (KeepsLists entries) (sym none) (record { of_word = λ word. tt })
-
--- of one word more
-pub kept_more : (entries old new : List (Word × List WordWrite)) (word : Word) (list : List WordWrite) → list ≡ writes_at word entries → PutsWord word list old new → KeepsLists entries old → KeepsLists entries new
-kept_more entries old new word list is puts keeps = record {
-  of_word = λ q.
-      let Are : List WordWrite → Type 0 = λ writes. writes ≡ writes_at q entries in
-      let P : Bool → Type 0 = λ b. same_word word q ≡ b → IfSome (cond b (Some list) (found_in q old)) Are in
-      subst (λ (found : Option (List WordWrite)). IfSome found Are) (sym (puts.each q))
-      ((elim (same_word word q) as P [ true ↦ λ same. is ∙ ap (λ w. writes_at w entries) (same_word_true word q same) | false ↦ λ _. keeps.of_word q ]) refl);
-}

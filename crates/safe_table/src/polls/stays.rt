@@ -89,7 +89,7 @@ fn guessed(
 {
     let runs = writes.runs();
     match runs.get(writes.guess()) {
-        Some(run) => staying_in(table, poll, awaited, runs, run),
+        Some(these) => staying_in(table, poll, awaited, runs, these),
         None => None,
     }
 }
@@ -368,7 +368,7 @@ pub(crate) fn is_any_reached(
 {
     let runs = writes.runs();
     match runs.get(writes.guess()) {
-        Some(run) if is_run_reached(table, poll, awaited, runs, run) => true,
+        Some(these) if is_run_reached(table, poll, awaited, runs, these) => true,
         _ => is_any_run_reached(table, poll, awaited, writes),
     }
 }

@@ -5,18 +5,18 @@ use Rattle.safe_table.specs.Stretches.{Stretch, PartsBefore}
 use Rattle.safe_table.proofs.StayLemmas.{parted, raisers_in}
 use Rattle.safe_table.proofs.polls.stays.staying_in.Goals as goal
 
-pub count_before-requires : goal.count_before-requires
-count_before-requires c = subst Stretch (sym c.as_slice.ensures) c.requires.run
+pub count_before-count-requires : goal.count_before-count-requires
+count_before-count-requires c = subst Stretch (sym c.as_slice.ensures) c.requires.run
 
 pub staying_last-requires-clause-within : goal.staying_last-requires-clause-within
-staying_last-requires-clause-within c = subst (λ (ws : List WordWrite). c.count_before.result ≤ length ws) c.as_slice.ensures c.count_before.ensures.within
+staying_last-requires-clause-within c = subst (λ (ws : List WordWrite). c.count_before-count.result ≤ length ws) c.as_slice.ensures c.count_before-count.ensures.within
 
 pub staying_last-requires-clause-before : goal.staying_last-requires-clause-before
-staying_last-requires-clause-before c = subst (λ ws. PartsBefore c.args.table.now c.args.poll ws c.count_before.result) c.as_slice.ensures c.count_before.ensures.parts
+staying_last-requires-clause-before c = subst (λ ws. PartsBefore c.args.table.now c.args.poll ws c.count_before-count.result) c.as_slice.ensures c.count_before-count.ensures.parts
 
 pub returns : goal.returns
 returns c =
-    raisers_in c.args.table.now c.requires.ordered c.args.poll c.args.awaited (joined c.args.writes.now) c.args.run.now (take c.count_before.result c.args.run.now) (drop c.count_before.result c.args.run.now) c.requires.run
-    (parted c.args.table.now c.args.poll c.args.run.now (take c.count_before.result c.args.run.now) (drop c.count_before.result c.args.run.now) c.count_before.result
-    (subst (λ ws. PartsBefore c.args.table.now c.args.poll ws c.count_before.result) c.as_slice.ensures c.count_before.ensures.parts) refl refl)
+    raisers_in c.args.table.now c.requires.ordered c.args.poll c.args.awaited (joined c.args.writes.now) c.args.run.now (take c.count_before-count.result c.args.run.now) (drop c.count_before-count.result c.args.run.now) c.requires.run
+    (parted c.args.table.now c.args.poll c.args.run.now (take c.count_before-count.result c.args.run.now) (drop c.count_before-count.result c.args.run.now) c.count_before-count.result
+    (subst (λ ws. PartsBefore c.args.table.now c.args.poll ws c.count_before-count.result) c.as_slice.ensures c.count_before-count.ensures.parts) refl refl)
     c.staying_last.result c.staying_last.ensures

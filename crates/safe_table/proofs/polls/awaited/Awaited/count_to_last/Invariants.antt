@@ -1,7 +1,7 @@
 use Rattle.std.proofs.Common.{◌≡◌, ◌≤◌, length}
 use Rattle.safe_model.specs.Raisers.{is_met_by}
 use Rattle.safe_table.specs.Stretches.{count_to_last}
-use Rattle.safe_table.proofs.polls.met.Awaited.count_to_last.Given as goal
+use Rattle.safe_table.proofs.polls.awaited.Awaited.count_to_last.Given as goal
 
 -- none of those behind these meets it
 abbrev pub invariant-loop-left : goal.invariant-loop-left

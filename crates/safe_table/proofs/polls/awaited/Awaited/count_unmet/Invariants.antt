@@ -1,7 +1,7 @@
 use Rattle.std.proofs.Common.{◌≡◌, ◌+◌, ◌-◌, ◌≤◌, length}
 use Rattle.safe_model.specs.Raisers.{is_met_by}
 use Rattle.safe_table.proofs.ScanLemmas.{before_first}
-use Rattle.safe_table.proofs.polls.met.Awaited.count_unmet.Given as goal
+use Rattle.safe_table.proofs.polls.awaited.Awaited.count_unmet.Given as goal
 
 -- none of those so far meets it
 abbrev pub invariant-loop-left : goal.invariant-loop-left

@@ -1,7 +1,7 @@
 use Rattle.std.proofs.Common.{◌≡◌, ◌+◌, ◌-◌, ◌≤◌, drop, length}
 use Rattle.safe_model.specs.Raisers.{is_met_by}
 use Rattle.safe_table.proofs.ScanLemmas.{before_first}
-use Rattle.safe_table.proofs.polls.met.Awaited.count_close.Given as goal
+use Rattle.safe_table.proofs.polls.awaited.Awaited.count_close.Given as goal
 
 -- so many do not meet it
 abbrev pub invariant-loop-count : goal.invariant-loop-count
