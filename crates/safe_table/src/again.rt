@@ -13,64 +13,13 @@ use board_model::{Board, Word, request_of};
 use board_tree::Tree;
 use pci_command::{NoMemory, OpId, Request};
 use std::alloc::Global;
-use std::mem;
 
-/// Places of polls among all polls, each once.
-#[derive(Drop)]
-struct Places {
-    marked: Vec<bool>,
-    places: Vec<usize>,
-}
-
-/// By each dword the places of the polls that wait for it; and the polls that may fall since others
-/// did: of which nothing is claimed.
+/// By each dword the places of the polls that wait for it; and which polls, by their places, may fall
+/// since others did: of which nothing is claimed.
 #[derive(Drop)]
 struct Again {
     waiting: WordTable<Vec<usize>>,
-    next: Places,
-}
-
-impl Places {
-    /// All of so many.
-    fn all(alloc: Global, count: usize) -> Result<Places, NoMemory> {
-        let mut places = Places {
-            marked: Vec::new(alloc),
-            places: Vec::new(alloc),
-        };
-        for place in 0..count {
-            places.marked.push(true)?;
-            places.places.push(place)?;
-        }
-        Ok(places)
-    }
-
-    /// One more, where it is not there yet.
-    fn add(&mut self, place: usize) -> Result<(), NoMemory> {
-        if place < self.marked.len() && !self.marked[place] {
-            self.marked[place] = true;
-            self.places.push(place)?;
-        }
-        Ok(())
-    }
-
-    /// These more.
-    fn add_all(&mut self, places: &[usize]) -> Result<(), NoMemory> {
-        for place in places {
-            self.add(*place)?;
-        }
-        Ok(())
-    }
-
-    /// Those, and from now on none.
-    fn take(&mut self, alloc: Global) -> Vec<usize> {
-        let places = mem::replace(&mut self.places, Vec::new(alloc));
-        for place in places.as_slice() {
-            if *place < self.marked.len() {
-                self.marked[*place] = false;
-            }
-        }
-        places
-    }
+    marked: Vec<bool>,
 }
 
 impl Again {
@@ -78,76 +27,86 @@ impl Again {
     fn of(alloc: Global, board: &Board, ops: &[OpId]) -> Result<Again, NoMemory>
         requires { IsDecodable board.now }
     {
-        let next = Places::all(alloc, ops.len())?;
         let mut waiting = WordTable::new(alloc);
+        let mut marked = Vec::new(alloc);
         for (place, op) in ops.iter().enumerate() {
             if let Some(awaited) = awaited_by(board, *op) {
                 put_waiting(&mut waiting, alloc, awaited.word, place)?;
             }
+            marked.push(true)?;
         }
-        Ok(Again { waiting, next })
+        Ok(Again { waiting, marked })
+    }
+
+    /// The poll at the place if it is among them, which it is no longer.
+    fn take(&mut self, ops: &[OpId], place: usize) -> Option<OpId>
+        ensures { IfSome result (λ op. Contains ops.now op) }
+    {
+        if place < self.marked.len() && self.marked[place] {
+            self.marked[place] = false;
+            ops.get(place).copied()
+        } else {
+            None
+        }
     }
 
     /// Where a poll fell the next of its program may, and those that wait for what is written between
     /// the two.
-    fn add_behind(
-        &mut self,
-        fell: bool,
-        board: &Board,
-        ops: &[OpId],
-        place: usize,
-    ) -> Result<(), NoMemory>
+    fn mark_behind(&mut self, fell: bool, board: &Board, ops: &[OpId], place: usize)
         requires { IsDecodable board.now }
     {
-        if !fell {
-            return Ok(());
-        }
         let (_, behind) = ops.split_at(fewer(place, ops.len()));
         match behind {
-            [poll, next, ..] if next.master == poll.master => {
-                self.next.add(place.saturating_add(1))?;
-                self.add_written(board, *poll, next.index)
+            [poll, next, ..] if fell && next.master == poll.master => {
+                mark(&mut self.marked, place.saturating_add(1));
+                self.mark_written(board, *poll, next.index);
             }
-            [poll, ..] => self.add_written(board, *poll, u16::MAX),
-            [] => Ok(()),
+            [poll, ..] if fell => self.mark_written(board, *poll, u16::MAX),
+            _ => {}
         }
     }
 
     /// Those that wait for what the program writes behind the poll and before the place.
-    fn add_written(&mut self, board: &Board, poll: OpId, end: u16) -> Result<(), NoMemory>
+    fn mark_written(&mut self, board: &Board, poll: OpId, end: u16)
         requires { IsDecodable board.now }
     {
         for index in poll.index.saturating_add(1)..end {
             let op = OpId { index, ..poll };
             match request_of(board, op, 0) {
-                None => return Ok(()),
-                Some(request) => self.add_request(&request, first_named(board, op))?,
+                None => return,
+                Some(request) => self.mark_request(&request, first_named(board, op)),
             }
         }
-        Ok(())
     }
 
     /// Those that wait for what the request writes, from the first of its dwords on.
-    fn add_request(&mut self, request: &Request, first: Option<Word>) -> Result<(), NoMemory> {
+    fn mark_request(&mut self, request: &Request, first: Option<Word>) {
         match first {
             Some(first) if !request.command.is_read() => {
-                self.add_dwords(first, request.phases.len())
+                self.mark_dwords(first, request.phases.len());
             }
-            _ => Ok(()),
+            _ => {}
         }
     }
 
     /// Those that wait for one of so many dwords from the first on.
-    fn add_dwords(&mut self, first: Word, count: usize) -> Result<(), NoMemory> {
+    fn mark_dwords(&mut self, first: Word, count: usize) {
         let mut address = first.address;
         for _ in 0..count {
             let word = Word { address, ..first };
             if let Some(places) = self.waiting.get(word) {
-                self.next.add_all(places.as_slice())?;
+                for place in places {
+                    mark(&mut self.marked, *place);
+                }
             }
             address = address.saturating_add(4);
         }
-        Ok(())
+    }
+}
+
+fn mark(marked: &mut Vec<bool>, place: usize) {
+    if place < marked.len() {
+        marked[place] = true;
     }
 }
 
@@ -209,41 +168,36 @@ fn lower_these(
     ensures fell { IfOk result (Fell table.old table.new) }
     ensures bounds { OnOk result (BoundsAll tree.now table.new) }
 {
-    let places = again.next.take(alloc);
     let mut fell = false;
-    for place in places.as_slice() {
-        let here = lower_at(alloc, tree, gathered, table, ops, *place)?;
-        again.add_behind(here, tree.board(), ops, *place)?;
+    for place in 0..ops.len() {
+        let op = again.take(ops, place);
+        let here = lower_if(alloc, tree, gathered, table, ops, op)?;
+        again.mark_behind(here, tree.board(), ops, place);
         fell = fell || here;
     }
     Ok(fell)
 }
 
-/// Behind the poll at the place; whether a number fell.
-fn lower_at(
+/// Behind the poll, if there is one; whether a number fell.
+fn lower_if(
     alloc: Global,
     tree: &Tree,
     gathered: &Gathered,
     table: &mut ClockTable,
     ops: &[OpId],
-    place: usize,
+    op: Option<OpId>,
 ) -> Result<bool, NoMemory>
     requires are { AreOf tree.now gathered.now.writers gathered.now.polls ops.now }
     requires bounds { BoundsAll tree.now table.old }
+    requires among { IfSome op (λ op. Contains ops.now op) }
     ensures fell { IfOk result (Fell table.old table.new) }
     ensures bounds { OnOk result (BoundsAll tree.now table.new) }
 {
-    match poll_at(ops, place) {
+    match op {
         Some(op) => {
             let here = lower_poll(alloc, tree, gathered, table, op)?;
             Ok(here)
         }
         None => Ok(false),
     }
-}
-
-fn poll_at(ops: &[OpId], place: usize) -> Option<OpId>
-    ensures { IfSome result (λ op. Contains ops.now op) }
-{
-    ops.get(place).copied()
 }
