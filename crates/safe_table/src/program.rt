@@ -52,6 +52,13 @@ impl Program {
         number_at(self.numbers(count), usize::from(other))
     }
 
+    /// The same of all masters, behind the last poll before the operation at a place.
+    pub(crate) fn numbers_before(&self, index: u16) -> &[u16]
+        ensures { (other : ℕ) → number result.now other ≡ known_at self.now (last_in self.now index) other }
+    {
+        self.numbers(self.last(usize::from(index)))
+    }
+
     /// The same of all masters.
     fn numbers(&self, count: usize) -> &[u16]
         ensures { (other : ℕ) → number result.now other ≡ known_at self.now count other }
@@ -70,7 +77,7 @@ impl Program {
         ensures { result ≡ false → (other : ℕ) → number (row_in self.now op.index) other
             ≤ raised_at (known_at self.now (last_in self.now op.index) other) op other }
     {
-        let before = self.numbers(self.last(usize::from(op.index)));
+        let before = self.numbers_before(op.index);
         match self.rows.as_slice().get(usize::from(op.index)) {
             Some(row) => is_above(row.as_slice(), before, op),
             None => false,
