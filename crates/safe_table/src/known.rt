@@ -138,14 +138,11 @@ impl ClockTable {
         }
     }
 
-    /// How many operations of a master are known behind the last poll before an operation.
+    /// The same of one master.
     fn known(&self, op: OpId, other: u16) -> usize
         ensures { result ≡ known_in self.now op.master op.index other }
     {
-        match self.programs.as_slice().get(usize::from(op.master)) {
-            Some(program) => program.known(op.index, other),
-            None => 0,
-        }
+        number_at(self.numbers(op), usize::from(other))
     }
 }
 
@@ -171,7 +168,7 @@ fn past(known: usize, op: OpId, other: usize) -> usize
     }
 }
 
-fn lesser(a: usize, b: usize) -> usize
+pub(crate) fn lesser(a: usize, b: usize) -> usize
     ensures { result ≡ lesser a b }
 {
     if b < a { b } else { a }

@@ -27,14 +27,6 @@ impl Model for Program {
 }
 
 impl Program {
-    /// Behind the last poll before the operation at a place, how many operations of a master are
-    /// known.
-    pub(crate) fn known(&self, index: u16, other: u16) -> usize
-        ensures { result ≡ known_at self.now (last_in self.now index) other }
-    {
-        self.behind(self.last(usize::from(index)), other)
-    }
-
     /// Of the first so many operations, how many there are up to and with the last poll.
     fn last(&self, index: usize) -> usize
         ensures { result ≡ last_in self.now index }
@@ -45,21 +37,14 @@ impl Program {
         }
     }
 
-    /// What is known behind the last of so many operations.
-    fn behind(&self, count: usize, other: u16) -> usize
-        ensures { result ≡ known_at self.now count other }
-    {
-        number_at(self.numbers(count), usize::from(other))
-    }
-
-    /// The same of all masters, behind the last poll before the operation at a place.
+    /// Of each master what is known behind the last poll before the operation at a place.
     pub(crate) fn numbers_before(&self, index: u16) -> &[u16]
         ensures { (other : ℕ) → number result.now other ≡ known_at self.now (last_in self.now index) other }
     {
         self.numbers(self.last(usize::from(index)))
     }
 
-    /// The same of all masters.
+    /// The same behind the last of so many operations.
     fn numbers(&self, count: usize) -> &[u16]
         ensures { (other : ℕ) → number result.now other ≡ known_at self.now count other }
     {
