@@ -9,7 +9,7 @@ use observe_told::{Ending, Seen, SeenAct, Who};
 use pci_command::{NoMemory, OpId};
 
 /// What the acts are told by.
-#[derive(Clone, Copy, Debug)]
+#[derive(Clone, Copy)]
 pub(crate) struct Told<'a> {
     pub(crate) ground: &'a Ground<'a>,
     pub(crate) streams: &'a Streams,
@@ -18,17 +18,21 @@ pub(crate) struct Told<'a> {
 }
 
 impl Told<'_> {
-    /// The acts of all lines, bus by bus, and there in the order of the lines.
-    pub(crate) fn acts(&self) -> Result<Vec<SeenAct>, NoMemory> {
+    /// Lists the acts of all lines, bus by bus, and there in the order of the lines.
+    pub(crate) fn list_acts(&self, acts: &mut Vec<SeenAct>) -> Result<(), NoMemory> {
         let latched = self.latched()?;
-        let mut acts = Vec::with_capacity(self.ground.alloc, self.ground.lines.len())?;
+        acts.reserve(self.ground.lines.len())?;
+        self.list(latched.as_slice(), acts)
+    }
+
+    fn list(&self, latched: &[bool], acts: &mut Vec<SeenAct>) -> Result<(), NoMemory> {
         for bus in 0..=255u8 {
             for line in self.ground.on_bus(bus) {
                 let is_latched = latched.get(*line as usize).copied().unwrap_or(false);
-                self.act(*line, is_latched, &mut acts)?;
+                self.act(*line, is_latched, acts)?;
             }
         }
-        Ok(acts)
+        Ok(())
     }
 
     /// Of each line whether it latched a request.

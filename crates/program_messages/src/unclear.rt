@@ -111,7 +111,7 @@ fn tell_write(
 }
 
 /// What the lines behind one that begins something are counted for.
-#[derive(Clone, Copy, Debug)]
+#[derive(Clone, Copy)]
 enum Kind {
     /// The operations of a master, a device or a handler.
     Operation,
