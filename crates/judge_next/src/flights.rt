@@ -16,7 +16,7 @@ use std::alloc::Global;
 
 /// Where something may be in flight: all lanes of the board in the order in which the next arrival is
 /// looked for, and by bus which bridges are known to have nothing in flight.
-#[derive(Drop)]
+#[derive(Debug, Drop)]
 pub(crate) struct Flights {
     lanes: Vec<Lane>,
     still: Vec<bool>,

@@ -7,7 +7,7 @@ use pci_command::NoMemory;
 use std::alloc::Global;
 
 /// Which of 256 buses are known to be quiet, and a bus below which all are.
-#[derive(Drop)]
+#[derive(Debug, Drop)]
 pub(crate) struct Quiet {
     buses: Vec<bool>,
     pub(crate) from: u16,

@@ -8,7 +8,7 @@ use std::alloc::Global;
 use std::marker::Model;
 
 /// The writes of one master that name a dword, in the order of its program.
-#[derive(Drop)]
+#[derive(Debug, Drop)]
 pub(crate) struct Author {
     master: u16,
     entries: Vec<Entry>,

@@ -9,7 +9,7 @@ use std::alloc::Global;
 use std::marker::Model;
 
 /// The writes that name one dword, by their masters.
-#[derive(Drop)]
+#[derive(Debug, Drop)]
 pub(crate) struct Authors {
     authors: Vec<Author>,
 }
