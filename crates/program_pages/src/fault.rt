@@ -7,7 +7,7 @@ use std::fmt;
 use text_faults::{DeviceFault, LineFault, LogLineFault, LspciFault, TraceLineFault, TreeFault};
 
 /// What an input is refused for.
-#[derive(Clone, Copy, Debug)]
+#[derive(Clone, Copy, Debug, PartialEq, Eq)]
 pub enum Fault {
     /// A fault of a line of the board.
     Line(LineFault),

@@ -1,7 +1,7 @@
 use board_model::Lane;
 
 /// What is shown of the event that happens on a bus.
-#[derive(Clone, Copy, Debug)]
+#[derive(Clone, Copy, Debug, PartialEq, Eq)]
 pub enum BusPart {
     /// Its kind.
     Event,
@@ -16,7 +16,7 @@ pub enum BusPart {
 }
 
 /// What is counted of a lane.
-#[derive(Clone, Copy, Debug)]
+#[derive(Clone, Copy, Debug, PartialEq, Eq)]
 pub enum LaneCount {
     /// Posted writes that are owed where it begins.
     Owed,
@@ -33,7 +33,7 @@ pub enum LaneCount {
 }
 
 /// What is shown of a run, over time.
-#[derive(Clone, Copy, Debug)]
+#[derive(Clone, Copy, Debug, PartialEq, Eq)]
 pub enum Signal {
     /// What happens on a bus.
     Bus { bus: u8, part: BusPart },

@@ -6,7 +6,6 @@ use crate::fault::{Code, Fault};
 use crate::shown::Message;
 use pci_command::NoMemory;
 use std::alloc::Global;
-use std::fmt;
 
 /// The columns that are shown of a line of the file: two blanks, and dots where it is cut, make
 /// 120.
@@ -60,9 +59,9 @@ impl<'a> Teller<'a> {
 
     /// What is wrong with the file, where no line of it has that.
     pub fn error(&mut self, text: &str) -> Result<(), NoMemory> {
-        let (name, label) = (ShownName(self.name), Label::Error(self.fault));
-        let row = format!(in self.alloc; "{name}: {label}{text}")?;
-        self.message.whole_line(self.alloc, row.as_bytes())
+        let mut row = self.shown_name()?;
+        row.extend_from_slice(b": ")?;
+        self.end_error(row, text)
     }
 
     /// What is wrong at a place of a line of the file; and the line, with a caret below the place.
@@ -75,14 +74,18 @@ impl<'a> Teller<'a> {
         text: &str,
     ) -> Result<(), NoMemory> {
         let at = at.min(line.len());
-        self.tell_at(number, at, Label::Error(self.fault), text)?;
+        let row = self.place(number, at)?;
+        self.end_error(row, text)?;
         if line.is_empty() {
             return Ok(());
         }
         let from = first_shown(line, at);
         self.show(line, from)?;
         let dots = if from > 0 { 5 } else { 2 };
-        self.show_caret(at.saturating_sub(from).saturating_add(dots))
+        let column = at.saturating_sub(from).saturating_add(dots);
+        let mut below = vec![in self.alloc; b' '; column]?;
+        below.push(b'^')?;
+        self.message.line(self.alloc, below.as_slice())
     }
 
     /// A further place of the file, with its line.
@@ -94,7 +97,10 @@ impl<'a> Teller<'a> {
         text: &str,
     ) -> Result<(), NoMemory> {
         let at = at.min(line.len());
-        self.tell_at(number, at, Label::Note, text)?;
+        let mut row = self.place(number, at)?;
+        row.extend_from_slice(b"note: ")?;
+        row.extend_from_slice(text.as_bytes())?;
+        self.message.whole_line(self.alloc, row.as_slice())?;
         if line.is_empty() {
             return Ok(());
         }
@@ -113,76 +119,51 @@ impl<'a> Teller<'a> {
         }
     }
 
-    /// A line behind the name of the file, the number of a line and the column of a place in it.
-    fn tell_at(
-        &mut self,
-        number: u32,
-        at: usize,
-        label: Label,
-        text: &str,
-    ) -> Result<(), NoMemory> {
-        let (name, column) = (ShownName(self.name), at.saturating_add(1));
-        let row = format!(in self.alloc; "{name}:{number}:{column}: {label}{text}")?;
-        self.message.whole_line(self.alloc, row.as_bytes())
+    /// A line that says what is wrong, behind where that is.
+    fn end_error(&mut self, mut row: Vec<u8>, text: &str) -> Result<(), NoMemory> {
+        row.extend_from_slice(b"error: ")?;
+        if let Some(fault) = self.fault {
+            let code = Code(fault);
+            let code = format!(in self.alloc; "{code}: ")?;
+            row.extend_from_slice(code.as_bytes())?;
+        }
+        row.extend_from_slice(text.as_bytes())?;
+        self.message.whole_line(self.alloc, row.as_slice())
     }
 
     /// The part of a line of the file that begins at this place of it.
     fn show(&mut self, line: &[u8], from: usize) -> Result<(), NoMemory> {
-        let mut row = Vec::new(self.alloc);
-        put_part(&mut row, line, from)?;
+        let mut row = b"  ".as_slice().to_vec(self.alloc)?;
+        if from > 0 {
+            row.extend_from_slice(b"...")?;
+        }
+        for byte in line.iter().skip(from).take(PART) {
+            row.push(*byte)?;
+        }
+        if from.saturating_add(PART) < line.len() {
+            row.extend_from_slice(b"...")?;
+        }
         self.message.line(self.alloc, row.as_slice())
     }
 
-    fn show_caret(&mut self, column: usize) -> Result<(), NoMemory> {
-        let mut below = vec![in self.alloc; b' '; column]?;
-        below.push(b'^')?;
-        self.message.line(self.alloc, below.as_slice())
+    /// The name of the file, the number of a line and the column of a place in it.
+    fn place(&self, number: u32, at: usize) -> Result<Vec<u8>, NoMemory> {
+        let mut place = self.shown_name()?;
+        let column = at.saturating_add(1);
+        let numbers = format!(in self.alloc; ":{number}:{column}: ")?;
+        place.extend_from_slice(numbers.as_bytes())?;
+        Ok(place)
     }
-}
 
-/// The name of a file, whole: a question mark for each byte of it that is no printing character.
-#[derive(Clone, Copy)]
-struct ShownName<'a>(&'a str);
-
-/// How a line of a message begins, behind where that is.
-#[derive(Clone, Copy)]
-enum Label {
-    Error(Option<Fault>),
-    Note,
-}
-
-impl fmt::Display for ShownName<'_> {
-    fn fmt<W: fmt::Write>(&self, f: &mut fmt::Formatter<W>) -> fmt::Result {
-        for byte in self.0.as_bytes() {
+    /// The name of the file, whole.
+    fn shown_name(&self) -> Result<Vec<u8>, NoMemory> {
+        let mut name = Vec::new(self.alloc);
+        for byte in self.name.as_bytes() {
             let is_printing = (b' '..=b'~').contains(byte);
-            let shown = if is_printing { *byte } else { b'?' };
-            f.write_char(char::from(shown))?;
+            name.push(if is_printing { *byte } else { b'?' })?;
         }
-        Ok(())
+        Ok(name)
     }
-}
-
-impl fmt::Display for Label {
-    fn fmt<W: fmt::Write>(&self, f: &mut fmt::Formatter<W>) -> fmt::Result {
-        match *self {
-            Label::Error(Some(fault)) => write!(f, "error: {}: ", Code(fault)),
-            Label::Error(None) => f.write_str("error: "),
-            Label::Note => f.write_str("note: "),
-        }
-    }
-}
-
-fn put_part(row: &mut Vec<u8>, line: &[u8], from: usize) -> Result<(), NoMemory> {
-    row.extend_from_slice(b"  ")?;
-    if from > 0 {
-        row.extend_from_slice(b"...")?;
-    }
-    let end = from.saturating_add(PART).min(line.len());
-    row.extend_from_slice(line.get(from..end).unwrap_or(&[]))?;
-    if end < line.len() {
-        row.extend_from_slice(b"...")?;
-    }
-    Ok(())
 }
 
 /// The first place of a line that is shown.

@@ -1,7 +1,7 @@
 use std::fmt;
 
 /// A text of a case.
-#[derive(Clone, Copy, Debug)]
+#[derive(Clone, Copy, Debug, PartialEq, Eq)]
 pub enum Text {
     Plain(&'static str),
     /// What the word of its place is, or one of these.
