@@ -2,7 +2,7 @@ ghost use Rattle.std.specs.Prelude.{◌≡◌};
 ghost use Rattle.trace_reader.specs.lines.Events.{kind_of, later_kind_of};
 
 /// What the second word of an event line says.
-#[derive(Clone, Copy, Debug)]
+#[derive(Clone, Copy, Debug, PartialEq, Eq)]
 pub enum EventWord {
     Land,
     Part,
