@@ -18,7 +18,7 @@ use history_model::{By, Event};
 use pci_command::OpId;
 
 /// What happens in a moment, and on which bus something happened in the moment before.
-#[derive(Clone, Copy, Debug)]
+#[derive(Clone, Copy)]
 pub(crate) struct Touch {
     pub(crate) from: Option<u8>,
     pub(crate) to: Option<u8>,
