@@ -1,20 +1,49 @@
 use crate::errands::Errands;
 use crate::ground::Ground;
 use crate::latches::outcome;
-use crate::programs::Programs;
+use crate::pairing::pair;
+use crate::programs::{Draft, Programs};
 use crate::streams::Streams;
-use board_model::Place;
+use board_model::{Lane, Place};
 use history_model::Step;
-use observe_told::{Ending, Seen, SeenAct, Who};
+use observe_told::{Ending, Seen, SeenAct, Unfound, Who};
 use pci_command::{NoMemory, OpId};
 
-/// What the acts are told by.
-#[derive(Clone, Copy)]
+/// What the acts are told by: errands, streams and programs of a log.
+#[derive(Drop)]
 pub(crate) struct Told<'a> {
     pub(crate) ground: &'a Ground<'a>,
-    pub(crate) streams: &'a Streams,
-    pub(crate) errands: &'a Errands,
-    pub(crate) programs: &'a Programs,
+    pub(crate) errands: Errands,
+    pub(crate) streams: Streams,
+    pub(crate) programs: Programs,
+}
+
+impl<'a> Told<'a> {
+    /// Nothing yet.
+    pub(crate) fn new(ground: &'a Ground<'a>) -> Told<'a> {
+        Told {
+            ground,
+            errands: Errands::new(ground.alloc),
+            streams: Streams::new(ground.alloc),
+            programs: Programs::new(ground.alloc),
+        }
+    }
+
+    /// All that the lines tell.
+    pub(crate) fn follow(&mut self, lanes: &[Lane]) -> Result<(), Unfound> {
+        let ground = self.ground;
+        self.errands.sort_all(ground)?;
+        self.streams.follow_all(ground, lanes)?;
+        pair(ground, lanes, &self.streams, &mut self.errands)?;
+        self.programs
+            .write_all(ground, &mut self.streams, &mut self.errands)
+    }
+
+    pub(crate) fn into_drafts(self) -> Vec<Draft> {
+        let Told { programs, .. } = self;
+        let Programs { masters, .. } = programs;
+        masters
+    }
 }
 
 impl Told<'_> {
@@ -162,7 +191,9 @@ impl Told<'_> {
         let mut before = None;
         for phase in span.0..span.1 {
             let op = self.streams.op_of(phase);
-            if let Some(op) = op.filter(|_| op != before) {
+            if op != before
+                && let Some(op) = op
+            {
                 self.push(line, op, step, acts)?;
             }
             before = op;

@@ -58,20 +58,14 @@ fn list_discarded(
                 up: !up,
                 count,
             })?;
-            note_discarded(errands, bus, made.far, notes)?;
+            if let (Some(line), Some(op)) = (errands.get(made.far).ended, errands.op_of(made.far)) {
+                notes.push(Note::Discarded {
+                    bridge: bus,
+                    op,
+                    line,
+                })?;
+            }
         }
-    }
-    Ok(())
-}
-
-fn note_discarded(
-    errands: &Errands,
-    bridge: u8,
-    far: u32,
-    notes: &mut Vec<Note>,
-) -> Result<(), NoMemory> {
-    if let (Some(line), Some(op)) = (errands.get(far).ended, errands.op_of(far)) {
-        notes.push(Note::Discarded { bridge, op, line })?;
     }
     Ok(())
 }
@@ -298,7 +292,9 @@ impl Held {
     ) -> Option<u32> {
         let op = phase.and_then(|phase| streams.op_of(phase));
         let op_before = before.and_then(|before| streams.op_of(before));
-        if let Some(phase) = phase.filter(|_| before.is_none() || op != op_before) {
+        if let Some(phase) = phase
+            && (before.is_none() || op != op_before)
+        {
             self.pieces_left = self.pieces_left.saturating_add(1);
             let line = ground.line_of(phase);
             let left = bump(&mut self.left_of, line as usize).saturating_add(1);

@@ -3,9 +3,7 @@ use crate::agents::{all_masters, list_targets};
 use crate::depths::{list_bridges, list_discards};
 use crate::errands::Errands;
 use crate::ground::{Ground, Times, number};
-use crate::pairing::pair;
-use crate::programs::{Draft, Programs};
-use crate::streams::Streams;
+use crate::programs::Draft;
 use board_model::{Board, Bridge, Lane, Master, Place, Planned, Target};
 use board_tree::Tree;
 use observe_told::{Ending, Seen, SeenAct, Unfound, Who};
@@ -78,14 +76,6 @@ struct Sought {
     notes: Vec<Note>,
 }
 
-/// Errands, streams and programs of a log.
-#[derive(Drop)]
-struct Course {
-    errands: Errands,
-    streams: Streams,
-    programs: Programs,
-}
-
 /// What the lines of a log tell, of the board of this tree: errands, streams and cuts, who was
 /// served by whom and latched where, programs and acts. Where nothing that a bus shows decides
 /// which of several requests was served, the first is taken that the machine allows. The time grows
@@ -110,43 +100,6 @@ fn find_on(ground: &Ground, lanes: &[Lane]) -> Result<LogFound, Unfound> {
     Ok(sought.with(ground, masters))
 }
 
-impl Course {
-    fn new(alloc: Global) -> Course {
-        Course {
-            errands: Errands::new(alloc),
-            streams: Streams::new(alloc),
-            programs: Programs::new(alloc),
-        }
-    }
-
-    fn follow(&mut self, ground: &Ground, lanes: &[Lane]) -> Result<(), Unfound> {
-        self.errands.sort_all(ground)?;
-        self.streams.follow_all(ground, lanes)?;
-        pair(ground, lanes, &self.streams, &mut self.errands)?;
-        self.programs
-            .write_all(ground, &mut self.streams, &mut self.errands)
-    }
-
-    fn list_acts(&self, ground: &Ground, acts: &mut Vec<SeenAct>) -> Result<(), NoMemory> {
-        let told = Told {
-            ground,
-            streams: &self.streams,
-            errands: &self.errands,
-            programs: &self.programs,
-        };
-        told.list_acts(acts)
-    }
-
-    fn into_drafts(self) -> Vec<Draft> {
-        let Course {
-            errands: _errands,
-            streams: _streams,
-            programs,
-        } = self;
-        programs.into_drafts()
-    }
-}
-
 impl Sought {
     fn new(alloc: Global) -> Sought {
         Sought {
@@ -160,18 +113,18 @@ impl Sought {
 
     /// All that is found, and the programs that are not written out yet.
     fn seek(&mut self, ground: &Ground, lanes: &[Lane]) -> Result<Vec<Draft>, Unfound> {
-        let mut course = Course::new(ground.alloc);
-        course.follow(ground, lanes)?;
-        self.list(ground, lanes, &course)?;
-        Ok(course.into_drafts())
+        let mut told = Told::new(ground);
+        told.follow(lanes)?;
+        self.list(lanes, &told)?;
+        Ok(told.into_drafts())
     }
 
-    fn list(&mut self, ground: &Ground, lanes: &[Lane], course: &Course) -> Result<(), Unfound> {
-        let errands = &course.errands;
+    fn list(&mut self, lanes: &[Lane], told: &Told) -> Result<(), Unfound> {
+        let (ground, errands) = (told.ground, &told.errands);
         list_targets(ground, &mut self.targets)?;
         list_discards(ground, lanes, errands, &mut self.discards, &mut self.notes)?;
-        list_bridges(ground, &course.streams, &mut self.bridges, &mut self.notes)?;
-        course.list_acts(ground, &mut self.acts)?;
+        list_bridges(ground, &told.streams, &mut self.bridges, &mut self.notes)?;
+        told.list_acts(&mut self.acts)?;
         note_rest(ground, errands, &mut self.notes)?;
         Ok(())
     }
@@ -220,7 +173,9 @@ fn note_rest(ground: &Ground, errands: &Errands, notes: &mut Vec<Note>) -> Resul
             None => {}
             Some(ended) => {
                 let count = not_looked_at(ground, ended);
-                if let Some(op) = op.filter(|_| count > 0) {
+                if let Some(op) = op
+                    && count > 0
+                {
                     notes.push(Note::NotLookedAt { op, count })?;
                 }
             }

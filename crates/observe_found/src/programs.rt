@@ -114,15 +114,6 @@ impl Programs {
         Ok(())
     }
 
-    pub(crate) fn into_drafts(self) -> Vec<Draft> {
-        let Programs {
-            masters,
-            alone: _alone,
-            total: _total,
-        } = self;
-        masters
-    }
-
     fn begin(&mut self, ground: &Ground) -> Result<(), Unfound> {
         for (home, master) in ground.board.masters.as_slice().iter().enumerate() {
             let home = u16::try_from(home).unwrap_or(u16::MAX);
