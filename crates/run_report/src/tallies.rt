@@ -9,7 +9,7 @@ use history_model::{Event, Step};
 use machine_steps::bus_of;
 
 /// What a line of a report counts: a kind of events.
-#[derive(Clone, Copy, Debug)]
+#[derive(Clone, Copy, Debug, PartialEq, Eq)]
 pub enum CountedKind {
     /// A target took a write, or a part of one.
     Land,
@@ -32,7 +32,7 @@ pub enum CountedKind {
 }
 
 /// How many events of each kind there were on one bus.
-#[derive(Clone, Copy, Debug, Default)]
+#[derive(Clone, Copy, Debug, Default, PartialEq, Eq)]
 pub struct Tally {
     pub land: u64,
     pub read: u64,
