@@ -1,6 +1,7 @@
 -- A block of signals that is passed over has none that is touched.
-use Rattle.std.proofs.Common.{◌≡◌, ℕ, ◌+◌, ◌<◌, ◌≤◌, zero, suc, Bool, true, false, eqb, leb, ◌&&◌, ◌||◌, min, max, List, [], ◌∷◌, ◌++◌, length, drop, get_or, Option, Some, None, refl, sym, ap, subst, ◌∙◌, arith, slice_get, eqb-true}
+use Rattle.std.proofs.Common.{◌≡◌, ℕ, ◌+◌, ◌*◌, ◌<◌, ◌≤◌, zero, suc, Bool, true, false, eqb, leb, ◌&&◌, ◌||◌, min, max, List, [], ◌∷◌, ◌++◌, length, drop, get_or, Option, Some, None, refl, sym, ap, subst, ◌∙◌, arith, slice_get, eqb-true, inl, inr}
 use Rattle.std.proofs.lemmas.Bool.{le-leb, leb-true, leb-false}
+use Rattle.std.proofs.lemmas.Bool.Decides.{nat_tests}
 use Rattle.std.proofs.lemmas.List.{drop_all}
 use Rattle.std.proofs.lemmas.Option.{slice_get-get_or, slice_get_within}
 use Rattle.std.proofs.Math.Seq.{drop-cons}
@@ -61,19 +62,22 @@ abbrev pub SpansTo : Board → List Signal → ℕ → ℕ → Span → Type 0
 SpansTo board signals start end span = (k : ℕ) (signal : Signal) → start ≤ k → k < end → slice_get signals k ≡ Some signal → is_in span (home board signal) ≡ true
 
 -- a signal more
-pub span_more : (board : Board) (signals : List Signal) (start n bus : ℕ) (d : Signal) (span : Span) → n < length signals → bus ≡ home board (get_or signals n d) → SpansTo board signals start n span
-    → SpansTo board signals start (n + 1) (record { low = min span.low bus; high = max span.high bus })
-span_more board signals start n bus d span within bus_is before = λ k signal from less is.
+pub span_more : (board : Board) (signals : List Signal) (start n bus low high : ℕ) (d : Signal) (span : Span) → n < length signals → bus ≡ home board (get_or signals n d) → low ≡ min span.low bus → high ≡ max span.high bus → SpansTo board signals start n span
+    → SpansTo board signals start (n + 1) (record { low = low; high = high })
+span_more board signals start n bus low high d span within bus_is low_is high_is before = λ k signal from less is.
     let wide : Span = record { low = min span.low bus; high = max span.high bus } in
+    let same_span : wide ≡ record { low = low; high = high } = ap (λ (l : ℕ). record { low = l; high = max span.high bus }) (sym low_is) ∙ ap (λ (h : ℕ). record { low = low; high = h }) (sym high_is) in
     let P : Bool → Type 0 = λ b. eqb n k ≡ b → is_in wide (home board signal) ≡ true in
-    (elim (eqb n k) as P [
+    subst (λ (s : Span). is_in s (home board signal) ≡ true) same_span ((elim (eqb n k) as P [
       | true ↦ λ same.
           let there : slice_get signals n ≡ Some (get_or signals n d) = slice_get-get_or signals n d within in
           let one : Some signal ≡ Some (get_or signals n d) = sym is ∙ ap (slice_get signals) (sym (eqb-true n k same)) ∙ there in
           let signal_is : signal ≡ get_or signals n d = cc in
           ap (λ (s : Signal). is_in wide (home board s)) signal_is ∙ ap (is_in wide) (sym bus_is) ∙ now_in span bus
-      | false ↦ λ differ. wider span bus (home board signal) (before k signal from (grind arith) is)
-    ]) refl
+      | false ↦ λ differ.
+          let less : k < n = grind (arith, nat_tests) in
+          wider span bus (home board signal) (before k signal from less is)
+    ]) refl)
 
 -- a span more
 pub spans_push : (board : Board) (signals : List Signal) (spans : List Span) (new : Span) → ((n : ℕ) (span : Span) → slice_get spans n ≡ Some span → Spans board signals (n * 32) span) → Spans board signals (length spans * 32) new
@@ -87,10 +91,10 @@ spans_push board signals spans new each last n span got =
 -- What is touched belongs to one of these buses.
 
 apart : (P : ℕ → Bool) (a b : ℕ) → P b ≡ true → P a ≡ false → eqb a b ≡ false
-apart P a b yes no =
+apart P a b here gone =
     let Q : Bool → Type 0 = λ x. eqb a b ≡ x → x ≡ false in
     (elim (eqb a b) as Q [
-      | true ↦ λ same. sym yes ∙ ap P (sym (eqb-true a b same)) ∙ no
+      | true ↦ λ same. sym here ∙ ap P (sym (eqb-true a b same)) ∙ gone
       | false ↦ λ differ. refl
     ]) refl
 
@@ -163,23 +167,29 @@ span_off board span from to signal inside off =
 -- signals that write none
 no_lines : (board : Board) (before after : Moment) (signals : List Signal) (n start : ℕ) → ((k : ℕ) (signal : Signal) → start ≤ k → k < start + n → slice_get signals k ≡ Some signal → change_line board before after k signal ≡ [])
     → lines_from board before after start signals ≡ lines_from board before after (start + n) signals
-no_lines board before after signals zero start none = ap (λ (k : ℕ). lines_from board before after k signals) (omega arith)
+no_lines board before after signals zero start none =
+    let here : start ≡ start + zero = omega arith in
+    ap (λ (k : ℕ). lines_from board before after k signals) here
 no_lines board before after signals (suc n) start none =
+    let behind : (start + 1) + n ≡ start + suc n = omega arith in
     one (leb (length signals) start) refl ∙ no_lines board before after signals n (start + 1) (λ k signal from less is. none k signal (omega arith) (omega arith) is)
-    ∙ ap (λ (k : ℕ). lines_from board before after k signals) (omega arith)
+    ∙ ap (λ (k : ℕ). lines_from board before after k signals) behind
   where
     d : Signal
     d = Bus 0 parts.Event
+
     one : (past : Bool) → leb (length signals) start ≡ past → lines_from board before after start signals ≡ lines_from board before after (start + 1) signals
     one true past =
         let all : length signals ≤ start = leb-true (length signals) start past in
-        ap (change_lines board before after start) (drop_all start signals all) ∙ sym (ap (change_lines board before after (start + 1)) (drop_all (start + 1) signals (omega arith)))
+        let more : length signals ≤ start + 1 = omega (arith, all) in
+        ap (change_lines board before after start) (drop_all start signals all) ∙ sym (ap (change_lines board before after (start + 1)) (drop_all (start + 1) signals more))
     one false past =
         let within : start < length signals = leb-false (length signals) start past in
         let rest : List Line = change_lines board before after (start + 1) (drop (suc start) signals) in
+        let next : suc start ≡ start + 1 = omega arith in
         ap (change_lines board before after start) (drop-cons signals start d within)
         ∙ ap (λ (l : List Line). l ++ rest) (none start (get_or signals start d) (omega arith) (omega arith) (slice_get-get_or signals start d within))
-        ∙ ap (λ (k : ℕ). change_lines board before after (start + 1) (drop k signals)) (omega arith)
+        ∙ ap (λ (k : ℕ). change_lines board before after (start + 1) (drop k signals)) next
 
 -- behind the last signal
 pub lines_end : (board : Board) (before after : Moment) (signals : List Signal) (n m : ℕ) → n ≡ min (length signals) m → lines_from board before after n signals ≡ lines_from board before after m signals
@@ -188,10 +198,12 @@ lines_end board before after signals n m end = at (leb (length signals) m) refl
     at : (past : Bool) → leb (length signals) m ≡ past → lines_from board before after n signals ≡ lines_from board before after m signals
     at true past =
         let all : length signals ≤ m = leb-true (length signals) m past in
-        ap (change_lines board before after n) (drop_all n signals (omega arith)) ∙ sym (ap (change_lines board before after m) (drop_all m signals all))
+        let here : length signals ≤ n = omega (arith, end, all) in
+        ap (change_lines board before after n) (drop_all n signals here) ∙ sym (ap (change_lines board before after m) (drop_all m signals all))
     at false past =
         let within : m < length signals = leb-false (length signals) m past in
-        ap (λ (k : ℕ). lines_from board before after k signals) (omega arith)
+        let same : n ≡ m = omega (arith, end, within) in
+        ap (λ (k : ℕ). lines_from board before after k signals) same
 
 pub passed_lines : (board : Board) (before after : Moment) (from to : Option Scene) (signals : List Signal) (start : ℕ) (span : Span) → Follows before after → from ≡ scene_of board before → to ≡ scene_of board after
     → Spans board signals start span → meets span (touch_of board from to) ≡ false → lines_from board before after start signals ≡ lines_from board before after (start + 32) signals

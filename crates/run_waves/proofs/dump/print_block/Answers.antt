@@ -34,7 +34,7 @@ loop-number-preserved c =
     let reading : Reading = get_or shown i r in
     let text = string_bytes c.loop-number.text in
     let from : start ≤ i = c.loop-number.auto.number in
-    let within : i < length signals = omega (arith, c.loop-number-test.true, c.min.ensures) in
+    let within : i < length signals = omega (arith, c.loop-number-test.true, c.min-number-end.ensures) in
     let so : i < length shown = omega (arith, c.requires.each, within, c.loop-number.auto.shown) in
     let signal_at = slice_get-get_or signals i s within in
     let reading_here : slice_get shown i ≡ Some reading = slice_get-get_or shown i r so in
@@ -76,14 +76,14 @@ loop-number-preserved c =
 
 pub returns-clause-text : goal.returns-clause-text
 returns-clause-text c = λ before after follows scene was at.
-    let end : c.loop-number.number ≡ min (length c.args.signals.now) (c.args.start + 32) = omega (arith, c.loop-number-test.false, c.loop-number.auto.number-end, c.requires.start, c.min.ensures) in
+    let end : c.loop-number.number ≡ min (length c.args.signals.now) (c.args.start + 32) = omega (arith, c.loop-number-test.false, c.loop-number.auto.number-end, c.requires.start, c.min-number-end.ensures) in
     ap (λ (l : List Line). string_bytes c.loop-number.text ++ text_of l) (sym (lines_end c.args.board.now before after c.args.signals.now c.loop-number.number (c.args.start + 32) end))
     ∙ c.loop-number.invariant.text before after follows scene was at
 
 pub returns-clause-reads : goal.returns-clause-reads
 returns-clause-reads c = λ before after follows scene was at below.
-    reads_end c.args.board.now after c.args.signals.now c.loop-number.shown c.loop-number.number (c.args.start + 32) (omega (arith, c.loop-number-test.false, c.min.ensures))
+    reads_end c.args.board.now after c.args.signals.now c.loop-number.shown c.loop-number.number (c.args.start + 32) (omega (arith, c.loop-number-test.false, c.min-number-end.ensures))
     (c.loop-number.invariant.reads before after follows scene was at below)
 
 pub returns-clause-rest : goal.returns-clause-rest
-returns-clause-rest c = λ k behind. c.loop-number.invariant.rest k (omega (arith, behind, c.loop-number.auto.number-end, c.requires.start, c.min.ensures))
+returns-clause-rest c = λ k behind. c.loop-number.invariant.rest k (omega (arith, behind, c.loop-number.auto.number-end, c.requires.start, c.min-number-end.ensures))
