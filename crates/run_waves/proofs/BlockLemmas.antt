@@ -1,5 +1,5 @@
 -- A block of signals that is passed over has none that is touched.
-use Rattle.std.proofs.Common.{◌≡◌, ℕ, ◌+◌, ◌*◌, ◌<◌, ◌≤◌, zero, suc, Bool, true, false, eqb, leb, ◌&&◌, ◌||◌, min, max, List, [], ◌∷◌, ◌++◌, length, drop, get_or, Option, Some, None, refl, sym, ap, subst, ◌∙◌, arith, slice_get, eqb-true, inl, inr}
+use Rattle.std.proofs.Common.{◌≡◌, ℕ, ◌+◌, ◌*◌, ◌<◌, ◌≤◌, zero, suc, Bool, true, false, eqb, leb, ◌&&◌, ◌||◌, min, max, List, [], ◌∷◌, ◌++◌, length, drop, get_or, Option, Some, None, refl, sym, ap, subst, ◌∙◌, arith, slice_get, eqb-true}
 use Rattle.std.proofs.lemmas.Bool.{le-leb, leb-true, leb-false}
 use Rattle.std.proofs.lemmas.Bool.Decides.{nat_tests}
 use Rattle.std.proofs.lemmas.List.{drop_all}
@@ -28,7 +28,6 @@ use Rattle.run_waves.specs.Dump.{change_line, change_lines}
 use Rattle.run_waves.specs.Touched.{presents_over, claims_over, moves_lanes, moves_master, claims_at, moves_target, is_at, happens_so, may_change, touch_of}
 use Rattle.run_waves.specs.Homes.{bus_of_master, bus_of_target, home, presenter_bus, claimer_bus, mover_bus, taker_bus}
 use Rattle.run_waves.specs.Blocks.{is_in, holds, meets, lines_from, Spans, AreSpans}
-use Rattle.run_waves.proofs.ReadLemmas.{got_push}
 use Rattle.run_waves.proofs.TouchLemmas.{neither_left, neither_right, untouched_line, untouched_reads}
 
 neither : (a b : Bool) → a ≡ false → b ≡ false → (a || b) ≡ false
@@ -79,14 +78,10 @@ span_more board signals start n bus low high d span within bus_is low_is high_is
           wider span bus (home board signal) (before k signal from less is)
     ]) refl)
 
--- a span more
-pub spans_push : (board : Board) (signals : List Signal) (spans : List Span) (new : Span) → ((n : ℕ) (span : Span) → slice_get spans n ≡ Some span → Spans board signals (n * 32) span) → Spans board signals (length spans * 32) new
-    → (n : ℕ) (span : Span) → slice_get (spans ++ new ∷ []) n ≡ Some span → Spans board signals (n * 32) span
-spans_push board signals spans new each last n span got =
-    elim (got_push spans span new n got) as (λ _. Spans board signals (n * 32) span) [
-      | inl before ↦ each n span before
-      | inr here ↦ subst (λ (s : Span). Spans board signals (n * 32) s) here.1 (subst (λ (m : ℕ). Spans board signals (m * 32) new) (sym here.0) last)
-    ]
+-- each block has its span, by the program's own board, signals and spans
+pub spans_given : (given board : Board) (signals s1 : List Signal) (spans p1 : List Span) → given ≡ board → signals ≡ s1 → spans ≡ p1 → AreSpans given signals spans → AreSpans board s1 p1
+spans_given given board signals s1 spans p1 same signals_are spans_are each =
+    subst (λ (l : List Span). AreSpans board s1 l) spans_are (subst (λ (l : List Signal). AreSpans board l spans) signals_are (subst (λ (b : Board). AreSpans b signals spans) same each))
 
 -- What is touched belongs to one of these buses.
 

@@ -9,7 +9,7 @@ use Rattle.run_waves.specs.Shown.{Moment}
 use Rattle.run_waves.specs.Scenes.{Reads, ReadsFrom, ReadsBelow}
 use Rattle.run_waves.proofs.WatchLemmas.{set_here, set_other}
 
-pub got_push : {X : Type 0} (xs : List X) (x y : X) (k : ℕ) → slice_get (xs ++ y ∷ []) k ≡ Some x → (slice_get xs k ≡ Some x) ⊎ ((k ≡ length xs) × (y ≡ x))
+got_push : {X : Type 0} (xs : List X) (x y : X) (k : ℕ) → slice_get (xs ++ y ∷ []) k ≡ Some x → (slice_get xs k ≡ Some x) ⊎ ((k ≡ length xs) × (y ≡ x))
 got_push [] x y zero is = inr (refl, cc)
 got_push [] x y (suc k) is = cc
 got_push (z ∷ xs) x y zero is = inl is

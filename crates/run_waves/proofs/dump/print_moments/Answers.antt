@@ -45,8 +45,8 @@ pub print_moment-requires-clause-spans : goal.print_moment-requires-clause-spans
 print_moment-requires-clause-spans c =
     subst (λ (b : Board). AreSpans b c.args.blocks.now.signals.now c.args.blocks.now.spans.now) (sym c.board-board.ensures.value) c.requires.spans
 
-pub print_moment-2-requires-clause-spans : goal.print_moment-2-requires-clause-spans
-print_moment-2-requires-clause-spans c =
+pub print_moment-requires-2-clause-spans : goal.print_moment-requires-2-clause-spans
+print_moment-requires-2-clause-spans c =
     subst (λ (b : Board). AreSpans b c.args.blocks.now.signals.now c.args.blocks.now.spans.now) (sym c.board-board.ensures.value) c.requires.spans
 
 pub returns : goal.returns
