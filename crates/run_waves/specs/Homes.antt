@@ -1,5 +1,5 @@
 -- The bus to which each signal belongs, and each who takes part in an event. The lanes of a bridge belong to the bus below it.
-use Rattle.std.specs.Prelude.{ℕ, List, Option, Some, None, slice_get}
+use Rattle.std.specs.Prelude.{ℕ, Option, Some, None, slice_get}
 use Rattle.std.specs.Option.{option_map_or}
 use Rattle.pci_command.specs.declared.op_id.OpId.{OpId}
 use Rattle.board_model.specs.declared.agents.Master.{Master as MasterAgent}

@@ -1,4 +1,4 @@
-use Rattle.std.proofs.Common.{◌≡◌, ◌+◌, ◌<◌, length, arith}
+use Rattle.std.proofs.Common.{◌<◌, length, arith}
 use Rattle.std.proofs.lemmas.Option.{slice_get_within}
 use Rattle.run_waves.specs.declared.signal.BusPart.TheVariants as parts
 use Rattle.run_waves.specs.declared.signal.Signal.{Signal}

@@ -1,4 +1,4 @@
-use Rattle.std.proofs.Common.{◌≡◌, ℕ, ◌<◌, ◌≤◌, ◌+◌, ◌*◌, ◌++◌, false, length, get_or, List, Some, sym, ap, subst, ◌∙◌, arith, string_bytes, slice_get}
+use Rattle.std.proofs.Common.{◌≡◌, ℕ, ◌+◌, ◌*◌, ◌++◌, false, get_or, List, sym, ap, subst, ◌∙◌, arith, string_bytes, slice_get}
 use Rattle.std.proofs.lemmas.Option.{slice_get-get_or}
 use Rattle.board_printer.specs.Lines.{Line, text_of}
 use Rattle.run_waves.specs.declared.blocks.Span.{Span}
@@ -7,7 +7,7 @@ use Rattle.run_waves.specs.declared.touched.Touch.{Touch}
 use Rattle.run_waves.specs.Scenes.{ReadsBelow}
 use Rattle.run_waves.specs.Touched.{touch_of}
 use Rattle.run_waves.specs.Blocks.{meets, lines_from}
-use Rattle.run_waves.proofs.BlockLemmas.{lines_end, passed_lines, reads_rest, reads_end, passed_reads}
+use Rattle.run_waves.proofs.BlockLemmas.{passed_lines, reads_rest, passed_reads}
 use Rattle.run_waves.proofs.dump.print_changes.Goals as goal
 use Rattle.run_waves.proofs.dump.print_changes.Goals.{then-meets+in_ok-print_block, else-meets}
 
