@@ -49,30 +49,33 @@ fn each_call_of_the_source_fails_in_turn(rt: HostRuntime) -> Result<(), Fail> {
     Ok(())
 }
 
-/// Eleven calls take 16 bytes each, and the twelfth the other five; and a sink fills up.
+/// Eleven calls take 16 bytes each, and the twelfth the other five.
 #[test]
 fn each_call_of_the_sink_fails_in_turn(rt: HostRuntime) -> Result<(), Fail> {
-    for (size, call, status, taken) in [
-        (1024, 1, Status::WriteFault, 0),
-        (1024, 2, Status::WriteFault, 16),
-        (1024, 3, Status::WriteFault, 32),
-        (1024, 4, Status::WriteFault, 48),
-        (1024, 5, Status::WriteFault, 64),
-        (1024, 6, Status::WriteFault, 80),
-        (1024, 7, Status::WriteFault, 96),
-        (1024, 8, Status::WriteFault, 112),
-        (1024, 9, Status::WriteFault, 128),
-        (1024, 10, Status::WriteFault, 144),
-        (1024, 11, Status::WriteFault, 160),
-        (1024, 12, Status::WriteFault, 176),
-        (1024, 13, Status::Done, 181),
-        (100, 0, Status::WriteFault, 100),
-        (180, 0, Status::WriteFault, 180),
-        (181, 0, Status::Done, 181),
+    for call in 1..=13u32 {
+        let mut source = source(rt.alloc(), BOARD, 0)?;
+        let mut sink = sink(rt.alloc(), 1024, call)?;
+        let (status, taken) = if call < 13 {
+            (Status::WriteFault, 16 * call.saturating_sub(1) as usize)
+        } else {
+            (Status::Done, 181)
+        };
+        ends_so(&rt, &mut source, &mut sink, status, taken)?;
+    }
+    Ok(())
+}
+
+/// The trace has 181 bytes.
+#[test]
+fn a_sink_fills_up(rt: HostRuntime) -> Result<(), Fail> {
+    for (size, status) in [
+        (100, Status::WriteFault),
+        (180, Status::WriteFault),
+        (181, Status::Done),
     ] {
         let mut source = source(rt.alloc(), BOARD, 0)?;
-        let mut sink = sink(rt.alloc(), size, call)?;
-        ends_so(&rt, &mut source, &mut sink, status, taken)?;
+        let mut sink = sink(rt.alloc(), size, 0)?;
+        ends_so(&rt, &mut source, &mut sink, status, size)?;
     }
     Ok(())
 }
