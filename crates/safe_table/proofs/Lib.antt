@@ -10,6 +10,8 @@ pub mod KeptLemmas
 pub mod RaiserLemmas
 pub mod StretchLemmas
 pub mod StayLemmas
-pub mod ListedLemmas
+pub mod ScanLemmas
+pub mod CleanLemmas
 pub mod RiseLemmas
+pub mod TellLemmas
 pub mod CloseLemmas

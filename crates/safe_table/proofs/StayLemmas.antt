@@ -15,9 +15,9 @@ use Rattle.safe_table.specs.Rows.{ProgramRows, known_in}
 use Rattle.safe_table.specs.Landing.{joined}
 use Rattle.safe_table.specs.Looks.{clock_in, clock_past, before_in, no_more_in, leaves_out, left_out_in, is_reached_in, known_to, most_in, KnowAlike, TellAlike, TellsNothing, is_behind, IsOrdered}
 use Rattle.safe_table.specs.Polls.{raises_it, staying}
-use Rattle.safe_table.specs.Stretches.{Stretch, end_of, AreBefore, PartsAt, PartsBefore, IsParted, ends_with, AreAmong, stay, list_of, first_in, PutsRun, is_reached_at}
+use Rattle.safe_table.specs.Stretches.{Stretch, end_of, AreBefore, PartsAt, PartsBefore, IsParted, ends_with, AreAmong, stay, list_of, first_in, first_before, from_first, PutsRun, is_reached_at}
 use Rattle.safe_table.proofs.RaiserLemmas.{known_append, known_falls, behind_same, behind_less, behind_knows, no_less, least_low}
-use Rattle.safe_table.proofs.StretchLemmas.{any_append, EndsWith, end_cons, ends_at, ends_not, each_take, each_filter, stretch_filter, stretch_front, stretch_back, before_end, joined_append, runs_cons, runs_none, any_at}
+use Rattle.safe_table.proofs.StretchLemmas.{any_append, EndsWith, end_cons, ends_at, ends_not, each_take, each_filter, stretch_filter, stretch_front, stretch_back, before_end, joined_append, runs_cons, runs_none, any_at, none_before, filter_from, stretch_from, first_from}
 
 -- Tests and lists.
 
@@ -104,7 +104,7 @@ turned false ws = refl
 
 -- The first and the last of those of a list that pass a test.
 
-abbrev or_then : Option WordWrite → Option WordWrite → Option WordWrite
+abbrev pub or_then : Option WordWrite → Option WordWrite → Option WordWrite
 or_then (Some w) found = Some w
 or_then None found = found
 
@@ -114,7 +114,7 @@ found_append test (x ∷ xs) ys =
     let P : Bool → Type 0 = λ b. cond b (Some x) (find test (xs ++ ys)) ≡ or_then (cond b (Some x) (find test xs)) (find test ys) in
     elim (test x) as P [ true ↦ refl | false ↦ found_append test xs ys ]
 
-end_behind : (w : WordWrite) (ws : List WordWrite) → end_of (w ∷ ws) ≡ or_then (end_of ws) (Some w)
+pub end_behind : (w : WordWrite) (ws : List WordWrite) → end_of (w ∷ ws) ≡ or_then (end_of ws) (Some w)
 end_behind w [] = refl
 end_behind w (v ∷ ws) =
     let P : Option WordWrite → Type 0 = λ found. end_of (v ∷ ws) ≡ found → found ≡ or_then found (Some w) in
@@ -481,6 +481,16 @@ module _ (rows : List ProgramRows) (ordered : IsOrdered rows) where
           run_reached writes (filter kept run) (filter kept before) (filter kept beyond) (stretch_filter kept run stretch) (parted_filter rows p kept run before beyond parts) answer behind answer_is behind_is
           ∙ any_filter kept (is_reached_in rows p writes) run
 
+    -- none of them comes before it
+    pub raisers_beyond : (awaited : Awaited) (writes run raising old new : List WordWrite) → Stretch run → raising ≡ from_first (raises_it awaited) run → first_before rows p raising ≡ false → new ≡ old ++ first_in raising → PutsRun rows p writes (filter (raises_it awaited) run) old new false
+    raisers_beyond awaited writes run raising old new stretch raising_is after new_is =
+        let kept : WordWrite → Bool = raises_it awaited in
+        let N : WordWrite → Type 0 = λ w. before_in rows w.op p ≡ false in
+        let none : AllByRecursion N (from_first kept run) = none_before rows p (from_first kept run) (stretch_from kept run stretch) (sym (ap (first_before rows p) raising_is) ∙ after) in
+        let high : AllByRecursion N (filter kept run) = subst (AllByRecursion N) (filter_from kept run) (each_filter N kept (from_first kept run) none) in
+        run_goes_on writes (filter kept run) [] (filter kept run) (stretch_filter kept run stretch) (record { all = refl; low = tt; high = high }) old new refl
+        (new_is ∙ ap (λ ws. old ++ first_in ws) raising_is ∙ ap (λ ws. old ++ ws) (first_from kept run))
+
     -- All stretches of writes among which raisers are.
 
     module _ (awaited : Awaited) (writes : List WordWrite) (raising : List (List WordWrite)) where
@@ -565,14 +575,6 @@ module _ (rows : List ProgramRows) (ordered : IsOrdered rows) where
   pub none_reached : (awaited : Awaited) (writes : List WordWrite) → length writes < 1 → false ≡ list_any (is_reached_at rows) (filter (raises_it awaited) writes)
   none_reached awaited [] none = refl
   none_reached awaited (w ∷ ws) none = absurd (omega (arith, none))
-
--- the same of all writes of the stretches
-pub told_of : (rows : List ProgramRows) (p : OpId) (awaited : Awaited) (found writes raising these those : List WordWrite) → these ≡ writes → those ≡ raising → TellAlike rows p found (staying rows p awaited these those) → TellAlike rows p found (staying rows p awaited writes raising)
-told_of rows p awaited found writes raising these those writes_are raising_are alike =
-    subst (λ ws. TellAlike rows p found (staying rows p awaited ws raising)) writes_are (subst (λ ws. TellAlike rows p found (staying rows p awaited these ws)) raising_are alike)
-
-pub among_of : (writes raising these those : List WordWrite) → these ≡ writes → those ≡ raising → AreAmong writes raising → AreAmong these those
-among_of writes raising these those writes_are raising_are among = subst (λ ws. AreAmong ws those) (sym writes_are) (subst (AreAmong writes) (sym raising_are) among)
 
 -- each of a stretch is one of all
 pub among_at : (writes : List WordWrite) (runs : List (List WordWrite)) (i : ℕ) (item run : List WordWrite) → i < length runs → item ≡ get_or runs i item → run ≡ item → AreAmong writes (joined runs) → AreAmong writes run

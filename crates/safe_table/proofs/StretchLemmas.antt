@@ -12,7 +12,7 @@ use Rattle.safe_table.specs.declared.writers.write.WordWrite.{WordWrite}
 use Rattle.safe_table.specs.Rows.{ProgramRows}
 use Rattle.safe_table.specs.Landing.{joined}
 use Rattle.safe_table.specs.Looks.{clock_in, before_in, any_before, is_behind}
-use Rattle.safe_table.specs.Stretches.{Stretch, AreStretches, AreStretchesOf, is_last_of, AreSummed, end_of, goes_on, pushed_at, pushed, PartsAt, PartsBefore, is_from, first_before}
+use Rattle.safe_table.specs.Stretches.{Stretch, AreStretches, AreStretchesOf, early_values, shared_bits, AreSummed, end_of, goes_on, pushed_at, pushed, PartsAt, PartsBefore, is_from, first_before, from_first, first_in}
 use Rattle.safe_table.proofs.RaiserLemmas.{behind_same, behind_less}
 
 -- Lists.
@@ -175,37 +175,6 @@ pushed_at_so w runs (Some run) is each =
 pub pushed_so : (w : WordWrite) (runs : List (List WordWrite)) → AreStretches runs → Pushes w runs (pushed w runs)
 pushed_so w runs each = pushed_at_so w runs (end_of runs) refl each
 
--- What is kept of stretches.
-
-and_true : (b : Bool) → (b && true) ≡ b
-and_true true = refl
-and_true false = refl
-
-and_assoc : (a b c : Bool) → (a && (b && c)) ≡ ((a && b) && c)
-and_assoc true b c = refl
-and_assoc false b c = refl
-
-all_push : (test : WordWrite → Bool) (ws : List WordWrite) (w : WordWrite) → list_all test (ws ++ w ∷ []) ≡ (list_all test ws && test w)
-all_push test [] w = and_true (test w)
-all_push test (x ∷ ws) w = ap (λ b. test x && b) (all_push test ws w) ∙ and_assoc (test x) (list_all test ws) (test w)
-
-pub none_summed : (runs : List (List WordWrite)) → runs ≡ [] → AreSummed runs true
-none_summed runs none = subst (λ rs. AreSummed rs true) (sym none) (record { each = tt; last_is = refl })
-
-pub summed_with : (w : WordWrite) (old new : List (List WordWrite)) (last both : Bool) → AreSummed old last → new ≡ pushed w old → both ≡ (last && w.last) → AreSummed new both
-summed_with w old new last both summed new_is both_is =
-    let pushes : Pushes w old (pushed w old) = pushed_so w old summed.each in
-    record {
-      each = subst AreStretches (sym new_is) pushes.each;
-      last_is =
-          both_is ∙ ap (λ b. b && w.last) summed.last_is
-          ∙ sym (all_push is_last_of (joined old) w)
-          ∙ ap (list_all is_last_of) (sym (ap joined new_is ∙ pushes.all));
-    }
-
-pub joined_with : (w : WordWrite) (old new : List (List WordWrite)) (last : Bool) → AreSummed old last → new ≡ pushed w old → joined new ≡ joined old ++ w ∷ []
-joined_with w old new last summed new_is = ap joined new_is ∙ (pushed_so w old summed.each).all
-
 -- Some writes as stretches.
 
 module _ (writes : List WordWrite) where
@@ -232,8 +201,8 @@ module _ (writes : List WordWrite) where
       let over : Made [] runs = subst (λ ws. Made ws runs) none so_far in
       record { all = sym (append-nil (joined runs)) ∙ over.all; each = over.each }
 
-  pub made_summed : (runs : List (List WordWrite)) (last : Bool) → AreStretchesOf writes runs → last ≡ list_all is_last_of writes → AreSummed runs last
-  made_summed runs last are is = record { each = are.each; last_is = is ∙ sym (ap (list_all is_last_of) are.all) }
+  pub made_summed : (runs : List (List WordWrite)) (early : List ℕ) (bits : ℕ) → AreStretchesOf writes runs → early ≡ early_values writes → bits ≡ shared_bits writes → AreSummed runs early bits
+  made_summed runs early bits are early_is bits_is = record { each = are.each; early_are = early_is ∙ sym (ap early_values are.all); bits_are = bits_is ∙ sym (ap shared_bits are.all) }
 
 -- Parts of a stretch.
 
@@ -363,6 +332,11 @@ first_is rows p (w ∷ ws) stretch =
       | false ↦ λ after. sym (none_any B ws (Each-weaker (λ v. is_behind w v ≡ true) (λ v. B v ≡ false) (λ v behind. later_not rows p w v after behind) ws stretch.0))
     ]) refl
 
+-- where it does not, none does
+pub none_before : (rows : List ProgramRows) (p : OpId) (run : List WordWrite) → Stretch run → first_before rows p run ≡ false → AllByRecursion (λ (w : WordWrite). before_in rows w.op p ≡ false) run
+none_before rows p [] stretch after = tt
+none_before rows p (w ∷ ws) stretch after = (after, Each-weaker (λ v. is_behind w v ≡ true) (λ v. before_in rows v.op p ≡ false) (λ v behind. later_not rows p w v after behind) ws stretch.0)
+
 pub firsts_are : (rows : List ProgramRows) (p : OpId) (runs : List (List WordWrite)) → AreStretches runs → list_any (first_before rows p) runs ≡ any_before rows p (joined runs)
 firsts_are rows p [] each = refl
 firsts_are rows p (run ∷ runs) each =
@@ -370,6 +344,26 @@ firsts_are rows p (run ∷ runs) each =
     ap (λ b. b || list_any (first_before rows p) runs) (first_is rows p run each.0)
     ∙ ap (λ b. any_before rows p run || b) (firsts_are rows p runs each.1)
     ∙ sym (any_append B run (joined runs))
+
+-- From the first on that passes a test.
+
+pub filter_from : (test : WordWrite → Bool) (ws : List WordWrite) → filter test (from_first test ws) ≡ filter test ws
+filter_from test [] = refl
+filter_from test (w ∷ ws) =
+    let P : Bool → Type 0 = λ b. test w ≡ b → filter test (cond b (w ∷ ws) (from_first test ws)) ≡ cond b (w ∷ filter test ws) (filter test ws) in
+    (elim (test w) as P [ true ↦ λ pass. ap (λ b. cond b (w ∷ filter test ws) (filter test ws)) pass | false ↦ λ _. filter_from test ws ]) refl
+
+pub stretch_from : (test : WordWrite → Bool) (ws : List WordWrite) → Stretch ws → Stretch (from_first test ws)
+stretch_from test [] stretch = tt
+stretch_from test (w ∷ ws) stretch =
+    let P : Bool → Type 0 = λ b. Stretch (cond b (w ∷ ws) (from_first test ws)) in
+    elim (test w) as P [ true ↦ stretch | false ↦ stretch_from test ws stretch.1 ]
+
+pub first_from : (test : WordWrite → Bool) (ws : List WordWrite) → first_in (from_first test ws) ≡ first_in (filter test ws)
+first_from test [] = refl
+first_from test (w ∷ ws) =
+    let P : Bool → Type 0 = λ b. first_in (cond b (w ∷ ws) (from_first test ws)) ≡ first_in (cond b (w ∷ filter test ws) (filter test ws)) in
+    elim (test w) as P [ true ↦ refl | false ↦ first_from test ws ]
 
 -- The stretches one by one.
 

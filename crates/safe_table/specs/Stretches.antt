@@ -1,7 +1,8 @@
 -- Writes of a word as stretches: of one master, one behind another in its program.
-use Rattle.std.specs.Prelude.{◌≡◌, ℕ, ◌-◌, ◌<◌, ◌≤◌, Bool, true, false, List, [], ◌∷◌, ◌++◌, length, take, drop, filter, Option, Some, None, not, nat_le, ◌&&◌, slice_get, slice_set, if◌then◌else◌}
+use Rattle.std.specs.Prelude.{◌≡◌, ℕ, ◌-◌, ◌<◌, ◌≤◌, Bool, true, false, List, [], ◌∷◌, ◌++◌, length, take, drop, filter, map, bit_and, ◌+◌, Option, Some, None, not, nat_le, ◌&&◌, slice_get, slice_set, if◌then◌else◌}
 use Rattle.std.specs.List.{list_all, list_any, AllByRecursion}
 use Rattle.pci_command.specs.declared.op_id.OpId.{OpId}
+use Rattle.board_model.specs.device.Registers.{enabled_bits}
 use Rattle.pci_command.specs.Same.{same_op}
 use Rattle.safe_table.specs.declared.writers.write.WordWrite.{WordWrite}
 use Rattle.safe_table.specs.Rows.{ProgramRows}
@@ -22,14 +23,28 @@ pub record AreStretchesOf (writes : List WordWrite) (runs : List (List WordWrite
   pub all : joined runs ≡ writes
   pub each : AreStretches runs
 
--- the word is the last of a write
-abbrev pub is_last_of : WordWrite → Bool
-is_last_of w = w.last
+-- the value that a write brings
+abbrev pub value_in : WordWrite → ℕ
+value_in w = bit_and w.phase.value 0xffff_ffff
 
--- they are stretches, and it is known whether the word is the last of each write
-pub record AreSummed (runs : List (List WordWrite)) (last : Bool) : Type 0 where
+-- the values of those of which the word is not the last
+abbrev pub early_values : List WordWrite → List ℕ
+early_values ws = map value_in (filter (λ w. not w.last) ws)
+
+-- of these bits those that each of the writes writes
+abbrev pub shared_from : ℕ → List WordWrite → ℕ
+shared_from bits [] = bits
+shared_from bits (w ∷ ws) = shared_from (bit_and bits (bit_and (enabled_bits w.phase.enables) 0xffff_ffff)) ws
+
+-- the bits that each of the writes writes
+abbrev pub shared_bits : List WordWrite → ℕ
+shared_bits ws = shared_from 0xffff_ffff ws
+
+-- they are stretches; the values are those of which the word is not the last; and each write writes these bits
+pub record AreSummed (runs : List (List WordWrite)) (early : List ℕ) (bits : ℕ) : Type 0 where
   pub each : AreStretches runs
-  pub last_is : last ≡ list_all is_last_of (joined runs)
+  pub early_are : early ≡ early_values (joined runs)
+  pub bits_are : bits ≡ shared_bits (joined runs)
 
 -- One write more.
 
@@ -83,6 +98,18 @@ is_from (Some w) bound = nat_le bound w.op.index
 abbrev pub first_before : List ProgramRows → OpId → List WordWrite → Bool
 first_before rows p [] = false
 first_before rows p (w ∷ ws) = before_in rows w.op p
+
+-- Looking through them.
+
+-- those from the first on that passes a test
+abbrev pub from_first : (WordWrite → Bool) → List WordWrite → List WordWrite
+from_first test [] = []
+from_first test (w ∷ ws) = if test w then w ∷ ws else from_first test ws
+
+-- how many numbers there are up to and with the last that passes a test
+abbrev pub count_to_last : (ℕ → Bool) → List ℕ → ℕ
+count_to_last test [] = 0
+count_to_last test (n ∷ ns) = if list_any test (n ∷ ns) then 1 + count_to_last test ns else 0
 
 -- Raisers.
 

@@ -1,5 +1,5 @@
 -- What is kept of the writes of each word of a board.
-use Rattle.std.specs.Prelude.{◌≡◌, Bool, true, false, List, [], ◌∷◌, ◌++◌, map, Option, Some, None, if◌then◌else◌}
+use Rattle.std.specs.Prelude.{◌≡◌, Bool, true, false, List, [], ◌∷◌, ◌++◌, map, Option, Some, None, IfSome, if◌then◌else◌}
 use Rattle.std.specs.List.{AllByRecursion}
 use Rattle.pci_command.specs.declared.phases.Phase.{Phase}
 use Rattle.pci_command.specs.declared.op_id.OpId.{OpId}
@@ -38,6 +38,10 @@ writes_at word entries = list_in (found_in word entries)
 -- of each word its writes are kept
 pub record ListsWrites (board : Board) (entries : List (Word × List WordWrite)) : Type 0 where
   pub of_word : (word : Word) → AreWrites board (dword word) (writes_of board (dword word)) (writes_at word entries)
+
+-- of each word that is there these are its writes
+pub record KeepsLists (entries lists : List (Word × List WordWrite)) : Type 0 where
+  pub of_word : (word : Word) → IfSome (found_in word lists) (λ writes. writes ≡ writes_at word entries)
 
 -- How they are found.
 

@@ -51,7 +51,8 @@ fn lower_all(
     Ok(fell)
 }
 
-/// Behind a poll so much is known as may be known at most; whether a number fell.
+/// Behind a poll so much is known as may be known at most; whether a number fell. None does where no
+/// more is known behind it than before it.
 pub(crate) fn lower_poll(
     alloc: Global,
     tree: &Tree,
@@ -65,6 +66,9 @@ pub(crate) fn lower_poll(
     ensures fell { IfOk result (Fell table.old table.new) }
     ensures lowers { IfOk result (LowersPoll tree.now op table.old table.new) }
 {
+    if !table.tells(op) {
+        return Ok(false);
+    }
     let writers = &gathered.writers;
     let numbers = gathered.polls.most_known(alloc, tree, table, writers, op)?;
     Ok(table.lower_to(op, numbers.as_slice()))

@@ -1,4 +1,4 @@
-ghost use Rattle.std.specs.Prelude.{◌≡◌, nat_lt};
+ghost use Rattle.std.specs.Prelude.{◌≡◌, ◌≤◌, ℕ, false, nat_lt};
 ghost use Rattle.safe_model.specs.Clocks.{clock_of, greater};
 ghost use Rattle.safe_table.specs.Looks.{clock_in, clock_past};
 ghost use Rattle.safe_table.specs.Rows.{known_in, table_of, raised_at, KeepsPolls};
@@ -54,7 +54,7 @@ impl ClockTable {
     pub(crate) fn look(&self, op: OpId, other: u16) -> usize
         ensures { result ≡ clock_in self.now op other }
     {
-        raised(self.known(op, other), op, other)
+        raised(self.known(op, other), op, usize::from(other))
     }
 
     /// The same with the operation itself.
@@ -66,6 +66,17 @@ impl ClockTable {
             greater(known, usize::from(op.index) + 1)
         } else {
             known
+        }
+    }
+
+    /// Whether behind a poll more is known of some master than before it.
+    pub(crate) fn tells(&self, op: OpId) -> bool
+        ensures { result ≡ false → (other : ℕ) →
+            table_of self.now op.master op.index other ≤ clock_in self.now op other }
+    {
+        match self.programs.as_slice().get(usize::from(op.master)) {
+            Some(program) => program.tells(op),
+            None => false,
         }
     }
 
@@ -114,10 +125,10 @@ impl ClockTable {
 }
 
 /// What is known behind a poll before an operation, and what stands before it in its program.
-fn raised(known: usize, op: OpId, other: u16) -> usize
+pub(crate) fn raised(known: usize, op: OpId, other: usize) -> usize
     ensures { result ≡ raised_at known op other }
 {
-    if other == op.master {
+    if other == usize::from(op.master) {
         greater(known, usize::from(op.index))
     } else {
         known

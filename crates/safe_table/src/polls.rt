@@ -3,9 +3,10 @@
 mod awaited;
 mod kept;
 mod looks;
+mod met;
 mod polls;
 mod stays;
 
-pub(crate) use awaited::{Awaited, any_of, awaited_by, enabled};
+pub(crate) use awaited::{Awaited, awaited_by, enabled};
 pub(crate) use looks::is_before;
 pub use polls::Polls;

@@ -1,8 +1,10 @@
-ghost use Rattle.std.specs.Prelude.{◌≡◌};
-ghost use Rattle.safe_table.specs.Rows.{known_at, last_in, lowered_in};
-ghost use Rattle.safe_table.specs.Falls.{FallsIn};
+ghost use Rattle.std.specs.Prelude.{◌≡◌, ◌≤◌, ℕ, false};
+ghost use Rattle.safe_table.specs.Rows.{known_at, last_in, lowered_in, number, raised_at};
+ghost use Rattle.safe_table.specs.Falls.{FallsIn, row_in};
 
-use crate::row::Row;
+use crate::known::raised;
+use crate::row::{Row, number_at};
+use pci_command::OpId;
 use std::marker::Model;
 
 /// What is kept of a program.
@@ -47,12 +49,31 @@ impl Program {
     fn behind(&self, count: usize, other: u16) -> usize
         ensures { result ≡ known_at self.now count other }
     {
+        number_at(self.numbers(count), usize::from(other))
+    }
+
+    /// The same of all masters.
+    fn numbers(&self, count: usize) -> &[u16]
+        ensures { (other : ℕ) → number result.now other ≡ known_at self.now count other }
+    {
         if count == 0 {
-            return 0;
+            return &[];
         }
         match self.rows.as_slice().get(count - 1) {
-            Some(row) => row.number(other),
-            None => 0,
+            Some(row) => row.as_slice(),
+            None => &[],
+        }
+    }
+
+    /// Whether behind the operation more is known of some master than before it.
+    pub(crate) fn tells(&self, op: OpId) -> bool
+        ensures { result ≡ false → (other : ℕ) → number (row_in self.now op.index) other
+            ≤ raised_at (known_at self.now (last_in self.now op.index) other) op other }
+    {
+        let before = self.numbers(self.last(usize::from(op.index)));
+        match self.rows.as_slice().get(usize::from(op.index)) {
+            Some(row) => is_above(row.as_slice(), before, op),
+            None => false,
         }
     }
 
@@ -78,4 +99,17 @@ impl Program {
             false
         }
     }
+}
+
+/// Whether of some master more is known than before an operation.
+fn is_above(numbers: &[u16], before: &[u16], op: OpId) -> bool
+    ensures { result ≡ false → (other : ℕ) →
+        number numbers.now other ≤ raised_at (number before.now other) op other }
+{
+    for (other, number) in numbers.iter().enumerate() {
+        if raised(number_at(before, other), op, other) < usize::from(*number) {
+            return true;
+        }
+    }
+    false
 }

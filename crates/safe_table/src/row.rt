@@ -48,14 +48,11 @@ impl Row {
         Ok(Row { numbers })
     }
 
-    /// That of the master; 0 where there is none.
-    pub(crate) fn number(&self, master: u16) -> usize
-        ensures { result ≡ number self.now master }
+    /// All of them.
+    pub(crate) fn as_slice(&self) -> &[u16]
+        ensures { result.now ≡ self.now }
     {
-        match self.numbers.as_slice().get(usize::from(master)) {
-            Some(number) => usize::from(*number),
-            None => 0,
-        }
+        self.numbers.as_slice()
     }
 
     /// That of the master is at most this from now on.
@@ -81,5 +78,15 @@ impl Row {
             }
         }
         fell
+    }
+}
+
+/// That of the master; 0 where there is none.
+pub(crate) fn number_at(numbers: &[u16], master: usize) -> usize
+    ensures { result ≡ number numbers.now master }
+{
+    match numbers.get(master) {
+        Some(number) => usize::from(*number),
+        None => 0,
     }
 }

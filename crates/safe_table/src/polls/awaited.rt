@@ -6,7 +6,6 @@ ghost use Rattle.history_model.specs.Words.{opens_as};
 ghost use Rattle.safe_model.specs.Raisers.{is_met_by, is_whole, is_plain, brings_met};
 ghost use Rattle.law_safe.specs.largest.Tests.{wish_of};
 ghost use Rattle.audit_landings.specs.Hits.{dword};
-ghost use Rattle.safe_table.specs.Lists.{any_of, met_by};
 ghost use Rattle.safe_table.specs.Polls.{wish_for, raises_it, is_clean_write};
 
 use crate::writers::{WordWrite, first_named};
@@ -15,7 +14,7 @@ use machine_steps::opens_as;
 use pci_command::{OpId, Phase, Space};
 
 /// What a poll waits for: a value of a dword, under a mask.
-#[derive(Clone, Copy, Debug, PartialEq, Eq, Hash)]
+#[derive(Clone, Copy, Debug)]
 pub(crate) struct Awaited {
     pub word: Word,
     pub mask: u32,
@@ -37,17 +36,6 @@ pub(crate) fn awaited_by(board: &Board, op: OpId) -> Option<Awaited>
             })
         }
         _ => None,
-    }
-}
-
-/// What is waited for where no bit of the dword is looked at.
-pub(crate) fn any_of(word: Word) -> Awaited
-    ensures { result ≡ any_of word }
-{
-    Awaited {
-        word,
-        mask: 0,
-        wanted: 0,
     }
 }
 
@@ -79,15 +67,7 @@ impl Awaited {
     pub(crate) fn is_raised_by(&self, write: &WordWrite) -> bool
         ensures { result ≡ raises_it self.now write.now }
     {
-        self.is_met_by(write.phase.value & 0xffff_ffff)
-    }
-
-    /// The value that the write brings under the mask, as what is waited for.
-    pub(crate) fn met_by(self, write: &WordWrite) -> Awaited
-        ensures { result ≡ met_by self write.now }
-    {
-        let wanted = write.phase.value & 0xffff_ffff & self.mask;
-        Awaited { wanted, ..self }
+        self.is_met_by(write.value())
     }
 
     /// Whether the write writes all that the mask looks at, and where it brings a value that meets
@@ -98,7 +78,8 @@ impl Awaited {
         is_whole(self.mask, write.phase) && (!self.is_raised_by(write) || write.last)
     }
 
-    fn is_met_by(&self, value: u32) -> bool
+    /// Whether the value meets it.
+    pub(crate) fn is_met_by(&self, value: u32) -> bool
         ensures { result ≡ is_met_by self.now.mask self.now.wanted value }
     {
         value & self.mask == self.wanted

@@ -11,7 +11,7 @@ use crate::known::ClockTable;
 use crate::polls::awaited::{Awaited, awaited_by};
 use crate::polls::looks::is_any_before;
 use crate::polls::stays::{is_any_first_before, is_any_reached, raisers_among};
-use crate::writers::{Listed, Stretches, WordWrite, Writers, stretches_of};
+use crate::writers::{WordWrite, Writers, stretches_of};
 use board_model::Board;
 use pci_command::{NoMemory, OpId};
 use std::alloc::Global;
@@ -68,8 +68,8 @@ fn are_clean(awaited: &Awaited, writers: &Writers) -> bool
     ensures { result ≡
         list_all (is_clean_write awaited.now) (writes_at awaited.now.word writers.now) }
 {
-    match writers.are_clean(*awaited) {
-        Some(clean) => clean,
+    match writers.stretches(awaited.word) {
+        Some(writes) => writes.are_clean(awaited),
         None => is_each_clean(awaited, writers.of_word(awaited.word)),
     }
 }
@@ -84,20 +84,9 @@ fn is_each_clean(awaited: &Awaited, writes: &[WordWrite]) -> bool
 fn is_behind_some(awaited: &Awaited, table: &ClockTable, writers: &Writers, poll: OpId) -> bool
     ensures { result ≡ any_before table.now poll (writes_at awaited.now.word writers.now) }
 {
-    match writers.lists(*awaited) {
-        Some(listed) => is_any_first_before(table, poll, listed.writes.runs()),
+    match writers.stretches(awaited.word) {
+        Some(writes) => is_any_first_before(table, poll, writes.runs()),
         None => is_any_before(table, poll, writers.of_word(awaited.word)),
-    }
-}
-
-/// All writes of a dword, where none are listed.
-fn alone(writes: &Stretches) -> Listed<'_>
-    ensures writes { result.writes.now ≡ writes.now }
-    ensures raising { result.raising.now ≡ writes.now }
-{
-    Listed {
-        writes,
-        raising: writes,
     }
 }
 
@@ -114,9 +103,9 @@ fn raisers_for(
         (staying table.now poll awaited (writes_at awaited.word writers.now)
         (writes_at awaited.word writers.now))) }
 {
-    match writers.lists(awaited) {
-        Some(listed) => {
-            let found = raisers_among(alloc, table, poll, awaited, listed)?;
+    match writers.stretches(awaited.word) {
+        Some(writes) => {
+            let found = raisers_among(alloc, table, poll, awaited, writes)?;
             Ok(found)
         }
         None => {
@@ -140,7 +129,7 @@ fn raisers_anew(
         (staying table.now poll awaited words.now words.now)) }
 {
     let writes = stretches_of(alloc, words)?;
-    let found = raisers_among(alloc, table, poll, awaited, alone(&writes))?;
+    let found = raisers_among(alloc, table, poll, awaited, &writes)?;
     Ok(found)
 }
 
@@ -157,8 +146,8 @@ fn is_raised_for(
         table.now poll (writes_at awaited.word writers.now) f)
         (writes_at awaited.word writers.now)) }
 {
-    match writers.lists(awaited) {
-        Some(listed) => Ok(is_any_reached(table, poll, awaited, listed)),
+    match writers.stretches(awaited.word) {
+        Some(writes) => Ok(is_any_reached(table, poll, awaited, writes)),
         None => {
             let words = writers.of_word(awaited.word);
             let raised = is_raised_anew(alloc, awaited, table, words, poll)?;
@@ -179,7 +168,7 @@ fn is_raised_anew(
         && is_reached_in table.now poll words.now f) words.now) }
 {
     let writes = stretches_of(alloc, words)?;
-    Ok(is_any_reached(table, poll, awaited, alone(&writes)))
+    Ok(is_any_reached(table, poll, awaited, &writes))
 }
 
 impl KeptPoll {

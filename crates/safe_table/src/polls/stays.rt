@@ -1,7 +1,6 @@
 ghost use Rattle.std.specs.Prelude.{◌≡◌, ◌≤◌, ◌+◌, ◌++◌, ◌∷◌, ◌&&◌, [], IfOk, OnOk, length, nat_lt};
-ghost use Rattle.std.specs.Prelude.{IfSome, true, reverse, if◌then◌else◌};
-ghost use Rattle.std.specs.List.{filter, find, list_any};
-ghost use Rattle.std.specs.Option.{option_copied};
+ghost use Rattle.std.specs.Prelude.{IfSome, true, take, if◌then◌else◌};
+ghost use Rattle.std.specs.List.{filter, list_any};
 ghost use Rattle.safe_table.specs.Landing.{joined};
 ghost use Rattle.safe_table.specs.Looks.{any_before, clock_in, no_more_in, left_out_in};
 ghost use Rattle.safe_table.specs.Looks.{is_reached_in, TellAlike, IsOrdered};
@@ -13,28 +12,29 @@ ghost use Rattle.safe_table.specs.Stretches.{IsParted, is_reached_at, list_of, s
 use crate::known::ClockTable;
 use crate::polls::awaited::Awaited;
 use crate::polls::looks::is_before;
-use crate::writers::{Listed, WordWrite, WordWrites, count_below, is_behind};
+use crate::writers::{Run, Stretches, WordWrite, count_below, is_behind};
 use pci_command::{NoMemory, OpId, same_op};
 use std::alloc::Global;
 
 /// Whether one of these writes comes before the poll: then the first of its stretch does.
-pub(crate) fn is_any_first_before(table: &ClockTable, poll: OpId, runs: &[WordWrites]) -> bool
+pub(crate) fn is_any_first_before(table: &ClockTable, poll: OpId, runs: &[Run]) -> bool
     requires { AreStretches runs.now }
     ensures { result ≡ any_before table.now poll (joined runs.now) }
 {
     has_first_before(table, poll, runs)
 }
 
-fn has_first_before(table: &ClockTable, poll: OpId, runs: &[WordWrites]) -> bool
+fn has_first_before(table: &ClockTable, poll: OpId, runs: &[Run]) -> bool
     ensures { result ≡ list_any (first_before table.now poll) runs.now }
 {
-    runs.iter().any(|run| is_first_before(table, poll, run))
+    runs.iter()
+        .any(|run| is_first_before(table, poll, run.as_slice()))
 }
 
-fn is_first_before(table: &ClockTable, poll: OpId, run: &WordWrites) -> bool
+fn is_first_before(table: &ClockTable, poll: OpId, run: &[WordWrite]) -> bool
     ensures { result ≡ first_before table.now poll run.now }
 {
-    match run.as_slice() {
+    match run {
         [first, ..] => is_before(table, first.op, poll),
         [] => false,
     }
@@ -55,16 +55,15 @@ pub(crate) fn raisers_among(
     table: &ClockTable,
     poll: OpId,
     awaited: Awaited,
-    listed: Listed<'_>,
+    writes: &Stretches,
 ) -> Result<Vec<WordWrite>, NoMemory>
-    requires ordered { IsOrdered table.now }
-    requires among { AreAmong listed.writes.now listed.raising.now }
+    requires { IsOrdered table.now }
     ensures { IfOk result (λ found. TellAlike table.now poll found.items
-        (staying table.now poll awaited listed.entry.writes.now listed.entry.raising.now)) }
+        (staying table.now poll awaited writes.now writes.now)) }
 {
-    match guessed(table, poll, awaited, listed) {
+    match guessed(table, poll, awaited, writes) {
         Some(last) => one(alloc, last),
-        None => raisers_among_all(alloc, table, poll, awaited, listed),
+        None => raisers_among_all(alloc, table, poll, awaited, writes),
     }
 }
 
@@ -82,17 +81,15 @@ fn guessed(
     table: &ClockTable,
     poll: OpId,
     awaited: Awaited,
-    listed: Listed<'_>,
+    writes: &Stretches,
 ) -> Option<WordWrite>
-    requires ordered { IsOrdered table.now }
-    requires among { AreAmong listed.writes.now listed.raising.now }
+    requires { IsOrdered table.now }
     ensures { IfSome result (λ last. TellAlike table.now poll (last ∷ [])
-        (staying table.now poll awaited listed.entry.writes.now listed.entry.raising.now)) }
+        (staying table.now poll awaited writes.now writes.now)) }
 {
-    let writes = listed.writes.runs();
-    let raising = listed.raising.runs();
-    match raising.get(listed.raising.guess()) {
-        Some(these) => staying_in(table, poll, awaited, writes, these),
+    let runs = writes.runs();
+    match runs.get(writes.guess()) {
+        Some(these) => staying_in(table, poll, awaited, runs, these),
         None => None,
     }
 }
@@ -102,8 +99,8 @@ fn staying_in(
     table: &ClockTable,
     poll: OpId,
     awaited: Awaited,
-    writes: &[WordWrites],
-    run: &WordWrites,
+    writes: &[Run],
+    run: &Run,
 ) -> Option<WordWrite>
     requires ordered { IsOrdered table.now }
     requires writes { AreStretches writes.now }
@@ -112,8 +109,8 @@ fn staying_in(
     ensures { IfSome result (λ last. PutsRun table.now poll (joined writes.now)
         (filter (raises_it awaited) run.now) [] (last ∷ []) true) }
 {
-    let (before, _) = parts(table, poll, run.as_slice());
-    staying_last(table, poll, awaited, writes, before, run)
+    let count = count_before(table, poll, run.as_slice());
+    staying_last(table, poll, awaited, writes, run, count)
 }
 
 /// The same as all of them are looked at, one stretch after another.
@@ -122,18 +119,15 @@ fn raisers_among_all(
     table: &ClockTable,
     poll: OpId,
     awaited: Awaited,
-    listed: Listed<'_>,
+    writes: &Stretches,
 ) -> Result<Vec<WordWrite>, NoMemory>
-    requires ordered { IsOrdered table.now }
-    requires among { AreAmong listed.writes.now listed.raising.now }
+    requires { IsOrdered table.now }
     ensures { IfOk result (λ found. TellAlike table.now poll found.items
-        (staying table.now poll awaited listed.entry.writes.now listed.entry.raising.now)) }
+        (staying table.now poll awaited writes.now writes.now)) }
 {
-    let writes = listed.writes.runs();
-    let raising = listed.raising.runs();
     let mut found = Vec::new(alloc);
-    let ended = put_raisers(&mut found, table, poll, awaited, writes, raising)?;
-    listed.raising.guess_next(ended);
+    let ended = put_raisers(&mut found, table, poll, awaited, writes.runs())?;
+    writes.guess_next(ended);
     Ok(found)
 }
 
@@ -143,18 +137,15 @@ fn put_raisers(
     table: &ClockTable,
     poll: OpId,
     awaited: Awaited,
-    writes: &[WordWrites],
-    raising: &[WordWrites],
+    writes: &[Run],
 ) -> Result<Option<usize>, NoMemory>
     requires ordered { IsOrdered table.now }
     requires writes { AreStretches writes.now }
-    requires raising { AreStretches raising.now }
-    requires among { AreAmong (joined writes.now) (joined raising.now) }
     requires none { found.old.items ≡ [] }
     ensures { OnOk result (TellAlike table.now poll found.new.items
-        (staying table.now poll awaited (joined writes.now) (joined raising.now))) }
+        (staying table.now poll awaited (joined writes.now) (joined writes.now))) }
 {
-    for (place, run) in raising.iter().enumerate() {
+    for (place, run) in writes.iter().enumerate() {
         let ended = put_run(found, table, poll, awaited, writes, run)?;
         if ended {
             return Ok(Some(place));
@@ -170,8 +161,8 @@ fn put_run(
     table: &ClockTable,
     poll: OpId,
     awaited: Awaited,
-    writes: &[WordWrites],
-    run: &WordWrites,
+    writes: &[Run],
+    run: &Run,
 ) -> Result<bool, NoMemory>
     requires ordered { IsOrdered table.now }
     requires writes { AreStretches writes.now }
@@ -180,17 +171,52 @@ fn put_run(
     ensures { IfOk result (PutsRun table.now poll (joined writes.now)
         (filter (raises_it awaited) run.now) found.old.items found.new.items) }
 {
-    let (before, beyond) = parts(table, poll, run.as_slice());
-    match staying_last(table, poll, awaited, writes, before, run) {
+    let raising = run.from_raising(awaited, 0);
+    if is_first_before(table, poll, raising) {
+        put_parts(found, table, poll, awaited, writes, run)
+    } else {
+        put_first(found, raising)?;
+        Ok(false)
+    }
+}
+
+/// The same where some come before the poll.
+fn put_parts(
+    found: &mut Vec<WordWrite>,
+    table: &ClockTable,
+    poll: OpId,
+    awaited: Awaited,
+    writes: &[Run],
+    run: &Run,
+) -> Result<bool, NoMemory>
+    requires ordered { IsOrdered table.now }
+    requires writes { AreStretches writes.now }
+    requires run { Stretch run.now }
+    requires among { AreAmong (joined writes.now) run.now }
+    ensures { IfOk result (PutsRun table.now poll (joined writes.now)
+        (filter (raises_it awaited) run.now) found.old.items found.new.items) }
+{
+    let count = count_before(table, poll, run.as_slice());
+    match staying_last(table, poll, awaited, writes, run, count) {
         Some(last) => {
             found.push(last)?;
             Ok(true)
         }
         None => {
-            put_first(found, awaited, beyond)?;
+            put_first(found, run.from_raising(awaited, count))?;
             Ok(false)
         }
     }
+}
+
+/// The first of these, if there is one.
+fn put_first(found: &mut Vec<WordWrite>, writes: &[WordWrite]) -> Result<(), NoMemory>
+    ensures { OnOk result (found.new.items ≡ found.old.items ++ first_in writes.now) }
+{
+    if let [first, ..] = writes {
+        found.push(*first)?;
+    }
+    Ok(())
 }
 
 /// Those of a stretch that come before the poll, and those that do not.
@@ -217,38 +243,29 @@ fn count_before(table: &ClockTable, poll: OpId, run: &[WordWrite]) -> usize
     }
 }
 
-/// Of raisers of a stretch that come before the poll the one that is not left out, if there is one:
-/// the last.
+/// Of the raisers of a stretch that come before the poll, as so many do, the one that is not left
+/// out, if there is one: the last.
 fn staying_last(
     table: &ClockTable,
     poll: OpId,
     awaited: Awaited,
-    writes: &[WordWrites],
-    before: &[WordWrite],
-    run: &WordWrites,
+    writes: &[Run],
+    run: &Run,
+    count: usize,
 ) -> Option<WordWrite>
     requires ordered { IsOrdered table.now }
     requires writes { AreStretches writes.now }
-    requires run { Stretch before.now }
-    requires before { AreBefore table.now poll before.now }
-    requires among { AreAmong (joined writes.now) before.now }
-    ensures { stay table.now poll (joined writes.now) (filter (raises_it awaited) before.now) ≡
-        list_of result }
+    requires run { Stretch run.now }
+    requires within { count ≤ length run.now }
+    requires before { PartsBefore table.now poll run.now count }
+    requires among { AreAmong (joined writes.now) run.now }
+    ensures { stay table.now poll (joined writes.now)
+        (filter (raises_it awaited) (take count run.now)) ≡ list_of result }
 {
-    match last_raising(awaited, before) {
+    match run.last_raising(awaited, count) {
         Some(last) => one_unless(is_left_out(table, poll, writes, last, run), last),
         None => None,
     }
-}
-
-/// The last of these that brings what is waited for.
-fn last_raising(awaited: Awaited, writes: &[WordWrite]) -> Option<&WordWrite>
-    ensures { option_copied result ≡ find (raises_it awaited) (reverse writes.now) }
-{
-    writes
-        .iter()
-        .rev()
-        .find(|write| awaited.is_raised_by(write))
 }
 
 fn one_unless(left_out: bool, write: &WordWrite) -> Option<WordWrite>
@@ -257,38 +274,14 @@ fn one_unless(left_out: bool, write: &WordWrite) -> Option<WordWrite>
     if left_out { None } else { Some(*write) }
 }
 
-/// The first of these that brings what is waited for.
-fn put_first(
-    found: &mut Vec<WordWrite>,
-    awaited: Awaited,
-    writes: &[WordWrite],
-) -> Result<(), NoMemory>
-    ensures { OnOk result
-        (found.new.items ≡ found.old.items ++ first_in (filter (raises_it awaited) writes.now)) }
-{
-    match first_raising(awaited, writes) {
-        Some(first) => {
-            found.push(*first)?;
-            Ok(())
-        }
-        None => Ok(()),
-    }
-}
-
-fn first_raising(awaited: Awaited, writes: &[WordWrite]) -> Option<&WordWrite>
-    ensures { option_copied result ≡ find (raises_it awaited) writes.now }
-{
-    writes.iter().find(|write| awaited.is_raised_by(write))
-}
-
 /// Whether the raiser, which is of the stretch, is left out by one of the writes. Most often it is
 /// so by one of the stretch by which one of it was the last time.
 fn is_left_out(
     table: &ClockTable,
     poll: OpId,
-    writes: &[WordWrites],
+    writes: &[Run],
     raiser: &WordWrite,
-    run: &WordWrites,
+    run: &Run,
 ) -> bool
     requires ordered { IsOrdered table.now }
     requires writes { AreStretches writes.now }
@@ -304,9 +297,9 @@ fn is_left_out(
 fn is_left_out_by_any(
     table: &ClockTable,
     poll: OpId,
-    writes: &[WordWrites],
+    writes: &[Run],
     raiser: &WordWrite,
-    run: &WordWrites,
+    run: &Run,
 ) -> bool
     requires ordered { IsOrdered table.now }
     requires writes { AreStretches writes.now }
@@ -367,38 +360,29 @@ pub(crate) fn is_any_reached(
     table: &ClockTable,
     poll: OpId,
     awaited: Awaited,
-    listed: Listed<'_>,
+    writes: &Stretches,
 ) -> bool
-    requires ordered { IsOrdered table.now }
-    requires among { AreAmong listed.writes.now listed.raising.now }
-    ensures { result ≡ list_any (is_reached_in table.now poll listed.entry.writes.now)
-        (filter (raises_it awaited) listed.entry.raising.now) }
+    requires { IsOrdered table.now }
+    ensures { result ≡ list_any (λ f. raises_it awaited f
+        && is_reached_in table.now poll writes.now f) writes.now }
 {
-    is_any_run_reached(
-        table,
-        poll,
-        awaited,
-        listed.writes.runs(),
-        listed.raising.runs(),
-    )
+    let runs = writes.runs();
+    match runs.get(writes.guess()) {
+        Some(these) if is_run_reached(table, poll, awaited, runs, these) => true,
+        _ => is_any_run_reached(table, poll, awaited, writes),
+    }
 }
 
-fn is_any_run_reached(
-    table: &ClockTable,
-    poll: OpId,
-    awaited: Awaited,
-    writes: &[WordWrites],
-    raising: &[WordWrites],
-) -> bool
-    requires ordered { IsOrdered table.now }
-    requires writes { AreStretches writes.now }
-    requires raising { AreStretches raising.now }
-    requires among { AreAmong (joined writes.now) (joined raising.now) }
+/// The same, and where to look first the next time.
+fn is_any_run_reached(table: &ClockTable, poll: OpId, awaited: Awaited, writes: &Stretches) -> bool
+    requires { IsOrdered table.now }
     ensures { result ≡ list_any (λ f. raises_it awaited f
-        && is_reached_in table.now poll (joined writes.now) f) (joined raising.now) }
+        && is_reached_in table.now poll writes.now f) writes.now }
 {
-    for run in raising {
-        if is_run_reached(table, poll, awaited, writes, run) {
+    let runs = writes.runs();
+    for (place, run) in runs.iter().enumerate() {
+        if is_run_reached(table, poll, awaited, runs, run) {
+            writes.guess_next(Some(place));
             return true;
         }
     }
@@ -410,8 +394,8 @@ fn is_run_reached(
     table: &ClockTable,
     poll: OpId,
     awaited: Awaited,
-    writes: &[WordWrites],
-    run: &WordWrites,
+    writes: &[Run],
+    run: &Run,
 ) -> bool
     requires ordered { IsOrdered table.now }
     requires writes { AreStretches writes.now }
@@ -420,9 +404,9 @@ fn is_run_reached(
     ensures { result ≡ list_any (λ f. raises_it awaited f
         && is_reached_in table.now poll (joined writes.now) f) run.now }
 {
-    let (before, beyond) = parts(table, poll, run.as_slice());
-    has_reached(table, awaited, beyond)
-        || is_last_reached(table, poll, awaited, writes, before, run)
+    let count = count_before(table, poll, run.as_slice());
+    has_reached(table, awaited, run.from_raising(awaited, count))
+        || is_last_reached(table, poll, awaited, writes, run, count)
 }
 
 /// Whether some run may come to one of these that brings what is waited for.
@@ -455,19 +439,20 @@ fn is_last_reached(
     table: &ClockTable,
     poll: OpId,
     awaited: Awaited,
-    writes: &[WordWrites],
-    before: &[WordWrite],
-    run: &WordWrites,
+    writes: &[Run],
+    run: &Run,
+    count: usize,
 ) -> bool
     requires ordered { IsOrdered table.now }
     requires writes { AreStretches writes.now }
-    requires run { Stretch before.now }
-    requires before { AreBefore table.now poll before.now }
-    requires among { AreAmong (joined writes.now) before.now }
-    ensures { result ≡ list_any (is_reached_at table.now)
-        (stay table.now poll (joined writes.now) (filter (raises_it awaited) before.now)) }
+    requires run { Stretch run.now }
+    requires within { count ≤ length run.now }
+    requires before { PartsBefore table.now poll run.now count }
+    requires among { AreAmong (joined writes.now) run.now }
+    ensures { result ≡ list_any (is_reached_at table.now) (stay table.now poll (joined writes.now)
+        (filter (raises_it awaited) (take count run.now))) }
 {
-    match staying_last(table, poll, awaited, writes, before, run) {
+    match staying_last(table, poll, awaited, writes, run, count) {
         Some(last) => is_reached(table, &last),
         None => false,
     }

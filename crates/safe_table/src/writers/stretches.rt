@@ -1,23 +1,30 @@
-ghost use Rattle.std.specs.Prelude.{◌≡◌, ◌≤◌, ◌&&◌, ◌++◌, [], IfOk, OnOk, length};
+ghost use Rattle.std.specs.Prelude.{◌≡◌, ◌≤◌, [], IfOk, OnOk, List, length};
 ghost use Rattle.std.specs.List.{list_all};
+ghost use Rattle.safe_model.specs.Raisers.{is_whole};
+ghost use Rattle.safe_table.specs.declared.writers.write.WordWrite.{WordWrite};
 ghost use Rattle.safe_table.specs.Looks.{is_behind};
+ghost use Rattle.safe_table.specs.Polls.{is_clean_write};
 ghost use Rattle.safe_table.specs.Stretches.{Stretch, AreStretchesOf, PartsAt};
-ghost use Rattle.safe_table.specs.Stretches.{end_of, goes_on, pushed, is_from, is_last_of};
+ghost use Rattle.safe_table.specs.Stretches.{end_of, goes_on, pushed, is_from};
+ghost use Rattle.safe_table.specs.Stretches.{early_values, shared_bits};
 ghost use Rattle.std.specs.Option.{option_copied};
 
-use crate::writers::write::{WordWrite, WordWrites};
+use crate::polls::{Awaited, enabled};
+use crate::writers::run::Run;
+use crate::writers::write::WordWrite;
 use pci_command::NoMemory;
 use std::alloc::Global;
 use std::cell::Cell;
 use std::marker::Model;
 
 /// Writes of one dword as stretches, in each of which they are of one master, one behind another in
-/// its program; whether the dword is the last of each of them; and a guess at a stretch that is to
-/// be looked at first, of which nothing is claimed.
+/// its program; the values of those of which the dword is not the last; the bits that each of them
+/// writes; and a guess at a stretch that is to be looked at first, of which nothing is claimed.
 #[derive(Debug, Drop)]
 pub(crate) struct Stretches {
-    runs: Vec<WordWrites>,
-    last: bool,
+    runs: Vec<Run>,
+    early: Vec<u32>,
+    bits: u32,
     guess: Cell<usize>,
 }
 
@@ -31,49 +38,22 @@ impl Model for Stretches {
 
     ghost view = { λ k. joined k.runs.items };
 
-    ghost invariant = { λ k. AreSummed k.runs.items k.last };
+    ghost invariant = { λ k. AreSummed k.runs.items k.early.items k.bits };
 }
 
 impl Stretches {
-    ghost use Rattle.std.specs.Prelude.{◌∷◌};
-
-    /// None.
-    pub(crate) fn new(alloc: Global) -> Stretches
-        ensures { result ≡ [] }
-    {
-        Stretches {
-            runs: Vec::new(alloc),
-            last: true,
-            guess: Cell::new(0),
-        }
-    }
-
-    /// One write more at the end.
-    pub(crate) fn with(self, alloc: Global, write: WordWrite) -> Result<Stretches, NoMemory>
-        ensures { IfOk result (λ list. list ≡ self ++ write ∷ []) }
-    {
-        let Stretches {
-            mut runs,
-            last,
-            guess,
-        } = self;
-        push(&mut runs, alloc, write)?;
-        let last = both(last, write.last);
-        Ok(Stretches { runs, last, guess })
-    }
-
     /// The stretches.
-    pub(crate) fn runs(&self) -> &[WordWrites]
+    pub(crate) fn runs(&self) -> &[Run]
         ensures { AreStretchesOf self.now result.now }
     {
         self.runs.as_slice()
     }
 
-    /// Whether the dword is the last of each of them.
-    pub(crate) fn are_last(&self) -> bool
-        ensures { result ≡ list_all is_last_of self.now }
+    /// Whether each of them is clean.
+    pub(crate) fn are_clean(&self, awaited: &Awaited) -> bool
+        ensures { result ≡ list_all (is_clean_write awaited.now) self.now }
     {
-        self.last
+        covers(self.bits, awaited.mask) && !awaited.is_any_met(self.early.as_slice())
     }
 
     /// Which stretch to look at first.
@@ -89,21 +69,15 @@ impl Stretches {
     }
 }
 
-fn both(a: bool, b: bool) -> bool
-    ensures { result ≡ (a && b) }
-{
-    a && b
-}
-
 /// The write is put behind the last stretch, or begins one.
-fn push(runs: &mut Vec<WordWrites>, alloc: Global, write: WordWrite) -> Result<(), NoMemory>
+fn push(runs: &mut Vec<Run>, alloc: Global, write: WordWrite) -> Result<(), NoMemory>
     ensures { OnOk result (runs.new.items ≡ pushed write runs.old.items) }
 {
     let count = runs.len();
     if count > 0 && goes_on(runs[count - 1].as_slice(), &write) {
         runs[count - 1].push(write)
     } else {
-        runs.push(WordWrites::one(alloc, write)?)?;
+        runs.push(Run::one(alloc, write)?)?;
         Ok(())
     }
 }
@@ -131,20 +105,47 @@ pub(crate) fn stretches_of(alloc: Global, writes: &[WordWrite]) -> Result<Stretc
 {
     let mut runs = Vec::new(alloc);
     push_all(&mut runs, alloc, writes)?;
+    let early = early_values(alloc, writes)?;
     Ok(Stretches {
         runs,
-        last: are_last(writes),
+        early,
+        bits: shared_bits(writes),
         guess: Cell::new(0),
     })
 }
 
-fn are_last(writes: &[WordWrite]) -> bool
-    ensures { result ≡ list_all is_last_of writes.now }
+/// The values of those of which the dword is not the last.
+fn early_values(alloc: Global, writes: &[WordWrite]) -> Result<Vec<u32>, NoMemory>
+    ensures { IfOk result (λ values. values.items ≡ early_values writes.now) }
 {
-    writes.iter().all(|write| write.last)
+    let values = writes
+        .iter()
+        .filter(|write| !write.last)
+        .map(|write| write.value())
+        .collect(alloc)?;
+    Ok(values)
 }
 
-fn push_all(runs: &mut Vec<WordWrites>, alloc: Global, writes: &[WordWrite]) -> Result<(), NoMemory>
+/// The bits that each of the writes writes.
+fn shared_bits(writes: &[WordWrite]) -> u32
+    ensures { result ≡ shared_bits writes.now }
+{
+    let mut bits = 0xffff_ffff;
+    for write in writes {
+        bits &= enabled(write.phase);
+    }
+    bits
+}
+
+/// Whether each of the writes that write no less than these bits writes all that the mask looks at.
+fn covers(bits: u32, mask: u32) -> bool
+    ensures { (writes : List WordWrite) → bits ≡ shared_bits writes →
+        result ≡ list_all (λ w. is_whole mask w.phase) writes }
+{
+    bits & mask == mask
+}
+
+fn push_all(runs: &mut Vec<Run>, alloc: Global, writes: &[WordWrite]) -> Result<(), NoMemory>
     requires { runs.old.items ≡ [] }
     ensures { OnOk result (AreStretchesOf writes.now runs.new.items) }
 {

@@ -1,26 +1,27 @@
-use crate::polls::Awaited;
-use crate::writers::lists::{Listed, Lists, lists_of};
+use crate::writers::lists::lists_of;
+use crate::writers::stretches::Stretches;
 use crate::writers::words::Words;
 use crate::writers::write::WordWrite;
+use audit_clocks::WordTable;
 use board_model::Word;
 use board_tree::Tree;
 use pci_command::NoMemory;
 use std::alloc::Global;
 use std::marker::Model;
 
-/// The writes of each dword of a board, in the order of master and index; and those that bring what
-/// polls wait for, as stretches. No word of the program calls it.
+/// The writes of each dword of a board, in the order of master and index; and as stretches those of
+/// each dword that is polled. No word of the program calls it.
 #[derive(Debug, Drop)]
 pub struct Writers {
     words: Words,
-    lists: Lists,
+    lists: WordTable<Stretches>,
 }
 
 impl Model for Writers {
     ghost use Rattle.std.specs.Prelude.{List};
     ghost use Rattle.board_model.specs.declared.word.Word.{Word};
     ghost use Rattle.safe_table.specs.declared.writers.write.WordWrite.{WordWrite};
-    ghost use Rattle.safe_table.specs.Lists.{KeepsLists};
+    ghost use Rattle.safe_table.specs.Writes.{KeepsLists};
 
     ghost Value = { List (Word × List WordWrite) };
 
@@ -31,13 +32,10 @@ impl Model for Writers {
 
 impl Writers {
     ghost use Rattle.std.specs.Prelude.{◌≡◌, IfOk, IfSome};
-    ghost use Rattle.std.specs.List.{list_all};
     ghost use Rattle.board_model.specs.declared.board.Board.{Board};
     ghost use Rattle.audit_landings.specs.Hits.{dword};
     ghost use Rattle.law_safe.specs.largest.Tests.{writes_of};
     ghost use Rattle.safe_table.specs.Writes.{writes_at, AreWrites, ListsWrites};
-    ghost use Rattle.safe_table.specs.Lists.{AreListed};
-    ghost use Rattle.safe_table.specs.Polls.{is_clean_write};
 
     /// Of the writes of the board. It looks up each dword that a write names.
     pub fn new(alloc: Global, tree: &Tree) -> Result<Writers, NoMemory>
@@ -57,20 +55,10 @@ impl Writers {
         self.words.of_word(word)
     }
 
-    /// As stretches those of the dword, and those that bring what is waited for, where they are not
-    /// too many to be kept.
-    pub(crate) fn lists(&self, awaited: Awaited) -> Option<Listed<'_>>
-        ensures { IfSome result
-            (λ listed. AreListed self.now awaited listed.writes.now listed.raising.now) }
+    /// The same as stretches, where the dword is polled.
+    pub(crate) fn stretches(&self, word: Word) -> Option<&Stretches>
+        ensures { IfSome result (λ list. list.now ≡ writes_at word self.now) }
     {
-        self.lists.of(awaited)
-    }
-
-    /// Whether each write of the dword is clean, where that is kept.
-    pub(crate) fn are_clean(&self, awaited: Awaited) -> Option<bool>
-        ensures { IfSome result (λ clean.
-            clean ≡ list_all (is_clean_write awaited) (writes_at awaited.word self.now)) }
-    {
-        self.lists.are_clean(awaited)
+        self.lists.get(word)
     }
 }

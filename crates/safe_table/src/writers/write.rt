@@ -2,7 +2,6 @@ ghost use Rattle.std.specs.Prelude.{◌≡◌};
 
 use pci_command::{NoMemory, OpId, Phase};
 use std::alloc::Global;
-use std::cell::Cell;
 use std::marker::Model;
 
 /// A write of a dword: the data phase that it brings there, whether it is posted, and whether the
@@ -15,11 +14,21 @@ pub struct WordWrite {
     pub last: bool,
 }
 
-/// Writes of one dword, and a guess at a place where to look first, of which nothing is claimed.
+impl WordWrite {
+    ghost use Rattle.safe_table.specs.Stretches.{value_in};
+
+    /// The value that it brings.
+    pub(crate) fn value(self) -> u32
+        ensures { result ≡ value_in self }
+    {
+        self.phase.value & 0xffff_ffff
+    }
+}
+
+/// Writes of one dword.
 #[derive(Debug, Drop)]
 pub(crate) struct WordWrites {
     writes: Vec<WordWrite>,
-    guess: Cell<usize>,
 }
 
 impl Model for WordWrites {
@@ -32,7 +41,7 @@ impl Model for WordWrites {
 }
 
 impl WordWrites {
-    ghost use Rattle.std.specs.Prelude.{IfOk, OnOk, [], ◌∷◌, ◌++◌};
+    ghost use Rattle.std.specs.Prelude.{IfOk, [], ◌∷◌, ◌++◌};
 
     /// None.
     pub(crate) fn new(alloc: Global) -> WordWrites
@@ -41,23 +50,11 @@ impl WordWrites {
         WordWrites::of(Vec::new(alloc))
     }
 
-    /// One.
-    pub(crate) fn one(alloc: Global, write: WordWrite) -> Result<WordWrites, NoMemory>
-        ensures { IfOk result (λ writes. writes ≡ write ∷ []) }
-    {
-        let mut writes = Vec::new(alloc);
-        writes.push(write)?;
-        Ok(WordWrites::of(writes))
-    }
-
     /// These.
     pub(crate) fn of(writes: Vec<WordWrite>) -> WordWrites
         ensures { result ≡ writes.items }
     {
-        WordWrites {
-            writes,
-            guess: Cell::new(0),
-        }
+        WordWrites { writes }
     }
 
     /// All of them.
@@ -71,26 +68,8 @@ impl WordWrites {
     pub(crate) fn with(self, write: WordWrite) -> Result<WordWrites, NoMemory>
         ensures { IfOk result (λ writes. writes ≡ self ++ write ∷ []) }
     {
-        let WordWrites { mut writes, guess } = self;
+        let WordWrites { mut writes } = self;
         writes.push(write)?;
-        Ok(WordWrites { writes, guess })
-    }
-
-    /// The same, in its place.
-    pub(crate) fn push(&mut self, write: WordWrite) -> Result<(), NoMemory>
-        ensures { OnOk result (self.new ≡ self.old ++ write ∷ []) }
-    {
-        self.writes.push(write)?;
-        Ok(())
-    }
-
-    /// Where to look first.
-    pub(crate) fn guess(&self) -> usize {
-        self.guess.get()
-    }
-
-    /// From now on there.
-    pub(crate) fn guess_next(&self, place: usize) {
-        self.guess.set(place);
+        Ok(WordWrites { writes })
     }
 }

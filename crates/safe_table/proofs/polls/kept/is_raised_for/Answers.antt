@@ -2,14 +2,10 @@ use Rattle.std.proofs.Common.{◌&&◌, ap, ◌∙◌}
 use Rattle.std.specs.List.{list_any}
 use Rattle.safe_table.specs.Looks.{is_reached_in}
 use Rattle.safe_table.specs.Polls.{raises_it}
-use Rattle.safe_table.proofs.ListedLemmas.{listed_reached}
 use Rattle.safe_table.proofs.polls.kept.is_raised_for.Goals as goal
 
-pub is_any_reached-requires-clause-among : goal.is_any_reached-requires-clause-among
-is_any_reached-requires-clause-among c = c.in-Some.ensures.among
-
 pub returns-in-Some : goal.returns-in-Some
-returns-in-Some c = listed_reached c.args.writers.now c.args.awaited c.in-Some.listed.writes.now c.in-Some.listed.raising.now c.in-Some.ensures c.args.table.now c.args.poll c.is_any_reached.result c.is_any_reached.ensures
+returns-in-Some c = c.is_any_reached.ensures ∙ ap (λ ws. list_any (λ f. raises_it c.args.awaited f && is_reached_in c.args.table.now c.args.poll ws f) ws) c.in-Some.ensures
 
 pub returns-in_ok-raised-in-None : goal.returns-in_ok-raised-in-None
 returns-in_ok-raised-in-None c = c.in_ok-raised-in-None.ensures ∙ ap (λ ws. list_any (λ f. raises_it c.args.awaited f && is_reached_in c.args.table.now c.args.poll ws f) ws) c.of_word-words.ensures.at

@@ -1,17 +1,19 @@
-use Rattle.std.proofs.Common.{sym, ap, ◌∙◌}
-use Rattle.std.specs.List.{filter, list_any}
+use Rattle.std.proofs.Common.{refl, sym, ap, ◌∙◌, ◌&&◌}
+use Rattle.std.specs.List.{list_any}
 use Rattle.safe_table.specs.Landing.{joined}
 use Rattle.safe_table.specs.Looks.{is_reached_in}
 use Rattle.safe_table.specs.Polls.{raises_it}
-use Rattle.safe_table.proofs.StayLemmas.{among_of, any_filter}
+use Rattle.safe_table.proofs.StretchLemmas.{any_at, stretch_at}
+use Rattle.safe_table.proofs.StayLemmas.{among_at}
 use Rattle.safe_table.proofs.polls.stays.is_any_reached.Goals as goal
 
-pub is_any_run_reached-requires-clause-among : goal.is_any_run_reached-requires-clause-among
-is_any_run_reached-requires-clause-among c = among_of c.args.listed.writes.now c.args.listed.raising.now (joined c.runs.result.now) (joined c.runs-2.result.now) c.runs.ensures.all c.runs-2.ensures.all c.requires.among
+pub is_run_reached-requires-clause-run : goal.is_run_reached-requires-clause-run
+is_run_reached-requires-clause-run c = stretch_at c.runs-runs.result.now c.guess.result c.in-Some.these.now c.in-Some.these.now c.in-Some.ensures.lookup.3.0 c.in-Some.ensures.lookup.1 refl c.runs-runs.ensures.each
 
-pub returns : goal.returns
-returns c =
-    c.is_any_run_reached.ensures
-    ∙ sym (any_filter (raises_it c.args.awaited) (is_reached_in c.args.table.now c.args.poll (joined c.runs.result.now)) (joined c.runs-2.result.now))
-    ∙ ap (λ ws. list_any (is_reached_in c.args.table.now c.args.poll ws) (filter (raises_it c.args.awaited) (joined c.runs-2.result.now))) c.runs.ensures.all
-    ∙ ap (λ ws. list_any (is_reached_in c.args.table.now c.args.poll c.args.listed.writes.now) (filter (raises_it c.args.awaited) ws)) c.runs-2.ensures.all
+pub is_run_reached-requires-clause-among : goal.is_run_reached-requires-clause-among
+is_run_reached-requires-clause-among c = among_at (joined c.runs-runs.result.now) c.runs-runs.result.now c.guess.result c.in-Some.these.now c.in-Some.these.now c.in-Some.ensures.lookup.3.0 c.in-Some.ensures.lookup.1 refl (λ test some. some)
+
+pub returns-in-Some : goal.returns-in-Some
+returns-in-Some c =
+    sym (any_at (λ f. raises_it c.args.awaited f && is_reached_in c.args.table.now c.args.poll (joined c.runs-runs.result.now) f) c.runs-runs.result.now c.guess.result c.in-Some.these.now c.in-Some.these.now c.in-Some.ensures.lookup.3.0 c.in-Some.ensures.lookup.1 refl (sym c.is_run_reached.ensures ∙ c.if-is_run_reached.true))
+    ∙ ap (λ ws. list_any (λ f. raises_it c.args.awaited f && is_reached_in c.args.table.now c.args.poll ws f) ws) c.runs-runs.ensures.all

@@ -5,23 +5,23 @@ use Rattle.std.proofs.Common.{refl}
 use Rattle.safe_table.proofs.polls.stays.put_raisers.Goals as goal
 
 pub loop-place-init : goal.loop-place-init
-loop-place-init c = none_told c.args.table.now c.requires.ordered c.args.poll c.args.awaited (joined c.args.writes.now) c.args.raising.now c.args.found.now.items c.requires.none
+loop-place-init c = none_told c.args.table.now c.requires.ordered c.args.poll c.args.awaited (joined c.args.writes.now) c.args.writes.now c.args.found.now.items c.requires.none
 
 pub put_run-requires-clause-run : goal.put_run-requires-clause-run
-put_run-requires-clause-run c = stretch_at c.args.raising.now c.loop-place.place c.index-raising-place.result c.index-raising-place.result c.loop-place-test.true c.index-raising-place.is refl c.requires.raising
+put_run-requires-clause-run c = stretch_at c.args.writes.now c.loop-place.place c.index-writes-place.result c.index-writes-place.result c.loop-place-test.true c.index-writes-place.is refl c.requires.writes
 
 pub put_run-requires-clause-among : goal.put_run-requires-clause-among
-put_run-requires-clause-among c = among_at (joined c.args.writes.now) c.args.raising.now c.loop-place.place c.index-raising-place.result c.index-raising-place.result c.loop-place-test.true c.index-raising-place.is refl c.requires.among
+put_run-requires-clause-among c = among_at (joined c.args.writes.now) c.args.writes.now c.loop-place.place c.index-writes-place.result c.index-writes-place.result c.loop-place-test.true c.index-writes-place.is refl (λ test some. some)
 
 pub loop-place-preserved : goal.loop-place-preserved
 loop-place-preserved c =
-    told_on c.args.table.now c.requires.ordered c.args.poll c.args.awaited (joined c.args.writes.now) c.args.raising.now c.loop-place.place c.index-raising-place.result c.index-raising-place.result c.loop-place.found.items c.put_run.new.found.items c.in_ok-ended.ended
-    c.loop-place-test.true c.index-raising-place.is refl c.in_ok-ended.ensures c.if-ended.false c.loop-place.invariant
+    told_on c.args.table.now c.requires.ordered c.args.poll c.args.awaited (joined c.args.writes.now) c.args.writes.now c.loop-place.place c.index-writes-place.result c.index-writes-place.result c.loop-place.found.items c.put_run.new.found.items c.in_ok-ended.ended
+    c.loop-place-test.true c.index-writes-place.is refl c.in_ok-ended.ensures c.if-ended.false c.loop-place.invariant
 
 pub returns-then-ended : goal.returns-then-ended
 returns-then-ended c =
-    told_ended c.args.table.now c.requires.ordered c.args.poll c.args.awaited (joined c.args.writes.now) c.args.raising.now c.loop-place.place c.index-raising-place.result c.index-raising-place.result c.loop-place.found.items c.put_run.new.found.items c.in_ok-ended.ended
-    c.loop-place-test.true c.index-raising-place.is refl c.in_ok-ended.ensures c.if-ended.true
+    told_ended c.args.table.now c.requires.ordered c.args.poll c.args.awaited (joined c.args.writes.now) c.args.writes.now c.loop-place.place c.index-writes-place.result c.index-writes-place.result c.loop-place.found.items c.put_run.new.found.items c.in_ok-ended.ended
+    c.loop-place-test.true c.index-writes-place.is refl c.in_ok-ended.ensures c.if-ended.true
 
 pub returns : goal.returns
-returns c = told_all c.args.table.now c.requires.ordered c.args.poll c.args.awaited (joined c.args.writes.now) c.args.raising.now c.loop-place.place c.loop-place.found.items c.loop-place-test.false c.loop-place.invariant
+returns c = told_all c.args.table.now c.requires.ordered c.args.poll c.args.awaited (joined c.args.writes.now) c.args.writes.now c.loop-place.place c.loop-place.found.items c.loop-place-test.false c.loop-place.invariant

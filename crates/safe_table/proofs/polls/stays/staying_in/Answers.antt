@@ -1,27 +1,22 @@
-use Rattle.std.proofs.Common.{subst, sym}
+use Rattle.std.proofs.Common.{◌≤◌, List, length, take, drop, refl, sym, subst}
+use Rattle.safe_table.specs.declared.writers.write.WordWrite.{WordWrite}
 use Rattle.safe_table.specs.Landing.{joined}
-use Rattle.safe_table.specs.Stretches.{Stretch, IsParted}
-use Rattle.safe_table.proofs.StayLemmas.{before_stretch, before_among, raisers_in}
+use Rattle.safe_table.specs.Stretches.{Stretch, PartsBefore}
+use Rattle.safe_table.proofs.StayLemmas.{parted, raisers_in}
 use Rattle.safe_table.proofs.polls.stays.staying_in.Goals as goal
 
-pub parts-requires : goal.parts-requires
-parts-requires c = subst Stretch (sym c.as_slice.ensures) c.requires.run
+pub count_before-count-requires : goal.count_before-count-requires
+count_before-count-requires c = subst Stretch (sym c.as_slice.ensures) c.requires.run
 
-pub staying_last-requires-clause-run : goal.staying_last-requires-clause-run
-staying_last-requires-clause-run c =
-    before_stretch c.args.table.now c.requires.ordered c.args.poll (joined c.args.writes.now) c.args.run.now c.parts.result.0.now c.parts.result.1.now c.requires.run
-    (subst (λ ws. IsParted c.args.table.now c.args.poll ws c.parts.result.0.now c.parts.result.1.now) c.as_slice.ensures c.parts.ensures)
+pub staying_last-requires-clause-within : goal.staying_last-requires-clause-within
+staying_last-requires-clause-within c = subst (λ (ws : List WordWrite). c.count_before-count.result ≤ length ws) c.as_slice.ensures c.count_before-count.ensures.within
 
 pub staying_last-requires-clause-before : goal.staying_last-requires-clause-before
-staying_last-requires-clause-before c = c.parts.ensures.low
-
-pub staying_last-requires-clause-among : goal.staying_last-requires-clause-among
-staying_last-requires-clause-among c =
-    before_among c.args.table.now c.requires.ordered c.args.poll (joined c.args.writes.now) c.args.run.now c.parts.result.0.now c.parts.result.1.now c.requires.run
-    (subst (λ ws. IsParted c.args.table.now c.args.poll ws c.parts.result.0.now c.parts.result.1.now) c.as_slice.ensures c.parts.ensures) c.requires.among
+staying_last-requires-clause-before c = subst (λ ws. PartsBefore c.args.table.now c.args.poll ws c.count_before-count.result) c.as_slice.ensures c.count_before-count.ensures.parts
 
 pub returns : goal.returns
 returns c =
-    raisers_in c.args.table.now c.requires.ordered c.args.poll c.args.awaited (joined c.args.writes.now) c.args.run.now c.parts.result.0.now c.parts.result.1.now c.requires.run
-    (subst (λ ws. IsParted c.args.table.now c.args.poll ws c.parts.result.0.now c.parts.result.1.now) c.as_slice.ensures c.parts.ensures)
+    raisers_in c.args.table.now c.requires.ordered c.args.poll c.args.awaited (joined c.args.writes.now) c.args.run.now (take c.count_before-count.result c.args.run.now) (drop c.count_before-count.result c.args.run.now) c.requires.run
+    (parted c.args.table.now c.args.poll c.args.run.now (take c.count_before-count.result c.args.run.now) (drop c.count_before-count.result c.args.run.now) c.count_before-count.result
+    (subst (λ ws. PartsBefore c.args.table.now c.args.poll ws c.count_before-count.result) c.as_slice.ensures c.count_before-count.ensures.parts) refl refl)
     c.staying_last.result c.staying_last.ensures
