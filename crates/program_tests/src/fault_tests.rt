@@ -4,7 +4,10 @@ use crate::calls::{answer, sink, source, words};
 use io_ports::{MemorySink, MemorySource, SureSink, SureSource};
 use pci_command::List;
 use pcitree::{NoGate, Status, pcitree_surely};
+use std::alloc::Global;
+use std::process::Abort;
 use std::test::Fail;
+use std::thread::Threads;
 
 const RUN: &str = "run --steady f";
 
@@ -44,7 +47,7 @@ fn each_call_of_the_source_fails_in_turn(rt: HostRuntime) -> Result<(), Fail> {
         } else {
             (Status::Done, 181)
         };
-        ends_so(&rt, &mut source, &mut sink, status, taken)?;
+        ends_so(&rt, rt.alloc(), &mut source, &mut sink, status, taken)?;
     }
     Ok(())
 }
@@ -60,7 +63,7 @@ fn each_call_of_the_sink_fails_in_turn(rt: HostRuntime) -> Result<(), Fail> {
         } else {
             (Status::Done, 181)
         };
-        ends_so(&rt, &mut source, &mut sink, status, taken)?;
+        ends_so(&rt, rt.alloc(), &mut source, &mut sink, status, taken)?;
     }
     Ok(())
 }
@@ -75,20 +78,21 @@ fn a_sink_fills_up(rt: HostRuntime) -> Result<(), Fail> {
     ] {
         let mut source = source(rt.alloc(), BOARD, 0)?;
         let mut sink = sink(rt.alloc(), size, 0)?;
-        ends_so(&rt, &mut source, &mut sink, status, size)?;
+        ends_so(&rt, rt.alloc(), &mut source, &mut sink, status, size)?;
     }
     Ok(())
 }
 
 /// The call ends with this status, and the sink took so many bytes of the trace.
-fn ends_so(
-    rt: &HostRuntime,
+fn ends_so<R: Threads + Sync + Abort>(
+    rt: &R,
+    alloc: Global,
     source: &mut MemorySource,
     sink: &mut MemorySink,
     status: Status,
     taken: usize,
 ) -> Result<(), Fail> {
-    let found = answer(rt, rt.alloc(), RUN, source, sink, &NoGate)?;
+    let found = answer(rt, alloc, RUN, source, sink, &NoGate)?;
     assert_eq!(rt; found, status, "where {taken} bytes are taken");
     let front = TRACE.as_bytes().get(..taken).ok_or("no front")?;
     assert_eq!(rt; sink.bytes(), front, "where {taken} bytes are taken");
