@@ -1,6 +1,6 @@
 -- Writes of a word as stretches: of one master, one behind another in its program.
 use Rattle.std.specs.Prelude.{◌≡◌, ℕ, ◌-◌, ◌<◌, ◌≤◌, Bool, true, false, List, [], ◌∷◌, ◌++◌, length, take, drop, filter, map, bit_and, ◌+◌, Option, Some, None, not, nat_le, ◌&&◌, slice_get, slice_set, if◌then◌else◌}
-use Rattle.std.specs.List.{list_all, list_any, AllByRecursion}
+use Rattle.std.specs.List.{list_any, AllByRecursion}
 use Rattle.pci_command.specs.declared.op_id.OpId.{OpId}
 use Rattle.board_model.specs.device.Registers.{enabled_bits}
 use Rattle.pci_command.specs.Same.{same_op}

@@ -2,6 +2,7 @@ ghost use Rattle.std.specs.Prelude.{◌≡◌, IfOk, OnOk, length};
 ghost use Rattle.safe_table.specs.Bounds.{AreKept, AreOf, BoundsAll, Fell};
 ghost use Rattle.safe_table.specs.Bounds.{LowersPoll, LowersPolls, Largest};
 
+use crate::again::lower_again;
 use crate::gathered::Gathered;
 use crate::known::ClockTable;
 use board_tree::Tree;
@@ -25,6 +26,7 @@ pub(crate) fn lower_until_none(
         if !fell {
             return Ok(());
         }
+        lower_again(alloc, tree, gathered, table, ops)?;
     }
 }
 

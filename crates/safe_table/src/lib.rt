@@ -5,6 +5,7 @@
 //! each operation of the board follows from it.
 #![tactic(auto)]
 
+mod again;
 mod fall;
 mod fronts;
 mod gathered;
