@@ -532,6 +532,16 @@ module _ (rows : List ProgramRows) (ordered : IsOrdered rows) where
           nothing_alike new (those (joined front) ++ here) nothing.0 low most other
           ∙ ap (λ ws. most_in rows p ws most other) (sym whole)
 
+      -- those so far tell it nothing, and so do all
+      pub told_enough : (i : ℕ) (found : List WordWrite) → TellsNothing rows p found → Told rows p awaited writes raising (drop i raising) found → TellAlike rows p found (those (joined raising))
+      told_enough i found nothing so_far =
+          let rest : List WordWrite = those (joined (drop i raising)) in
+          let low : TellsNothing rows p (those (joined raising)) = λ most other.
+          let here = nothing_ahead found rest nothing most other in
+          let same = so_far.alike most other in
+          omega (arith, here, same) in
+          nothing_alike found (those (joined raising)) nothing low
+
       pub told_all : (i : ℕ) (found : List WordWrite) → length raising ≤ i → Told rows p awaited writes raising (drop i raising) found → TellAlike rows p found (those (joined raising))
       told_all i found past so_far most other =
           let none : those (joined (drop i raising)) ≡ [] = ap those (runs_none raising i past) in

@@ -12,10 +12,13 @@ use Rattle.safe_table.specs.Rows.{ProgramRows, known_in, raised_at, RisesIn}
 abbrev pub clock_in : List ProgramRows → OpId → ℕ → ℕ
 clock_in rows o other = raised_at (known_in rows o.master o.index other) o other
 
--- the same with the operation itself
+-- the same with the operation itself, of this known behind the last poll before it
+abbrev pub past_at : ℕ → OpId → ℕ → ℕ
+past_at known o other = if other == o.master then greater known (o.index + 1) else known
+
+-- as the rows have it
 abbrev pub clock_past : List ProgramRows → OpId → ℕ → ℕ
-clock_past rows o other =
-    let known = known_in rows o.master o.index other in if other == o.master then greater known (o.index + 1) else known
+clock_past rows o other = past_at (known_in rows o.master o.index other) o other
 
 -- an operation comes before another
 abbrev pub before_in : List ProgramRows → OpId → OpId → Bool

@@ -55,13 +55,12 @@ impl Again {
     fn mark_behind(&mut self, fell: bool, board: &Board, ops: &[OpId], place: usize)
         requires { IsDecodable board.now }
     {
-        let (_, behind) = ops.split_at(fewer(place, ops.len()));
-        match behind {
-            [poll, next, ..] if fell && next.master == poll.master => {
+        match (ops.get(place), ops.get(place.saturating_add(1))) {
+            (Some(poll), Some(next)) if fell && next.master == poll.master => {
                 mark(&mut self.marked, place.saturating_add(1));
                 self.mark_written(board, *poll, next.index);
             }
-            [poll, ..] if fell => self.mark_written(board, *poll, u16::MAX),
+            (Some(poll), _) if fell => self.mark_written(board, *poll, u16::MAX),
             _ => {}
         }
     }
@@ -123,12 +122,6 @@ fn put_waiting(
     };
     places.push(place)?;
     waiting.put(word, places)
-}
-
-fn fewer(a: usize, b: usize) -> usize
-    ensures { result ≤ b }
-{
-    if a < b { a } else { b }
 }
 
 /// It falls behind all polls, and then again and again behind those that may fall since others did,

@@ -1,10 +1,11 @@
-ghost use Rattle.std.specs.Prelude.{◌≡◌, ◌≤◌, ℕ, false, nat_lt};
+ghost use Rattle.std.specs.Prelude.{◌≡◌, ◌≤◌, ℕ, true, false, nat_lt};
 ghost use Rattle.safe_model.specs.Clocks.{clock_of, greater};
-ghost use Rattle.safe_table.specs.Looks.{clock_in, clock_past};
-ghost use Rattle.safe_table.specs.Rows.{known_in, table_of, raised_at, KeepsPolls};
+ghost use Rattle.safe_table.specs.Looks.{clock_in, clock_past, past_at};
+ghost use Rattle.safe_table.specs.Rows.{known_in, table_of, raised_at, lesser, number, KeepsPolls};
 ghost use Rattle.safe_table.specs.Falls.{LowersTo};
 
 use crate::program::Program;
+use crate::row::number_at;
 use crate::start::start_all;
 use board_tree::Tree;
 use pci_command::{NoMemory, OpId};
@@ -61,12 +62,7 @@ impl ClockTable {
     pub(crate) fn look_past(&self, op: OpId, other: u16) -> usize
         ensures { result ≡ clock_past self.now op other }
     {
-        let known = self.known(op, other);
-        if other == op.master {
-            greater(known, usize::from(op.index) + 1)
-        } else {
-            known
-        }
+        past(self.known(op, other), op, usize::from(other))
     }
 
     /// Whether behind a poll more is known of some master than before it.
@@ -78,6 +74,25 @@ impl ClockTable {
             Some(program) => program.tells(op),
             None => false,
         }
+    }
+
+    /// Whether of each master one of two operations knows no more, with itself, than is known before
+    /// another operation.
+    pub(crate) fn tell_nothing(&self, first: OpId, second: OpId, then: OpId) -> bool
+        ensures { result ≡ true → (other : ℕ) →
+            lesser (clock_past self.now first other) (clock_past self.now second other)
+            ≤ clock_in self.now then other }
+    {
+        let (ones, others) = (self.numbers(first), self.numbers(second));
+        let known = self.numbers(then);
+        for other in 0..greater(ones.len(), usize::from(first.master) + 1) {
+            let one = past(number_at(ones, other), first, other);
+            let both = lesser(one, past(number_at(others, other), second, other));
+            if raised(number_at(known, other), then, other) < both {
+                return false;
+            }
+        }
+        true
     }
 
     /// Whether one operation comes before another in every run.
@@ -113,14 +128,21 @@ impl ClockTable {
         }
     }
 
-    /// How many operations of a master are known behind the last poll before an operation.
+    /// How many operations of each master are known behind the last poll before an operation.
+    fn numbers(&self, op: OpId) -> &[u16]
+        ensures { (other : ℕ) → number result.now other ≡ known_in self.now op.master op.index other }
+    {
+        match self.programs.as_slice().get(usize::from(op.master)) {
+            Some(program) => program.numbers_before(op.index),
+            None => &[],
+        }
+    }
+
+    /// The same of one master.
     fn known(&self, op: OpId, other: u16) -> usize
         ensures { result ≡ known_in self.now op.master op.index other }
     {
-        match self.programs.as_slice().get(usize::from(op.master)) {
-            Some(program) => program.known(op.index, other),
-            None => 0,
-        }
+        number_at(self.numbers(op), usize::from(other))
     }
 }
 
@@ -133,6 +155,23 @@ pub(crate) fn raised(known: usize, op: OpId, other: usize) -> usize
     } else {
         known
     }
+}
+
+/// The same with the operation itself.
+fn past(known: usize, op: OpId, other: usize) -> usize
+    ensures { result ≡ past_at known op other }
+{
+    if other == usize::from(op.master) {
+        greater(known, usize::from(op.index) + 1)
+    } else {
+        known
+    }
+}
+
+pub(crate) fn lesser(a: usize, b: usize) -> usize
+    ensures { result ≡ lesser a b }
+{
+    if b < a { b } else { a }
 }
 
 pub(crate) fn greater(a: usize, b: usize) -> usize

@@ -27,14 +27,6 @@ impl Model for Program {
 }
 
 impl Program {
-    /// Behind the last poll before the operation at a place, how many operations of a master are
-    /// known.
-    pub(crate) fn known(&self, index: u16, other: u16) -> usize
-        ensures { result ≡ known_at self.now (last_in self.now index) other }
-    {
-        self.behind(self.last(usize::from(index)), other)
-    }
-
     /// Of the first so many operations, how many there are up to and with the last poll.
     fn last(&self, index: usize) -> usize
         ensures { result ≡ last_in self.now index }
@@ -45,14 +37,14 @@ impl Program {
         }
     }
 
-    /// What is known behind the last of so many operations.
-    fn behind(&self, count: usize, other: u16) -> usize
-        ensures { result ≡ known_at self.now count other }
+    /// Of each master what is known behind the last poll before the operation at a place.
+    pub(crate) fn numbers_before(&self, index: u16) -> &[u16]
+        ensures { (other : ℕ) → number result.now other ≡ known_at self.now (last_in self.now index) other }
     {
-        number_at(self.numbers(count), usize::from(other))
+        self.numbers(self.last(usize::from(index)))
     }
 
-    /// The same of all masters.
+    /// The same behind the last of so many operations.
     fn numbers(&self, count: usize) -> &[u16]
         ensures { (other : ℕ) → number result.now other ≡ known_at self.now count other }
     {
@@ -70,7 +62,7 @@ impl Program {
         ensures { result ≡ false → (other : ℕ) → number (row_in self.now op.index) other
             ≤ raised_at (known_at self.now (last_in self.now op.index) other) op other }
     {
-        let before = self.numbers(self.last(usize::from(op.index)));
+        let before = self.numbers_before(op.index);
         match self.rows.as_slice().get(usize::from(op.index)) {
             Some(row) => is_above(row.as_slice(), before, op),
             None => false,

@@ -1,8 +1,8 @@
-ghost use Rattle.std.specs.Prelude.{◌≡◌, nat_lt, if◌then◌else◌};
+ghost use Rattle.std.specs.Prelude.{◌≡◌};
 ghost use Rattle.safe_model.specs.Clocks.{greater};
 ghost use Rattle.safe_table.specs.Looks.{before_in, any_before, known_to, most_in};
 
-use crate::known::{ClockTable, greater};
+use crate::known::{ClockTable, greater, lesser};
 use crate::writers::WordWrite;
 use pci_command::OpId;
 
@@ -51,13 +51,7 @@ fn known_over(
         if least <= known {
             return known;
         }
-        least = lesser(table.look_past(raiser.op, other), least);
+        least = lesser(least, table.look_past(raiser.op, other));
     }
     greater(known, least)
-}
-
-fn lesser(number: usize, most: usize) -> usize
-    ensures { result ≡ (if nat_lt number most then number else most) }
-{
-    if number < most { number } else { most }
 }

@@ -3,7 +3,7 @@ ghost use Rattle.std.specs.Prelude.{IfSome, true, take, if◌then◌else◌};
 ghost use Rattle.std.specs.List.{filter, list_any};
 ghost use Rattle.safe_table.specs.Landing.{joined};
 ghost use Rattle.safe_table.specs.Looks.{any_before, clock_in, no_more_in, left_out_in};
-ghost use Rattle.safe_table.specs.Looks.{is_reached_in, TellAlike, IsOrdered};
+ghost use Rattle.safe_table.specs.Looks.{is_reached_in, TellAlike, TellsNothing, IsOrdered};
 ghost use Rattle.safe_table.specs.Polls.{raises_it, staying};
 ghost use Rattle.safe_table.specs.Stretches.{Stretch, AreStretches, first_before, PartsBefore};
 ghost use Rattle.safe_table.specs.Stretches.{AreBefore, AreAmong, PutsRun, ends_with, first_in};
@@ -146,12 +146,24 @@ fn put_raisers(
         (staying table.now poll awaited (joined writes.now) (joined writes.now))) }
 {
     for (place, run) in writes.iter().enumerate() {
+        let count = found.len();
         let ended = put_run(found, table, poll, awaited, writes, run)?;
         if ended {
             return Ok(Some(place));
         }
+        if count < found.len() && are_enough(table, poll, found.as_slice()) {
+            return Ok(None);
+        }
     }
     Ok(None)
+}
+
+/// Whether the last two of these raisers tell the poll nothing: then nor do all.
+fn are_enough(table: &ClockTable, poll: OpId, found: &[WordWrite]) -> bool
+    ensures { result ≡ true → TellsNothing table.now poll found.now }
+{
+    let count = found.len();
+    count >= 2 && table.tell_nothing(found[count - 2].op, found[count - 1].op, poll)
 }
 
 /// Of the raisers of a stretch the last that comes before the poll, if it stays, or else the first

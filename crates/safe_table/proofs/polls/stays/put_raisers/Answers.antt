@@ -1,7 +1,8 @@
 use Rattle.safe_table.specs.Landing.{joined}
 use Rattle.safe_table.proofs.StretchLemmas.{stretch_at}
-use Rattle.safe_table.proofs.StayLemmas.{none_told, told_on, told_ended, told_all, among_at}
-use Rattle.std.proofs.Common.{refl}
+use Rattle.safe_table.proofs.StayLemmas.{none_told, told_on, told_ended, told_enough, told_all, among_at}
+use Rattle.std.proofs.Common.{◌+◌, refl, subst}
+use Rattle.safe_table.specs.Looks.{TellsNothing}
 use Rattle.safe_table.proofs.polls.stays.put_raisers.Goals as goal
 
 pub loop-place-init : goal.loop-place-init
@@ -25,3 +26,10 @@ returns-then-ended c =
 
 pub returns : goal.returns
 returns c = told_all c.args.table.now c.requires.ordered c.args.poll c.args.awaited (joined c.args.writes.now) c.args.writes.now c.loop-place.place c.loop-place.found.items c.loop-place-test.false c.loop-place.invariant
+
+pub returns-then-are_enough : goal.returns-then-are_enough
+returns-then-are_enough c =
+    told_enough c.args.table.now c.requires.ordered c.args.poll c.args.awaited (joined c.args.writes.now) c.args.writes.now (c.loop-place.place + 1) c.put_run.new.found.items
+    (subst (TellsNothing c.args.table.now c.args.poll) c.as_slice.ensures.value (c.are_enough.ensures c.if-are_enough.true))
+    (told_on c.args.table.now c.requires.ordered c.args.poll c.args.awaited (joined c.args.writes.now) c.args.writes.now c.loop-place.place c.index-writes-place.result c.index-writes-place.result c.loop-place.found.items c.put_run.new.found.items c.in_ok-ended.ended
+    c.loop-place-test.true c.index-writes-place.is refl c.in_ok-ended.ensures c.if-ended.false c.loop-place.invariant)
