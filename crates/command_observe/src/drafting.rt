@@ -17,7 +17,7 @@ use program_status::{BoardFault, LogExcess, LogRefusal, Status};
 use std::alloc::{AllocError, AllocFailed, Global};
 
 /// Why no text is written.
-#[derive(Clone, Copy, Debug, PartialEq, Eq)]
+#[derive(Clone, Copy, PartialEq, Eq)]
 pub(crate) enum Untold {
     NotTold { line: u32, refusal: LogRefusal },
     TooMuch { line: u32, excess: LogExcess },
@@ -43,7 +43,7 @@ impl<T: Drop> From<AllocFailed<T>> for Untold {
 }
 
 /// What a log tells, the tree of the board that was found, and the acts in an order.
-#[derive(Debug, Drop)]
+#[derive(Drop)]
 pub(crate) struct Told {
     pub(crate) tree: Tree,
     pub(crate) unseen: Unseen,

@@ -14,7 +14,7 @@ use std::alloc::Global;
 use text_faults::OrNoMemory;
 
 /// A log, and the tree of its board.
-#[derive(Debug, Drop)]
+#[derive(Drop)]
 pub(crate) struct TreeLog {
     pub(crate) tree: Tree,
     pub(crate) log: Log,

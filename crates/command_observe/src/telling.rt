@@ -23,7 +23,7 @@ use std::alloc::Global;
 use trace_roundtrip::are_comments;
 
 /// A run of the board of a tree, and what is said of it.
-#[derive(Debug, Drop)]
+#[derive(Drop)]
 pub(crate) struct RunTold {
     pub(crate) tree: Tree,
     pub(crate) events: List<Event>,

@@ -24,7 +24,7 @@ use trace_roundtrip::{run_text, with_comments};
 use trace_text::{has_line, print_trace};
 
 /// A trace text of acts, and of which line of the log each of them is, by its place from 0.
-#[derive(Debug, Drop)]
+#[derive(Drop)]
 pub(crate) struct Draft {
     pub(crate) text: Vec<u8>,
     pub(crate) lines: List<u32>,

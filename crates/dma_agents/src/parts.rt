@@ -9,7 +9,7 @@ use crate::marks::{is_one_word, is_two_words};
 use board_text::next_line;
 
 /// Where the line `devices` stands.
-#[derive(Clone, Copy, Debug, PartialEq, Eq)]
+#[derive(Clone, Copy, PartialEq, Eq)]
 pub(crate) struct DevicesLine {
     /// Its first byte.
     pub(crate) start: usize,

@@ -13,7 +13,7 @@ use std::alloc::Global;
 use std::collections::{HashMap, HashSet};
 
 /// A value that is written to a dword.
-#[derive(Clone, Copy, Debug, PartialEq, Eq, Hash)]
+#[derive(Clone, Copy, PartialEq, Eq, Hash)]
 pub(crate) struct WrittenValue {
     address: u32,
     value: u32,

@@ -2,7 +2,7 @@ use board_model::Lane;
 use history_model::Carried;
 
 /// What an act does to journeys at the lane that claims it.
-#[derive(Clone, Copy, Debug, PartialEq, Eq)]
+#[derive(Clone, Copy, PartialEq, Eq)]
 pub(crate) enum Claimed {
     /// It sends this item on the lane.
     Sends { lane: Lane, item: Carried },

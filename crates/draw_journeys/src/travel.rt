@@ -20,7 +20,7 @@ use pci_command::{NoMemory, OpId, Outcome};
 use std::alloc::Global;
 
 /// The journeys of a run as it goes on.
-#[derive(Debug, Drop)]
+#[derive(Drop)]
 pub(crate) struct Travel {
     /// All, in the order of sending.
     pub(crate) journeys: Vec<Journey>,

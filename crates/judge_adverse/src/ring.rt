@@ -14,7 +14,7 @@ use pci_command::NoMemory;
 use std::alloc::Global;
 
 /// Who may act on a bus: a lane that ends there, or a master on it.
-#[derive(Clone, Copy, Debug)]
+#[derive(Clone, Copy)]
 pub(crate) enum Initiator {
     Lane { bus: u8, lane: Lane },
     Master { bus: u8, master: u16 },
@@ -22,7 +22,7 @@ pub(crate) enum Initiator {
 
 /// The initiators of a board in a ring, which of them are known to have no act for now, and the
 /// place at which the next act is looked for first.
-#[derive(Debug, Drop)]
+#[derive(Drop)]
 pub(crate) struct Ring {
     pub(crate) initiators: Vec<Initiator>,
     pub(crate) idle: Vec<bool>,

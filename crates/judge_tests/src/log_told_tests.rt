@@ -5,6 +5,8 @@ use board_model::Board;
 use history_model::Event;
 use observe_log::{is_told, read_log};
 use observe_told::Log;
+use std::alloc::Global;
+use std::process::Abort;
 use std::test::Fail;
 use trace_reader::read_trace;
 
@@ -53,18 +55,24 @@ const CROSSED: [u32; 5] = [0, 1, 4, 3, 2];
 fn a_run_is_told_by_its_log(rt: HostRuntime) -> Result<(), Fail> {
     let log = read_log(rt.alloc(), LOG)?;
     let (board, acts) = read_trace(rt.alloc(), TRACE)?;
-    told_in_order(&rt, &log, &board, acts.as_slice())
+    told_in_order(&rt, rt.alloc(), &log, &board, acts.as_slice())
 }
 
 /// By the lines in this order, and not by others, nor for another board.
-fn told_in_order(rt: &HostRuntime, log: &Log, board: &Board, acts: &[Event]) -> Result<(), Fail>
+fn told_in_order(
+    rt: &impl Abort,
+    alloc: Global,
+    log: &Log,
+    board: &Board,
+    acts: &[Event],
+) -> Result<(), Fail>
     requires { IsTrue (is_well_formed log.now.board) }
 {
-    let told = is_told(rt.alloc(), log, board, acts, LINES.as_slice())?;
+    let told = is_told(alloc, log, board, acts, LINES.as_slice())?;
     assert!(rt; told);
-    let told = is_told(rt.alloc(), log, board, acts, CROSSED.as_slice())?;
+    let told = is_told(alloc, log, board, acts, CROSSED.as_slice())?;
     assert!(rt; !told);
-    let told = is_told(rt.alloc(), log, &log.board, acts, LINES.as_slice())?;
+    let told = is_told(alloc, log, &log.board, acts, LINES.as_slice())?;
     assert!(rt; !told);
     Ok(())
 }

@@ -83,15 +83,19 @@ fn telling_is_found(rt: &impl Abort, tree: &Tree, events: &[Event])
     requires { Run tree.now (history_of events.now) }
 {
     let (data, last) = (op(0, 0, 0), op(2, 1, 0));
-    for (write, read, is_told) in [
-        (data, last, true),
-        (op(1, 1, 0), last, true),
-        (data, op(1, 0, 1), true),
-        (data, op(1, 0, 0), false),
-        (data, op(2, 0, 1), false),
-        (last, data, false),
-    ] {
-        assert_eq!(rt; told(tree, events, write, read), is_told);
-    }
+    tells(rt, tree, events, (data, last), true);
+    tells(rt, tree, events, (op(1, 1, 0), last), true);
+    tells(rt, tree, events, (data, op(1, 0, 1)), true);
+    tells(rt, tree, events, (data, op(1, 0, 0)), false);
+    tells(rt, tree, events, (data, op(2, 0, 1)), false);
+    tells(rt, tree, events, (last, data), false);
     assert!(rt; fresh(tree, events));
+}
+
+/// The read knows of the write, or does not.
+fn tells(rt: &impl Abort, tree: &Tree, events: &[Event], asked: (OpId, OpId), is_told: bool)
+    requires { Run tree.now (history_of events.now) }
+{
+    let (write, read) = asked;
+    assert_eq!(rt; told(tree, events, write, read), is_told);
 }

@@ -53,22 +53,25 @@ fn goes_on(rt: &impl Abort, tree: &Tree) {
     let there = op_of(tree.board(), op).is_some();
     assert!(rt; there);
     assert_eq!(rt; way_length(tree, op), 2);
-    for (bus, command, address, hop) in [
-        (0, Command::MemRead, 0x8000_0020, Hop::Down(1)),
-        (1, Command::MemRead, 0x8000_0020, Hop::Down(2)),
-        (2, Command::MemRead, 0x8000_0020, Hop::Target(0)),
-        (2, Command::MemRead, 0x1000_0000, Hop::Up),
-        (0, Command::MemRead, 0x1000_0000, Hop::Nobody),
-        (0, Command::CfgRead, 0x0000_0800, Hop::Header(1)),
-        (1, Command::CfgRead, 0x0002_0801, Hop::Down(2)),
-    ] {
-        let request = Request {
-            command,
-            address,
-            ..Request::default()
-        };
-        assert_eq!(rt; next_of(tree, bus, &request), hop, "{address:08x} on {bus}");
-    }
+    let read = Command::MemRead;
+    hop_is(rt, tree, 0, (read, 0x8000_0020), Hop::Down(1));
+    hop_is(rt, tree, 1, (read, 0x8000_0020), Hop::Down(2));
+    hop_is(rt, tree, 2, (read, 0x8000_0020), Hop::Target(0));
+    hop_is(rt, tree, 2, (read, 0x1000_0000), Hop::Up);
+    hop_is(rt, tree, 0, (read, 0x1000_0000), Hop::Nobody);
+    hop_is(rt, tree, 0, (Command::CfgRead, 0x0000_0800), Hop::Header(1));
+    hop_is(rt, tree, 1, (Command::CfgRead, 0x0002_0801), Hop::Down(2));
+}
+
+/// A command at an address, presented on the bus, goes on so.
+fn hop_is(rt: &impl Abort, tree: &Tree, bus: u8, asked: (Command, u64), hop: Hop) {
+    let (command, address) = asked;
+    let request = Request {
+        command,
+        address,
+        ..Request::default()
+    };
+    assert_eq!(rt; next_of(tree, bus, &request), hop, "{address:08x} on {bus}");
 }
 
 /// The bridge to bus 1 on bus 0, with bus 2 behind it and a memory window of 1 MiB.
@@ -96,22 +99,29 @@ fn bridge() -> Bridge
 #[test]
 fn a_bridge_decodes(rt: HostRuntime) {
     let bridge = bridge();
-    let routes = [
-        (0x0001_0819, CfgRoute::ToType0(0x0000_0818)),
-        (0x0002_0819, CfgRoute::PassDown(0x0002_0819)),
-        (0x0003_0819, CfgRoute::NotHere),
-    ];
-    for (address, route) in routes {
-        assert_eq!(rt; convert_cfg(&bridge, address), route, "{address:08x}");
-    }
-    let claims = [
-        (Space::Mem, 0x8000_0020, true, false),
-        (Space::Mem, 0x1000_0000, false, true),
-        (Space::Io, 0, false, true),
-        (Space::Cfg, 0x8000_0020, false, false),
-    ];
-    for (space, address, down, up) in claims {
-        assert_eq!(rt; claim_down(&bridge, space, address), down, "{address:08x}");
-        assert_eq!(rt; claim_up(&bridge, space, address), up, "{address:08x}");
-    }
+    goes_by(&rt, &bridge, 0x0001_0819, CfgRoute::ToType0(0x0000_0818));
+    goes_by(&rt, &bridge, 0x0002_0819, CfgRoute::PassDown(0x0002_0819));
+    goes_by(&rt, &bridge, 0x0003_0819, CfgRoute::NotHere);
+    claims(&rt, &bridge, (Space::Mem, 0x8000_0020), true, false);
+    claims(&rt, &bridge, (Space::Mem, 0x1000_0000), false, true);
+    claims(&rt, &bridge, (Space::Io, 0), false, true);
+    claims(&rt, &bridge, (Space::Cfg, 0x8000_0020), false, false);
+}
+
+/// A configuration address of type 1 at the bridge goes on so.
+fn goes_by(rt: &impl Abort, bridge: &Bridge, address: u32, route: CfgRoute)
+    requires well_formed { IsTrue (is_well_formed_bridge bridge.now) }
+    requires numbered { IsTrue (is_numbered bridge.now) }
+{
+    assert_eq!(rt; convert_cfg(bridge, address), route, "{address:08x}");
+}
+
+/// The bridge claims an address on the bus above, and on the bus below.
+fn claims(rt: &impl Abort, bridge: &Bridge, at: (Space, u64), down: bool, up: bool)
+    requires well_formed { IsTrue (is_well_formed_bridge bridge.now) }
+    requires numbered { IsTrue (is_numbered bridge.now) }
+{
+    let (space, address) = at;
+    assert_eq!(rt; claim_down(bridge, space, address), down, "{address:08x}");
+    assert_eq!(rt; claim_up(bridge, space, address), up, "{address:08x}");
 }

@@ -1,34 +1,67 @@
 use crate::errands::Errands;
 use crate::ground::Ground;
 use crate::latches::outcome;
-use crate::programs::Programs;
+use crate::pairing::pair;
+use crate::programs::{Draft, Programs};
 use crate::streams::Streams;
-use board_model::Place;
+use board_model::{Lane, Place};
 use history_model::Step;
-use observe_told::{Ending, Seen, SeenAct, Who};
+use observe_told::{Ending, Seen, SeenAct, Unfound, Who};
 use pci_command::{NoMemory, OpId};
 
-/// What the acts are told by.
-#[derive(Clone, Copy, Debug)]
+/// What the acts are told by: errands, streams and programs of a log.
+#[derive(Drop)]
 pub(crate) struct Told<'a> {
     pub(crate) ground: &'a Ground<'a>,
-    pub(crate) streams: &'a Streams,
-    pub(crate) errands: &'a Errands,
-    pub(crate) programs: &'a Programs,
+    pub(crate) errands: Errands,
+    pub(crate) streams: Streams,
+    pub(crate) programs: Programs,
+}
+
+impl<'a> Told<'a> {
+    /// Nothing yet.
+    pub(crate) fn new(ground: &'a Ground<'a>) -> Told<'a> {
+        Told {
+            ground,
+            errands: Errands::new(ground.alloc),
+            streams: Streams::new(ground.alloc),
+            programs: Programs::new(ground.alloc),
+        }
+    }
+
+    /// All that the lines tell.
+    pub(crate) fn follow(&mut self, lanes: &[Lane]) -> Result<(), Unfound> {
+        let ground = self.ground;
+        self.errands.sort_all(ground)?;
+        self.streams.follow_all(ground, lanes)?;
+        pair(ground, lanes, &self.streams, &mut self.errands)?;
+        self.programs
+            .write_all(ground, &mut self.streams, &mut self.errands)
+    }
+
+    pub(crate) fn into_drafts(self) -> Vec<Draft> {
+        let Told { programs, .. } = self;
+        let Programs { masters, .. } = programs;
+        masters
+    }
 }
 
 impl Told<'_> {
-    /// The acts of all lines, bus by bus, and there in the order of the lines.
-    pub(crate) fn acts(&self) -> Result<Vec<SeenAct>, NoMemory> {
+    /// Lists the acts of all lines, bus by bus, and there in the order of the lines.
+    pub(crate) fn list_acts(&self, acts: &mut Vec<SeenAct>) -> Result<(), NoMemory> {
         let latched = self.latched()?;
-        let mut acts = Vec::with_capacity(self.ground.alloc, self.ground.lines.len())?;
+        acts.reserve(self.ground.lines.len())?;
+        self.list(latched.as_slice(), acts)
+    }
+
+    fn list(&self, latched: &[bool], acts: &mut Vec<SeenAct>) -> Result<(), NoMemory> {
         for bus in 0..=255u8 {
             for line in self.ground.on_bus(bus) {
                 let is_latched = latched.get(*line as usize).copied().unwrap_or(false);
-                self.act(*line, is_latched, &mut acts)?;
+                self.act(*line, is_latched, acts)?;
             }
         }
-        Ok(acts)
+        Ok(())
     }
 
     /// Of each line whether it latched a request.
@@ -158,7 +191,9 @@ impl Told<'_> {
         let mut before = None;
         for phase in span.0..span.1 {
             let op = self.streams.op_of(phase);
-            if let Some(op) = op.filter(|_| op != before) {
+            if op != before
+                && let Some(op) = op
+            {
                 self.push(line, op, step, acts)?;
             }
             before = op;

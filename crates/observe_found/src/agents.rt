@@ -1,28 +1,13 @@
 use crate::ground::Ground;
 use crate::programs::Draft;
-use crate::words::{Further, further_of};
-use board_model::{Board, Bridge, Master, Name, Opening, Planned, Range, Target};
+use crate::words::{Further, further_of, further_words};
+use board_model::{Master, Name, Opening, Range, Target};
+use observe_told::Unfound;
 use pci_command::{List, NoMemory};
 use std::alloc::Global;
 
-/// The board that was found. Whether there may be such a board is not looked at here.
-pub(crate) fn found_board(
-    ground: &Ground,
-    bridges: Vec<Bridge>,
-    further: &[Further],
-    masters: Vec<Draft>,
-    discards: Vec<Planned>,
-) -> Result<Board, NoMemory> {
-    Ok(Board {
-        bridges: List::from_vec(bridges),
-        targets: List::from_vec(targets(ground, further)?),
-        masters: List::from_vec(all_masters(ground, masters)?),
-        discards: List::from_vec(discards),
-        drops: List::from_vec(Vec::new(ground.alloc)),
-    })
-}
-
-fn all_masters(ground: &Ground, drafts: Vec<Draft>) -> Result<Vec<Master>, NoMemory> {
+/// The masters with their programs.
+pub(crate) fn all_masters(ground: &Ground, drafts: Vec<Draft>) -> Result<Vec<Master>, NoMemory> {
     let mut masters = Vec::new(ground.alloc);
     for draft in drafts {
         masters.push(draft.into_master(ground)?)?;
@@ -30,8 +15,18 @@ fn all_masters(ground: &Ground, drafts: Vec<Draft>) -> Result<Vec<Master>, NoMem
     Ok(masters)
 }
 
-fn targets(ground: &Ground, further: &[Further]) -> Result<Vec<Target>, NoMemory> {
-    let mut targets = Vec::new(ground.alloc);
+/// Lists the targets, each with what it opens with.
+pub(crate) fn list_targets(ground: &Ground, targets: &mut Vec<Target>) -> Result<(), Unfound> {
+    let further = further_words(ground)?;
+    list_with(ground, further.as_slice(), targets)?;
+    Ok(())
+}
+
+fn list_with(
+    ground: &Ground,
+    further: &[Further],
+    targets: &mut Vec<Target>,
+) -> Result<(), NoMemory> {
     for (place, target) in ground.board.targets.as_slice().iter().enumerate() {
         let place = u16::try_from(place).unwrap_or(u16::MAX);
         if let Some(name) = Name::new(target.name.bytes()) {
@@ -40,7 +35,7 @@ fn targets(ground: &Ground, further: &[Further]) -> Result<Vec<Target>, NoMemory
             targets.push(copy_target(ground.alloc, target, name, openings)?)?;
         }
     }
-    Ok(targets)
+    Ok(())
 }
 
 fn openings_of(

@@ -9,7 +9,7 @@ const MOST_CHANGED: usize = 3;
 
 /// Errands of one request at one lane that are open together: by the lane and the first of them,
 /// and when they were open.
-#[derive(Clone, Copy, Debug, Default, PartialEq, Eq)]
+#[derive(Clone, Copy, Default, PartialEq, Eq)]
 pub(crate) struct PartOf {
     pub(crate) rank: u32,
     pub(crate) first: u32,
@@ -19,7 +19,7 @@ pub(crate) struct PartOf {
 }
 
 /// The order in which a part is tried, and what it was before it was changed.
-#[derive(Clone, Copy, Debug)]
+#[derive(Clone, Copy)]
 struct Changed {
     part: PartOf,
     trying: Trying,
@@ -29,7 +29,7 @@ struct Changed {
 /// The orders of trying of the parts: what is chosen for one lane decides what can be chosen for
 /// the next. So where a part has no choice that suffices, all orders are tried of those before it
 /// which it goes by.
-#[derive(Debug, Drop)]
+#[derive(Drop)]
 pub(crate) struct Choices {
     /// Those that are not tried as usual.
     changed: Vec<Changed>,

@@ -1,7 +1,7 @@
 use crate::errands::Errands;
 use crate::found::Note;
-use crate::ground::{Ground, bump, number};
-use crate::slots::{Slots, list_changes, slots_of};
+use crate::ground::{Ground, bump, rank_of};
+use crate::slots::{Change, Slots, list_changes, slots_of};
 use crate::streams::Streams;
 use board_model::{Bridge, Lane, Planned};
 use observe_told::Unfound;
@@ -11,26 +11,39 @@ use pci_command::NoMemory;
 const MOST_POSTED: u32 = 8;
 
 /// A completion that a lane sent back: the far errand that made it, in the order of the far bus.
-#[derive(Clone, Copy, Debug, PartialEq, Eq, PartialOrd, Ord)]
+#[derive(Clone, Copy, PartialEq, Eq, PartialOrd, Ord)]
 struct Made {
     rank: u32,
     place: u32,
     far: u32,
 }
 
-/// Which completions are discarded: those of far errands that are not the last of their near ones,
-/// and where else more slots were held than there are those that nobody took to the end.
-pub(crate) fn discards(
+/// Lists which completions are discarded: those of far errands that are not the last of their near
+/// ones, and where else more slots were held than there are those that nobody took to the end.
+pub(crate) fn list_discards(
     ground: &Ground,
     lanes: &[Lane],
     errands: &Errands,
+    discards: &mut Vec<Planned>,
     notes: &mut Vec<Note>,
-) -> Result<Vec<Planned>, NoMemory> {
+) -> Result<(), NoMemory> {
     let crowded = crowded(ground, lanes, errands)?;
-    let mut discards = Vec::new(ground.alloc);
-    let (mut rank, mut count) = (u32::MAX, 0u32);
     let all = all_made(ground, lanes, errands)?;
-    for made in &all {
+    let (crowded, all) = (crowded.as_slice(), all.as_slice());
+    list_discarded(lanes, errands, crowded, all, discards, notes)
+}
+
+/// Of these completions, where those lanes are crowded that are marked.
+fn list_discarded(
+    lanes: &[Lane],
+    errands: &Errands,
+    crowded: &[bool],
+    all: &[Made],
+    discards: &mut Vec<Planned>,
+    notes: &mut Vec<Note>,
+) -> Result<(), NoMemory> {
+    let (mut rank, mut count) = (u32::MAX, 0u32);
+    for made in all {
         count = if made.rank == rank {
             count.saturating_add(1)
         } else {
@@ -38,21 +51,23 @@ pub(crate) fn discards(
         };
         rank = made.rank;
         let is_crowded = crowded.get(rank as usize).copied().unwrap_or(false);
-        let lane = lanes.get(rank as usize).copied().unwrap_or_default();
         if is_discarded(errands, made.far, is_crowded) {
+            let Lane { bus, up } = lanes.get(rank as usize).copied().unwrap_or_default();
             discards.push(Planned {
-                bus: lane.bus,
-                up: !lane.up,
+                bus,
+                up: !up,
                 count,
             })?;
-            let far = errands.get(made.far);
-            if let (Some(line), Some(op)) = (far.ended, errands.op_of(made.far)) {
-                let bridge = lane.bus;
-                notes.push(Note::Discarded { bridge, op, line })?;
+            if let (Some(line), Some(op)) = (errands.get(made.far).ended, errands.op_of(made.far)) {
+                notes.push(Note::Discarded {
+                    bridge: bus,
+                    op,
+                    line,
+                })?;
             }
         }
     }
-    Ok(discards)
+    Ok(())
 }
 
 fn is_discarded(errands: &Errands, far: u32, is_crowded: bool) -> bool {
@@ -63,11 +78,6 @@ fn is_discarded(errands: &Errands, far: u32, is_crowded: bool) -> bool {
         }
         None => false,
     }
-}
-
-fn rank_of(lanes: &[Lane], lane: Option<Lane>) -> Option<u32> {
-    let lane = lane?;
-    lanes.iter().position(|found| *found == lane).map(number)
 }
 
 fn all_made(ground: &Ground, lanes: &[Lane], errands: &Errands) -> Result<Vec<Made>, NoMemory> {
@@ -90,16 +100,30 @@ fn all_made(ground: &Ground, lanes: &[Lane], errands: &Errands) -> Result<Vec<Ma
 /// Of each lane whether at some latch more slots were held than there are.
 fn crowded(ground: &Ground, lanes: &[Lane], errands: &Errands) -> Result<Vec<bool>, NoMemory> {
     let mut changes = Vec::new(ground.alloc);
+    list_all_changes(ground, lanes, errands, &mut changes)?;
+    changes.sort_unstable();
+    crowded_by(ground, lanes, changes.as_slice())
+}
+
+fn list_all_changes(
+    ground: &Ground,
+    lanes: &[Lane],
+    errands: &Errands,
+    changes: &mut Vec<Change>,
+) -> Result<(), NoMemory> {
     for far in 0..errands.count() {
         let errand = errands.get(far);
         if let Some(rank) = rank_of(lanes, errands.driver(ground, &errand)) {
-            list_changes(ground, errands, rank, far, &mut changes)?;
+            list_changes(ground, errands, rank, far, changes)?;
         }
     }
-    changes.sort_unstable();
+    Ok(())
+}
+
+fn crowded_by(ground: &Ground, lanes: &[Lane], changes: &[Change]) -> Result<Vec<bool>, NoMemory> {
     let mut crowded = vec![in ground.alloc; false; lanes.len()]?;
     let mut slots = Slots::default();
-    for change in &changes {
+    for change in changes {
         slots = slots.after(change);
         let lane = lanes.get(slots.rank as usize).copied().unwrap_or_default();
         if slots.held > slots_of(ground, lane) {
@@ -112,7 +136,7 @@ fn crowded(ground: &Ground, lanes: &[Lane], errands: &Errands) -> Result<Vec<boo
 }
 
 /// What a lane held while its near bus is gone through.
-#[derive(Debug, Drop)]
+#[derive(Drop)]
 struct Held {
     /// How many lines of the far bus were looked at.
     far: usize,
@@ -126,35 +150,32 @@ struct Held {
     most: u32,
 }
 
-/// The bridges of the board, which hold more posted writes where bursts were cut into more pieces
-/// than they hold, while of these they never held more than they may.
-pub(crate) fn bridges(
+/// Lists the bridges of the board, which hold more posted writes where bursts were cut into more
+/// pieces than they hold, while of these they never held more than they may.
+pub(crate) fn list_bridges(
     ground: &Ground,
     streams: &Streams,
+    bridges: &mut Vec<Bridge>,
     notes: &mut Vec<Note>,
-) -> Result<Vec<Bridge>, Unfound> {
+) -> Result<(), Unfound> {
     let mut held = Held::new(ground)?;
-    let mut bridges = Vec::new(ground.alloc);
     for bridge in ground.board.bridges.as_slice() {
-        let mut raised = *bridge;
-        for up in [false, true] {
-            let lane = Lane {
-                bus: bridge.bus,
-                up,
-            };
-            let most = held.most_of(ground, streams, lane, bridge.posted)?;
-            raised.posted = raised.posted.max(most);
-        }
-        if raised.posted != bridge.posted {
-            notes.push(Note::Raised {
-                bridge: bridge.bus,
-                posted: raised.posted,
-                given: bridge.posted,
-            })?;
-        }
+        let raised = held.raised(ground, streams, bridge)?;
+        note_raised(bridge, raised.posted, notes)?;
         bridges.push(raised)?;
     }
-    Ok(bridges)
+    Ok(())
+}
+
+fn note_raised(bridge: &Bridge, posted: u8, notes: &mut Vec<Note>) -> Result<(), NoMemory> {
+    if posted != bridge.posted {
+        notes.push(Note::Raised {
+            bridge: bridge.bus,
+            posted,
+            given: bridge.posted,
+        })?;
+    }
+    Ok(())
 }
 
 impl Held {
@@ -168,6 +189,25 @@ impl Held {
             bursts: 0,
             most: 0,
         })
+    }
+
+    /// The bridge with as many posted writes as both lanes have to hold.
+    fn raised(
+        &mut self,
+        ground: &Ground,
+        streams: &Streams,
+        bridge: &Bridge,
+    ) -> Result<Bridge, Unfound> {
+        let mut raised = *bridge;
+        for up in [false, true] {
+            let lane = Lane {
+                bus: bridge.bus,
+                up,
+            };
+            let most = self.most_of(ground, streams, lane, bridge.posted)?;
+            raised.posted = raised.posted.max(most);
+        }
+        Ok(raised)
     }
 
     /// How many pieces at once the lane has to hold; 0 where it held more bursts than this.
@@ -252,7 +292,9 @@ impl Held {
     ) -> Option<u32> {
         let op = phase.and_then(|phase| streams.op_of(phase));
         let op_before = before.and_then(|before| streams.op_of(before));
-        if let Some(phase) = phase.filter(|_| before.is_none() || op != op_before) {
+        if let Some(phase) = phase
+            && (before.is_none() || op != op_before)
+        {
             self.pieces_left = self.pieces_left.saturating_add(1);
             let line = ground.line_of(phase);
             let left = bump(&mut self.left_of, line as usize).saturating_add(1);

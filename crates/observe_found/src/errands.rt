@@ -3,6 +3,7 @@ use crate::maybe::{MaybeOp, MaybePlace};
 use board_model::{Lane, Place};
 use observe_told::{Ending, Seen, Who};
 use pci_command::{NoMemory, OpId};
+use std::alloc::Global;
 use std::collections::HashMap;
 
 /// How many lanes a way has at most.
@@ -10,7 +11,7 @@ const MOST_LANES: u32 = 64;
 
 /// All that one request of one initiator did on a bus: some Retries, and at most one end. An
 /// initiator that has no data must ask again for the same.
-#[derive(Clone, Copy, Debug, Default)]
+#[derive(Clone, Copy, Default)]
 pub(crate) struct Errand {
     /// Its lines among those of all errands.
     first: u32,
@@ -35,7 +36,7 @@ pub(crate) struct Errand {
 }
 
 /// What is kept of an errand: the same in fewer bytes.
-#[derive(Clone, Copy, Debug)]
+#[derive(Clone, Copy)]
 struct Kept {
     deadline: u64,
     release: u64,
@@ -51,7 +52,7 @@ struct Kept {
 }
 
 /// All errands, by their first lines.
-#[derive(Debug, Drop)]
+#[derive(Drop)]
 pub(crate) struct Errands {
     all: Vec<Kept>,
     lines: Vec<u32>,
@@ -59,7 +60,7 @@ pub(crate) struct Errands {
 }
 
 /// By what a line is known as one of an errand.
-#[derive(Clone, Copy, Debug, PartialEq, Eq, Hash)]
+#[derive(Clone, Copy, PartialEq, Eq, Hash)]
 struct Asked {
     bus: u8,
     master: Option<u16>,
@@ -103,20 +104,36 @@ impl Kept {
 }
 
 impl Errands {
-    /// The errands of a log.
-    pub(crate) fn new(ground: &Ground) -> Result<Errands, NoMemory> {
-        let mut errands = Errands {
-            all: Vec::new(ground.alloc),
-            lines: Vec::new(ground.alloc),
-            of_lines: Vec::with_capacity(ground.alloc, ground.lines.len())?,
-        };
-        let mut open = HashMap::new(ground.alloc);
-        for (line, seen) in ground.lines.iter().enumerate() {
-            let errand = errands.sort_in(ground, &mut open, number(line), seen)?;
-            errands.of_lines.push(errand)?;
+    /// None yet.
+    pub(crate) fn new(alloc: Global) -> Errands {
+        Errands {
+            all: Vec::new(alloc),
+            lines: Vec::new(alloc),
+            of_lines: Vec::new(alloc),
         }
-        errands.list_lines(ground)?;
-        Ok(errands)
+    }
+
+    /// The errands of a log.
+    pub(crate) fn sort_all(&mut self, ground: &Ground) -> Result<(), NoMemory> {
+        self.of_lines.reserve(ground.lines.len())?;
+        let mut open = HashMap::new(ground.alloc);
+        self.sort_lines(ground, &mut open)?;
+        let mut next = Vec::new(ground.alloc);
+        self.count_lines(&mut next)?;
+        self.list_lines(&mut next);
+        Ok(())
+    }
+
+    fn sort_lines(
+        &mut self,
+        ground: &Ground,
+        open: &mut HashMap<Asked, u32>,
+    ) -> Result<(), NoMemory> {
+        for (line, seen) in ground.lines.iter().enumerate() {
+            let errand = self.sort_in(ground, open, number(line), seen)?;
+            self.of_lines.push(errand)?;
+        }
+        Ok(())
     }
 
     /// The errand of the line, which none is that is posted.
@@ -155,25 +172,28 @@ impl Errands {
         Ok(errand)
     }
 
-    /// The lines errand by errand.
-    fn list_lines(&mut self, ground: &Ground) -> Result<(), NoMemory> {
-        let mut next = Vec::new(ground.alloc);
+    /// Of each errand where its lines begin, and room for all of them.
+    fn count_lines(&mut self, next: &mut Vec<u32>) -> Result<(), NoMemory> {
         let mut total = 0u32;
         for errand in self.all.iter_mut() {
             errand.first = total;
             next.push(total)?;
             total = total.saturating_add(errand.count);
         }
-        self.lines = vec![in ground.alloc; 0u32; total as usize]?;
+        self.lines.resize(total as usize, 0)?;
+        Ok(())
+    }
+
+    /// The lines errand by errand.
+    fn list_lines(&mut self, next: &mut Vec<u32>) {
         for (line, errand) in self.of_lines.iter().enumerate() {
             if let Some(errand) = errand.get() {
-                let slot = bump(&mut next, errand as usize);
+                let slot = bump(next, errand as usize);
                 if let Some(slot) = self.lines.get_mut(slot as usize) {
                     *slot = number(line);
                 }
             }
         }
-        Ok(())
     }
 
     /// How many there are: they are numbered from 0.

@@ -1,13 +1,10 @@
 use crate::acts::Told;
-use crate::agents::found_board;
-use crate::depths::{bridges, discards};
+use crate::agents::{all_masters, list_targets};
+use crate::depths::{list_bridges, list_discards};
 use crate::errands::Errands;
 use crate::ground::{Ground, Times, number};
-use crate::pairing::pair;
-use crate::programs::{Draft, Programs};
-use crate::streams::Streams;
-use crate::words::{Further, further_words};
-use board_model::{Board, Bridge, Lane, Place, Planned};
+use crate::programs::Draft;
+use board_model::{Board, Bridge, Lane, Master, Place, Planned, Target};
 use board_tree::Tree;
 use observe_told::{Ending, Seen, SeenAct, Unfound, Who};
 use pci_command::{List, NoMemory, OpId, Phase};
@@ -68,12 +65,12 @@ pub struct LogFound {
     pub unseen: Unseen,
 }
 
-/// What was found, before the programs are written out: errands and streams are let go first.
-#[derive(Debug, Drop)]
+/// What was found beside the programs. These are written out last: errands and streams are let go
+/// first.
+#[derive(Drop)]
 struct Sought {
     bridges: Vec<Bridge>,
-    further: Vec<Further>,
-    masters: Vec<Draft>,
+    targets: Vec<Target>,
     discards: Vec<Planned>,
     acts: Vec<SeenAct>,
     notes: Vec<Note>,
@@ -97,71 +94,66 @@ pub fn find(
 }
 
 fn find_on(ground: &Ground, lanes: &[Lane]) -> Result<LogFound, Unfound> {
-    let Sought {
-        bridges,
-        further,
-        masters,
-        discards,
-        acts,
-        notes,
-    } = seek(ground, lanes)?;
-    let counts = counts_of(ground, acts.as_slice());
-    let board = found_board(ground, bridges, further.as_slice(), masters, discards)?;
-    Ok(LogFound {
-        board,
-        acts: List::from_vec(acts),
-        unseen: Unseen {
-            notes: List::from_vec(notes),
-            counts,
-        },
-    })
+    let mut sought = Sought::new(ground.alloc);
+    let drafts = sought.seek(ground, lanes)?;
+    let masters = all_masters(ground, drafts)?;
+    Ok(sought.with(ground, masters))
 }
 
-fn seek(ground: &Ground, lanes: &[Lane]) -> Result<Sought, Unfound> {
-    let mut errands = Errands::new(ground)?;
-    let mut streams = Streams::new(ground, lanes)?;
-    pair(ground, lanes, &streams, &mut errands)?;
-    let programs = Programs::new(ground, &mut streams, &mut errands)?;
-    seek_acts(ground, lanes, &streams, &errands, programs)
-}
+impl Sought {
+    fn new(alloc: Global) -> Sought {
+        Sought {
+            bridges: Vec::new(alloc),
+            targets: Vec::new(alloc),
+            discards: Vec::new(alloc),
+            acts: Vec::new(alloc),
+            notes: Vec::new(alloc),
+        }
+    }
 
-fn seek_acts(
-    ground: &Ground,
-    lanes: &[Lane],
-    streams: &Streams,
-    errands: &Errands,
-    programs: Programs,
-) -> Result<Sought, Unfound> {
-    let further = further_words(ground)?;
-    let mut notes = Vec::new(ground.alloc);
-    let discards = discards(ground, lanes, errands, &mut notes)?;
-    let bridges = bridges(ground, streams, &mut notes)?;
-    let acts = told_acts(ground, streams, errands, &programs)?;
-    note_rest(ground, errands, &mut notes)?;
-    let Programs { masters, .. } = programs;
-    Ok(Sought {
-        bridges,
-        further,
-        masters,
-        discards,
-        acts,
-        notes,
-    })
-}
+    /// All that is found, and the programs that are not written out yet.
+    fn seek(&mut self, ground: &Ground, lanes: &[Lane]) -> Result<Vec<Draft>, Unfound> {
+        let mut told = Told::new(ground);
+        told.follow(lanes)?;
+        self.list(lanes, &told)?;
+        Ok(told.into_drafts())
+    }
 
-fn told_acts(
-    ground: &Ground,
-    streams: &Streams,
-    errands: &Errands,
-    programs: &Programs,
-) -> Result<Vec<SeenAct>, NoMemory> {
-    let told = Told {
-        ground,
-        streams,
-        errands,
-        programs,
-    };
-    told.acts()
+    fn list(&mut self, lanes: &[Lane], told: &Told) -> Result<(), Unfound> {
+        let (ground, errands) = (told.ground, &told.errands);
+        list_targets(ground, &mut self.targets)?;
+        list_discards(ground, lanes, errands, &mut self.discards, &mut self.notes)?;
+        list_bridges(ground, &told.streams, &mut self.bridges, &mut self.notes)?;
+        told.list_acts(&mut self.acts)?;
+        note_rest(ground, errands, &mut self.notes)?;
+        Ok(())
+    }
+
+    /// The same, with the masters.
+    fn with(self, ground: &Ground, masters: Vec<Master>) -> LogFound {
+        let Sought {
+            bridges,
+            targets,
+            discards,
+            acts,
+            notes,
+        } = self;
+        let counts = counts_of(ground, acts.as_slice());
+        LogFound {
+            board: Board {
+                bridges: List::from_vec(bridges),
+                targets: List::from_vec(targets),
+                masters: List::from_vec(masters),
+                discards: List::from_vec(discards),
+                drops: List::from_vec(Vec::new(ground.alloc)),
+            },
+            acts: List::from_vec(acts),
+            unseen: Unseen {
+                notes: List::from_vec(notes),
+                counts,
+            },
+        }
+    }
 }
 
 /// What was not looked at, and what did not end.
@@ -181,7 +173,9 @@ fn note_rest(ground: &Ground, errands: &Errands, notes: &mut Vec<Note>) -> Resul
             None => {}
             Some(ended) => {
                 let count = not_looked_at(ground, ended);
-                if let Some(op) = op.filter(|_| count > 0) {
+                if let Some(op) = op
+                    && count > 0
+                {
                     notes.push(Note::NotLookedAt { op, count })?;
                 }
             }

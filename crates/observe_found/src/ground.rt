@@ -25,7 +25,7 @@ pub enum Times {
 
 /// A log and its board, with who claims each line and the place of each line on its bus. Lines and
 /// data phases are named by their places in the log, from 0.
-#[derive(Debug, Drop)]
+#[derive(Drop)]
 pub(crate) struct Ground<'a> {
     pub(crate) alloc: Global,
     pub(crate) board: &'a Board,
@@ -39,7 +39,7 @@ pub(crate) struct Ground<'a> {
 }
 
 /// The lines bus by bus, and of each line its place on its bus.
-#[derive(Debug, Drop)]
+#[derive(Drop)]
 struct OnBuses {
     lines: Vec<u32>,
     firsts: Vec<u32>,
@@ -48,7 +48,7 @@ struct OnBuses {
 
 /// A request as two errands of one request have it: its plain command, its address (in
 /// configuration space of type 1) and of a write its word.
-#[derive(Clone, Copy, Debug, Default, PartialEq, Eq, PartialOrd, Ord, Hash)]
+#[derive(Clone, Copy, Default, PartialEq, Eq, PartialOrd, Ord, Hash)]
 pub(crate) struct Wanted {
     pub(crate) code: u8,
     pub(crate) address: u64,
@@ -59,6 +59,12 @@ pub(crate) struct Wanted {
 /// A count or a place in 32 bits, of which a log has fewer.
 pub(crate) fn number(count: usize) -> u32 {
     u32::try_from(count).unwrap_or(u32::MAX)
+}
+
+/// The place of the lane among these.
+pub(crate) fn rank_of(lanes: &[Lane], lane: Option<Lane>) -> Option<u32> {
+    let lane = lane?;
+    lanes.iter().position(|found| *found == lane).map(number)
 }
 
 impl<'a> Ground<'a> {

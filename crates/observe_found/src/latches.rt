@@ -7,7 +7,7 @@ use pci_command::{NoMemory, Outcome};
 
 /// A lane with what is needed to say which line latched a request there: its stream, and that of
 /// the way back.
-#[derive(Clone, Copy, Debug)]
+#[derive(Clone, Copy)]
 pub(crate) struct Sides<'a> {
     pub(crate) ground: &'a Ground<'a>,
     pub(crate) stream: &'a Stream,
@@ -19,7 +19,7 @@ pub(crate) struct Sides<'a> {
 }
 
 /// How much of a choice is asked for.
-#[derive(Clone, Copy, Debug, PartialEq, Eq)]
+#[derive(Clone, Copy, PartialEq, Eq)]
 pub(crate) enum Strictness {
     /// All is as the machine has it.
     Whole,
@@ -92,11 +92,8 @@ impl Sides<'_> {
         nears: &[u32],
         strictness: Strictness,
     ) -> Result<bool, NoMemory> {
-        let Some(latches) = self.latches(errands, fars, strictness)? else {
+        if !self.latch_all(errands, fars, strictness)? {
             return Ok(false);
-        };
-        for (far, latch) in fars.iter().rev().zip(latches.as_slice()) {
-            errands.latch(*far, *latch);
         }
         let is_loose = strictness == Strictness::Loose;
         if !is_loose && !self.suffices(errands, nears, strictness) {
@@ -111,6 +108,22 @@ impl Sides<'_> {
         }
         for near in nears {
             note_release(errands, *near);
+        }
+        Ok(true)
+    }
+
+    /// Whether each has a latch: then these are noted down.
+    fn latch_all(
+        &self,
+        errands: &mut Errands,
+        fars: &[u32],
+        strictness: Strictness,
+    ) -> Result<bool, NoMemory> {
+        let Some(latches) = self.latches(errands, fars, strictness)? else {
+            return Ok(false);
+        };
+        for (far, latch) in fars.iter().rev().zip(latches.as_slice()) {
+            errands.latch(*far, *latch);
         }
         Ok(true)
     }

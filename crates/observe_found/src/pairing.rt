@@ -1,6 +1,6 @@
 use crate::choices::{Choices, PartOf};
 use crate::errands::Errands;
-use crate::ground::{Ground, NO_TIME, Wanted, number};
+use crate::ground::{Ground, NO_TIME, Wanted, number, rank_of};
 use crate::latches::{Sides, Strictness};
 use crate::slots::Held;
 use crate::streams::Streams;
@@ -17,7 +17,7 @@ const MOST_ERRANDS: usize = 2_000_000;
 
 /// An errand at one end of a lane, in the order in which errands are paired: lane by lane, request
 /// by request, by when they began.
-#[derive(Clone, Copy, Debug, PartialEq, Eq, PartialOrd, Ord)]
+#[derive(Clone, Copy, PartialEq, Eq, PartialOrd, Ord)]
 struct Entry {
     rank: u32,
     wanted: Wanted,
@@ -27,7 +27,7 @@ struct Entry {
 }
 
 /// Errands of one request at one lane that are open together: behind them nothing of it is open.
-#[derive(Debug, Drop)]
+#[derive(Drop)]
 struct Part {
     of: PartOf,
     fars: Vec<u32>,
@@ -36,7 +36,7 @@ struct Part {
 
 /// Where a part stands among the entries of its lane, and how many near errands it has: in the
 /// order in which parts are paired, those with few choices first.
-#[derive(Clone, Copy, Debug, Default, PartialEq, Eq, PartialOrd, Ord)]
+#[derive(Clone, Copy, Default, PartialEq, Eq, PartialOrd, Ord)]
 struct Span {
     nears: u32,
     first: usize,
@@ -46,7 +46,7 @@ struct Span {
 }
 
 /// What all lanes are paired by.
-#[derive(Clone, Copy, Debug)]
+#[derive(Clone, Copy)]
 struct Lanes<'a> {
     ground: &'a Ground<'a>,
     lanes: &'a [Lane],
@@ -77,45 +77,43 @@ pub(crate) fn pair(
         tells: false,
     };
     let mut choices = Choices::new(ground.alloc);
-    let times = MOST_TIMES.min(1 + MOST_ERRANDS / entries.len().max(1));
-    for _ in 0..times {
-        if all.pair(errands, &mut choices)? {
-            return Ok(());
-        }
-        errands.part_all(ground);
-        if !choices.change()? {
-            break;
-        }
-    }
-    choices.restore()?;
-    all.tells = true;
-    all.pair(errands, &mut choices)?;
-    Ok(())
+    all.settle(errands, &mut choices)
 }
 
 fn entries(ground: &Ground, lanes: &[Lane], errands: &Errands) -> Result<Vec<Entry>, NoMemory> {
     let mut entries = Vec::new(ground.alloc);
-    for errand in 0..errands.count() {
-        let found = errands.get(errand);
-        let ends = [
-            (true, errands.driver(ground, &found)),
-            (false, errands.claiming_lane(ground, &found)),
-        ];
-        for (is_far, lane) in ends {
-            let rank = lane.and_then(|lane| lanes.iter().position(|found| *found == lane));
-            if let Some(rank) = rank {
-                entries.push(Entry {
-                    rank: number(rank),
-                    wanted: wanted(ground, errands.first_line(&found)),
-                    start: errands.start(ground, &found),
-                    is_far,
-                    errand,
-                })?;
-            }
-        }
-    }
+    list_entries(ground, lanes, errands, &mut entries)?;
     entries.sort_unstable();
     Ok(entries)
+}
+
+fn list_entries(
+    ground: &Ground,
+    lanes: &[Lane],
+    errands: &Errands,
+    entries: &mut Vec<Entry>,
+) -> Result<(), NoMemory> {
+    for errand in 0..errands.count() {
+        let found = errands.get(errand);
+        if let Some(rank) = rank_of(lanes, errands.driver(ground, &found)) {
+            entries.push(entry_of(ground, errands, rank, true, errand))?;
+        }
+        if let Some(rank) = rank_of(lanes, errands.claiming_lane(ground, &found)) {
+            entries.push(entry_of(ground, errands, rank, false, errand))?;
+        }
+    }
+    Ok(())
+}
+
+fn entry_of(ground: &Ground, errands: &Errands, rank: u32, is_far: bool, errand: u32) -> Entry {
+    let found = errands.get(errand);
+    Entry {
+        rank,
+        wanted: wanted(ground, errands.first_line(&found)),
+        start: errands.start(ground, &found),
+        is_far,
+        errand,
+    }
 }
 
 /// Of each errand of a lane the first time at which it can have been made for somebody.
@@ -146,14 +144,7 @@ fn note_asked(
     errands: &Errands,
     asked: &mut Vec<u64>,
 ) -> Result<(), NoMemory> {
-    let mut reaches = Vec::new(ground.alloc);
-    let mut reach = 0u64;
-    for entry in same {
-        if !entry.is_far {
-            reach = reach.max(errands.open_until(ground, &errands.get(entry.errand)));
-        }
-        reaches.push(reach)?;
-    }
+    let reaches = reaches_of(ground, same, errands)?;
     for far in same.iter().filter(|entry| entry.is_far) {
         let ended = errands.get(far.errand).ended;
         let ended = ended.map_or(NO_TIME, |line| ground.start(line));
@@ -163,6 +154,19 @@ fn note_asked(
         }
     }
     Ok(())
+}
+
+/// Of each of them how long it and the near ones before it were open.
+fn reaches_of(ground: &Ground, same: &[Entry], errands: &Errands) -> Result<Vec<u64>, NoMemory> {
+    let mut reaches = Vec::new(ground.alloc);
+    let mut reach = 0u64;
+    for entry in same {
+        if !entry.is_far {
+            reach = reach.max(errands.open_until(ground, &errands.get(entry.errand)));
+        }
+        reaches.push(reach)?;
+    }
+    Ok(reaches)
 }
 
 fn wanted(ground: &Ground, line: u32) -> Wanted {
@@ -229,6 +233,25 @@ impl Span {
 }
 
 impl Lanes<'_> {
+    /// Pairs all lanes with other orders of trying until each part has a choice that suffices; where
+    /// none of them does, once more so that it shows what is wrong.
+    fn settle(&mut self, errands: &mut Errands, choices: &mut Choices) -> Result<(), Unfound> {
+        let times = MOST_TIMES.min(1 + MOST_ERRANDS / self.entries.len().max(1));
+        for _ in 0..times {
+            if self.pair(errands, choices)? {
+                return Ok(());
+            }
+            errands.part_all(self.ground);
+            if !choices.change()? {
+                break;
+            }
+        }
+        choices.restore()?;
+        self.tells = true;
+        self.pair(errands, choices)?;
+        Ok(())
+    }
+
     /// Whether each part has a choice that suffices, which then is made.
     fn pair(&self, errands: &mut Errands, choices: &mut Choices) -> Result<bool, Unfound> {
         choices.begin();
@@ -320,10 +343,21 @@ impl Lanes<'_> {
         let trying = choices.of(&part.of);
         let (fars, nears) = (part.fars.as_slice(), part.nears.as_slice());
         let mut trial = Trial::new(sides, trying, errands, fars, nears)?;
+        self.try_part(&mut trial, part, held, errands, choices)
+    }
+
+    fn try_part(
+        &self,
+        trial: &mut Trial,
+        part: &Part,
+        held: &mut Held,
+        errands: &mut Errands,
+        choices: &mut Choices,
+    ) -> Result<bool, Unfound> {
         let unasked = trial.unasked(errands)?;
         let may_fail = !self.tells && choices.are_changed();
-        if unasked.is_none() && suffices(&mut trial, errands, held, may_fail)? {
-            choices.pass(part.of, nears.len())?;
+        if unasked.is_none() && suffices(trial, errands, held, may_fail)? {
+            choices.pass(part.of, part.nears.len())?;
             return Ok(true);
         }
         if !self.tells {
@@ -331,7 +365,7 @@ impl Lanes<'_> {
             return Ok(false);
         }
         if let Some(line) = unasked {
-            let bridge = sides.stream.lane.bus;
+            let bridge = trial.bridge();
             return Err(Unfound::NotAsked { line, bridge });
         }
         if !trial.run(errands, held, Strictness::NoOrderBack, false)? {

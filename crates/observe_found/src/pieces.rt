@@ -3,7 +3,7 @@ use crate::streams::Streams;
 use pci_command::NoMemory;
 
 /// Data phases of a burst that are one operation: the first, and the one behind the last.
-#[derive(Clone, Copy, Debug)]
+#[derive(Clone, Copy)]
 pub(crate) struct Piece {
     pub(crate) first: u32,
     pub(crate) end: u32,

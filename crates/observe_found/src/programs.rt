@@ -5,6 +5,7 @@ use crate::streams::Streams;
 use board_model::{Master, Name, Op, Place};
 use observe_told::{Addressed, Ending, Seen, Unfound, Who};
 use pci_command::{Command, List, NoMemory, OpId, Phase, Phases};
+use std::alloc::Global;
 use std::collections::BTreeMap;
 
 /// How many agents a bus has at most, how many operations a master, and all masters.
@@ -16,7 +17,7 @@ const MOST_OPS_IN_ALL: usize = 65_536;
 
 /// What an operation is of: data phases of a posted line, the first and the one behind the last;
 /// what a posted line did not transfer; a delayed line, and of a read which of its dwords.
-#[derive(Clone, Copy, Debug)]
+#[derive(Clone, Copy)]
 enum Part {
     Piece { line: u32, first: u32, end: u32 },
     Rest { line: u32 },
@@ -25,7 +26,7 @@ enum Part {
 
 /// A master of the board that is found: of a master of the log, or a further one that does what
 /// that one began while it had something else open.
-#[derive(Debug, Drop)]
+#[derive(Drop)]
 pub(crate) struct Draft {
     name: Name,
     bus: u8,
@@ -36,7 +37,7 @@ pub(crate) struct Draft {
 }
 
 /// The programs of the masters.
-#[derive(Debug, Drop)]
+#[derive(Drop)]
 pub(crate) struct Programs {
     pub(crate) masters: Vec<Draft>,
     /// The operation of what a posted line of a master did not transfer.
@@ -88,24 +89,29 @@ fn op_of(ground: &Ground, part: Part) -> Option<Op> {
 }
 
 impl Programs {
+    /// None yet.
+    pub(crate) fn new(alloc: Global) -> Programs {
+        Programs {
+            masters: Vec::new(alloc),
+            alone: BTreeMap::new(alloc),
+            total: 0,
+        }
+    }
+
     /// The programs, and whose operation each errand and each data phase of a master is.
-    pub(crate) fn new(
+    pub(crate) fn write_all(
+        &mut self,
         ground: &Ground,
         streams: &mut Streams,
         errands: &mut Errands,
-    ) -> Result<Programs, Unfound> {
-        let mut programs = Programs {
-            masters: Vec::new(ground.alloc),
-            alone: BTreeMap::new(ground.alloc),
-            total: 0,
-        };
-        programs.begin(ground)?;
+    ) -> Result<(), Unfound> {
+        self.begin(ground)?;
         for bus in 0..=255u8 {
             for line in ground.on_bus(bus) {
-                programs.write_line(ground, streams, errands, *line)?;
+                self.write_line(ground, streams, errands, *line)?;
             }
         }
-        Ok(programs)
+        Ok(())
     }
 
     fn begin(&mut self, ground: &Ground) -> Result<(), Unfound> {
@@ -117,13 +123,13 @@ impl Programs {
     }
 
     fn add_master(&mut self, name: &[u8], bus: u8, home: u16, line: u32) -> Result<(), Unfound> {
-        let ops = Vec::new(*self.masters.allocator());
+        let alloc = *self.masters.allocator();
         match Name::new(name) {
             Some(name) => {
                 self.masters.push(Draft {
                     name,
                     bus,
-                    ops,
+                    ops: Vec::new(alloc),
                     home,
                     free: 0,
                 })?;
@@ -168,13 +174,29 @@ impl Programs {
         let place = ground.place(line);
         let master = self.thread(ground, line, home, place)?;
         let pieces = pieces(ground, streams, line)?;
-        for piece in &pieces {
+        self.write_pieces(streams, master, line, pieces.as_slice())?;
+        self.write_rest(ground, master, line)
+    }
+
+    fn write_pieces(
+        &mut self,
+        streams: &mut Streams,
+        master: u16,
+        line: u32,
+        pieces: &[Piece],
+    ) -> Result<(), Unfound> {
+        for piece in pieces {
             let Piece { first, end } = *piece;
             let op = self.add(master, line, Part::Piece { line, first, end })?;
-            for phase in piece.first..piece.end {
+            for phase in first..end {
                 streams.name(phase, op);
             }
         }
+        Ok(())
+    }
+
+    /// What the line did not transfer.
+    fn write_rest(&mut self, ground: &Ground, master: u16, line: u32) -> Result<(), Unfound> {
         let seen = ground.seen(line);
         if seen.is_some_and(|seen| seen.ending != Ending::Done) {
             let op = self.add(master, line, Part::Rest { line })?;

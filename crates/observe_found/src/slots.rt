@@ -4,14 +4,14 @@ use board_model::{Lane, bridge_to};
 use pci_command::NoMemory;
 
 /// How many slots of a lane are held at each line of the bus where it begins.
-#[derive(Debug, Drop)]
+#[derive(Drop)]
 pub(crate) struct Held {
     most: u32,
     counts: Vec<u8>,
 }
 
 /// Lines of a bus at which a slot is held, by the places of the first and the one behind the last.
-#[derive(Clone, Copy, Debug)]
+#[derive(Clone, Copy)]
 struct Hold {
     first: u32,
     end: u32,
@@ -19,7 +19,7 @@ struct Hold {
 
 /// A latch, or a slot that is free again, at a place of the bus where the lane begins. What frees a
 /// slot elsewhere comes before a latch of the same line, and what frees it there behind it.
-#[derive(Clone, Copy, Debug, PartialEq, Eq, PartialOrd, Ord)]
+#[derive(Clone, Copy, PartialEq, Eq, PartialOrd, Ord)]
 pub(crate) struct Change {
     rank: u32,
     place: u32,
@@ -28,7 +28,7 @@ pub(crate) struct Change {
 }
 
 /// How many slots a lane holds, lane by lane.
-#[derive(Clone, Copy, Debug, Default)]
+#[derive(Clone, Copy, Default)]
 pub(crate) struct Slots {
     pub(crate) rank: u32,
     pub(crate) held: u32,

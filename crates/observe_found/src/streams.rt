@@ -3,6 +3,7 @@ use crate::maybe::{MaybeOp, MaybePlace};
 use board_model::Lane;
 use observe_told::{Ending, HeldPhase, Unfound};
 use pci_command::{NoMemory, OpId, Phase};
+use std::alloc::Global;
 use std::collections::{BTreeMap, VecDeque};
 
 /// Among how many data phases that nothing has taken a match is looked for: a bridge of this
@@ -12,7 +13,7 @@ const MOST_HELD: usize = 1024;
 const MOST_LANES: u32 = 64;
 
 /// Which line of the far bus took a data phase away, and whether it was lost there.
-#[derive(Clone, Copy, Debug, PartialEq, Eq)]
+#[derive(Clone, Copy, PartialEq, Eq)]
 pub(crate) struct Taker {
     pub(crate) line: u32,
     pub(crate) lost: bool,
@@ -21,7 +22,7 @@ pub(crate) struct Taker {
 /// What is known of a data phase: of one that a lane drove that of the near bus that it is; of one
 /// that a lane took who took it away; whether the burst is cut before it; and which operation it is
 /// of.
-#[derive(Clone, Copy, Debug, Default)]
+#[derive(Clone, Copy, Default)]
 pub(crate) struct Track {
     pub(crate) source: Option<u32>,
     pub(crate) taker: Option<Taker>,
@@ -30,7 +31,7 @@ pub(crate) struct Track {
 }
 
 /// What is kept of a data phase: the same in fewer bytes.
-#[derive(Clone, Copy, Debug)]
+#[derive(Clone, Copy)]
 struct Kept {
     source: MaybePlace,
     taker: MaybePlace,
@@ -40,21 +41,21 @@ struct Kept {
 }
 
 /// Data phases of one near line, one behind the other, that an abort of a far line took away.
-#[derive(Clone, Copy, Debug, Default)]
+#[derive(Clone, Copy, Default)]
 pub(crate) struct Lost {
     pub(crate) first: u32,
     pub(crate) count: u32,
 }
 
 /// A line of the far bus, by its place there, and how many data phases had left with it.
-#[derive(Clone, Copy, Debug)]
+#[derive(Clone, Copy)]
 struct Left {
     place: u32,
     count: u32,
 }
 
 /// The data phases that a lane took, in order, and how they left.
-#[derive(Debug, Drop)]
+#[derive(Drop)]
 pub(crate) struct Stream {
     pub(crate) lane: Lane,
     /// Of each the place of its line on the near bus.
@@ -63,7 +64,7 @@ pub(crate) struct Stream {
 }
 
 /// The streams of all lanes.
-#[derive(Debug, Drop)]
+#[derive(Drop)]
 pub(crate) struct Streams {
     of_lanes: Vec<Stream>,
     tracks: Vec<Kept>,
@@ -71,7 +72,7 @@ pub(crate) struct Streams {
 }
 
 /// What stands in a lane while its far bus is gone through.
-#[derive(Debug, Drop)]
+#[derive(Drop)]
 struct Flow {
     stream: Stream,
     waiting: VecDeque<u32>,
@@ -128,20 +129,25 @@ impl Stream {
 }
 
 impl Streams {
+    /// None yet.
+    pub(crate) fn new(alloc: Global) -> Streams {
+        Streams {
+            of_lanes: Vec::new(alloc),
+            tracks: Vec::new(alloc),
+            lost: BTreeMap::new(alloc),
+        }
+    }
+
     /// The streams of these lanes, far ends first, and the cuts that they made.
-    pub(crate) fn new(ground: &Ground, lanes: &[Lane]) -> Result<Streams, Unfound> {
-        let mut streams = Streams {
-            of_lanes: Vec::new(ground.alloc),
-            tracks: vec![in ground.alloc; Kept::NEW; ground.phases.len()]?,
-            lost: BTreeMap::new(ground.alloc),
-        };
+    pub(crate) fn follow_all(&mut self, ground: &Ground, lanes: &[Lane]) -> Result<(), Unfound> {
+        self.tracks.resize(ground.phases.len(), Kept::NEW)?;
         for lane in lanes {
-            streams.follow(ground, *lane)?;
+            self.follow(ground, *lane)?;
         }
         for lane in lanes {
-            streams.cut(ground, *lane);
+            self.cut(ground, *lane);
         }
-        Ok(streams)
+        Ok(())
     }
 
     /// The stream of the lane.
@@ -151,14 +157,19 @@ impl Streams {
 
     fn follow(&mut self, ground: &Ground, lane: Lane) -> Result<(), Unfound> {
         let mut flow = Flow::new(ground, lane);
+        self.follow_flow(ground, lane, &mut flow)?;
+        self.of_lanes.push(flow.ended())?;
+        Ok(())
+    }
+
+    fn follow_flow(&mut self, ground: &Ground, lane: Lane, flow: &mut Flow) -> Result<(), Unfound> {
         for (at, line) in ground.on_bus(ground.end_of(lane)).iter().enumerate() {
             if ground.takes_away(*line, lane) {
                 flow.bring(ground, ground.end(*line))?;
-                self.take_away(ground, &mut flow, *line, number(at))?;
+                self.take_away(ground, flow, *line, number(at))?;
             }
         }
         flow.bring(ground, u64::MAX)?;
-        self.of_lanes.push(flow.ended())?;
         Ok(())
     }
 

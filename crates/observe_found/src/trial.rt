@@ -12,7 +12,7 @@ const MOST_STEPS: usize = 20_000;
 const FEW_STEPS: usize = 1_000;
 
 /// In which order the near errands that a far one may have been made for are tried.
-#[derive(Clone, Copy, Debug, Default, PartialEq, Eq)]
+#[derive(Clone, Copy, Default, PartialEq, Eq)]
 pub(crate) enum Trying {
     /// One for which nothing was made yet before one for which something was; one that ended as the
     /// far one before another; the one that ends first; of those that never end the one that may be
@@ -27,7 +27,7 @@ pub(crate) enum Trying {
 }
 
 /// The place of a near errand in that order.
-#[derive(Clone, Copy, Debug, PartialEq, Eq, PartialOrd, Ord)]
+#[derive(Clone, Copy, PartialEq, Eq, PartialOrd, Ord)]
 struct Rank {
     stage: u8,
     is_other: bool,
@@ -45,7 +45,7 @@ const BEHIND: u8 = 2;
 
 /// The near errands that are tried for a far one: those from a place of the queue on, the next of
 /// them, and the place from which on a latch may stand.
-#[derive(Clone, Copy, Debug)]
+#[derive(Clone, Copy)]
 struct Level {
     from: usize,
     next: usize,
@@ -53,7 +53,7 @@ struct Level {
 }
 
 /// The errands of one request that are open together, and the trying of who was made for whom.
-#[derive(Debug, Drop)]
+#[derive(Drop)]
 pub(crate) struct Trial<'a> {
     sides: Sides<'a>,
     trying: Trying,
@@ -117,6 +117,11 @@ impl<'a> Trial<'a> {
 
     fn open_until(&self, errands: &Errands, near: u32) -> u64 {
         errands.open_until(self.sides.ground, &errands.get(near))
+    }
+
+    /// The bridge of the lane.
+    pub(crate) fn bridge(&self) -> u8 {
+        self.sides.stream.lane.bus
     }
 
     /// The first far errand for which nobody was asking.
@@ -296,8 +301,23 @@ impl<'a> Trial<'a> {
         strictness: Strictness,
         floor: u32,
     ) -> Result<Vec<Rank>, NoMemory> {
+        let mut ranks = Vec::new(self.sides.ground.alloc);
+        self.list_ranks(errands, far, (strictness, floor), &mut ranks)?;
+        if self.trying == Trying::Staying {
+            self.put_behind(errands, &mut ranks)?;
+        }
+        ranks.sort_unstable();
+        Ok(ranks)
+    }
+
+    fn list_ranks(
+        &self,
+        errands: &Errands,
+        far: &Errand,
+        asked: (Strictness, u32),
+        ranks: &mut Vec<Rank>,
+    ) -> Result<(), NoMemory> {
         let ground = self.sides.ground;
-        let mut ranks = Vec::new(ground.alloc);
         let start = errands.start(ground, far);
         let reaches = self.reaches.as_slice();
         let first = reaches.partition_point(|reach| *reach < start);
@@ -306,27 +326,18 @@ impl<'a> Trial<'a> {
             if errands.start(ground, &errand) > far.deadline {
                 break;
             }
-            self.rank_in(errands, far, *near, (strictness, floor), &mut ranks)?;
+            self.rank_in(errands, far, *near, asked, ranks)?;
         }
         for near in &self.endless {
-            self.rank_in(errands, far, *near, (strictness, floor), &mut ranks)?;
+            self.rank_in(errands, far, *near, asked, ranks)?;
         }
-        if self.trying == Trying::Staying {
-            self.put_behind(errands, &mut ranks)?;
-        }
-        ranks.sort_unstable();
-        Ok(ranks)
+        Ok(())
     }
 
     /// Those for which nothing was made yet stand behind all others where something was made for
     /// what their initiator asked for before.
     fn put_behind(&self, errands: &Errands, ranks: &mut Vec<Rank>) -> Result<(), NoMemory> {
-        let mut served = Vec::new(self.sides.ground.alloc);
-        for rank in ranks.iter() {
-            if rank.stage == SERVED {
-                served.push(rank.near)?;
-            }
-        }
+        let served = self.served(ranks.as_slice())?;
         for rank in ranks.iter_mut() {
             let near = rank.near;
             let is_behind = served
@@ -337,6 +348,17 @@ impl<'a> Trial<'a> {
             }
         }
         Ok(())
+    }
+
+    /// Those for which something was made.
+    fn served(&self, ranks: &[Rank]) -> Result<Vec<u32>, NoMemory> {
+        let mut served = Vec::new(self.sides.ground.alloc);
+        for rank in ranks {
+            if rank.stage == SERVED {
+                served.push(rank.near)?;
+            }
+        }
+        Ok(served)
     }
 
     /// Whether both are of one initiator, and this one began before the other.

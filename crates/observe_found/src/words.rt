@@ -9,7 +9,7 @@ use std::collections::BTreeMap;
 const MOST_OPENINGS: usize = 256;
 
 /// A dword of a target, in memory or I/O.
-#[derive(Clone, Copy, Debug, PartialEq, Eq, PartialOrd, Ord)]
+#[derive(Clone, Copy, PartialEq, Eq, PartialOrd, Ord)]
 pub(crate) struct Dword {
     pub(crate) target: u16,
     pub(crate) is_io: bool,
@@ -17,14 +17,14 @@ pub(crate) struct Dword {
 }
 
 /// Which bytes of a dword are known, since they were read or written, and what it opened as.
-#[derive(Clone, Copy, Debug, Default)]
+#[derive(Clone, Copy, Default)]
 pub(crate) struct Known {
     enables: u8,
     pub(crate) opening: u32,
 }
 
 /// A word that a target opened with.
-#[derive(Clone, Copy, Debug)]
+#[derive(Clone, Copy)]
 pub(crate) struct Further {
     target: u16,
     pub(crate) opening: Opening,
@@ -32,12 +32,13 @@ pub(crate) struct Further {
 
 /// The opening words of all targets beside those that the board of the log names, target by target.
 pub(crate) fn further_words(ground: &Ground) -> Result<Vec<Further>, Unfound> {
-    let openings = Openings::new(ground)?;
+    let mut openings = Openings::new(ground.alloc);
+    openings.know_all(ground)?;
     Ok(openings.further(ground.alloc)?)
 }
 
 /// What dwords opened as: their bytes as first read before they were written.
-#[derive(Debug, Drop)]
+#[derive(Drop)]
 struct Openings {
     dwords: BTreeMap<Dword, Known>,
     /// Of each target how many it has.
@@ -45,24 +46,28 @@ struct Openings {
 }
 
 impl Openings {
-    fn new(ground: &Ground) -> Result<Openings, Unfound> {
+    fn new(alloc: Global) -> Openings {
+        Openings {
+            dwords: BTreeMap::new(alloc),
+            counts: Vec::new(alloc),
+        }
+    }
+
+    /// Those that the board of the log names, and those that its lines show.
+    fn know_all(&mut self, ground: &Ground) -> Result<(), Unfound> {
         let targets = ground.board.targets.as_slice();
-        let mut openings = Openings {
-            dwords: BTreeMap::new(ground.alloc),
-            counts: Vec::new(ground.alloc),
-        };
         for (place, target) in targets.iter().enumerate() {
-            openings.counts.push(target.openings.as_slice().len())?;
+            self.counts.push(target.openings.as_slice().len())?;
             for opening in target.openings.as_slice() {
-                openings.know_given(place, opening)?;
+                self.know_given(place, opening)?;
             }
         }
         for bus in 0..=255u8 {
             for line in ground.on_bus(bus) {
-                openings.follow(ground, *line)?;
+                self.follow(ground, *line)?;
             }
         }
-        Ok(openings)
+        Ok(())
     }
 
     /// A dword that the board of the log names.

@@ -23,7 +23,7 @@ pub enum LogFault {
 }
 
 /// A fault of a line at one of its words, from 0 on.
-#[derive(Clone, Copy, Debug, PartialEq, Eq)]
+#[derive(Clone, Copy, PartialEq, Eq)]
 pub(crate) struct AtWord {
     pub(crate) word: usize,
     pub(crate) fault: LogLineFault,

@@ -13,7 +13,7 @@ use board_text::{check_line, next_line};
 use text_faults::LogLineFault;
 
 /// Where the line `log` stands.
-#[derive(Clone, Copy, Debug, PartialEq, Eq)]
+#[derive(Clone, Copy, PartialEq, Eq)]
 pub(crate) struct LogLine {
     /// Its first byte.
     pub(crate) start: usize,

@@ -11,7 +11,7 @@ use std::marker::Model;
 use text_faults::LogLineFault;
 
 /// What was read of a log so far. Clauses see its lines and the data phases of them all.
-#[derive(Debug, Drop)]
+#[derive(Drop)]
 pub(crate) struct Reading {
     lines: Vec<Seen>,
     phases: Vec<Phase>,

@@ -7,7 +7,7 @@ use board_model::Place;
 use observe_told::{Ending, Log, Seen, Who};
 
 /// What the acts of a line are.
-#[derive(Clone, Copy, Debug, PartialEq, Eq)]
+#[derive(Clone, Copy)]
 pub(crate) enum Row {
     /// A fruitless Retry: none.
     Silent,

@@ -1,7 +1,7 @@
 use pci_command::OpId;
 
 /// What the acts of a line have shown of it so far.
-#[derive(Clone, Copy, Debug, PartialEq, Eq)]
+#[derive(Clone, Copy, PartialEq, Eq)]
 pub(crate) enum Shown {
     /// So many dwords, from the one on that it addressed.
     Dwords(u64),

@@ -10,7 +10,7 @@ use pci_command::NoMemory;
 use std::alloc::Global;
 
 /// A run that goes on by acts, with all arrivals behind each.
-#[derive(Debug, Drop)]
+#[derive(Drop)]
 pub(crate) struct Going {
     pub(crate) events: Vec<Event>,
     pub(crate) course: Course,

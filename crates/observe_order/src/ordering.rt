@@ -23,7 +23,7 @@ pub struct Ordered {
 }
 
 /// The same without the events.
-#[derive(Debug, Drop)]
+#[derive(Drop)]
 struct Taken {
     lines: List<u32>,
     stopped: Option<ActsTold>,

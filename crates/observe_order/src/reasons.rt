@@ -10,7 +10,7 @@ use pci_command::{OpId, Outcome, same_request};
 
 /// What the reasons are told by: what is kept of the run, the acts that were taken, and those that
 /// are left.
-#[derive(Clone, Copy, Debug)]
+#[derive(Clone, Copy)]
 pub(crate) struct Past<'a> {
     pub(crate) kept: &'a Kept,
     pub(crate) board: &'a Board,

@@ -6,7 +6,7 @@ use crate::unclear::tell_unclear;
 use board_parser::{ParseFault, parse, word_at_fault};
 use pci_command::NoMemory;
 use program_pages::{
-    Case, Fault, Spot, Teller, Text, bus_not_there, is_wide, line_at, named_spot, place_of,
+    Case, Spot, Teller, Text, bus_not_there, is_wide, line_at, named_spot, place_of,
     text_of_device, text_of_line,
 };
 use program_status::{BoardFault, Status};
@@ -29,28 +29,67 @@ pub(crate) fn tell_board(
     fault: BoardFault,
 ) -> Result<(), NoMemory> {
     let text = board_part(teller.alloc(), input, form)?;
-    let sentence = match Fault::of(status) {
-        Some(fault) => fault.to_string(teller.alloc())?,
-        None => String::new(teller.alloc()),
+    let sentence = teller.sentence()?;
+    let refused = RefusedBoard {
+        input,
+        form,
+        text: text.as_slice(),
+        number,
+        sentence: sentence.as_str(),
     };
+    tell_fault(teller, &refused, status, fault)
+}
+
+/// A board that is refused: the input and its form, the text of the board in it, and the number of a
+/// line and the sentence of the fault.
+#[derive(Clone, Copy)]
+struct RefusedBoard<'a> {
+    input: &'a [u8],
+    form: InputForm,
+    text: &'a [u8],
+    number: u32,
+    sentence: &'a str,
+}
+
+fn tell_fault(
+    teller: &mut Teller,
+    refused: &RefusedBoard,
+    status: &Status,
+    fault: BoardFault,
+) -> Result<(), NoMemory> {
+    let RefusedBoard {
+        input,
+        text,
+        number,
+        sentence,
+        ..
+    } = *refused;
     match fault {
-        BoardFault::Line(LineFault::WrongWord)
-            if form == InputForm::Log && is_board(teller.alloc(), text.as_slice())? => {
-            let line = line_at(text.as_slice(), number).map_or(b"".as_slice(), |(_, line)| line);
-            teller.point(number, line, 0, NO_LINE_OF_A_LOG)
+        BoardFault::Line(LineFault::WrongWord) if refused.form == InputForm::Log => {
+            tell_wrong_word(teller, text, number, sentence)
         }
-        BoardFault::Line(fault) => {
-            tell_line(teller, text.as_slice(), number, fault, sentence.as_str())
-        }
-        BoardFault::Tree(fault) => {
-            tell_tree(teller, text.as_slice(), status, fault, sentence.as_str())
-        }
+        BoardFault::Line(fault) => tell_line(teller, text, number, fault, sentence),
+        BoardFault::Tree(fault) => tell_tree(teller, text, status, fault, sentence),
         BoardFault::Bound(bound) => {
             let line = format!(in teller.alloc(); "{sentence}: this board may have {bound}")?;
             teller.error(line.as_str())
         }
-        BoardFault::Device(fault) => tell_device(teller, input, number, fault, sentence.as_str()),
+        BoardFault::Device(fault) => tell_device(teller, input, number, fault, sentence),
     }
+}
+
+/// A line of the board part of a log begins with no word that it may begin with: some boards have it.
+fn tell_wrong_word(
+    teller: &mut Teller,
+    text: &[u8],
+    number: u32,
+    sentence: &str,
+) -> Result<(), NoMemory> {
+    if !is_board(teller.alloc(), text)? {
+        return tell_line(teller, text, number, LineFault::WrongWord, sentence);
+    }
+    let line = line_at(text, number).map_or(b"".as_slice(), |(_, line)| line);
+    teller.point(number, line, 0, NO_LINE_OF_A_LOG)
 }
 
 /// Whether the text is read as a board, whatever its tree is.

@@ -44,17 +44,26 @@ pub fn message_of_log(
 {
     let mut teller = Teller::new(alloc, name, Fault::of(status));
     if let Status::NotTold { line, .. } | Status::ToldTo { line, .. } = *status {
-        let reason = match refused {
-            Some(refused) => reason_of_log(alloc, refused)?,
-            None => None,
-        };
-        match reason {
-            Some(reason) => tell_reason(&mut teller, input, line, &reason)?,
-            None => tell_seen(&mut teller, input, line)?,
-        }
-        teller.more()?;
+        tell_refused(&mut teller, input, line, refused)?;
     }
     Ok(teller.into_message())
+}
+
+fn tell_refused(
+    teller: &mut Teller,
+    input: &[u8],
+    number: u32,
+    refused: Option<RefusedLog>,
+) -> Result<(), NoMemory> {
+    let reason = match refused {
+        Some(refused) => reason_of_log(teller.alloc(), refused)?,
+        None => None,
+    };
+    match reason {
+        Some(reason) => tell_reason(teller, input, number, &reason)?,
+        None => tell_seen(teller, input, number)?,
+    }
+    teller.more()
 }
 
 fn tell_reason(

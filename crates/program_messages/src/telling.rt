@@ -70,22 +70,28 @@ fn told(
     ensures { IfOk result (λ message. IsTrue (list_all is_shown message)) }
 {
     let mut teller = Teller::new(alloc, name, Fault::of(status));
-    match *status {
-        Status::BadBoard { line, fault } => {
-            tell_board(&mut teller, input, form, status, line, fault)?;
-        }
-        Status::BadTrace { line, fault } => tell_trace_line(&mut teller, input, line, fault)?,
-        Status::BadMachine { line, fault } => {
-            tell_machine_line(&mut teller, input, line, fault)?;
-        }
-        Status::NotRun { .. } | Status::DrawnTo { .. } | Status::Incomplete { .. } => {
-            tell_event(&mut teller, input, form)?;
-        }
-        Status::BadLog { line, .. } => tell_log_line(&mut teller, input, line)?,
-        Status::NotTold { line, .. } | Status::TooMuch { line, .. } | Status::ToldTo { line, .. } =>
-            tell_seen(&mut teller, input, line)?,
-        _ => {}
-    }
+    tell(&mut teller, input, status, form)?;
     teller.more()?;
     Ok(teller.into_message())
+}
+
+/// The lines at fault, and why.
+fn tell(
+    teller: &mut Teller,
+    input: &[u8],
+    status: &Status,
+    form: InputForm,
+) -> Result<(), NoMemory> {
+    match *status {
+        Status::BadBoard { line, fault } => tell_board(teller, input, form, status, line, fault),
+        Status::BadTrace { line, fault } => tell_trace_line(teller, input, line, fault),
+        Status::BadMachine { line, fault } => tell_machine_line(teller, input, line, fault),
+        Status::NotRun { .. } | Status::DrawnTo { .. } | Status::Incomplete { .. } => {
+            tell_event(teller, input, form)
+        }
+        Status::BadLog { line, .. } => tell_log_line(teller, input, line),
+        Status::NotTold { line, .. } | Status::TooMuch { line, .. } | Status::ToldTo { line, .. } =>
+            { tell_seen(teller, input, line) }
+        _ => Ok(()),
+    }
 }

@@ -118,16 +118,20 @@ fn tell_unknown(
 /// that is at fault: a line with this word alone, and words of every board in place of the others,
 /// is not read. Of an arrival, the lane or else the bus.
 fn first_unknown(teller: &Teller, input: &[u8], line: &[u8]) -> Result<Unknown, NoMemory> {
-    let pieces: Vec<&[u8]> = line.split(|byte| *byte == b' ').collect(teller.alloc())?;
     let text = board_part(teller.alloc(), input, InputForm::Trace(Rule::Tagged))?;
     if text.len() >= TOO_LONG {
         return Ok(Unknown::plain(0));
     }
     match parse(teller.alloc(), text.as_slice()) {
-        Ok(board) => unknown_piece(teller.alloc(), &board, pieces.as_slice()),
+        Ok(board) => unknown_of_line(teller.alloc(), &board, line),
         Err(ParseFault::NoMemory) => Err(NoMemory),
         Err(_) => Ok(Unknown::plain(0)),
     }
+}
+
+fn unknown_of_line(alloc: Global, board: &Board, line: &[u8]) -> Result<Unknown, NoMemory> {
+    let pieces: Vec<&[u8]> = line.split(|byte| *byte == b' ').collect(alloc)?;
+    unknown_piece(alloc, board, pieces.as_slice())
 }
 
 /// The words of an act that every kind of it has.

@@ -6,7 +6,7 @@ use board_statements::{Words, is_word};
 use dma_agents::{Flag, MakeFault, OpPlace, Unclear, make};
 use pci_command::NoMemory;
 use program_pages::{Spot, Teller, line_at, place_of};
-use std::alloc::Global;
+use std::alloc::{AllocError, Global};
 use std::str::from_utf8;
 use text_faults::OrNoMemory;
 
@@ -44,24 +44,34 @@ fn why_unclear(alloc: Global, input: &[u8]) -> Result<Option<(Flag, Unclear)>, N
 }
 
 fn sentence_of(alloc: Global, input: &[u8], flag: Flag, why: Unclear) -> Result<String, NoMemory> {
+    let mut sentence = String::new(alloc);
+    put_sentence(&mut sentence, input, flag, why)?;
+    Ok(sentence)
+}
+
+fn put_sentence(
+    text: &mut String,
+    input: &[u8],
+    flag: Flag,
+    why: Unclear,
+) -> Result<(), AllocError> {
     let Flag { address, value, .. } = flag;
-    let sentence = match why {
-        Unclear::NoTarget => format!(in alloc; "no memory range has {address:08x}")?,
-        Unclear::TwoTargets => format!(in alloc; "two targets have {address:08x}")?,
+    match why {
+        Unclear::NoTarget => write!(text, "no memory range has {address:08x}"),
+        Unclear::TwoTargets => write!(text, "two targets have {address:08x}"),
         Unclear::Aborts { target, .. } => {
             let name = name_of_target(input, target);
-            format!(in alloc; "{name} answers there with Target-Abort")?
+            write!(text, "{name} answers there with Target-Abort")
         }
         Unclear::OpensSo => {
             let over = "the wait is over before anything is written";
-            format!(in alloc; "the word opens as {value:08x}: {over}")?
+            write!(text, "the word opens as {value:08x}: {over}")
         }
-        Unclear::WritesPart(_) => format!(in alloc; "a write there enables not all four bytes")?,
-        Unclear::WritesMore(_) => format!(in alloc; "the value comes in a write of several words")?,
-        Unclear::NobodyWrites => format!(in alloc; "nothing writes {value:08x} there")?,
-        Unclear::TwoWrite(_, _) => format!(in alloc; "two writes bring {value:08x} there")?,
-    };
-    Ok(sentence)
+        Unclear::WritesPart(_) => text.push_str("a write there enables not all four bytes"),
+        Unclear::WritesMore(_) => text.push_str("the value comes in a write of several words"),
+        Unclear::NobodyWrites => write!(text, "nothing writes {value:08x} there"),
+        Unclear::TwoWrite(_, _) => write!(text, "two writes bring {value:08x} there"),
+    }
 }
 
 /// The lines that are in the way.
@@ -111,7 +121,7 @@ fn tell_write(
 }
 
 /// What the lines behind one that begins something are counted for.
-#[derive(Clone, Copy, Debug)]
+#[derive(Clone, Copy)]
 enum Kind {
     /// The operations of a master, a device or a handler.
     Operation,

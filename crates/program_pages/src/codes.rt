@@ -1,4 +1,5 @@
-use crate::{DEVICE_PAGES, Fault, LOG_PAGES, MACHINE_PAGES, PAGES, Page};
+use crate::page::{board_pages, device_pages, log_pages, machine_pages};
+use crate::{Fault, Page};
 use std::fmt;
 
 /// All codes, a line each, with its sentence: of boards, of devices, of traces, of what `lspci`
@@ -8,27 +9,33 @@ pub struct Codes;
 
 impl fmt::Display for Codes {
     fn fmt<W: fmt::Write>(&self, f: &mut fmt::Formatter<W>) -> fmt::Result {
-        for page in &PAGES {
-            if !is_of_trace(page) {
-                write_line(page, f)?;
-            }
-        }
-        for page in &DEVICE_PAGES {
-            write_line(page, f)?;
-        }
-        for page in &PAGES {
-            if is_of_trace(page) {
-                write_line(page, f)?;
-            }
-        }
-        for page in &MACHINE_PAGES {
-            write_line(page, f)?;
-        }
-        for page in &LOG_PAGES {
-            write_line(page, f)?;
-        }
-        Ok(())
+        write_those(board_pages(), false, f)?;
+        write_all(device_pages(), f)?;
+        write_those(board_pages(), true, f)?;
+        write_all(machine_pages(), f)?;
+        write_all(log_pages(), f)
     }
+}
+
+/// Those of traces, or all others.
+fn write_those<W: fmt::Write>(
+    pages: &[Page],
+    of_trace: bool,
+    f: &mut fmt::Formatter<W>,
+) -> fmt::Result {
+    for page in pages {
+        if is_of_trace(page) == of_trace {
+            write_line(page, f)?;
+        }
+    }
+    Ok(())
+}
+
+fn write_all<W: fmt::Write>(pages: &[Page], f: &mut fmt::Formatter<W>) -> fmt::Result {
+    for page in pages {
+        write_line(page, f)?;
+    }
+    Ok(())
 }
 
 fn is_of_trace(page: &Page) -> bool {

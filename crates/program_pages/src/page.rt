@@ -33,16 +33,33 @@ pub struct Page {
 pub fn explain(code: &str) -> Option<&'static Page>
     ensures { IfSome result (λ page. IsTrue (has_code code.now page.now)) }
 {
-    match find_page(&PAGES, code) {
+    match find_page(board_pages(), code) {
         Some(page) => Some(page),
-        None => match find_page(&DEVICE_PAGES, code) {
+        None => match find_page(device_pages(), code) {
             Some(page) => Some(page),
-            None => match find_page(&MACHINE_PAGES, code) {
+            None => match find_page(machine_pages(), code) {
                 Some(page) => Some(page),
-                None => find_page(&LOG_PAGES, code),
+                None => find_page(log_pages(), code),
             },
         },
     }
+}
+
+/// The pages of boards and traces, as a slice: what names a table itself takes long to prove.
+pub(crate) fn board_pages() -> &'static [Page] {
+    &PAGES
+}
+
+pub(crate) fn device_pages() -> &'static [Page] {
+    &DEVICE_PAGES
+}
+
+pub(crate) fn machine_pages() -> &'static [Page] {
+    &MACHINE_PAGES
+}
+
+pub(crate) fn log_pages() -> &'static [Page] {
+    &LOG_PAGES
 }
 
 /// The first of the pages that has this code, in upper or lower case.

@@ -4,7 +4,10 @@ use crate::calls::{answer, sink, source, words};
 use io_ports::{MemorySink, MemorySource, SureSink, SureSource};
 use pci_command::List;
 use pcitree::{NoGate, Status, pcitree_surely};
+use std::alloc::Global;
+use std::process::Abort;
 use std::test::Fail;
+use std::thread::Threads;
 
 const RUN: &str = "run --steady f";
 
@@ -44,48 +47,52 @@ fn each_call_of_the_source_fails_in_turn(rt: HostRuntime) -> Result<(), Fail> {
         } else {
             (Status::Done, 181)
         };
-        ends_so(&rt, &mut source, &mut sink, status, taken)?;
+        ends_so(&rt, rt.alloc(), &mut source, &mut sink, status, taken)?;
     }
     Ok(())
 }
 
-/// Eleven calls take 16 bytes each, and the twelfth the other five; and a sink fills up.
+/// Eleven calls take 16 bytes each, and the twelfth the other five.
 #[test]
 fn each_call_of_the_sink_fails_in_turn(rt: HostRuntime) -> Result<(), Fail> {
-    for (size, call, status, taken) in [
-        (1024, 1, Status::WriteFault, 0),
-        (1024, 2, Status::WriteFault, 16),
-        (1024, 3, Status::WriteFault, 32),
-        (1024, 4, Status::WriteFault, 48),
-        (1024, 5, Status::WriteFault, 64),
-        (1024, 6, Status::WriteFault, 80),
-        (1024, 7, Status::WriteFault, 96),
-        (1024, 8, Status::WriteFault, 112),
-        (1024, 9, Status::WriteFault, 128),
-        (1024, 10, Status::WriteFault, 144),
-        (1024, 11, Status::WriteFault, 160),
-        (1024, 12, Status::WriteFault, 176),
-        (1024, 13, Status::Done, 181),
-        (100, 0, Status::WriteFault, 100),
-        (180, 0, Status::WriteFault, 180),
-        (181, 0, Status::Done, 181),
+    for call in 1..=13u32 {
+        let mut source = source(rt.alloc(), BOARD, 0)?;
+        let mut sink = sink(rt.alloc(), 1024, call)?;
+        let (status, taken) = if call < 13 {
+            (Status::WriteFault, 16 * call.saturating_sub(1) as usize)
+        } else {
+            (Status::Done, 181)
+        };
+        ends_so(&rt, rt.alloc(), &mut source, &mut sink, status, taken)?;
+    }
+    Ok(())
+}
+
+/// The trace has 181 bytes.
+#[test]
+fn a_sink_fills_up(rt: HostRuntime) -> Result<(), Fail> {
+    for (size, status) in [
+        (100, Status::WriteFault),
+        (180, Status::WriteFault),
+        (181, Status::Done),
     ] {
         let mut source = source(rt.alloc(), BOARD, 0)?;
-        let mut sink = sink(rt.alloc(), size, call)?;
-        ends_so(&rt, &mut source, &mut sink, status, taken)?;
+        let mut sink = sink(rt.alloc(), size, 0)?;
+        ends_so(&rt, rt.alloc(), &mut source, &mut sink, status, size)?;
     }
     Ok(())
 }
 
 /// The call ends with this status, and the sink took so many bytes of the trace.
-fn ends_so(
-    rt: &HostRuntime,
+fn ends_so<R: Threads + Sync + Abort>(
+    rt: &R,
+    alloc: Global,
     source: &mut MemorySource,
     sink: &mut MemorySink,
     status: Status,
     taken: usize,
 ) -> Result<(), Fail> {
-    let found = answer(rt, rt.alloc(), RUN, source, sink, &NoGate)?;
+    let found = answer(rt, alloc, RUN, source, sink, &NoGate)?;
     assert_eq!(rt; found, status, "where {taken} bytes are taken");
     let front = TRACE.as_bytes().get(..taken).ok_or("no front")?;
     assert_eq!(rt; sink.bytes(), front, "where {taken} bytes are taken");

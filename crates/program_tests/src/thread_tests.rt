@@ -3,6 +3,7 @@
 use crate::calls::{answer, sink, source};
 use pcitree::{Gate, NoGate, Status};
 use std::alloc::Global;
+use std::process::Abort;
 use std::sync::atomic::{AtomicU64, Ordering};
 use std::test::Fail;
 use std::thread;
@@ -181,12 +182,12 @@ fn as_many_threads_run_as_there_are_buses(rt: HostRuntime) -> Result<(), Fail> {
     let (status, trace) = call(&rt, rt.alloc(), "run f", DEPTH_ONE, &gate)?;
     assert_eq!(rt; status, Status::Done);
     assert_eq!(rt; gate.alone.load(Ordering::SeqCst), 0);
-    is_complete(&rt, &trace)
+    is_complete(&rt, rt.alloc(), &trace)
 }
 
-fn is_complete(rt: &HostRuntime, trace: &[u8]) -> Result<(), Fail> {
+fn is_complete<R: Threads + Sync + Abort>(rt: &R, alloc: Global, trace: &[u8]) -> Result<(), Fail> {
     let trace = str::from_utf8(trace).map_err(|_| "no text")?;
-    let (status, verdict) = call(rt, rt.alloc(), "check f", trace, &NoGate)?;
+    let (status, verdict) = call(rt, alloc, "check f", trace, &NoGate)?;
     assert_eq!(rt; status, Status::Done);
     assert_eq!(rt;
         verdict.as_slice(),
@@ -210,7 +211,7 @@ fn what_is_read_depends_on_which_bus_was_held(rt: HostRuntime) -> Result<(), Fai
     Ok(())
 }
 
-fn was_held(rt: &HostRuntime, gate: &Hold, turns: [Option<u64>; 2]) {
+fn was_held(rt: &impl Abort, gate: &Hold, turns: [Option<u64>; 2]) {
     assert_eq!(rt;
         gate.alone.load(Ordering::SeqCst),
         0,

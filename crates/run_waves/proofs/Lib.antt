@@ -5,6 +5,7 @@ pub mod TouchLemmas
 pub mod WatchLemmas
 pub mod ReadLemmas
 pub mod ChangeLemmas
+pub mod BlockLemmas
 pub mod DumpLemmas
 pub mod CodeLemmas
 pub mod LastLemmas

@@ -34,11 +34,11 @@ use Rattle.run_waves.specs.Touched.{presents_over, claims_over, moves_lanes, mov
 use Rattle.run_waves.proofs.WaitLemmas.{other_waits, lane_waits}
 
 -- neither of two tests holds
-neither_left : (a b : Bool) → (a || b) ≡ false → a ≡ false
+pub neither_left : (a b : Bool) → (a || b) ≡ false → a ≡ false
 neither_left true b e = e
 neither_left false b e = refl
 
-neither_right : (a b : Bool) → (a || b) ≡ false → b ≡ false
+pub neither_right : (a b : Bool) → (a || b) ≡ false → b ≡ false
 neither_right true b e = cc
 neither_right false b e = e
 

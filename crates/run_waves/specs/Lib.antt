@@ -5,3 +5,5 @@ pub mod Told
 pub mod Widths
 pub mod Scenes
 pub mod Touched
+pub mod Homes
+pub mod Blocks

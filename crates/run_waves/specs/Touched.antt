@@ -1,7 +1,7 @@
 -- Which signals may show something else than a moment before: those of the buses on which something happens or happened
 -- then, of the lanes that the event goes over, of the master that presents it and of the target that claims it.
 use Rattle.std.specs.Prelude.{ℕ, Bool, false, ◌||◌, ◌==◌, Option}
-use Rattle.std.specs.Option.{option_map, option_map_or}
+use Rattle.std.specs.Option.{option_map, option_map_or, option_and_then}
 use Rattle.pci_command.specs.declared.op_id.OpId.{OpId}
 use Rattle.board_model.specs.declared.bridge.Place.{Place}
 use Rattle.board_model.specs.declared.bridge.Place.TheVariants as places
@@ -15,6 +15,7 @@ use Rattle.run_waves.specs.declared.scene.Scene.{Scene}
 use Rattle.run_waves.specs.declared.signal.Signal.{Signal}
 use Rattle.run_waves.specs.declared.signal.Signal.TheVariants.{Bus, Lane, Index, Try, Waits, Stall}
 use Rattle.run_waves.specs.declared.touched.Touch.{Touch}
+use Rattle.run_waves.specs.Homes.{mover_bus, taker_bus}
 
 -- a lane of the bridge to the bus presents, or claims
 abbrev pub presents_over : By → ℕ → Bool
@@ -79,4 +80,6 @@ touch_of board from to =
       from = option_map (λ (scene : Scene). bus_of board scene.event) from;
       to = option_map (λ (scene : Scene). bus_of board scene.event) to;
       event = option_map (λ (scene : Scene). scene.event) to;
+      mover = option_map (λ (scene : Scene). mover_bus board scene.event) to;
+      taker = option_and_then (λ (scene : Scene). taker_bus board scene.event) to;
     }

@@ -4,7 +4,7 @@ use std::fmt;
 
 /// The code of the signal of this number: its digits in base 94, the lowest first, each as a
 /// printing character.
-#[derive(Clone, Copy, Debug, PartialEq, Eq)]
+#[derive(Clone, Copy, PartialEq, Eq)]
 pub(crate) struct Code(pub(crate) usize);
 
 impl fmt::Display for Code {

@@ -1,15 +1,18 @@
-ghost use Rattle.std.specs.Prelude.{◌≡◌, List, ◌∷◌, ◌++◌, length, not, string_bytes, IfOk, OnOk};
+ghost use Rattle.std.specs.Prelude.{◌≡◌, ◌≤◌, ◌+◌, ℕ, List, ◌∷◌, ◌++◌, length, not};
+ghost use Rattle.std.specs.Prelude.{slice_get, string_bytes, IfOk, OnOk};
 ghost use Rattle.board_model.specs.declared.board.Board.{Board};
 ghost use Rattle.board_printer.specs.Lines.{Line, line_text, text_of};
 ghost use Rattle.history_model.specs.Runs.{Run, history_of};
 ghost use Rattle.run_waves.specs.declared.signal.Signal.TheVariants.{Bus};
 ghost use Rattle.run_waves.specs.Shown.{Moment, beginning, idle_part, shown};
 ghost use Rattle.run_waves.specs.Signals.{signals_of};
-ghost use Rattle.run_waves.specs.Scenes.{Follows, IsAt, Reads, ReadsFrom, shown_of, scene_of};
-ghost use Rattle.run_waves.specs.Scenes.{shown_on, new_line, bus_change};
+ghost use Rattle.run_waves.specs.Scenes.{Follows, IsAt, Reads, ReadsFrom, ReadsBelow, shown_of};
+ghost use Rattle.run_waves.specs.Scenes.{scene_of, shown_on, new_line, bus_change};
 ghost use Rattle.run_waves.specs.Dump.{same_shown, value_line, value_lines, time_line, change_line};
 ghost use Rattle.run_waves.specs.Dump.{change_lines, first_lines, moments, dump_lines, dump_of};
+ghost use Rattle.run_waves.specs.Blocks.{AreSpans, lines_from};
 
+use crate::blocks::{BLOCK, Blocks, spans_of};
 use crate::head::print_head;
 use crate::lines::{is_idle, print_idle, print_part, print_reading};
 use crate::reading::{Reading, is_same};
@@ -48,7 +51,12 @@ fn print_dump(
     let mut watch = Watch::new(alloc, tree)?;
     let mut shown = readings_of(alloc, board, &watch, &signals)?;
     print_first(text, &signals, &shown)?;
-    print_moments(text, tree, events, &signals, &mut shown, &mut watch)?;
+    let spans = spans_of(alloc, board, &signals)?;
+    let blocks = Blocks {
+        signals: &signals,
+        spans: &spans,
+    };
+    print_moments(text, tree, events, &blocks, &mut shown, &mut watch)?;
     Ok(())
 }
 
@@ -71,15 +79,16 @@ fn print_moments(
     text: &mut String,
     tree: &Tree,
     events: &[Event],
-    signals: &[Signal],
+    blocks: &Blocks,
     shown: &mut Vec<Reading>,
     watch: &mut Watch,
 ) -> Result<(), AllocError>
     requires run { Run tree.now (history_of events.now) }
-    requires each { length signals.now ≡ length shown.old.items }
-    requires signals { signals.now ≡ signals_of tree.now }
+    requires each { length blocks.now.signals.now ≡ length shown.old.items }
+    requires signals { blocks.now.signals.now ≡ signals_of tree.now }
+    requires spans { AreSpans tree.now blocks.now.signals.now blocks.now.spans.now }
     requires at { IsAt tree.now beginning watch.old.kept watch.old.waits.items watch.old.scene }
-    requires reads { ReadsFrom tree.now beginning signals.now shown.old.items 0 }
+    requires reads { ReadsFrom tree.now beginning blocks.now.signals.now shown.old.items 0 }
     ensures { OnOk result (string_bytes text.new
         ≡ string_bytes text.old ++ text_of (moments tree.now 1 beginning events.now)) }
 {
@@ -88,12 +97,12 @@ fn print_moments(
         let from = watch.scene();
         watch.happen(tree, event);
         let passed = Passed { from, watch };
-        print_moment(text, board, number + 1, signals, shown, &passed)?;
+        print_moment(text, board, number + 1, blocks, shown, &passed)?;
     }
     let from = watch.scene();
     watch.rest();
     let passed = Passed { from, watch };
-    print_moment(text, board, events.len() + 1, signals, shown, &passed)?;
+    print_moment(text, board, events.len() + 1, blocks, shown, &passed)?;
     Ok(())
 }
 
@@ -165,51 +174,89 @@ fn print_moment(
     text: &mut String,
     board: &Board,
     number: usize,
-    signals: &[Signal],
+    blocks: &Blocks,
     shown: &mut Vec<Reading>,
     passed: &Passed,
 ) -> Result<(), AllocError>
-    requires { length signals.now ≡ length shown.old.items }
+    requires each { length blocks.now.signals.now ≡ length shown.old.items }
+    requires spans { AreSpans board.now blocks.now.signals.now blocks.now.spans.now }
     ensures each { OnOk result (length shown.new.items ≡ length shown.old.items) }
     ensures text { (before after : Moment) → Follows before after →
         passed.now.from ≡ scene_of board.now before
-        → ReadsFrom board.now before signals.now shown.old.items 0 → IsAt board.now after passed.now.watch.now.kept
-        passed.now.watch.now.waits.items passed.now.watch.now.scene
+        → ReadsFrom board.now before blocks.now.signals.now shown.old.items 0 → IsAt board.now after
+        passed.now.watch.now.kept passed.now.watch.now.waits.items passed.now.watch.now.scene
         → OnOk result (string_bytes text.new ≡ string_bytes text.old ++
-        text_of (time_line number ∷ change_lines board.now before after 0 signals.now)) }
+        text_of (time_line number ∷ change_lines board.now before after 0 blocks.now.signals.now)) }
     ensures reads { (before after : Moment) → Follows before after →
         passed.now.from ≡ scene_of board.now before
-        → ReadsFrom board.now before signals.now shown.old.items 0 → IsAt board.now after passed.now.watch.now.kept
-        passed.now.watch.now.waits.items passed.now.watch.now.scene
-        → OnOk result (ReadsFrom board.now after signals.now shown.new.items 0) }
+        → ReadsFrom board.now before blocks.now.signals.now shown.old.items 0 → IsAt board.now after
+        passed.now.watch.now.kept passed.now.watch.now.waits.items passed.now.watch.now.scene
+        → OnOk result (ReadsFrom board.now after blocks.now.signals.now shown.new.items 0) }
 {
     print_time(text, number)?;
-    print_changes(text, board, signals, shown.as_mut_slice(), passed)
+    print_changes(text, board, blocks, shown.as_mut_slice(), passed)
 }
 
-/// The signals that change: those that the event does not touch are passed over.
+/// The signals that change, block by block: a block that the event does not touch is passed over.
 fn print_changes(
+    text: &mut String,
+    board: &Board,
+    blocks: &Blocks,
+    shown: &mut [Reading],
+    passed: &Passed,
+) -> Result<(), AllocError>
+    requires each { length blocks.now.signals.now ≡ length shown.old }
+    requires spans { AreSpans board.now blocks.now.signals.now blocks.now.spans.now }
+    ensures text { (before after : Moment) → Follows before after →
+        passed.now.from ≡ scene_of board.now before
+        → ReadsFrom board.now before blocks.now.signals.now shown.old 0 → IsAt board.now after
+        passed.now.watch.now.kept passed.now.watch.now.waits.items passed.now.watch.now.scene
+        → OnOk result (string_bytes text.new ≡ string_bytes text.old ++
+        text_of (change_lines board.now before after 0 blocks.now.signals.now)) }
+    ensures reads { (before after : Moment) → Follows before after →
+        passed.now.from ≡ scene_of board.now before
+        → ReadsFrom board.now before blocks.now.signals.now shown.old 0 → IsAt board.now after
+        passed.now.watch.now.kept passed.now.watch.now.waits.items passed.now.watch.now.scene
+        → OnOk result (ReadsFrom board.now after blocks.now.signals.now shown.new 0) }
+{
+    let touch = Touch::of(board, passed.from, passed.watch.scene());
+    for number in 0..blocks.spans.len() {
+        if blocks.spans[number].meets(&touch) {
+            print_block(text, board, blocks.signals, shown, passed, number * BLOCK)?;
+        }
+    }
+    Ok(())
+}
+
+/// Those of the block that begins there: signals that the event does not touch are passed over.
+fn print_block(
     text: &mut String,
     board: &Board,
     signals: &[Signal],
     shown: &mut [Reading],
     passed: &Passed,
+    start: usize,
 ) -> Result<(), AllocError>
-    requires { length signals.now ≡ length shown.old }
+    requires each { length signals.now ≡ length shown.old }
+    requires start { start ≤ length signals.now }
     ensures text { (before after : Moment) → Follows before after →
         passed.now.from ≡ scene_of board.now before
-        → ReadsFrom board.now before signals.now shown.old 0 → IsAt board.now after passed.now.watch.now.kept
-        passed.now.watch.now.waits.items passed.now.watch.now.scene
-        → OnOk result (string_bytes text.new ≡ string_bytes text.old ++
-        text_of (change_lines board.now before after 0 signals.now)) }
+        → ReadsFrom board.now before signals.now shown.old start → IsAt board.now after
+        passed.now.watch.now.kept passed.now.watch.now.waits.items passed.now.watch.now.scene
+        → OnOk result (string_bytes text.new
+        ++ text_of (lines_from board.now before after (start + 32) signals.now)
+        ≡ string_bytes text.old ++ text_of (lines_from board.now before after start signals.now)) }
     ensures reads { (before after : Moment) → Follows before after →
         passed.now.from ≡ scene_of board.now before
-        → ReadsFrom board.now before signals.now shown.old 0 → IsAt board.now after passed.now.watch.now.kept
-        passed.now.watch.now.waits.items passed.now.watch.now.scene
-        → OnOk result (ReadsFrom board.now after signals.now shown.new 0) }
+        → ReadsFrom board.now before signals.now shown.old start → IsAt board.now after
+        passed.now.watch.now.kept passed.now.watch.now.waits.items passed.now.watch.now.scene
+        → ReadsBelow board.now after signals.now shown.old start
+        → OnOk result (ReadsBelow board.now after signals.now shown.new (start + 32)) }
+    ensures rest { OnOk result
+        ((k : ℕ) → start + 32 ≤ k → slice_get shown.new k ≡ slice_get shown.old k) }
 {
     let touch = Touch::of(board, passed.from, passed.watch.scene());
-    for number in 0..signals.len() {
+    for number in start..signals.len().min(start + BLOCK) {
         let signal = signals[number];
         if touch.may_change(signal) {
             let old = shown[number];

@@ -4,9 +4,11 @@
 //! on the order of programs.
 #![tactic(auto)]
 
+mod blocks;
 mod code;
 mod dump;
 mod head;
+mod homes;
 mod laws;
 mod lines;
 mod reading;

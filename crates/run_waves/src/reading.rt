@@ -3,7 +3,7 @@ ghost use Rattle.run_waves.specs.Scenes.{shown_of};
 ghost use Rattle.run_waves.specs.Dump.{same_shown};
 
 /// What a signal of a lane, a master or a target reads.
-#[derive(Clone, Copy, Debug, PartialEq, Eq)]
+#[derive(Clone, Copy, PartialEq, Eq)]
 pub(crate) enum Reading {
     /// It is up, or down.
     Level(bool),

@@ -5,7 +5,7 @@ use board_model::{Board, end_of};
 use history_model::{Carried, Event};
 
 /// What happens in a moment: an event, and what arrives by it.
-#[derive(Clone, Copy, Debug)]
+#[derive(Clone, Copy)]
 pub(crate) struct Scene {
     pub(crate) event: Event,
     pub(crate) item: Option<Carried>,

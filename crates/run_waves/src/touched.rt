@@ -11,18 +11,22 @@ ghost use Rattle.run_waves.specs.Touched.{
   touch_of,
 };
 
+use crate::homes::{mover_bus, taker_bus};
 use crate::scene::Scene;
 use crate::signal::Signal;
 use board_model::{Board, Place};
 use history_model::{By, Event};
 use pci_command::OpId;
 
-/// What happens in a moment, and on which bus something happened in the moment before.
-#[derive(Clone, Copy, Debug)]
+/// What happens in a moment, on which bus something happened in the moment before, and to which
+/// buses belong who moves and who claims.
+#[derive(Clone, Copy)]
 pub(crate) struct Touch {
     pub(crate) from: Option<u8>,
     pub(crate) to: Option<u8>,
     pub(crate) event: Option<Event>,
+    pub(crate) mover: Option<u8>,
+    pub(crate) taker: Option<u8>,
 }
 
 impl Touch {
@@ -34,6 +38,8 @@ impl Touch {
             from: from.map(|scene| scene.bus(board)),
             to: to.map(|scene| scene.bus(board)),
             event: to.map(|scene| scene.event),
+            mover: to.map(|scene| mover_bus(board, &scene.event)),
+            taker: to.and_then(|scene| taker_bus(board, &scene.event)),
         }
     }
 

@@ -9,7 +9,7 @@ use board_text::next_line;
 use text_faults::TraceLineFault;
 
 /// Where the line `events` stands.
-#[derive(Clone, Copy, Debug, PartialEq, Eq)]
+#[derive(Clone, Copy, PartialEq, Eq)]
 pub(crate) struct EventsLine {
     /// Its first byte.
     pub(crate) start: usize,

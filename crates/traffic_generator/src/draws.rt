@@ -4,7 +4,7 @@ ghost use Rattle.traffic_generator.specs.Draws.{drawn, draw, word, words, words_
 use pci_command::{Phase, Phases};
 
 /// A linear congruential generator modulo 2^32: each draw gives the upper half of its state.
-#[derive(Debug, Drop)]
+#[derive(Drop)]
 pub(crate) struct Draws {
     pub(crate) state: u32,
 }

@@ -7,14 +7,14 @@ use std::collections::HashMap;
 use std::marker::Model;
 
 /// Where an operation stands: the number of its master, and its place in the program.
-#[derive(Clone, Copy, Debug)]
+#[derive(Clone, Copy)]
 pub(crate) struct Spot {
     pub master: usize,
     pub index: usize,
 }
 
 /// Those of one address.
-#[derive(Debug, Drop)]
+#[derive(Drop)]
 struct Spots {
     items: Vec<Spot>,
 }
@@ -48,7 +48,7 @@ impl Spots {
 }
 
 /// Operations by their address on bus 0.
-#[derive(Debug, Drop)]
+#[derive(Drop)]
 pub(crate) struct Kept {
     entries: HashMap<u64, Spots>,
 }

@@ -45,7 +45,7 @@ pub fn follow(alloc: Global, tree: &Tree, events: &[Event]) -> Result<Followed, 
 }
 
 /// What is kept of a run, and of what its reads got.
-#[derive(Debug, Drop)]
+#[derive(Drop)]
 struct Course {
     kept: Kept,
     origins: Origins,

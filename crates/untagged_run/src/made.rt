@@ -2,7 +2,7 @@ use crate::got::Got;
 use crate::origins::Key;
 
 /// What an event makes of origins.
-#[derive(Clone, Copy, Debug)]
+#[derive(Clone, Copy)]
 pub(crate) struct Made {
     /// The slot whose delayed request it answers, if it answers one.
     pub(crate) slot: Option<Key>,

@@ -8,7 +8,7 @@ use std::collections::HashMap;
 use std::marker::Model;
 
 /// A slot of a lane.
-#[derive(Clone, Copy, Debug, PartialEq, Eq, Hash)]
+#[derive(Clone, Copy, PartialEq, Eq, Hash)]
 pub(crate) struct Key {
     pub(crate) bus: u8,
     pub(crate) up: bool,
@@ -16,7 +16,7 @@ pub(crate) struct Key {
 }
 
 /// Which reading made the completion of each slot.
-#[derive(Debug, Drop)]
+#[derive(Drop)]
 pub(crate) struct Origins {
     made: HashMap<Key, Option<Got>>,
 }

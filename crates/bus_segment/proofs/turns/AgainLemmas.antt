@@ -1,5 +1,5 @@
 -- What is known of a turn by its steps.
-use Rattle.std.proofs.Common.{◌≡◌, ℕ, ◌+◌, ◌-◌, ◌≤◌, Bool, true, false, ◌||◌, List, length, refl, arith}
+use Rattle.std.proofs.Common.{◌≡◌, ℕ, ◌-◌, ◌≤◌, Bool, true, false, ◌||◌, List, length, refl, arith}
 use Rattle.board_model.specs.declared.board.Board.{Board}
 use Rattle.lane_items.specs.declared.item.Item.{Item}
 use Rattle.bus_segment.specs.Steps.{ArrivedUpTo}

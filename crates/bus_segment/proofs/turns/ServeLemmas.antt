@@ -64,15 +64,15 @@ offered_there s place op offers offer kept found =
       | Some port ↦ λ same. subst (λ l. Contains l offer) same (found_among op offers offer found)
     ]) kept
 
--- so is one of them, as long as the bus is as it was
-pub offered_still : (old new : BusView) (place index : ℕ) (offers : List Offer) (offer : Offer) → new ≡ old → IfSome (slice_get old.ports place) (λ port. offers ≡ offers_of port.face) → slice_get offers index ≡ Some offer
+-- so is each that is shown of them, as long as the bus is as it was
+pub offered_still : (old new : BusView) (place index : ℕ) (offers shown : List Offer) (offer : Offer) → new ≡ old → shown ≡ offers → IfSome (slice_get old.ports place) (λ port. offers ≡ offers_of port.face) → slice_get shown index ≡ Some offer
     → IfSome (slice_get new.ports place) (λ port. Contains (offers_of port.face) offer)
-offered_still old new place index offers offer same kept there =
-    let among : Contains offers offer = (index, slice_get_within offers index offer there, get_or_from_slice_get offers index offer offer there) in
+offered_still old new place index offers shown offer same all kept there =
+    let among : Contains shown offer = (index, slice_get_within shown index offer there, get_or_from_slice_get shown index offer offer there) in
     let P : Option PortView → Type 0 = λ at. IfSome at (λ port. offers ≡ offers_of port.face) → IfSome at (λ port. Contains (offers_of port.face) offer) in
     let here : IfSome (slice_get old.ports place) (λ port. Contains (offers_of port.face) offer) = (elim (slice_get old.ports place) as P [
       | None ↦ λ _. tt
-      | Some port ↦ λ is. subst (λ l. Contains l offer) is among
+      | Some port ↦ λ is. subst (λ l. Contains l offer) (all ∙ is) among
     ]) kept in
     subst (λ (s : BusView). IfSome (slice_get s.ports place) (λ port. Contains (offers_of port.face) offer)) (sym same) here
 

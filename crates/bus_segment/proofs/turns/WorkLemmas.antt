@@ -9,7 +9,7 @@ use Rattle.board_model.specs.declared.board.Board.{Board}
 use Rattle.history_model.specs.declared.event.By.{By}
 use Rattle.history_model.specs.declared.event.Stamped.{Stamped}
 use Rattle.lane_items.specs.declared.item.Item.{Item}
-use Rattle.bus_core.specs.Bus.{BusView, Shape, shape_of, arrivals_at}
+use Rattle.bus_core.specs.Bus.{BusView, arrivals_at}
 use Rattle.bus_core.specs.Calls.{stamp_of}
 use Rattle.bus_core.specs.Serves.{OneMoreAt}
 use Rattle.bus_segment.specs.Segment.{SegmentView}

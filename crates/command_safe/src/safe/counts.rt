@@ -6,7 +6,7 @@ use program_status::Status;
 use safe_table::{OpSaid, Said};
 
 /// How many reads are unsafe, how many writes are lost and how many polls are vain.
-#[derive(Clone, Copy, Debug, PartialEq, Eq)]
+#[derive(Clone, Copy, PartialEq, Eq)]
 pub(crate) struct Counts {
     pub(crate) unsafe_reads: u32,
     pub(crate) lost: u32,

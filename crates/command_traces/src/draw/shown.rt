@@ -14,7 +14,7 @@ use program_status::Status;
 use std::alloc::Global;
 
 /// What a picture shows of the events of a trace.
-#[derive(Clone, Copy, Debug)]
+#[derive(Clone, Copy)]
 pub(crate) struct Shown<'a> {
     /// All events of a run, or else those up to the first that is not allowed.
     pub(crate) events: &'a [Event],

@@ -14,7 +14,7 @@ use std::marker::Model;
 const ROWS: u32 = 32;
 
 /// What passes a strip.
-#[derive(Debug, Drop)]
+#[derive(Drop)]
 pub(crate) struct Strip {
     text: String,
 }

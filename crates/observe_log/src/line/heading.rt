@@ -16,7 +16,7 @@ use pci_command::{Command, Space};
 use text_faults::LogLineFault;
 
 /// What the first five words of a line say.
-#[derive(Clone, Copy, Debug, PartialEq, Eq)]
+#[derive(Clone, Copy)]
 pub(crate) struct Heading {
     pub(crate) start: u64,
     pub(crate) end: u64,

@@ -9,7 +9,7 @@ use std::alloc::Global;
 use trace_text::{step_word, target_name};
 
 /// What a refused act is told by.
-#[derive(Clone, Copy, Debug)]
+#[derive(Clone, Copy)]
 pub(crate) struct Refusal<'a> {
     pub(crate) alloc: Global,
     pub(crate) log: &'a Log,

@@ -1,77 +1,61 @@
-use Rattle.std.proofs.Common.{◌≡◌, ◌<◌, ◌+◌, ◌++◌, eqb, false, length, get_or, List, Some, sym, ap, subst, ◌∙◌, arith, append-nil, drop, string_bytes, slice_get}
-use Rattle.std.proofs.lemmas.Bool.Decides.{nat_tests}
-use Rattle.std.proofs.lemmas.Option.{slice_get-get_or, slice_get_within}
+use Rattle.std.proofs.Common.{◌≡◌, ℕ, ◌+◌, ◌*◌, ◌++◌, false, get_or, List, sym, ap, subst, ◌∙◌, arith, string_bytes, slice_get}
+use Rattle.std.proofs.lemmas.Option.{slice_get-get_or}
 use Rattle.board_printer.specs.Lines.{Line, text_of}
+use Rattle.run_waves.specs.declared.blocks.Span.{Span}
 use Rattle.run_waves.specs.declared.reading.Reading.{Reading}
-use Rattle.run_waves.specs.declared.reading.Reading.TheVariants.{Level}
-use Rattle.run_waves.specs.declared.signal.BusPart.TheVariants as parts
-use Rattle.run_waves.specs.declared.signal.Signal.{Signal}
-use Rattle.run_waves.specs.declared.signal.Signal.TheVariants.{Bus}
 use Rattle.run_waves.specs.declared.touched.Touch.{Touch}
 use Rattle.run_waves.specs.Scenes.{ReadsBelow}
-use Rattle.run_waves.specs.Dump.{change_line, change_lines}
-use Rattle.run_waves.specs.Touched.{may_change, touch_of}
-use Rattle.run_waves.proofs.WatchLemmas.{set_other}
-use Rattle.run_waves.proofs.ReadLemmas.{reads_more, reads_kept, reads_all}
-use Rattle.run_waves.proofs.ChangeLemmas.{changes_more}
-use Rattle.run_waves.proofs.TouchLemmas.{untouched_line, untouched_reads}
+use Rattle.run_waves.specs.Touched.{touch_of}
+use Rattle.run_waves.specs.Blocks.{meets, lines_from}
+use Rattle.run_waves.proofs.BlockLemmas.{passed_lines, reads_rest, passed_reads}
 use Rattle.run_waves.proofs.dump.print_changes.Goals as goal
-use Rattle.run_waves.proofs.dump.print_changes.Goals.{then-may_change+in_ok-shown, else-may_change}
+use Rattle.run_waves.proofs.dump.print_changes.Goals.{then-meets+in_ok-print_block, else-meets}
 
 pub loop-number-preserved : goal.loop-number-preserved
 loop-number-preserved c =
-    let i = c.loop-number.number in
+    let n = c.loop-number.number in
     let board = c.args.board.now in
-    let signals = c.args.signals.now in
-    let shown = c.loop-number.shown in
+    let blocks = c.args.blocks.now in
+    let signals = blocks.signals.now in
     let first = c.args.shown.now in
-    let s : Signal = Bus 0 parts.Event in
-    let r : Reading = Level false in
-    let signal : Signal = get_or signals i s in
-    let reading : Reading = get_or shown i r in
-    let text = string_bytes c.loop-number.text in
-    let within : i < length signals = c.loop-number-test.true in
-    let so : i < length shown = omega (arith, c.requires, within, c.loop-number.auto.shown) in
-    let signal_at = slice_get-get_or signals i s within in
-    let reading_here : slice_get shown i ≡ Some reading = slice_get-get_or shown i r so in
-    let reading_at : slice_get first i ≡ Some reading = sym (c.loop-number.invariant.rest i (omega arith)) ∙ reading_here in
-    elim c.if-may_change.branch [
-      | then-may_change+in_ok-shown w ↦
-          let new = w.in_ok-shown.field-0 in
+    let d : Span = record { low = 0; high = 0 } in
+    let span : Span = get_or blocks.spans.now n d in
+    let span_at = slice_get-get_or blocks.spans.now n d c.loop-number-test.true in
+    let next : n * 32 + 32 ≡ (n + 1) * 32 = omega arith in
+    elim c.if-meets.branch [
+      | then-meets+in_ok-print_block w ↦
           record {
             text = λ before after follows scene was at.
-                ap (λ t. string_bytes t ++ text_of (change_lines board before after (i + 1) (drop (i + 1) signals))) w.text-is
-                ∙ changes_more board before after signals i s text (string_bytes w.print_change.new.text) (string_bytes c.args.text.now ++ text_of (change_lines board before after 0 signals)) within
-                (c.loop-number.invariant.text before after follows scene was at)
-                (w.in_ok-shown.ensures.text before after scene (was i signal reading (omega arith) signal_at reading_at) at);
+                let to_come = reads_rest board before signals first c.loop-number.shown (n * 32) was c.loop-number.invariant.rest in
+                ap (λ t. string_bytes t ++ text_of (lines_from board before after ((n + 1) * 32) signals)) w.text-is
+                ∙ ap (λ (m : ℕ). string_bytes w.print_block.new.text ++ text_of (lines_from board before after m signals)) (sym next)
+                ∙ w.in_ok-print_block.ensures.text before after follows scene to_come at
+                ∙ c.loop-number.invariant.text before after follows scene was at;
             reads = λ before after follows scene was at.
-                subst (λ (l : List Reading). ReadsBelow board after signals l (i + 1)) (sym w.shown-is)
-                (reads_more board after signals shown i new signal so (c.loop-number.invariant.reads before after follows scene was at) signal_at (w.in_ok-shown.ensures.reads after at));
+                let to_come = reads_rest board before signals first c.loop-number.shown (n * 32) was c.loop-number.invariant.rest in
+                subst (λ (l : List Reading). ReadsBelow board after signals l ((n + 1) * 32)) (sym w.shown-is)
+                (subst (λ (m : ℕ). ReadsBelow board after signals w.print_block.new.shown m) next
+                (w.in_ok-print_block.ensures.reads before after follows scene to_come at (c.loop-number.invariant.reads before after follows scene was at)));
             rest = λ k more.
-                let apart : eqb i k ≡ false = grind (arith, nat_tests) in
-                ap (λ (l : List Reading). slice_get l k) w.shown-is ∙ set_other shown i k new apart ∙ c.loop-number.invariant.rest k (omega (arith, more));
+                ap (λ (l : List Reading). slice_get l k) w.shown-is ∙ w.in_ok-print_block.ensures.rest k (omega (arith, more)) ∙ c.loop-number.invariant.rest k (omega (arith, more));
           }
-      | else-may_change w ↦
-          let off : may_change (touch_of board c.args.passed.now.from c.scene.result) signal ≡ false =
-          ap (λ (t : Touch). may_change t signal) (sym c.of-touch.ensures) ∙ sym c.may_change.ensures ∙ w.if-may_change.false in
+      | else-meets w ↦
+          let off : meets span (touch_of board c.args.passed.now.from c.scene.result) ≡ false =
+          ap (λ (t : Touch). meets span t) (sym c.of-touch.ensures) ∙ sym c.meets.ensures ∙ w.if-meets.false in
+          let within = c.requires.spans.each n span span_at in
           record {
             text = λ before after follows scene was at.
-                let none = untouched_line board before after c.args.passed.now.from c.scene.result i signal follows scene (c.scene.ensures ∙ at.scene_is) off in
-                let same : text ≡ text ++ text_of (change_line board before after i signal) = sym (append-nil text) ∙ ap (λ (l : List Line). text ++ text_of l) (sym none) in
-                ap (λ t. string_bytes t ++ text_of (change_lines board before after (i + 1) (drop (i + 1) signals))) w.text-is
-                ∙ changes_more board before after signals i s text text (string_bytes c.args.text.now ++ text_of (change_lines board before after 0 signals)) within
-                (c.loop-number.invariant.text before after follows scene was at) same;
+                let lines = passed_lines board before after c.args.passed.now.from c.scene.result signals (n * 32) span follows scene (c.scene.ensures ∙ at.scene_is) within off in
+                ap (λ t. string_bytes t ++ text_of (lines_from board before after ((n + 1) * 32) signals)) w.text-is
+                ∙ ap (λ (m : ℕ). string_bytes c.loop-number.text ++ text_of (lines_from board before after m signals)) (sym next)
+                ∙ ap (λ (l : List Line). string_bytes c.loop-number.text ++ text_of l) (sym lines)
+                ∙ c.loop-number.invariant.text before after follows scene was at;
             reads = λ before after follows scene was at.
-                let old = was i signal reading (omega arith) signal_at reading_at in
-                let still = untouched_reads board before after c.args.passed.now.from c.scene.result signal reading follows scene (c.scene.ensures ∙ at.scene_is) off old in
-                subst (λ (l : List Reading). ReadsBelow board after signals l (i + 1)) (sym w.shown-is)
-                (reads_kept board after signals shown i reading signal (c.loop-number.invariant.reads before after follows scene was at) signal_at reading_here still);
+                let to_come = reads_rest board before signals first c.loop-number.shown (n * 32) was c.loop-number.invariant.rest in
+                subst (λ (l : List Reading). ReadsBelow board after signals l ((n + 1) * 32)) (sym w.shown-is)
+                (subst (λ (m : ℕ). ReadsBelow board after signals c.loop-number.shown m) next
+                (passed_reads board before after c.args.passed.now.from c.scene.result signals c.loop-number.shown (n * 32) span follows scene (c.scene.ensures ∙ at.scene_is) within off to_come
+                (c.loop-number.invariant.reads before after follows scene was at)));
             rest = λ k more. ap (λ (l : List Reading). slice_get l k) w.shown-is ∙ c.loop-number.invariant.rest k (omega (arith, more));
           }
     ]
-
-pub returns-clause-reads : goal.returns-clause-reads
-returns-clause-reads c = λ before after follows scene was at.
-    let signals = c.args.signals.now in
-    reads_all c.args.board.now after signals c.loop-number.shown c.loop-number.number c.loop-number-test.false (c.loop-number.invariant.reads before after follows scene was at)
-    (λ k signal is. slice_get_within signals k signal is)

@@ -6,6 +6,7 @@ use Rattle.run_waves.specs.declared.signal.Signal.{Signal}
 use Rattle.run_waves.specs.Signals.{signals_of}
 use Rattle.run_waves.specs.Shown.{beginning}
 use Rattle.run_waves.specs.Dump.{head_lines, moments}
+use Rattle.run_waves.proofs.BlockLemmas.{spans_given}
 use Rattle.run_waves.proofs.DumpLemmas.{first_reads, all_written}
 use Rattle.run_waves.proofs.dump.print_dump.Goals as goal
 
@@ -19,11 +20,13 @@ print_moments-requires c =
     let watch = c.in_ok-watch.watch in
     record {
       run = c.requires;
-      each = ap (λ (l : List Signal). length l) (c.deref-4.ensures.value ∙ sym c.deref.ensures.value) ∙ sym c.in_ok-shown.ensures.each;
-      signals = c.deref-4.ensures.value ∙ c.in_ok-signals.ensures.signals ∙ ap signals_of c.board-board.ensures.value;
+      each = ap (λ (l : List Signal). length l) (c.deref-5.ensures.value ∙ sym c.deref.ensures.value) ∙ sym c.in_ok-shown.ensures.each;
+      signals = c.deref-5.ensures.value ∙ c.in_ok-signals.ensures.signals ∙ ap signals_of c.board-board.ensures.value;
+      spans = spans_given board c.args.tree.now c.deref-4.result.now c.deref-5.result.now c.in_ok-spans.spans.items c.deref-6.result.now
+          c.board-board.ensures.value (c.deref-4.ensures.value ∙ sym c.deref-5.ensures.value) (sym c.deref-6.ensures.value) c.in_ok-spans.ensures;
       at = c.in_ok-watch.ensures;
-      reads = first_reads board c.args.tree.now c.deref.result.now c.deref-4.result.now c.in_ok-shown.shown.items c.in_ok-shown.shown.items watch.kept watch.waits.items watch.scene
-          c.board-board.ensures.value (c.deref.ensures.value ∙ sym c.deref-4.ensures.value) refl c.in_ok-watch.ensures c.in_ok-shown.ensures.reads;
+      reads = first_reads board c.args.tree.now c.deref.result.now c.deref-5.result.now c.in_ok-shown.shown.items c.in_ok-shown.shown.items watch.kept watch.waits.items watch.scene
+          c.board-board.ensures.value (c.deref.ensures.value ∙ sym c.deref-5.ensures.value) refl c.in_ok-watch.ensures c.in_ok-shown.ensures.reads;
     }
 
 pub returns : goal.returns

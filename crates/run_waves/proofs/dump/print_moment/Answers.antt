@@ -9,7 +9,7 @@ use Rattle.run_waves.proofs.dump.print_moment.Goals as goal
 pub returns-clause-text : goal.returns-clause-text
 returns-clause-text c = λ before after follows scene was at.
     let board = c.args.board.now in
-    let signals = c.args.signals.now in
+    let signals = c.args.blocks.now.signals.now in
     let rest = text_of (change_lines board before after 0 signals) in
     let old = string_bytes c.args.text.now in
     let time = line_text (time_line c.args.number) in

@@ -9,6 +9,6 @@ use Rattle.run_waves.proofs.dump.print_moments.Given as goal
 abbrev pub invariant-loop-number : goal.invariant-loop-number
 invariant-loop-number l =
     record {
-      each : length l.signals ≡ length l.shown.items;
-      so : SoFar l.tree l.events l.signals (string_bytes l.fn.text ++ text_of (moments l.tree 1 beginning l.events)) (string_bytes l.text) l.shown.items l.watch.kept l.watch.waits.items l.watch.scene l.number;
+      each : length l.blocks.signals.now ≡ length l.shown.items;
+      so : SoFar l.tree l.events l.blocks.signals.now (string_bytes l.fn.text ++ text_of (moments l.tree 1 beginning l.events)) (string_bytes l.text) l.shown.items l.watch.kept l.watch.waits.items l.watch.scene l.number;
     }

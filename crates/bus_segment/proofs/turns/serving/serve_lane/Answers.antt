@@ -1,4 +1,4 @@
-use Rattle.std.proofs.Common.{◌≡◌, ◌+◌, false, List, Some, IfSome, refl, sym, subst, ◌∙◌, arith, slice_get}
+use Rattle.std.proofs.Common.{◌≡◌, ◌+◌, false, List, IfSome, refl, sym, subst, ◌∙◌, arith, slice_get}
 use Rattle.std.proofs.lemmas.List.{take_all}
 use Rattle.std.proofs.lemmas.Option.{slice_get-get_or}
 use Rattle.bus_face.specs.declared.offer.Offer.{Offer}
@@ -27,8 +27,8 @@ serve_given-requires-clause-offered g c = λ none.
     let on : c.loop-offer.segment.stopped ≡ false = sym c.stopped.ensures ∙ c.if-stopped.false in
     let kept = subst (λ (s : BusView). IfSome (slice_get s.ports c.args.place) (λ port. c.offers-offers.result.items ≡ offers_of port.face)) c.bus.ensures c.offers-offers.ensures.kept in
     let same = (c.loop-offer.invariant.quiet (none ∙ c.recorded-before.ensures) on).same_bus in
-    offered_still c.args.segment.now.bus c.loop-offer.segment.bus c.args.place c.loop-offer.offer-index c.offers-offers.result.items _ same kept
-    (subst (λ (l : List Offer). slice_get l c.loop-offer.offer-index ≡ Some _) c.as_slice-offer-items.ensures.value (slice_get-get_or c.as_slice-offer-items.result.now c.loop-offer.offer-index _ c.loop-offer-test.true))
+    offered_still c.args.segment.now.bus c.loop-offer.segment.bus c.args.place c.loop-offer.offer-index c.offers-offers.result.items c.as_slice-offer-items.result.now _ same c.as_slice-offer-items.ensures.value kept
+    (slice_get-get_or c.as_slice-offer-items.result.now c.loop-offer.offer-index _ c.loop-offer-test.true)
 
 pub loop-offer-preserved : goal.loop-offer-preserved
 loop-offer-preserved g c =
